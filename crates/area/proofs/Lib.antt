@@ -1,0 +1,6 @@
+pub mod Tests
+pub mod Sets
+pub mod Fills
+pub mod Rules
+pub mod Same
+pub mod Numbers

@@ -1,0 +1,112 @@
+-- Big-endian numbers read back to what was written, and bytes that are read are written again. Assumes nothing.
+use mathlib.Core.Path.{_≡_, refl, sym, _∙_}
+use mathlib.Core.List.{List, [], _∷_, _++_}
+use Prim.Native.Nat.{ℕ, zero, suc, _+_, _*_, _/_, _%_, _≤_, _<_}
+use native.Mathlib.Nat.{div-add-mod'}
+use native.Mathlib.Numerals.{add-one}
+use native.Mathlib.Omega.{arith}
+use lib.Arith.{digits-div, digits-mod}
+use lib.ListN.{length, getD, drop}
+use lib.Seq.{drop-cons, drop-drop, take-add}
+use Rattle.area.specs.Area.{part, Bytes}
+use Rattle.area.specs.Numbers.{be2, be4, be8, bytes2, bytes4, bytes8}
+
+-- ---- lengths and ranges
+
+pub length-bytes2 : (x : ℕ) → length (bytes2 x) ≡ 2
+unfolding bytes2
+length-bytes2 x = refl
+
+pub length-bytes4 : (x : ℕ) → length (bytes4 x) ≡ 4
+unfolding bytes4 bytes2
+length-bytes4 x = refl
+
+pub length-bytes8 : (x : ℕ) → length (bytes8 x) ≡ 8
+unfolding bytes8 bytes4 bytes2
+length-bytes8 x = refl
+
+pub Bytes-append : (a b : List ℕ) → Bytes a → Bytes b → Bytes (a ++ b)
+Bytes-append [] b p q = q
+Bytes-append (x ∷ a) b p q = (p .0, Bytes-append a b (p .1) q)
+
+pub Bytes-bytes2 : (x : ℕ) → Bytes (bytes2 x)
+unfolding bytes2
+Bytes-bytes2 x = (omega arith, (omega arith, tt))
+
+pub Bytes-bytes4 : (x : ℕ) → Bytes (bytes4 x)
+unfolding bytes4
+Bytes-bytes4 x = Bytes-append (bytes2 (x / 65536)) (bytes2 (x % 65536)) (Bytes-bytes2 (x / 65536)) (Bytes-bytes2 (x % 65536))
+
+pub Bytes-bytes8 : (x : ℕ) → Bytes (bytes8 x)
+unfolding bytes8
+Bytes-bytes8 x = Bytes-append (bytes4 (x / 4294967296)) (bytes4 (x % 4294967296)) (Bytes-bytes4 (x / 4294967296)) (Bytes-bytes4 (x % 4294967296))
+
+-- ---- what was written is read
+
+pub be2-bytes2 : (x : ℕ) (l : List ℕ) → x < 65536 → be2 (bytes2 x ++ l) 0 ≡ x
+unfolding be2 bytes2
+be2-bytes2 x l h = omega arith
+
+pub be4-bytes4 : (x : ℕ) (l : List ℕ) → x < 4294967296 → be4 (bytes4 x ++ l) 0 ≡ x
+unfolding be4 bytes4 be2 bytes2
+be4-bytes4 x l h =
+    let a : x / 65536 / 256 % 256 * 256 + x / 65536 % 256 ≡ x / 65536 = omega arith in
+    let b : x % 65536 / 256 % 256 * 256 + x % 65536 % 256 ≡ x % 65536 = omega arith in
+    rw (a, b) (div-add-mod' x 65536)
+
+pub be8-bytes8 : (x : ℕ) (l : List ℕ) → x < 18446744073709551616 → be8 (bytes8 x ++ l) 0 ≡ x
+unfolding be8 bytes8 be4 bytes4 be2 bytes2
+be8-bytes8 x l h =
+    let a : x / 4294967296 < 4294967296 = omega arith in
+    let b : x % 4294967296 < 4294967296 = omega arith in
+    rw (be4-bytes4 (x / 4294967296) [] a, be4-bytes4 (x % 4294967296) [] b) (div-add-mod' x 4294967296)
+
+-- ---- what is read is written again
+
+pub getD-Bytes : (l : List ℕ) (i : ℕ) → Bytes l → getD l i 0 < 256
+getD-Bytes [] i p = omega arith
+getD-Bytes (x ∷ l) zero p = p .0
+getD-Bytes (x ∷ l) (suc i) p = getD-Bytes l i (p .1)
+
+pub be2-range : (l : List ℕ) (i : ℕ) → Bytes l → be2 l i < 65536
+unfolding be2
+be2-range l i p = omega (arith, getD-Bytes l i p, getD-Bytes l (i + 1) p)
+
+pub be4-range : (l : List ℕ) (i : ℕ) → Bytes l → be4 l i < 4294967296
+unfolding be4
+be4-range l i p = omega (arith, be2-range l i p, be2-range l (i + 2) p)
+
+pub be8-range : (l : List ℕ) (i : ℕ) → Bytes l → be8 l i < 18446744073709551616
+unfolding be8
+be8-range l i p = omega (arith, be4-range l i p, be4-range l (i + 4) p)
+
+-- two parts, the one after the other
+pub part-part : (l : List ℕ) (i w v : ℕ) → part l i w ++ part l (i + w) v ≡ part l i (w + v)
+part-part l i w v = sym (take-add w v (drop i l) ∙ rw drop-drop)
+
+pub bytes2-be2 : (l : List ℕ) (i : ℕ) → Bytes l → i + 2 ≤ length l → bytes2 (be2 l i) ≡ part l i 2
+unfolding bytes2 be2
+bytes2-be2 l i p h =
+    let a = getD-Bytes l i p in
+    let b = getD-Bytes l (i + 1) p in
+    let h₁ : i < length l = omega arith in
+    let h₂ : suc i < length l = omega arith in
+    let u : (getD l i 0 * 256 + getD l (i + 1) 0) / 256 % 256 ≡ getD l i 0 = omega arith in
+    let v : (getD l i 0 * 256 + getD l (i + 1) 0) % 256 ≡ getD l (i + 1) 0 = omega arith in
+    rw (u, v) (rw (drop-cons l i 0, drop-cons l (suc i) 0, add-one))
+
+pub bytes4-be4 : (l : List ℕ) (i : ℕ) → Bytes l → i + 4 ≤ length l → bytes4 (be4 l i) ≡ part l i 4
+unfolding bytes4 be4
+bytes4-be4 l i p h =
+    let b = be2-range l (i + 2) p in
+    let h₁ : i + 2 ≤ length l = omega arith in
+    let h₂ : i + 2 + 2 ≤ length l = omega arith in
+    rw (digits-div (be2 l i) b, digits-mod (be2 l i) b, bytes2-be2 l i p h₁, bytes2-be2 l (i + 2) p h₂) (part-part l i 2 2)
+
+pub bytes8-be8 : (l : List ℕ) (i : ℕ) → Bytes l → i + 8 ≤ length l → bytes8 (be8 l i) ≡ part l i 8
+unfolding bytes8 be8
+bytes8-be8 l i p h =
+    let b = be4-range l (i + 4) p in
+    let h₁ : i + 4 ≤ length l = omega arith in
+    let h₂ : i + 4 + 4 ≤ length l = omega arith in
+    rw (digits-div (be4 l i) b, digits-mod (be4 l i) b, bytes4-be4 l i p h₁, bytes4-be4 l (i + 4) p h₂) (part-part l i 4 4)

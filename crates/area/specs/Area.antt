@@ -1,0 +1,50 @@
+-- Lists of bytes as lent areas hold them: a part, equality, order, and lists made by a rule. Assumes nothing: these are definitions.
+use Prim.Native.Nat.{ℕ, zero, suc, _<_}
+use mathlib.Core.Bool.{Bool, true, false, _&&_}
+use mathlib.Core.List.{List, [], _∷_, _++_}
+use lib.ListN.{take, drop}
+use lib.Dec.{eqb, ltb}
+use Rattle.area.specs.declared.Order.{Order}
+use Rattle.area.specs.declared.Order.the-variants.{Less, Equal, Greater}
+
+-- if-then-else
+unfoldable pub pick : {A : Type 0} → Bool → A → A → A
+pick true a b = a
+pick false a b = b
+
+-- the w elements from index i on
+abbrev pub part : List ℕ → ℕ → ℕ → List ℕ
+part l i w = take w (drop i l)
+
+-- whether two lists are the same
+unfoldable pub same : List ℕ → List ℕ → Bool
+same [] [] = true
+same [] (y ∷ ys) = false
+same (x ∷ xs) [] = false
+same (x ∷ xs) (y ∷ ys) = eqb x y && same xs ys
+
+-- the lexicographic order of two lists: by the first place in which they differ, and the shorter one first
+unfoldable pub compared : List ℕ → List ℕ → Order
+compared [] [] = Equal
+compared [] (y ∷ ys) = Less
+compared (x ∷ xs) [] = Greater
+compared (x ∷ xs) (y ∷ ys) = pick (ltb x y) Less (pick (ltb y x) Greater (compared xs ys))
+
+-- every element is a byte
+abbrev pub Bytes : List ℕ → Type 0
+Bytes [] = Unit {0}
+Bytes (x ∷ xs) = (x < 256) × Bytes xs
+
+-- f i, f (i + 1), ..: n of them
+unfoldable pub tableFrom : {A : Type 0} → (ℕ → A) → ℕ → ℕ → List A
+tableFrom f i zero = []
+tableFrom f i (suc n) = f i ∷ tableFrom f (suc i) n
+
+-- f 0, .., f (n - 1)
+unfoldable pub table : {A : Type 0} → ℕ → (ℕ → A) → List A
+table n f = tableFrom f 0 n
+
+-- the lists f i, f (i + 1), .., n of them, end to end
+unfoldable pub joined : {A : Type 0} → (ℕ → List A) → ℕ → ℕ → List A
+joined f i zero = []
+joined f i (suc n) = f i ++ joined f (suc i) n

@@ -1,0 +1,4 @@
+pub mod Sum
+pub mod Ring
+pub mod Power
+pub mod TableRules

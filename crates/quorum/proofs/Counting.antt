@@ -1,0 +1,70 @@
+-- Laws of counting the numbers 1 to n that pass a test. Assumes nothing.
+use Prim.Native.Nat.{ℕ, zero, suc, _+_, _≤_, _<_, zero-le}
+use native.Mathlib.Omega.{arith}
+use native.Mathlib.Nat.{not-suc-le-zero}
+use native.Mathlib.Numerals.{add-one}
+use mathlib.Core.Bool.{Bool, true, false, not, _&&_}
+use mathlib.Core.Path.{_≡_, refl, ap}
+use Rattle.quorum.specs.Quorum.{bit, count, Among}
+
+-- ---- one number more
+
+pub count-suc : (p : ℕ → Bool) (k : ℕ) → count p (suc k) ≡ bit (p (suc k)) + count p k
+unfolding count
+count-suc p k = refl
+
+pub count-yes : (p : ℕ → Bool) (k : ℕ) → p (k + 1) ≡ true → count p (k + 1) ≡ count p k + 1
+count-yes p k e = rw add-one (omega (arith, count-suc p k, ap bit (rw add-one at e)))
+
+pub count-no : (p : ℕ → Bool) (k : ℕ) → p (k + 1) ≡ false → count p (k + 1) ≡ count p k
+count-no p k e = rw add-one (omega (arith, count-suc p k, ap bit (rw add-one at e)))
+
+-- ---- bounds
+
+bit-le : (a : Bool) → bit a ≤ 1
+bit-le true = omega arith
+bit-le false = omega arith
+
+pub count-le : (p : ℕ → Bool) (n : ℕ) → count p n ≤ n
+unfolding count
+count-le p zero = zero-le
+count-le p (suc k) = omega (arith, count-le p k, bit-le (p (suc k)))
+
+bit-not : (a : Bool) → bit (not a) + bit a ≡ 1
+bit-not true = refl
+bit-not false = refl
+
+pub count-not : (p : ℕ → Bool) (n : ℕ) → count (λ j. not (p j)) n + count p n ≡ n
+unfolding count
+count-not p zero = refl
+count-not p (suc k) = omega (arith, count-not p k, bit-not (p (suc k)))
+
+bit-both : (a b : Bool) → bit a + bit b ≤ 1 + bit (a && b)
+bit-both true b = omega arith
+bit-both false true = omega arith
+bit-both false false = omega arith
+
+-- two sets of 1 to n share at least what they count beyond n
+pub count-both : (p q : ℕ → Bool) (n : ℕ) → count p n + count q n ≤ n + count (λ j. p j && q j) n
+unfolding count
+count-both p q zero = zero-le
+count-both p q (suc k) = omega (arith, count-both p q k, bit-both (p (suc k)) (q (suc k)))
+
+-- ---- a count above zero has a member
+
+pub record Passing (n : ℕ) (p : ℕ → Bool) : Type 0 where
+  pub at : ℕ
+  pub among : Among n at
+  pub passes : p at ≡ true
+
+pub some-passes : (p : ℕ → Bool) (n : ℕ) → 0 < count p n → Passing n p
+unfolding count
+some-passes p zero h = absurd (not-suc-le-zero h)
+some-passes p (suc k) h = go (λ l. some-passes p k l) (p (suc k)) refl
+  where
+    go : (0 < count p k → Passing k p) → (b : Bool) → p (suc k) ≡ b → Passing (suc k) p
+    go f true e = record { at = suc k; among = omega arith; passes = e }
+    go f false e =
+        let less : 0 < count p k = omega (arith, ap bit e) in
+        let r = f less in
+        record { at = r .at; among = omega (arith, r .among); passes = r .passes }

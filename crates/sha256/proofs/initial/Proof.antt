@@ -1,0 +1,12 @@
+-- By the definition. Assumes nothing.
+use borrow.Author.Needs.{needs}
+use Rattle.sha256.specs.Constants.{initialHash}
+use Rattle.sha256.proofs.initial.Statement.{statement}
+use Rattle.sha256.proofs.initial.Tie as tie
+
+returns : tie.Need-returns
+unfolding initialHash
+returns c = search needs
+
+pub initial-spec : {M : Type 1} → statement M
+initial-spec = tie.close (tie.spec returns)

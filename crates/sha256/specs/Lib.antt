@@ -1,0 +1,5 @@
+pub mod Words
+pub mod Constants
+pub mod Padding
+pub mod Hash
+pub mod Steps

@@ -1,0 +1,62 @@
+-- The whole outcome of the calls encode and decode: the answer and every byte of the lent area. Assumes nothing: these are definitions.
+use Prim.Native.Nat.{ℕ, _*_}
+use mathlib.Core.Bool.{Bool, true, false, _&&_, not}
+use mathlib.Core.List.{List, [], _∷_}
+use lib.Dec.{eqb, leb}
+use lib.ListN.{length}
+use lib.Seq.{sets}
+use Rattle.blocks.specs.declared.Params.{Params}
+use Rattle.blocks.specs.declared.Fault.the-variants.{Length, Blocks, Room}
+use Rattle.blocks.specs.declared.Coded.{Coded}
+use Rattle.blocks.specs.declared.Coded.the-variants.{Done, Refused}
+use Rattle.blocks.specs.Params.{paramsTest, demand, andThen}
+use Rattle.blocks.specs.Code.{blockLength, encoded, valueOf}
+
+-- a call's answer and the lent area after it
+pub record Outcome : Type 0 where
+  pub answer : Coded
+  pub out : List ℕ
+
+abbrev pub outcome : Coded → List ℕ → Outcome
+outcome c l = record { answer = c; out = l }
+
+-- the result stands in front of the area, whose further bytes stay as they were; a refusal leaves them all
+unfoldable pub written : Coded → List ℕ → List ℕ → Outcome
+written Done out bytes = outcome Done (sets out 0 bytes)
+written (Refused f) out bytes = outcome (Refused f) out
+
+-- ---- encode
+
+-- 3: "or value not L long"; 10: "lent area short"
+unfoldable pub encodeTest : Params → List ℕ → List ℕ → Coded
+encodeTest g value out =
+    andThen (paramsTest g)
+    (demand (eqb (length value) (g .size)) Length
+    (demand (leb (g .n * blockLength (g .size) (g .k)) (length out)) Room Done))
+
+unfoldable pub encoding : Params → List ℕ → List ℕ → Outcome
+encoding g value out = written (encodeTest g value out) out (encoded (g .n) (g .k) value)
+
+-- ---- decode
+
+-- j is none of js
+unfoldable pub absent : ℕ → List ℕ → Bool
+absent j [] = true
+absent j (i ∷ js) = not (eqb i j) && absent j js
+
+-- each number is 1 to n, and none is repeated
+unfoldable pub numbersFit : ℕ → List ℕ → Bool
+numbersFit n [] = true
+numbersFit n (j ∷ js) = leb 1 j && leb j n && absent j js && numbersFit n js
+
+-- 9: "blocks to decode not k in number, not b long, or numbers repeated or not 1 to n"; 10: "lent area short"
+unfoldable pub decodeTest : Params → List ℕ → List ℕ → List ℕ → Coded
+decodeTest g numbers blocks out =
+    andThen (paramsTest g)
+    (demand (eqb (length numbers) (g .k)) Blocks
+    (demand (eqb (length blocks) (g .k * blockLength (g .size) (g .k))) Blocks
+    (demand (numbersFit (g .n) numbers) Blocks
+    (demand (leb (g .size) (length out)) Room Done))))
+
+unfoldable pub decoding : Params → List ℕ → List ℕ → List ℕ → Outcome
+decoding g numbers blocks out = written (decodeTest g numbers blocks out) out (valueOf numbers (g .size) blocks)

@@ -1,0 +1,40 @@
+-- The block code of document 01, "Blocks", in its order. Assumes nothing: these are definitions.
+use Prim.Native.Nat.{ℕ, _+_, _*_, _-_, _/_}
+use mathlib.Core.List.{List, [], _∷_, _++_}
+use lib.ListN.{length, getD, take, replicate}
+use Rattle.area.specs.Area.{part, table, joined}
+use Rattle.blocks.specs.Poly.{eval, through}
+
+-- "b = L / k bytes, rounded up"
+unfoldable pub blockLength : ℕ → ℕ → ℕ
+blockLength L k = (L + (k - 1)) / k
+
+-- "The value is padded with zeros to k × b bytes"
+unfoldable pub padded : ℕ → List ℕ → List ℕ
+padded n v = v ++ replicate (n - length v) 0
+
+-- "Stripe r holds bytes r × k to r × k + k - 1"
+unfoldable pub stripe : ℕ → List ℕ → ℕ → List ℕ
+stripe k w r = part w (r * k) k
+
+-- "Byte r of block j is that polynomial at j": block j of the value v
+unfoldable pub blockOf : ℕ → List ℕ → ℕ → List ℕ
+blockOf k v j = table (blockLength (length v) k) (λ r. eval (stripe k (padded (k * blockLength (length v) k) v) r) j)
+
+-- blocks 1 to n of the value v, end to end
+unfoldable pub encoded : ℕ → ℕ → List ℕ → List ℕ
+encoded n k v = joined (blockOf k v) 1 n
+
+-- byte r of each of k blocks of b bytes, which lie end to end in w
+unfoldable pub row : ℕ → ℕ → List ℕ → ℕ → List ℕ
+row k b w r = table k (λ i. getD w (i * b + r) 0)
+
+-- the value of L bytes from the blocks with the numbers js, which lie end to end in w: "Decoding gives the first L bytes"
+unfoldable pub valueOf : List ℕ → ℕ → List ℕ → List ℕ
+valueOf js L w =
+    take L (joined (λ r. through js (row (length js) (blockLength L (length js)) w r)) 0 (blockLength L (length js)))
+
+-- the blocks of v with the numbers js, end to end
+unfoldable pub blocksOf : ℕ → List ℕ → List ℕ → List ℕ
+blocksOf k v [] = []
+blocksOf k v (j ∷ js) = blockOf k v j ++ blocksOf k v js

@@ -1,0 +1,4 @@
+pub mod Params
+pub mod Poly
+pub mod Code
+pub mod Calls

@@ -1,0 +1,56 @@
+-- The parameters of a register and their bounds: document 01, "Partners and lots". Refusals have the numbers of its table "When a frame or call is turned down".
+-- Assumes nothing: these are definitions.
+use Prim.Native.Nat.{ℕ, _+_, _*_, _-_, _<_, _≤_}
+use mathlib.Core.Bool.{Bool, true, false, _&&_}
+use lib.Dec.{leb, ltb}
+use Rattle.blocks.specs.declared.Params.{Params}
+use Rattle.blocks.specs.declared.Fault.{Fault}
+use Rattle.blocks.specs.declared.Fault.the-variants.{Parties, Threshold, Length, Blocks, Room}
+use Rattle.blocks.specs.declared.Coded.{Coded}
+use Rattle.blocks.specs.declared.Coded.the-variants.{Done, Refused}
+
+-- the number of a refusal
+unfoldable pub numberOf : Fault → ℕ
+numberOf Parties = 1
+numberOf Threshold = 2
+numberOf Length = 3
+numberOf Blocks = 9
+numberOf Room = 10
+
+-- "n from 4 to 10; t is at least 1 with n > 3t"
+unfoldable pub partiesFit : ℕ → ℕ → Bool
+partiesFit n t = leb 4 n && leb n 10 && leb 1 t && ltb (3 * t) n
+
+-- "k is 1 to n - 2t"
+unfoldable pub thresholdFits : ℕ → ℕ → ℕ → Bool
+thresholdFits n t k = leb 1 k && leb k (n - 2 * t)
+
+-- "the fixed length L, 1 to 256 bytes"
+unfoldable pub lengthFits : ℕ → Bool
+lengthFits L = leb 1 L && leb L 256
+
+-- the refusal where a demand is not met, and the outcome of the demands that follow where it is
+unfoldable pub demand : Bool → Fault → Coded → Coded
+demand true f rest = rest
+demand false f rest = Refused f
+
+-- the outcome of the first tests where they refuse, and of the second where not
+unfoldable pub andThen : Coded → Coded → Coded
+andThen Done rest = rest
+andThen (Refused f) rest = Refused f
+
+-- refusals 1, 2 and 3, lowest number first
+unfoldable pub paramsTest : Params → Coded
+paramsTest g =
+    demand (partiesFit (g .n) (g .t)) Parties (demand (thresholdFits (g .n) (g .t) (g .k)) Threshold (demand (lengthFits (g .size)) Length Done))
+
+-- the same bounds, as facts
+pub record Bounds (g : Params) : Type 0 where
+  pub fewest : 4 ≤ g .n
+  pub most : g .n ≤ 10
+  pub false-one : 1 ≤ g .t
+  pub third : 3 * g .t < g .n
+  pub block-one : 1 ≤ g .k
+  pub enough : g .k + 2 * g .t ≤ g .n
+  pub byte-one : 1 ≤ g .size
+  pub longest : g .size ≤ 256

@@ -1,1 +1,5 @@
 pub mod Parameters
+pub mod Polynomials
+pub mod Interpolation
+pub mod Turns
+pub mod Point

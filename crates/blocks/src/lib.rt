@@ -2,6 +2,7 @@
 ghost use mathlib.Core.Path.{_≡_};
 
 pub mod bounds;
+pub mod polynomial;
 
 // A register's parameters: n servers, of which at most t are false; a value of size bytes (L in document 01) is decoded from k blocks.
 pub struct Params {

@@ -1,5 +1,9 @@
 pub mod Parameters
+pub mod Numbers
+pub mod CallLaws
 pub mod Polynomials
 pub mod Interpolation
 pub mod Turns
 pub mod Point
+pub mod Stripes
+pub mod Values

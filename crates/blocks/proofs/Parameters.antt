@@ -3,14 +3,14 @@ use Prim.Native.Nat.{ℕ, _*_, _-_, _<_, _≤_}
 use mathlib.Core.Path.{_≡_, refl, sym, ap, _∙_}
 use mathlib.Core.Bool.{Bool, true, false, _&&_, not}
 use native.Mathlib.Omega.{arith}
-use lib.Dec.{leb, ltb}
-use borrow.Author.Tests.{le-leb, lt-ltb, leb-true, ltb-true, not-true, not-false}
+use lib.Dec.{leb, ltb, eqb}
+use borrow.Author.Tests.{eq-eqb, ne-eqb, lt-leb, le-leb, lt-ltb, leb-true, ltb-true, not-true, not-false}
 use Rattle.area.proofs.Tests.{and-left, and-right}
 use Rattle.blocks.specs.declared.Params.{Params}
 use Rattle.blocks.specs.declared.Fault.{Fault}
 use Rattle.blocks.specs.declared.Coded.{Coded}
 use Rattle.blocks.specs.declared.Coded.the-variants.{Done, Refused}
-use Rattle.blocks.specs.Params.{partiesFit, thresholdFits, lengthFits, demand, paramsTest, Bounds}
+use Rattle.blocks.specs.Params.{partiesFit, thresholdFits, lengthFits, demand, andThen, paramsTest, Bounds}
 
 -- a test whose passing is absurd is false
 pub refuted : (b : Bool) → (b ≡ true → ⊥) → false ≡ b
@@ -95,3 +95,30 @@ bounds g e =
       byte-one = r .0;
       longest = r .1;
     }
+
+-- ---- chains of tests
+
+pub then-refused : (p r rest : Coded) (f : Fault) → r ≡ p → r ≡ Refused f → r ≡ andThen p rest
+unfolding andThen
+then-refused p r rest f e h = h ∙ ap (λ x. andThen x rest) (sym h ∙ e)
+
+pub then-done : (p r rest : Coded) → r ≡ p → r ≡ Done → andThen p rest ≡ rest
+unfolding andThen
+then-done p r rest e h = ap (λ x. andThen x rest) (sym e ∙ h)
+
+-- a demand that two numbers are equal, or in order, by the outcome of the code's test
+pub differs : (a b : ℕ) (f : Fault) (rest : Coded) → (a ≡ b → ⊥) → demand (eqb a b) f rest ≡ Refused f
+unfolding demand
+differs a b f rest h = ap (λ x. demand x f rest) (ne-eqb a b h)
+
+pub equals : (a b : ℕ) (f : Fault) (rest : Coded) → a ≡ b → demand (eqb a b) f rest ≡ rest
+unfolding demand
+equals a b f rest h = ap (λ x. demand x f rest) (eq-eqb a b h)
+
+pub lacks : (a b : ℕ) (f : Fault) (rest : Coded) → b < a → demand (leb a b) f rest ≡ Refused f
+unfolding demand
+lacks a b f rest h = ap (λ x. demand x f rest) (lt-leb a b h)
+
+pub suffices : (a b : ℕ) (f : Fault) (rest : Coded) → a ≤ b → demand (leb a b) f rest ≡ rest
+unfolding demand
+suffices a b f rest h = ap (λ x. demand x f rest) (le-leb a b h)

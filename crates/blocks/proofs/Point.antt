@@ -1,10 +1,9 @@
 -- A zero coefficient behind the last one changes nothing: the steps of interpolation, on lists that have room for one coefficient more.
 -- Assumes nothing.
-use mathlib.Core.Path.{_≡_, refl, sym, ap, ap₂, _∙_, subst}
+use mathlib.Core.Path.{_≡_, refl, sym, ap, ap₂, _∙_}
 use mathlib.Core.List.{List, [], _∷_, _++_}
-use Prim.Native.Nat.{ℕ, zero, suc, _+_, _-_, _<_, _≤_}
+use Prim.Native.Nat.{ℕ, zero, suc, _+_, _-_, _<_}
 use native.Mathlib.Omega.{arith}
-use native.Mathlib.Numerals.{add-one}
 use lib.ListN.{length, getD, take, drop, set, length-take, length-append, length-drop, drop-of-length-le}
 use lib.Seq.{set-split, take-at, take-all}
 use Rattle.field.specs.Field.{_⊕_, _⊗_, powerOf}

@@ -1,21 +1,15 @@
 -- The laws of polynomials over the byte field: values, bytes, lengths and entries of sums and of products by a constant and by X - x. Assumes nothing.
 use mathlib.Core.Path.{_≡_, refl, sym, ap, ap₂, _∙_}
-use mathlib.Core.List.{List, [], _∷_, map}
-use Prim.Native.Nat.{ℕ, zero, suc, _+_, _<_, _≤_, _-_, max}
-use native.Mathlib.Nat.{not-suc-le-zero, pos-of-ne-zero}
-use native.Mathlib.Numerals.{add-one}
+use mathlib.Core.List.{List, [], _∷_}
+use Prim.Native.Nat.{ℕ, zero, suc, _<_, _-_, max}
 use native.Mathlib.Omega.{arith}
 use lib.Dec.{lit<}
-use lib.ListN.{length, getD, take, drop, set, length-map, length-take}
-use lib.Seq.{drop-cons, getD-take}
-use lib.Bits.{bitXor}
+use lib.ListN.{length, getD}
 use Rattle.area.specs.Area.{Bytes}
-use Rattle.area.proofs.Fills.{mixed, mixed-start, mixed-end, mixed-rest, mixed-front, up, down}
 use Rattle.field.specs.Field.{_⊕_, _⊗_, powerOf}
 use Rattle.field.proofs.Sum as X
 use Rattle.field.proofs.Ring as R
-use Rattle.field.proofs.Power.{inverse-right}
-use Rattle.blocks.specs.Poly.{eval, plus, scale, withRoot, vanishing, newtonStep, through, All, Distinct}
+use Rattle.blocks.specs.Poly.{eval, plus, scale, withRoot, vanishing, newtonStep, through}
 
 pub eval-byte : (p : List ℕ) (x : ℕ) → Bytes p → eval p x < 256
 unfolding eval

@@ -1,21 +1,17 @@
 -- The turns of the loops over coefficients: Horner's rule, the sum with a multiple, and the product by X - x in place. Assumes nothing.
-use mathlib.Core.Path.{_≡_, refl, sym, ap, ap₂, _∙_}
-use mathlib.Core.List.{List, [], _∷_, map}
-use Prim.Native.Nat.{ℕ, zero, suc, _+_, _<_, _≤_, _-_, max}
-use native.Mathlib.Nat.{not-suc-le-zero, pos-of-ne-zero}
+use mathlib.Core.Path.{_≡_, sym, ap, ap₂, _∙_}
+use mathlib.Core.List.{List, _∷_}
+use Prim.Native.Nat.{ℕ, zero, suc, _+_, _<_, _≤_, _-_}
+use native.Mathlib.Nat.{not-suc-le-zero}
 use native.Mathlib.Numerals.{add-one}
 use native.Mathlib.Omega.{arith}
-use lib.Dec.{lit<}
-use lib.ListN.{length, getD, take, drop, set, length-map, length-take}
+use lib.ListN.{length, getD, take, drop, set, length-take}
 use lib.Seq.{drop-cons, getD-take}
 use lib.Bits.{bitXor}
-use Rattle.area.specs.Area.{Bytes}
-use Rattle.area.proofs.Fills.{mixed, mixed-start, mixed-end, mixed-rest, mixed-front, up, down}
-use Rattle.field.specs.Field.{_⊕_, _⊗_, powerOf}
+use Rattle.area.proofs.Fills.{mixed, mixed-start, mixed-rest, mixed-front, up, down}
+use Rattle.field.specs.Field.{_⊕_, _⊗_}
 use Rattle.field.proofs.Sum as X
-use Rattle.field.proofs.Ring as R
-use Rattle.field.proofs.Power.{inverse-right}
-use Rattle.blocks.specs.Poly.{eval, plus, scale, withRoot, vanishing, newtonStep, through, All, Distinct}
+use Rattle.blocks.specs.Poly.{eval, plus, scale, withRoot}
 use Rattle.blocks.proofs.Polynomials.{plus-length, scale-length, getD-plus, getD-scale}
 
 -- Horner's step

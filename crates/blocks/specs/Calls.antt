@@ -27,15 +27,15 @@ written (Refused f) out bytes = outcome (Refused f) out
 
 -- ---- encode
 
--- 3: "or value not L long"; 10: "lent area short"
-unfoldable pub encodeTest : Params → List ℕ → List ℕ → Coded
-encodeTest g value out =
+-- 3: "or value not L long"; 10: "lent area short". For a value of length bytes and an area of room bytes
+unfoldable pub encodeTest : Params → ℕ → ℕ → Coded
+encodeTest g len room =
     andThen (paramsTest g)
-    (demand (eqb (length value) (g .size)) Length
-    (demand (leb (g .n * blockLength (g .size) (g .k)) (length out)) Room Done))
+    (demand (eqb len (g .size)) Length
+    (demand (leb (g .n * blockLength (g .size) (g .k)) room) Room Done))
 
 unfoldable pub encoding : Params → List ℕ → List ℕ → Outcome
-encoding g value out = written (encodeTest g value out) out (encoded (g .n) (g .k) value)
+encoding g value out = written (encodeTest g (length value) (length out)) out (encoded (g .n) (g .k) value)
 
 -- ---- decode
 
@@ -44,19 +44,23 @@ unfoldable pub absent : ℕ → List ℕ → Bool
 absent j [] = true
 absent j (i ∷ js) = not (eqb i j) && absent j js
 
+-- j is 1 to n
+unfoldable pub numberFits : ℕ → ℕ → Bool
+numberFits n j = leb 1 j && leb j n
+
 -- each number is 1 to n, and none is repeated
 unfoldable pub numbersFit : ℕ → List ℕ → Bool
 numbersFit n [] = true
-numbersFit n (j ∷ js) = leb 1 j && leb j n && absent j js && numbersFit n js
+numbersFit n (j ∷ js) = numberFits n j && absent j js && numbersFit n js
 
--- 9: "blocks to decode not k in number, not b long, or numbers repeated or not 1 to n"; 10: "lent area short"
-unfoldable pub decodeTest : Params → List ℕ → List ℕ → List ℕ → Coded
-decodeTest g numbers blocks out =
+-- 9: "blocks to decode not k in number, not b long, or numbers repeated or not 1 to n"; 10: "lent area short". For blocks of len bytes in all
+unfoldable pub decodeTest : Params → List ℕ → ℕ → ℕ → Coded
+decodeTest g numbers len room =
     andThen (paramsTest g)
     (demand (eqb (length numbers) (g .k)) Blocks
-    (demand (eqb (length blocks) (g .k * blockLength (g .size) (g .k))) Blocks
+    (demand (eqb len (g .k * blockLength (g .size) (g .k))) Blocks
     (demand (numbersFit (g .n) numbers) Blocks
-    (demand (leb (g .size) (length out)) Room Done))))
+    (demand (leb (g .size) room) Room Done))))
 
 unfoldable pub decoding : Params → List ℕ → List ℕ → List ℕ → Outcome
-decoding g numbers blocks out = written (decodeTest g numbers blocks out) out (valueOf numbers (g .size) blocks)
+decoding g numbers blocks out = written (decodeTest g numbers (length blocks) (length out)) out (valueOf numbers (g .size) blocks)

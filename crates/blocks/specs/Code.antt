@@ -17,9 +17,13 @@ padded n v = v ++ replicate (n - length v) 0
 unfoldable pub stripe : ℕ → List ℕ → ℕ → List ℕ
 stripe k w r = part w (r * k) k
 
--- "Byte r of block j is that polynomial at j": block j of the value v
+-- "Byte r of block j is that polynomial at j", for a value v
+unfoldable pub blockByte : ℕ → List ℕ → ℕ → ℕ → ℕ
+blockByte k v j r = eval (stripe k (padded (k * blockLength (length v) k) v) r) j
+
+-- block j of the value v
 unfoldable pub blockOf : ℕ → List ℕ → ℕ → List ℕ
-blockOf k v j = table (blockLength (length v) k) (λ r. eval (stripe k (padded (k * blockLength (length v) k) v) r) j)
+blockOf k v j = table (blockLength (length v) k) (blockByte k v j)
 
 -- blocks 1 to n of the value v, end to end
 unfoldable pub encoded : ℕ → ℕ → List ℕ → List ℕ

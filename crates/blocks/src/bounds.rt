@@ -1,8 +1,10 @@
 // The bounds of a register's parameters.
 ghost use mathlib.Core.Path.{_≡_};
 ghost use Prim.Native.Nat.{_<_, _≤_};
+ghost use lib.ListN.{drop};
 ghost use Rattle.blocks.specs.Params.{partiesFit, thresholdFits, lengthFits, paramsTest};
 ghost use Rattle.blocks.specs.Code.{blockLength};
+ghost use Rattle.blocks.specs.Calls.{numberFits, absent, numbersFit, encodeTest, decodeTest};
 use crate::Coded;
 use crate::Fault;
 use crate::Params;
@@ -81,4 +83,95 @@ pub fn block_length(size: usize, k: usize) -> usize
     ensures { λ r. ⌜ r ≡ blockLength size k ⌝ }
 {
     (size + (k - 1)) / k
+}
+
+// The tests of `encode`, for a value of length bytes and an area of room bytes.
+pub fn encode_test(g: Params, length: usize, room: usize) -> Coded
+    ensures { λ r. ⌜ r ≡ encodeTest g length room ⌝ }
+{
+    let tested = params_test(g);
+    let Coded::Done = tested else {
+        return tested;
+    };
+    let n = g.n;
+    let k = g.k;
+    let size = g.size;
+    if length != size {
+        return Coded::Refused(Fault::Length);
+    }
+    if room < n * block_length(size, k) {
+        return Coded::Refused(Fault::Room);
+    }
+    Coded::Done
+}
+
+// Whether j is 1 to n.
+fn number_fits(n: usize, j: u8) -> bool
+    ensures { λ r. ⌜ r ≡ numberFits n j ⌝ }
+{
+    if j == 0 {
+        return false;
+    }
+    if n < j as usize {
+        return false;
+    }
+    true
+}
+
+// Whether j is none of js from index i on.
+fn absent_from(js: &[u8], i: usize, j: u8) -> bool
+    ensures { λ r. ⌜ r ≡ absent j (drop i (now (js .entry))) ⌝ }
+{
+    let mut m = i;
+    while m < js.len() {
+        if js[m] == j {
+            return false;
+        }
+        m += 1;
+    }
+    true
+}
+
+// Whether the numbers js are 1 to n and none is repeated.
+pub fn numbers_fit(n: usize, js: &[u8]) -> bool
+    ensures { λ r. ⌜ r ≡ numbersFit n (now (js .entry)) ⌝ }
+{
+    let mut i = 0;
+    while i < js.len() {
+        let j = js[i];
+        if !number_fits(n, j) {
+            return false;
+        }
+        if !absent_from(js, i + 1, j) {
+            return false;
+        }
+        i += 1;
+    }
+    true
+}
+
+// The tests of `decode`, for blocks of length bytes in all and an area of room bytes.
+pub fn decode_test(g: Params, numbers: &[u8], length: usize, room: usize) -> Coded
+    ensures { λ r. ⌜ r ≡ decodeTest g (now (numbers .entry)) length room ⌝ }
+{
+    let tested = params_test(g);
+    let Coded::Done = tested else {
+        return tested;
+    };
+    let n = g.n;
+    let k = g.k;
+    let size = g.size;
+    if numbers.len() != k {
+        return Coded::Refused(Fault::Blocks);
+    }
+    if length != k * block_length(size, k) {
+        return Coded::Refused(Fault::Blocks);
+    }
+    if !numbers_fit(n, numbers) {
+        return Coded::Refused(Fault::Blocks);
+    }
+    if room < size {
+        return Coded::Refused(Fault::Room);
+    }
+    Coded::Done
 }

@@ -1,7 +1,12 @@
 // The block code of document 01: a value as n blocks, any k of which give it back. This crate ships by itself to partners who only decode.
 ghost use mathlib.Core.Path.{_≡_};
+ghost use Rattle.blocks.specs.Calls.{outcome, encoding, decoding};
+use decoder::decode_into;
+use encoder::encode_blocks;
 
 pub mod bounds;
+pub mod decoder;
+pub mod encoder;
 pub mod polynomial;
 
 // A register's parameters: n servers, of which at most t are false; a value of size bytes (L in document 01) is decoded from k blocks.
@@ -25,4 +30,35 @@ pub enum Fault {
 pub enum Coded {
     Done,
     Refused(Fault),
+}
+
+// The n blocks of a value, end to end in the front of out.
+pub fn encode(g: Params, value: &[u8], out: &mut [u8]) -> Coded
+    ensures { λ r. ⌜ outcome r (now (out .exit)) ≡ encoding g (now (value .entry)) (now (out .entry)) ⌝ }
+{
+    let tested = bounds::encode_test(g, value.len(), out.len());
+    let Coded::Done = tested else {
+        return tested;
+    };
+    let ps = field::powers();
+    let ls = field::logs();
+    let n = g.n;
+    let k = g.k;
+    encode_blocks(value, n, k, out, &ps, &ls);
+    Coded::Done
+}
+
+// The value from k blocks, which lie end to end in blocks, with their numbers, into the front of out.
+pub fn decode(g: Params, numbers: &[u8], blocks: &[u8], out: &mut [u8]) -> Coded
+    ensures { λ r. ⌜ outcome r (now (out .exit)) ≡ decoding g (now (numbers .entry)) (now (blocks .entry)) (now (out .entry)) ⌝ }
+{
+    let tested = bounds::decode_test(g, numbers, blocks.len(), out.len());
+    let Coded::Done = tested else {
+        return tested;
+    };
+    let ps = field::powers();
+    let ls = field::logs();
+    let size = g.size;
+    decode_into(numbers, blocks, size, out, 0, &ps, &ls);
+    Coded::Done
 }

@@ -1,7 +1,7 @@
 use borrow.Author.Needs.{needs}
-use mathlib.Core.Path.{_≡_, refl, sym, ap, ap₂, _∙_}
+use mathlib.Core.Path.{_∙_}
 use native.Mathlib.Omega.{arith}
-use lib.ListN.{length, length-set, length-take, length-drop, length-append, set, take, drop}
+use lib.ListN.{length, length-set, length-take, length-drop}
 use Prim.Native.Nat.{ℕ, _<_, _-_}
 use lib.Seq.{length-front}
 use Rattle.blocks.proofs.Point.{Level, level, no-points}
@@ -25,7 +25,6 @@ abbrev interpolate-below : ℕ → In 6 interpolate-kinds.ps
 interpolate-below t =
     and 6 interpolate-kinds.ps (falls 6 interpolate-kinds.ps _<_ μ-interpolate t) interpolate.Pre
 
--- src/lib.rt:76:9
 interpolate-slice-write-m : (t : ℕ) → interpolate-lts.Need-slice-write-m (
   interpolate-below t,
   interpolate.Post,
@@ -34,7 +33,6 @@ interpolate-slice-write-m : (t : ℕ) → interpolate-lts.Need-slice-write-m (
 ) (interpolate-at t) interpolate.Post
 interpolate-slice-write-m t c = omega arith
 
--- src/lib.rt:77:9
 interpolate-same-length : (t : ℕ) → interpolate-lts.Need-same-length (
   interpolate-below t,
   interpolate.Post,
@@ -43,7 +41,6 @@ interpolate-same-length : (t : ℕ) → interpolate-lts.Need-same-length (
 ) (interpolate-at t) interpolate.Post
 interpolate-same-length t c = simp length-set
 
--- src/lib.rt:77:9
 interpolate-returns : (t : ℕ) → interpolate-lts.Need-returns (
   interpolate-below t,
   interpolate.Post,
@@ -54,7 +51,6 @@ interpolate-returns t c =
     let a = c .before .before .before .before .before in
     no-points (a .args .xs .now) (a .args .ys .now) (a .args .p .now) (a .args .m .now) (c .if1 .taken) (omega arith) (omega arith)
 
--- src/lib.rt:79:13
 interpolate-sub-n : (t : ℕ) → interpolate-lts.Need-sub-n (
   interpolate-below t,
   interpolate.Post,
@@ -63,7 +59,6 @@ interpolate-sub-n : (t : ℕ) → interpolate-lts.Need-sub-n (
 ) (interpolate-at t) interpolate.Post
 interpolate-sub-n t c = omega arith
 
--- src/lib.rt:80:17
 interpolate-sub-interpolate : (t : ℕ) → interpolate-lts.Need-sub-interpolate (
   interpolate-below t,
   interpolate.Post,
@@ -72,7 +67,6 @@ interpolate-sub-interpolate : (t : ℕ) → interpolate-lts.Need-sub-interpolate
 ) (interpolate-at t) interpolate.Post
 interpolate-sub-interpolate t c = omega arith
 
--- src/lib.rt:80:17
 interpolate-part-interpolate-start : (t : ℕ) → interpolate-lts.Need-part-interpolate-start (
   interpolate-below t,
   interpolate.Post,
@@ -81,7 +75,6 @@ interpolate-part-interpolate-start : (t : ℕ) → interpolate-lts.Need-part-int
 ) (interpolate-at t) interpolate.Post
 interpolate-part-interpolate-start t c = omega arith
 
--- src/lib.rt:80:17
 interpolate-part-interpolate-end : (t : ℕ) → interpolate-lts.Need-part-interpolate-end (
   interpolate-below t,
   interpolate.Post,
@@ -90,7 +83,6 @@ interpolate-part-interpolate-end : (t : ℕ) → interpolate-lts.Need-part-inter
 ) (interpolate-at t) interpolate.Post
 interpolate-part-interpolate-end t c = omega arith
 
--- src/lib.rt:80:27
 interpolate-sub-interpolate-2 : (t : ℕ) → interpolate-lts.Need-sub-interpolate-2 (
   interpolate-below t,
   interpolate.Post,
@@ -99,7 +91,6 @@ interpolate-sub-interpolate-2 : (t : ℕ) → interpolate-lts.Need-sub-interpola
 ) (interpolate-at t) interpolate.Post
 interpolate-sub-interpolate-2 t c = omega arith
 
--- src/lib.rt:80:27
 interpolate-part-interpolate-start-2 : (t : ℕ) → interpolate-lts.Need-part-interpolate-start-2 (
   interpolate-below t,
   interpolate.Post,
@@ -108,7 +99,6 @@ interpolate-part-interpolate-start-2 : (t : ℕ) → interpolate-lts.Need-part-i
 ) (interpolate-at t) interpolate.Post
 interpolate-part-interpolate-start-2 t c = omega arith
 
--- src/lib.rt:80:27
 interpolate-part-interpolate-end-2 : (t : ℕ) → interpolate-lts.Need-part-interpolate-end-2 (
   interpolate-below t,
   interpolate.Post,
@@ -117,7 +107,6 @@ interpolate-part-interpolate-end-2 : (t : ℕ) → interpolate-lts.Need-part-int
 ) (interpolate-at t) interpolate.Post
 interpolate-part-interpolate-end-2 t c = omega arith
 
--- src/lib.rt:80:37
 interpolate-slice-relend-prefix-interpolate :
     (t : ℕ) → interpolate-lts.Need-slice-relend-prefix-interpolate (
       interpolate-below t,
@@ -127,7 +116,6 @@ interpolate-slice-relend-prefix-interpolate :
     ) (interpolate-at t) interpolate.Post
 interpolate-slice-relend-prefix-interpolate t c = omega arith
 
--- src/lib.rt:80:37
 interpolate-slice-aggregate-interpolate :
     (t : ℕ) → interpolate-lts.Need-slice-aggregate-interpolate (
       interpolate-below t,
@@ -137,7 +125,6 @@ interpolate-slice-aggregate-interpolate :
     ) (interpolate-at t) interpolate.Post
 interpolate-slice-aggregate-interpolate t c = simp length-take (omega arith)
 
--- src/lib.rt:80:50
 interpolate-slice-relend-prefix-interpolate-2 :
     (t : ℕ) → interpolate-lts.Need-slice-relend-prefix-interpolate-2 (
       interpolate-below t,
@@ -147,7 +134,6 @@ interpolate-slice-relend-prefix-interpolate-2 :
     ) (interpolate-at t) interpolate.Post
 interpolate-slice-relend-prefix-interpolate-2 t c = omega arith
 
--- src/lib.rt:80:50
 interpolate-slice-aggregate-interpolate-2 :
     (t : ℕ) → interpolate-lts.Need-slice-aggregate-interpolate-2 (
       interpolate-below t,
@@ -157,7 +143,6 @@ interpolate-slice-aggregate-interpolate-2 :
     ) (interpolate-at t) interpolate.Post
 interpolate-slice-aggregate-interpolate-2 t c = simp length-take (omega arith)
 
--- src/lib.rt:80:5
 interpolate-interpolate-requires : (t : ℕ) → interpolate-lts.Need-interpolate-requires (
   interpolate-below t,
   interpolate.Post,
@@ -167,7 +152,6 @@ interpolate-interpolate-requires : (t : ℕ) → interpolate-lts.Need-interpolat
 interpolate-interpolate-requires t c κs =
     (simp (length-take, length-drop) (omega arith), (simp (length-take, length-drop) (omega arith), simp (length-take, length-drop) (omega arith), simp (length-take, length-drop) (omega arith), search needs))
 
--- src/lib.rt:81:22
 interpolate-shared-slice-read-with-point :
     (t : ℕ) → interpolate-lts.Need-shared-slice-read-with-point (
       interpolate-below t,
@@ -177,7 +161,6 @@ interpolate-shared-slice-read-with-point :
     ) (interpolate-at t) interpolate.Post
 interpolate-shared-slice-read-with-point t c = omega arith
 
--- src/lib.rt:81:29
 interpolate-shared-slice-read-with-point-2 :
     (t : ℕ) → interpolate-lts.Need-shared-slice-read-with-point-2 (
       interpolate-below t,
@@ -187,7 +170,6 @@ interpolate-shared-slice-read-with-point-2 :
     ) (interpolate-at t) interpolate.Post
 interpolate-shared-slice-read-with-point-2 t c = omega arith
 
--- src/lib.rt:81:5
 interpolate-with-point-requires : (t : ℕ) → interpolate-lts.Need-with-point-requires (
   interpolate-below t,
   interpolate.Post,
@@ -202,7 +184,6 @@ interpolate-with-point-requires t c κs =
       search needs,
     )
 
--- src/lib.rt:70:1
 interpolate-same-length-2 : (t : ℕ) → interpolate-lts.Need-same-length-2 (
   interpolate-below t,
   interpolate.Post,
@@ -215,7 +196,6 @@ interpolate-same-length-2 t c =
     c .before .before .before .before .with-point .kept .0
     ∙ length-front (a .args .p .now) (r .last .1 .1 .0) (length (a .args .xs .now) - 1) (r .kept .1 .1 .0)
 
--- src/lib.rt:70:1
 interpolate-same-length-3 : (t : ℕ) → interpolate-lts.Need-same-length-3 (
   interpolate-below t,
   interpolate.Post,
@@ -228,7 +208,6 @@ interpolate-same-length-3 t c =
     c .before .before .before .before .with-point .kept .1 .0
     ∙ length-front (a .args .m .now) (r .last .1 .1 .1 .0) (length (a .args .xs .now)) (r .kept .1 .1 .1 .0)
 
--- src/lib.rt:70:1
 interpolate-returns-2 : (t : ℕ) → interpolate-lts.Need-returns-2 (
   interpolate-below t,
   interpolate.Post,

@@ -9,9 +9,6 @@ use Rattle.blocks.specs.Poly.{eval}
 use Rattle.blocks.proofs.Turns.{horner-step}
 use Rattle.blocks.proofs.polynomial.value_at.Statement.{statement}
 use Rattle.blocks.proofs.polynomial.value_at.Tie as tie
-use Rattle.blocks.proofs.polynomial.value_at.Reads as reads
-use Rattle.blocks.proofs.polynomial.value_at.Lts as lts
-use Rattle.field.proofs.mul.Reads as mul-reads
 
 abbrev Inv-loop : tie.InvT-loop
 Inv-loop p x ps ls acc₀ i₀ acc i = (i ≤ length p) × (acc ≡ eval (drop i p) x)
@@ -19,33 +16,26 @@ Inv-loop p x ps ls acc₀ i₀ acc i = (i ≤ length p) × (acc ≡ eval (drop i
 abbrev μ-loop : tie.MeasureT-loop
 μ-loop p x ps ls acc₀ i₀ acc i = i
 
--- src/lib.rt:13:5
 loop-holds : tie.Need-loop-holds Inv-loop μ-loop
 unfolding eval
 loop-holds c = (search needs, sym (ap (λ (l : List ℕ). eval l (c .before .args .x)) (drop-length (c .before .args .p .now))))
 
--- src/lib.rt:14:9
 sub-i : tie.Need-sub-i Inv-loop μ-loop
 sub-i c = search needs
 
--- src/lib.rt:15:15
 shared-slice-read-acc : tie.Need-shared-slice-read-acc Inv-loop μ-loop
 shared-slice-read-acc c = search needs
 
--- src/lib.rt:15:22
 mul-requires : tie.Need-mul-requires Inv-loop μ-loop
 mul-requires c κs = search needs
 
--- src/lib.rt:13:5
 loop-less : tie.Need-loop-less Inv-loop μ-loop
 loop-less c = search needs
 
--- src/lib.rt:13:5
 loop-again : tie.Need-loop-again Inv-loop μ-loop
 loop-again c =
     (search needs, horner-step _ _ _ _ _ (c .before .before .loop-test .taken) (c .before .before .before .loop .inv .0) (c .before .before .before .loop .inv .1) (c .mul .ensures))
 
--- src/lib.rt:8:1
 returns : tie.Need-returns Inv-loop μ-loop
 returns c =
     let z : c .before .loop .i ≡ 0 = omega arith in

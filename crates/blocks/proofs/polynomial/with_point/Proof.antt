@@ -1,53 +1,39 @@
-use mathlib.Core.Path.{_≡_, refl, sym, ap, ap₂, _∙_}
-use Prim.Native.Nat.{ℕ, _-_}
+use mathlib.Core.Path.{_∙_}
+use Prim.Native.Nat.{_-_}
 use native.Mathlib.Omega.{arith}
-use lib.ListN.{length, length-set, length-take, set, take}
+use lib.ListN.{length, length-set, length-take, take}
 use Rattle.blocks.proofs.Point.{step-front, root-front}
 use borrow.Author.Needs.{needs}
 use Rattle.blocks.proofs.polynomial.with_point.Statement.{statement}
 use Rattle.blocks.proofs.polynomial.with_point.Tie as tie
-use Rattle.blocks.proofs.polynomial.with_point.Reads as reads
-use Rattle.blocks.proofs.polynomial.with_point.Lts as lts
-use Rattle.blocks.proofs.polynomial.newton_step.Reads as newton-step-reads
-use Rattle.blocks.proofs.polynomial.with_root.Reads as with-root-reads
 
--- src/lib.rt:63:7
 sub-p : tie.Need-sub-p
 sub-p c = search needs
 
--- src/lib.rt:63:5
 slice-write-p : tie.Need-slice-write-p
 slice-write-p c = search needs
 
--- src/lib.rt:64:20
 slice-reshare-prefix-newton-step : tie.Need-slice-reshare-prefix-newton-step
 slice-reshare-prefix-newton-step c = search needs
 
--- src/lib.rt:64:20
 slice-aggregate-newton-step : tie.Need-slice-aggregate-newton-step
 slice-aggregate-newton-step c = simp length-take (omega arith)
 
--- src/lib.rt:64:5
 newton-step-requires : tie.Need-newton-step-requires
 newton-step-requires c κs = (simp (length-set, length-take) (omega arith), search needs)
 
--- src/lib.rt:65:5
 slice-write-m : tie.Need-slice-write-m
 slice-write-m c = search needs
 
--- src/lib.rt:66:5
 with-root-requires : tie.Need-with-root-requires
 with-root-requires c κs = (simp length-set (omega arith), search needs)
 
--- src/lib.rt:57:1
 same-length : tie.Need-same-length
 same-length c = c .before .before .before .before .before .before .newton-step .kept .0 ∙ simp length-set
 
--- src/lib.rt:57:1
 same-length-2 : tie.Need-same-length-2
 same-length-2 c = c .before .before .with-root .kept .0 ∙ simp length-set
 
--- src/lib.rt:57:1
 returns : tie.Need-returns
 returns c =
     let a = c .before .before .before .before .before .before .before .before .before .before .before in (

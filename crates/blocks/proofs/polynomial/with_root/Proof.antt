@@ -1,15 +1,12 @@
 use borrow.Author.Needs.{needs}
 use mathlib.Core.Path.{_≡_, refl, sym, ap, _∙_}
-use Prim.Native.Nat.{ℕ, _≤_, _<_, _-_, _+_}
+use Prim.Native.Nat.{ℕ, _<_, _-_, _+_}
 use native.Mathlib.Omega.{arith}
 use lib.ListN.{length, length-set}
 use Rattle.area.proofs.Fills.{mixed, mixed-end}
 use Rattle.blocks.proofs.Turns.{rooted, rooted-length, root-turn, root-last}
 use Rattle.blocks.proofs.polynomial.with_root.Statement.{statement}
 use Rattle.blocks.proofs.polynomial.with_root.Tie as tie
-use Rattle.blocks.proofs.polynomial.with_root.Reads as reads
-use Rattle.blocks.proofs.polynomial.with_root.Lts as lts
-use Rattle.field.proofs.mul.Reads as mul-reads
 
 abbrev Inv-loop : tie.InvT-loop
 Inv-loop m₀ x ps ls i₀ m i = (i < length m₀) × (length m ≡ length m₀) × (m ≡ mixed m₀ (rooted x m₀) (i + 1))
@@ -17,65 +14,50 @@ Inv-loop m₀ x ps ls i₀ m i = (i < length m₀) × (length m ≡ length m₀)
 abbrev μ-loop : tie.MeasureT-loop
 μ-loop m₀ x ps ls i₀ m i = i
 
--- src/lib.rt:47:17
 sub-i : tie.Need-sub-i Inv-loop μ-loop
 sub-i c = search needs
 
--- src/lib.rt:48:5
 loop-holds : tie.Need-loop-holds Inv-loop μ-loop
 loop-holds c = (search needs, refl, sym (mixed-end _ _ _ (sym (rooted-length (c .before .args .x) (c .before .args .m .now))) (omega (arith, rooted-length (c .before .args .x) (c .before .args .m .now)))))
 
--- src/lib.rt:49:30
 slice-read-mul : tie.Need-slice-read-mul Inv-loop μ-loop
 slice-read-mul c = search needs
 
--- src/lib.rt:49:16
 mul-requires : tie.Need-mul-requires Inv-loop μ-loop
 mul-requires c κs = search needs
 
--- src/lib.rt:49:40
 sub-m : tie.Need-sub-m Inv-loop μ-loop
 sub-m c = search needs
 
--- src/lib.rt:49:38
 slice-read-m : tie.Need-slice-read-m Inv-loop μ-loop
 slice-read-m c = search needs
 
--- src/lib.rt:49:9
 slice-write-m : tie.Need-slice-write-m Inv-loop μ-loop
 slice-write-m c = search needs
 
--- src/lib.rt:50:9
 sub-i-2 : tie.Need-sub-i-2 Inv-loop μ-loop
 sub-i-2 c = search needs
 
--- src/lib.rt:48:5
 loop-less : tie.Need-loop-less Inv-loop μ-loop
 loop-less c = search needs
 
--- src/lib.rt:48:5
 loop-again : tie.Need-loop-again Inv-loop μ-loop
 loop-again c =
     let t : tie.At-loop Inv-loop μ-loop = c .before .before .before .before in
     (search needs, simp length-set (t .loop .inv .1), root-turn _ _ _ _ _ (omega arith) (t .loop .inv .0) (t .loop .inv .2) (c .before .mul .ensures))
 
--- src/lib.rt:52:26
 slice-read-mul-2 : tie.Need-slice-read-mul-2 Inv-loop μ-loop
 slice-read-mul-2 c = search needs
 
--- src/lib.rt:52:12
 mul-requires-2 : tie.Need-mul-requires-2 Inv-loop μ-loop
 mul-requires-2 c κs = search needs
 
--- src/lib.rt:52:5
 slice-write-m-2 : tie.Need-slice-write-m-2 Inv-loop μ-loop
 slice-write-m-2 c = search needs
 
--- src/lib.rt:43:1
 same-length : tie.Need-same-length Inv-loop μ-loop
 same-length c = search needs
 
--- src/lib.rt:43:1
 returns : tie.Need-returns Inv-loop μ-loop
 unfolding rooted
 returns c =

@@ -1,0 +1,59 @@
+// From a value to its blocks. The tables ps and ls are lent by the entry point.
+ghost use mathlib.Core.Path.{_≡_};
+ghost use Prim.Native.Nat.{_+_, _*_, _<_, _≤_};
+ghost use lib.ListN.{length};
+ghost use lib.Seq.{sets};
+ghost use Rattle.field.specs.Field.{Tables};
+ghost use Rattle.blocks.specs.Code.{blockLength, blockByte, blockOf, encoded};
+use crate::bounds::block_length;
+use crate::polynomial::value_at;
+
+// The value at x of the polynomial of stripe r of v. Zeros behind the last coefficient change nothing, so no padding is stored.
+fn stripe_value(v: &[u8], k: usize, r: usize, x: u8, ps: &[u8; 255], ls: &[u8; 256]) -> u8
+    requires { ⌜ (0 < k) × (k ≤ 8) × (length (now v) ≤ 256) × (r < blockLength (length (now v)) k) × Tables (now ps) (now ls) ⌝ }
+    ensures { λ s. ⌜ s ≡ blockByte k (now (v .entry)) x r ⌝ }
+{
+    let start = r * k;
+    let end = start + k;
+    if end <= v.len() {
+        return value_at(&v[start..end], x, ps, ls);
+    }
+    value_at(&v[start..], x, ps, ls)
+}
+
+// Block j of the value v into out, from index at on.
+pub fn encode_block(
+    v: &[u8],
+    k: usize,
+    j: u8,
+    out: &mut [u8],
+    at: usize,
+    ps: &[u8; 255],
+    ls: &[u8; 256],
+)
+    requires { ⌜ (0 < k) × (k ≤ 8) × (length (now v) ≤ 256) × (at + blockLength (length (now v)) k ≤ length (now out)) × Tables (now ps) (now ls) ⌝ }
+    ensures { λ _. ⌜ now (out .exit) ≡ sets (now (out .entry)) at (blockOf k (now (v .entry)) j) ⌝ }
+{
+    let b = block_length(v.len(), k);
+    let mut r = 0;
+    while r < b {
+        out[at + r] = stripe_value(v, k, r, j, ps, ls);
+        r += 1;
+    }
+}
+
+// Blocks 1 to n of the value v into the front of out.
+pub fn encode_blocks(v: &[u8], n: usize, k: usize, out: &mut [u8], ps: &[u8; 255], ls: &[u8; 256])
+    requires { ⌜ (0 < k) × (k ≤ 8) × (n ≤ 10) × (length (now v) ≤ 256) × (n * blockLength (length (now v)) k ≤ length (now out)) × Tables (now ps) (now ls) ⌝ }
+    ensures { λ _. ⌜ now (out .exit) ≡ sets (now (out .entry)) 0 (encoded n k (now (v .entry))) ⌝ }
+{
+    let b = block_length(v.len(), k);
+    let mut at = 0;
+    let mut i = 0;
+    while i < n {
+        let j = (i + 1) as u8;
+        encode_block(v, k, j, out, at, ps, ls);
+        at += b;
+        i += 1;
+    }
+}

@@ -7,3 +7,5 @@ pub mod Turns
 pub mod Point
 pub mod Stripes
 pub mod Values
+pub mod ByteLists
+pub mod RoundTrip

@@ -1,14 +1,17 @@
 -- The numbers of the blocks to decode: the turns of the loops that test them, and what a passed test tells. Assumes nothing.
 use Prim.Native.Nat.{ℕ, suc, _+_, _<_, _≤_}
 use mathlib.Core.Path.{_≡_, sym, ap, ap₂, _∙_}
-use mathlib.Core.Bool.{Bool, true, false, not}
-use mathlib.Core.List.{List}
+use mathlib.Core.Bool.{Bool, true, false, _&&_, not}
+use mathlib.Core.List.{List, [], _∷_}
 use native.Mathlib.Numerals.{add-one}
-use lib.Dec.{leb}
+use native.Mathlib.Omega.{arith}
+use lib.Dec.{leb, eqb}
 use lib.ListN.{length, drop, getD, drop-of-length-le}
 use lib.Seq.{drop-cons}
-use borrow.Author.Tests.{eq-eqb, ne-eqb, le-leb, leb-true, not-true, not-false}
+use borrow.Author.Tests.{eq-eqb, ne-eqb, le-leb, leb-true, eqb-false, not-true, not-false}
+use Rattle.area.specs.Area.{Bytes}
 use Rattle.area.proofs.Tests.{and-left, and-right}
+use Rattle.blocks.specs.Poly.{All, Distinct}
 use Rattle.blocks.specs.Calls.{numberFits, absent, numbersFit}
 use Rattle.blocks.proofs.Parameters.{refuted}
 
@@ -68,3 +71,30 @@ numbers-twice n j js m r s h e p a q b =
 pub numbers-end : (n : ℕ) (js : List ℕ) (m : ℕ) → length js ≤ m → numbersFit n (drop m js) ≡ true
 unfolding numbersFit
 numbers-end n js m h = rw (drop-of-length-le js)
+
+-- ---- what the passed test tells
+
+absent-facts : (j : ℕ) (js : List ℕ) → absent j js ≡ true → All (λ z. z ≡ j → ⊥) js
+unfolding absent
+absent-facts j [] e = tt
+absent-facts j (i ∷ js) e =
+    (eqb-false i j (not-true (eqb i j) (and-left (not (eqb i j)) (absent j js) e)), absent-facts j js (and-right (not (eqb i j)) (absent j js) e))
+
+-- numbers that pass are bytes, and distinct
+pub numbers-facts : (n : ℕ) (js : List ℕ) → n < 256 → numbersFit n js ≡ true → Bytes js × Distinct js
+unfolding numbersFit
+numbers-facts n [] h e = (tt, tt)
+numbers-facts n (j ∷ js) h e =
+    let ab = and-left (numberFits n j && absent j js) (numbersFit n js) e in
+    let f = number-facts n j (and-left (numberFits n j) (absent j js) ab) in
+    let a = absent-facts j js (and-right (numberFits n j) (absent j js) ab) in
+    let r = numbers-facts n js h (and-right (numberFits n j && absent j js) (numbersFit n js) e) in
+    ((omega arith, r .0), (a, r .1))
+
+-- each of them is 1 to n
+pub numbers-within : (n : ℕ) (js : List ℕ) → numbersFit n js ≡ true → All (λ j. (1 ≤ j) × (j ≤ n)) js
+unfolding numbersFit
+numbers-within n [] e = tt
+numbers-within n (j ∷ js) e =
+    let ab = and-left (numberFits n j && absent j js) (numbersFit n js) e in
+    (number-facts n j (and-left (numberFits n j) (absent j js) ab), numbers-within n js (and-right (numberFits n j && absent j js) (numbersFit n js) e))

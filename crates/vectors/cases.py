@@ -1,6 +1,7 @@
 # Writes stdin and stdout of this program: cases with the results that the standard library's SHA-256 and the plain algorithms below give, none of them
 # taken from the Rattle code. Run it in this folder.
 import hashlib
+import itertools
 
 lines, answers = [], []
 
@@ -61,13 +62,116 @@ for a in (0x53, 0x01, 0x02, 0x03, 0xff, 0x00):
     case('inverse', [f'{a:02x}'], f'{inverse(a):02x}')
 
 
+# ---- the block code: the answer's number (00: not turned down) and every byte of the lent area, whose bytes are ee before the call
+
+def block_length(k, length):
+    return -(-length // k)
+
+
+def blocks(n, k, value):
+    size = block_length(k, len(value))
+    padded = value + bytes(k * size - len(value))
+
+    def at(point, coefficients):
+        result = 0
+        for c in reversed(coefficients):
+            result = mul(result, point) ^ c
+        return result
+
+    return [bytes(at(j, padded[r * k:r * k + k]) for r in range(size)) for j in range(1, n + 1)]
+
+
+def parameters(n, t, k, length):
+    if not (4 <= n <= 10 and t >= 1 and n > 3 * t):
+        return 1
+    if not 1 <= k <= n - 2 * t:
+        return 2
+    return 0 if 1 <= length <= 256 else 3
+
+
+def answer(number, room, result):
+    area = b'' if number else result
+    return f'{number:02x} ' + (area + bytes([0xee]) * (room - len(area))).hex()
+
+
+def encode(n, t, k, length, room, value):
+    number = parameters(n, t, k, length)
+    if not number and len(value) != length:
+        number = 3
+    if not number and n * block_length(k, length) > room:
+        number = 10
+    result = b'' if number else b''.join(blocks(n, k, value))
+    case('encode', [str(x) for x in (n, t, k, length, room)] + [text(value)], answer(number, room, result))
+
+
+def decode(n, t, k, length, room, numbers, lent, value=b''):
+    number = parameters(n, t, k, length)
+    if not number and (len(numbers) != k or len(lent) != k * block_length(k, length) or len(set(numbers)) != k or not all(1 <= j <= n for j in numbers)):
+        number = 9
+    if not number and length > room:
+        number = 10
+    case('decode', [str(x) for x in (n, t, k, length, room)] + [text(bytes(numbers)), text(lent)], answer(number, room, value))
+
+
+def group(n, k, value, numbers):
+    made = blocks(n, k, value)
+    return b''.join(made[j - 1] for j in numbers)
+
+
+comment("Document 01's blocks, and the value from each pair of them, in both orders")
+value = bytes([1, 2, 3])
+assert [b.hex() for b in blocks(4, 2, value)] == ['0303', '0503', '0703', '0903']
+encode(4, 1, 2, 3, 8, value)
+encode(4, 1, 2, 3, 11, value)
+for numbers in itertools.permutations(range(1, 5), 2):
+    decode(4, 1, 2, 3, 3, numbers, group(4, 2, value, numbers), value)
+decode(4, 1, 2, 3, 5, (4, 2), group(4, 2, value, (4, 2)), value)
+
+comment('Other parameters: encoded, and decoded from several groups')
+for n, t, k, length, groups in (
+    (4, 1, 1, 1, [(1,), (4,)]),
+    (4, 1, 1, 5, [(3,)]),
+    (4, 1, 2, 1, [(1, 4)]),
+    (5, 1, 3, 7, [(1, 2, 3), (5, 3, 1), (2, 4, 5)]),
+    (7, 2, 3, 64, [(1, 2, 3), (7, 5, 6), (4, 1, 7)]),
+    (7, 1, 5, 33, [(1, 2, 3, 4, 5), (7, 6, 5, 4, 3)]),
+    (10, 3, 4, 256, [(1, 2, 3, 4), (10, 9, 8, 7), (2, 5, 7, 10)]),
+    (10, 3, 3, 256, [(8, 1, 10)]),
+    (10, 3, 2, 255, [(9, 4)]),
+    (10, 3, 1, 256, [(10,)]),
+    (10, 1, 8, 256, [(3, 4, 5, 6, 7, 8, 9, 10)]),
+):
+    value = hashlib.shake_128(f'{n} {k} {length}'.encode()).digest(length)
+    encode(n, t, k, length, n * block_length(k, length), value)
+    for numbers in groups:
+        decode(n, t, k, length, length, numbers, group(n, k, value, numbers), value)
+
+comment('Calls of encode that are turned down, the lowest number first')
+value = bytes([1, 2, 3])
+for n, t, k, length, room in (
+    (6, 2, 1, 3, 18), (3, 1, 1, 3, 9), (11, 1, 1, 3, 33), (4, 0, 1, 3, 12), (4, 1, 3, 3, 4), (4, 1, 0, 3, 4), (4, 1, 2, 257, 8), (4, 1, 2, 0, 8), (4, 1, 2, 4, 8),
+    (4, 1, 2, 2, 8), (4, 1, 2, 3, 7), (4, 1, 2, 3, 0), (6, 2, 9, 0, 0), (4, 1, 3, 300, 0), (4, 1, 2, 300, 0),
+):
+    encode(n, t, k, length, room, value)
+
+comment('Calls of decode that are turned down')
+lent = bytes.fromhex('03030503')
+for n, t, k, length, room, numbers, these in (
+    (6, 2, 1, 3, 3, (1,), lent[:3]), (4, 1, 3, 3, 3, (1, 2, 3), lent[:3]), (4, 1, 2, 257, 3, (1, 2), lent), (4, 1, 2, 0, 3, (1, 2), lent), (4, 1, 2, 3, 3, (1,), lent),
+    (4, 1, 2, 3, 3, (1, 2, 3), lent), (4, 1, 2, 3, 3, (1, 2), lent[:3]), (4, 1, 2, 3, 3, (1, 2), lent + bytes(1)), (4, 1, 2, 3, 3, (2, 2), lent),
+    (4, 1, 2, 3, 3, (0, 2), lent), (4, 1, 2, 3, 3, (1, 5), lent), (4, 1, 2, 3, 2, (1, 2), lent), (4, 1, 2, 3, 0, (2, 2), lent), (6, 2, 3, 0, 0, (2, 2), lent),
+):
+    decode(n, t, k, length, room, numbers, these)
+
+
 # ---- the comparison itself
 
-comment('Wrong expectations are seen: the next four must differ')
+comment('Wrong expectations are seen: the next five must differ')
 case('digest', ['616263'], hashlib.sha256(b'abc').hexdigest(), hashlib.sha256(b'abd').hexdigest())
 case('product', ['57', '83'], 'c1', 'c2')
 case('product', ['57', '83'], 'c1', 'c1c1')
 case('inverse', ['02'], '8d', '8')
+case('encode', ['4', '1', '2', '3', '8', '010203'], '00 0303050307030903', '00 0303050307030904')
 
 with open('stdin', 'w') as file:
     file.write('\n'.join(lines) + '\n')

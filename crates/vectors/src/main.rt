@@ -3,6 +3,7 @@
 use text::until;
 use text::word_at;
 
+mod coding;
 mod digests;
 mod products;
 mod report;
@@ -24,6 +25,14 @@ fn case(line: &[u8]) {
     }
     if area::equal(kind, b"inverse") {
         products::inverse(line, next);
+        return;
+    }
+    if area::equal(kind, b"encode") {
+        coding::encode(line, next);
+        return;
+    }
+    if area::equal(kind, b"decode") {
+        coding::decode(line, next);
         return;
     }
     report::echo(line);

@@ -64,6 +64,20 @@ fn digit(b: u8) -> u8
     16
 }
 
+// The decimal number from start to end, modulo 100000.
+pub fn number(line: &[u8], start: usize, end: usize) -> usize
+    requires { ⌜ (start ≤ end) × (end ≤ length (now line)) ⌝ }
+    ensures { λ r. ⌜ r < 100000 ⌝ }
+{
+    let mut x: usize = 0;
+    let mut i = start;
+    while i < end {
+        x = (x * 10 + digit(line[i]) as usize) % 100000;
+        i += 1;
+    }
+    x
+}
+
 // The hexadecimal digit of a value below 16.
 fn letter(x: u8) -> u8
     requires { ⌜ x < 16 ⌝ }

@@ -47,11 +47,35 @@ inverse-requires c κs = search needs
 returns-3 : tie.Need-returns-3
 returns-3 c = search needs
 
-echo-requires : tie.Need-echo-requires
-echo-requires c κs = search needs
+slice-aggregate-equal-4 : tie.Need-slice-aggregate-equal-4
+slice-aggregate-equal-4 c = search needs
+
+equal-requires-4 : tie.Need-equal-requires-4
+equal-requires-4 c κs = search needs
+
+encode-requires : tie.Need-encode-requires
+encode-requires c κs = search needs
 
 returns-4 : tie.Need-returns-4
 returns-4 c = search needs
+
+slice-aggregate-equal-5 : tie.Need-slice-aggregate-equal-5
+slice-aggregate-equal-5 c = search needs
+
+equal-requires-5 : tie.Need-equal-requires-5
+equal-requires-5 c κs = search needs
+
+decode-requires : tie.Need-decode-requires
+decode-requires c κs = search needs
+
+returns-5 : tie.Need-returns-5
+returns-5 c = search needs
+
+echo-requires : tie.Need-echo-requires
+echo-requires c κs = search needs
+
+returns-6 : tie.Need-returns-6
+returns-6 c = search needs
 
 pub case-spec : {M : Type 1} → statement M
 case-spec =
@@ -71,5 +95,13 @@ case-spec =
     equal-requires-3
     inverse-requires
     returns-3
+    slice-aggregate-equal-4
+    equal-requires-4
+    encode-requires
+    returns-4
+    slice-aggregate-equal-5
+    equal-requires-5
+    decode-requires
+    returns-5
     echo-requires
-    returns-4)
+    returns-6)

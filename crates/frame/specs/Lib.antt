@@ -1,0 +1,8 @@
+pub mod Refusals
+pub mod Params
+pub mod Stamps
+pub mod Messages
+pub mod Frames
+pub mod Outbox
+pub mod Chunks
+pub mod Coded

@@ -1,0 +1,45 @@
+-- Frames sent: end to end in the out area, and for each the class and number of its receiver in the to area, "the answer names each
+-- sent frame's receiver". Assumes nothing: these are definitions.
+use Prim.Native.Nat.{ℕ, _+_, _*_}
+use mathlib.Core.List.{List, [], _∷_, _++_}
+use lib.ListN.{length}
+use lib.Seq.{sets}
+use Rattle.frame.specs.declared.Party.{Party}
+use Rattle.frame.specs.declared.Party.the-variants as P
+use Rattle.frame.specs.declared.Place.{Place}
+use Rattle.frame.specs.Messages.{Sending}
+use Rattle.frame.specs.Frames.{build}
+
+-- frames end to end
+unfoldable pub frames : List Sending → List ℕ
+frames [] = []
+frames (x ∷ xs) = build (x .says) ++ frames xs
+
+-- the class (0 client, 1 server) and the number of a party
+unfoldable pub partyBytes : Party → List ℕ
+partyBytes (P.Client c) = 0 ∷ c ∷ []
+partyBytes (P.Server j) = 1 ∷ j ∷ []
+
+unfoldable pub receivers : List Sending → List ℕ
+receivers [] = []
+receivers (x ∷ xs) = partyBytes (x .receiver) ++ receivers xs
+
+-- the two areas, with the place of the next frame
+pub record Outbox : Type 0 where
+  pub out : List ℕ
+  pub to : List ℕ
+  pub place : Place
+
+abbrev pub outbox : List ℕ → List ℕ → Place → Outbox
+outbox out to p = record { out = out; to = to; place = p }
+
+abbrev pub firstPlace : Place
+firstPlace = record { at = 0; count = 0 }
+
+-- after xs are sent; every other byte stays as it is
+unfoldable pub sent : Outbox → List Sending → Outbox
+sent q xs = record {
+  out = sets (q .out) (q .place .at) (frames xs);
+  to = sets (q .to) (2 * q .place .count) (receivers xs);
+  place = record { at = q .place .at + length (frames xs); count = q .place .count + length xs };
+}

@@ -1,0 +1,95 @@
+-- The parameters: their bounds (refusals 1 to 3), and the sizes that follow from them. Assumes nothing: these are definitions.
+use Prim.Native.Nat.{ℕ, _+_, _*_, _≤_, max}
+use mathlib.Core.Path.{_≡_}
+use mathlib.Core.List.{List}
+use lib.Dec.{ltb}
+use Rattle.area.specs.Area.{pick}
+use Rattle.blocks.specs.declared.Params.{Params}
+use Rattle.blocks.specs.declared.Fault.{Fault}
+use Rattle.blocks.specs.declared.Fault.the-variants as F
+use Rattle.blocks.specs.declared.Coded.{Coded}
+use Rattle.blocks.specs.declared.Coded.the-variants as C
+use Rattle.blocks.specs.Code.{blockLength}
+use Rattle.blocks.specs.Params.{partiesTest, thresholdTest, lengthTest}
+use Rattle.frame.specs.declared.Refusal.{Refusal}
+use Rattle.frame.specs.declared.Refusal.the-variants as R
+use Rattle.frame.specs.declared.Verdict.{Verdict}
+use Rattle.frame.specs.declared.Verdict.the-variants as J
+use Rattle.frame.specs.Refusals.{andThen}
+
+-- ---- sizes
+
+-- b: the bytes of a block
+unfoldable pub width : Params → ℕ
+width g = blockLength (g .size) (g .k)
+
+-- the bytes of a digest list: the n digests of the blocks, 32 bytes each
+abbrev pub listed : Params → ℕ
+listed g = 32 * g .n
+
+-- the bytes of a digest list and a block
+abbrev pub entryLength : Params → ℕ
+entryLength g = listed g + width g
+
+-- q: the larger of k and t + 1
+unfoldable pub quota : Params → ℕ
+quota g = max (g .k) (g .t + 1)
+
+-- the largest frame: a value
+unfoldable pub largestFrame : Params → ℕ
+largestFrame g = 22 + entryLength g
+
+-- 10: "frames out need n + 9 largest frames (server), 2n (client)"; and two bytes for the receiver of each
+abbrev pub serverFrames : Params → ℕ
+serverFrames g = g .n + 9
+
+abbrev pub clientFrames : Params → ℕ
+clientFrames g = 2 * g .n
+
+-- the bytes that m frames may take in the out area, and their receivers in the to area
+unfoldable pub outRoom : Params → ℕ → ℕ
+outRoom g m = m * largestFrame g
+
+unfoldable pub toRoom : ℕ → ℕ
+toRoom m = 2 * m
+
+-- ---- bounds
+
+-- the refusals of the block code are those of the same numbers
+unfoldable pub refusalOf : Fault → Refusal
+refusalOf F.Parties = R.Parties
+refusalOf F.Threshold = R.Threshold
+refusalOf F.Length = R.Length
+refusalOf F.Blocks = R.Content
+refusalOf F.Room = R.Room
+
+unfoldable pub verdictOf : Coded → Verdict
+verdictOf C.Done = J.Fine
+verdictOf (C.Refused f) = J.Bad (refusalOf f)
+
+-- 1, the own number: party me of parties 1 to most
+unfoldable pub ownTest : ℕ → ℕ → Verdict
+ownTest me most = pick (ltb me 1) (J.Bad R.Parties) (pick (ltb most me) (J.Bad R.Parties) J.Fine)
+
+-- 2 and 3, but for a value's length
+unfoldable pub codeTest : Params → Verdict
+codeTest g = andThen (verdictOf (thresholdTest g)) (verdictOf (lengthTest g))
+
+-- 1 to 3, without an own number
+unfoldable pub boundsTest : Params → Verdict
+boundsTest g = andThen (verdictOf (partiesTest g)) (codeTest g)
+
+-- 1 to 3, of party me of parties 1 to most
+unfoldable pub paramsTest : Params → ℕ → ℕ → Verdict
+paramsTest g me most = andThen (verdictOf (partiesTest g)) (andThen (ownTest me most) (codeTest g))
+
+-- what 1 to 3 leave: "n from 4 to 10; t is at least 1 with n > 3t", "k is 1 to n - 2t", "L, 1 to 256 bytes"
+pub record Bounded (g : Params) : Type 0 where
+  pub servers-low : 4 ≤ g .n
+  pub servers-high : g .n ≤ 10
+  pub faults-low : 1 ≤ g .t
+  pub faults-high : 3 * g .t + 1 ≤ g .n
+  pub blocks-low : 1 ≤ g .k
+  pub blocks-high : g .k + 2 * g .t ≤ g .n
+  pub size-low : 1 ≤ g .size
+  pub size-high : g .size ≤ 256

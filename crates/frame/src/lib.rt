@@ -1,0 +1,69 @@
+// What servers and clients share: parties, stamps and refusals, and frames as they are opened and written.
+ghost use mathlib.Core.Path.{_≡_};
+
+// A client 1 to 8 or a server 1 to n, as the host names it.
+pub enum Party {
+    Client(u8),
+    Server(u8),
+}
+
+// A stamp is (time, writer, write sequence), compared in that order.
+pub struct Stamp {
+    pub time: u64,
+    pub writer: u8,
+    pub sequence: u32,
+}
+
+// Why a frame or a call is turned down, in the order of document 01's numbers 1 to 19.
+pub enum Refusal {
+    Parties,
+    Threshold,
+    Length,
+    Framing,
+    Version,
+    Kind,
+    Owner,
+    Body,
+    Content,
+    Room,
+    Sender,
+    Stale,
+    Ahead,
+    Digest,
+    Busy,
+    Exhausted,
+    Closed,
+    Record,
+    Unlisted,
+}
+
+// What a test says: nothing against it, or the reason to turn it down.
+pub enum Verdict {
+    Fine,
+    Bad(Refusal),
+}
+
+// What stands before a frame's body, length and version aside. The client is the operation's owner.
+pub struct Header {
+    pub kind: u8,
+    pub client: u8,
+    pub sequence: u32,
+}
+
+// What opening a frame finds. The parts of the body lie at fixed places behind the header.
+pub enum Opened {
+    Frame(Header),
+    Refused(Refusal),
+}
+
+// Where the next frame goes in the out area, and how many stand before it.
+pub struct Place {
+    pub at: usize,
+    pub count: usize,
+}
+
+pub fn limit(n: usize) -> usize
+    ensures { λ r. ⌜ r ≡ n ⌝ }
+{
+    n
+}

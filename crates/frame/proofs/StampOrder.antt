@@ -1,0 +1,180 @@
+-- Stamps are ordered by time, writer and sequence, strictly and totally; and so are their keys, one number each. Assumes nothing.
+use Prim.Native.Nat.{ℕ, _+_, _*_, _≤_, _<_}
+use native.Mathlib.Omega.{arith}
+use native.Mathlib.Decide.{decLe}
+use mathlib.Core.Bool.{Bool, true, false, _&&_, _||_}
+use mathlib.Core.Path.{_≡_, refl, ap, sym, _∙_}
+use mathlib.Core.Logic.{_⊎_, inl, inr, ⊎-elim}
+use lib.Dec.{ltb, eqb}
+use borrow.Author.Tests.{ltb-true, eqb-true, lt-ltb, eq-eqb}
+use Rattle.area.proofs.Tests.{and-left, and-right}
+use Rattle.frame.specs.declared.Stamp.{Stamp}
+use Rattle.frame.specs.Stamps.{older, sameStamp, zeroStamp}
+use Rattle.frame.proofs.Verdicts.{never}
+
+-- a comes before b; a is at most b
+abbrev pub Less : Stamp → Stamp → Type 0
+Less a b = (a .time < b .time) ⊎ ((a .time ≡ b .time) × ((a .writer < b .writer) ⊎ ((a .writer ≡ b .writer) × (a .sequence < b .sequence))))
+
+abbrev pub AtMost : Stamp → Stamp → Type 0
+AtMost a b = (a ≡ b) ⊎ Less a b
+
+-- ---- the test tells the order
+
+or-split : (a b : Bool) → (a || b) ≡ true → (a ≡ true) ⊎ (b ≡ true)
+or-split true b e = inl refl
+or-split false b e = inr e
+
+or-first : (a b : Bool) → a ≡ true → (a || b) ≡ true
+or-first a b e = rw e
+
+or-second : (a b : Bool) → b ≡ true → (a || b) ≡ true
+or-second true b e = refl
+or-second false b e = e
+
+and-both : (a b : Bool) → a ≡ true → b ≡ true → (a && b) ≡ true
+and-both a b p q = rw (p, q)
+
+pub less-of : (a b : Stamp) → older a b ≡ true → Less a b
+unfolding older
+less-of a b e = ⊎-elim (λ u. inl (ltb-true _ _ u)) (λ u. inr (eqb-true _ _ (and-left (eqb (a .time) (b .time)) _ u), ⊎-elim
+    (λ z. inl (ltb-true _ _ z))
+    (λ z. inr (eqb-true _ _ (and-left (eqb (a .writer) (b .writer)) _ z), ltb-true _ _ (and-right (eqb (a .writer) (b .writer)) _ z)))
+    (or-split (ltb (a .writer) (b .writer)) _ (and-right (eqb (a .time) (b .time)) _ u))))
+    (or-split (ltb (a .time) (b .time)) _ e)
+
+pub older-of : (a b : Stamp) → Less a b → older a b ≡ true
+unfolding older
+older-of a b (inl h) = or-first (ltb (a .time) (b .time)) _ (lt-ltb _ _ h)
+older-of a b (inr (e, inl h)) =
+    or-second (ltb (a .time) (b .time)) _
+    (and-both (eqb (a .time) (b .time)) _ (eq-eqb _ _ e) (or-first (ltb (a .writer) (b .writer)) _ (lt-ltb _ _ h)))
+older-of a b (inr (e, inr (f, h))) =
+    or-second (ltb (a .time) (b .time)) _
+    (and-both (eqb (a .time) (b .time)) _ (eq-eqb _ _ e)
+    (or-second (ltb (a .writer) (b .writer)) _ (and-both (eqb (a .writer) (b .writer)) _ (eq-eqb _ _ f) (lt-ltb _ _ h))))
+
+pub stamp-of : (a b : Stamp) → sameStamp a b ≡ true → a ≡ b
+unfolding sameStamp
+stamp-of a b e =
+    let s = and-right (eqb (a .time) (b .time)) _ e in
+    let t = eqb-true _ _ (and-left (eqb (a .time) (b .time)) _ e) in
+    let w = eqb-true _ _ (and-left (eqb (a .writer) (b .writer)) _ s) in
+    let q = eqb-true _ _ (and-right (eqb (a .writer) (b .writer)) _ s) in
+    λ i. record { time = t i; writer = w i; sequence = q i }
+
+pub same-of : (a b : Stamp) → a ≡ b → sameStamp a b ≡ true
+unfolding sameStamp
+same-of a b e =
+    and-both (eqb (a .time) (b .time)) _ (eq-eqb _ _ (ap (λ x. x .time) e))
+    (and-both (eqb (a .writer) (b .writer)) _ (eq-eqb _ _ (ap (λ x. x .writer) e)) (eq-eqb _ _ (ap (λ x. x .sequence) e)))
+
+-- ---- strict and total
+
+pub less-trans : (a b c : Stamp) → Less a b → Less b c → Less a c
+less-trans a b c (inl h) (inl k) = inl (omega arith)
+less-trans a b c (inl h) (inr (e, k)) = inl (omega (arith, h, e))
+less-trans a b c (inr (e, h)) (inl k) = inl (omega (arith, k, e))
+less-trans a b c (inr (e, inl h)) (inr (f, inl k)) = inr (e ∙ f, inl (omega arith))
+less-trans a b c (inr (e, inl h)) (inr (f, inr (g, k))) = inr (e ∙ f, inl (omega arith))
+less-trans a b c (inr (e, inr (g, h))) (inr (f, inl k)) = inr (e ∙ f, inl (omega arith))
+less-trans a b c (inr (e, inr (g, h))) (inr (f, inr (l, k))) = inr (e ∙ f, inr (g ∙ l, omega arith))
+
+pub less-not : (a b : Stamp) → a ≡ b → Less a b → ⊥
+less-not a b e (inl h) = omega (arith, h, ap (λ z. z .time) e)
+less-not a b e (inr (f, inl h)) = omega (arith, h, ap (λ z. z .writer) e)
+less-not a b e (inr (f, inr (g, h))) = omega (arith, h, ap (λ z. z .sequence) e)
+
+pub less-back : (a b : Stamp) → Less a b → Less b a → ⊥
+less-back a b h k = less-not a a refl (less-trans a b a h k)
+
+-- two numbers stand in one of three ways
+pub three : (a b : ℕ) → (a < b) ⊎ ((a ≡ b) ⊎ (b < a))
+three a b = go (decLe a b) (decLe b a)
+  where
+    go : Dec (a ≤ b) → Dec (b ≤ a) → (a < b) ⊎ ((a ≡ b) ⊎ (b < a))
+    go (yes h) (yes k) = inr (inl (omega arith))
+    go (yes h) (no k) = inl (omega arith)
+    go (no h) k = inr (inr (omega arith))
+
+-- two stamps stand in one of three ways
+pub total : (a b : Stamp) → Less a b ⊎ ((a ≡ b) ⊎ Less b a)
+total a b = go (three (a .time) (b .time)) (three (a .writer) (b .writer)) (three (a .sequence) (b .sequence))
+  where
+    go : (a .time < b .time) ⊎ ((a .time ≡ b .time) ⊎ (b .time < a .time)) → (a .writer < b .writer) ⊎ ((a .writer ≡ b .writer) ⊎ (b .writer < a .writer))
+        → (a .sequence < b .sequence) ⊎ ((a .sequence ≡ b .sequence) ⊎ (b .sequence < a .sequence)) → Less a b ⊎ ((a ≡ b) ⊎ Less b a)
+    go (inl h) v w = inl (inl h)
+    go (inr (inr h)) v w = inr (inr (inl h))
+    go (inr (inl e)) (inl h) w = inl (inr (e, inl h))
+    go (inr (inl e)) (inr (inr h)) w = inr (inr (inr (sym e, inl h)))
+    go (inr (inl e)) (inr (inl f)) (inl h) = inl (inr (e, inr (f, h)))
+    go (inr (inl e)) (inr (inl f)) (inr (inr h)) = inr (inr (inr (sym e, inr (sym f, h))))
+    go (inr (inl e)) (inr (inl f)) (inr (inl g)) = inr (inl (λ d. record { time = e d; writer = f d; sequence = g d }))
+
+-- a strict total order, by the test that the code makes
+pub record StrictOrder (before : Stamp → Stamp → Bool) : Type 0 where
+  pub irreflexive : (a : Stamp) → before a a ≡ true → ⊥
+  pub transitive : (a b c : Stamp) → before a b ≡ true → before b c ≡ true → before a c ≡ true
+  pub total : (a b : Stamp) → (before a b ≡ true) ⊎ ((a ≡ b) ⊎ (before b a ≡ true))
+
+pub stamps-ordered : StrictOrder older
+stamps-ordered = record {
+  irreflexive = λ a e. less-not a a refl (less-of a a e);
+  transitive = λ a b c p q. older-of a c (less-trans a b c (less-of a b p) (less-of b c q));
+  total = λ a b. ⊎-elim (λ h. inl (older-of a b h)) (⊎-elim (λ e. inr (inl e)) (λ h. inr (inr (older-of b a h)))) (total a b);
+}
+
+-- ---- at most
+
+-- not before b: at least b
+pub at-most-of : (a b : Stamp) → older b a ≡ false → AtMost a b
+at-most-of a b e = ⊎-elim (λ h. inr h) (⊎-elim (λ h. inl h) (λ h. never (cc (e, older-of b a h)))) (total a b)
+
+pub at-most-trans : (a b c : Stamp) → AtMost a b → AtMost b c → AtMost a c
+at-most-trans a b c (inl e) k = rw e k
+at-most-trans a b c (inr h) (inl e) = inr (rw (sym e) h)
+at-most-trans a b c (inr h) (inr k) = inr (less-trans a b c h k)
+
+pub at-most-back : (a b : Stamp) → AtMost a b → Less b a → ⊥
+at-most-back a b (inl e) h = less-not b a (sym e) h
+at-most-back a b (inr k) h = less-back a b k h
+
+pub at-most-both : (a b : Stamp) → AtMost a b → AtMost b a → a ≡ b
+at-most-both a b (inl e) k = e
+at-most-both a b (inr h) k = absurd (at-most-back b a k h)
+
+pub zero-least : (a : Stamp) → AtMost zeroStamp a
+unfolding zeroStamp
+zero-least a = ⊎-elim (λ h. inr h) (⊎-elim (λ h. inl h) (λ h. absurd (not h))) (total _ a)
+  where
+    not : Less a (record { time = 0; writer = 0; sequence = 0 }) → ⊥
+    not (inl h) = omega arith
+    not (inr (e, inl h)) = omega arith
+    not (inr (e, inr (f, h))) = omega arith
+
+-- ---- keys
+
+-- the ranges of a frame's fields
+pub record InRange (s : Stamp) : Type 0 where
+  pub writer : s .writer < 16
+  pub sequence : s .sequence < 4294967296
+
+abbrev pub key : Stamp → ℕ
+key s = s .time * 68719476736 + s .writer * 4294967296 + s .sequence
+
+pub key-injective : (a b : Stamp) → InRange a → InRange b → key a ≡ key b → a ≡ b
+key-injective a b ra rb h =
+    let e : (a .time ≡ b .time) × (a .writer ≡ b .writer) × (a .sequence ≡ b .sequence) = omega arith in
+    λ i. record { time = e .0 i; writer = e .1 i; sequence = e .2 i }
+
+pub key-less : (a b : Stamp) → InRange a → InRange b → Less a b → key a < key b
+key-less a b ra rb (inl h) = omega arith
+key-less a b ra rb (inr (e, inl h)) = omega arith
+key-less a b ra rb (inr (e, inr (f, h))) = omega arith
+
+pub key-time : (a b : Stamp) → InRange a → InRange b → key a ≤ key b → a .time ≤ b .time
+key-time a b ra rb h = go (decLe (a .time) (b .time))
+  where
+    go : Dec (a .time ≤ b .time) → a .time ≤ b .time
+    go (yes z) = z
+    go (no z) = omega arith

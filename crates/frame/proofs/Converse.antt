@@ -18,7 +18,7 @@ use Rattle.frame.specs.declared.Opened.{Opened}
 use Rattle.frame.specs.declared.Opened.the-variants as O
 use Rattle.frame.specs.Params.{width, listed, entryLength}
 use Rattle.frame.specs.Messages.{Entry, Stage, send, echo, ready, Body, getStamp, ack, askRead, readComplete, stampIs, blockIs, timeIs, valueIs, Message, message, Sized, FormedBody, Formed}
-use Rattle.frame.specs.Frames.{version, versionAt, kindAt, clientAt, sequenceAt, bodyAt, writerAt, writeAt, valueAt, kindOf, bodyLength, entryBytes, stampBytes, bodyBytes, headerBytes, frameOf, build, headerIn, stampIn, opened, entryIn, bodyIn, messageIn}
+use Rattle.frame.specs.Frames.{version, versionAt, kindAt, clientAt, sequenceAt, bodyAt, writerAt, writeAt, valueAt, kindOf, bodyLength, lengthOf, entryBytes, stampBytes, bodyBytes, headerBytes, frameOf, build, headerIn, stampIn, opened, entryIn, bodyIn, messageIn}
 use Rattle.frame.proofs.Opening.{StampFine, Opens, opens-facts}
 
 -- what holds at 1 to 12 holds of every kind
@@ -81,7 +81,7 @@ pub record Said (g : Params) (f : List ℕ) (kind : ℕ) : Type 0 where
   pub bytes-are : bodyBytes (bodyIn g kind f) ≡ drop bodyAt f
 
 said : (g : Params) (f : List ℕ) → Bytes f → (kind : ℕ) → 1 ≤ kind → kind ≤ 12 → length f ≡ bodyAt + bodyLength g kind → Said g f kind
-unfolding bodyIn bodyLength kindOf bodyBytes pick
+unfolding bodyIn bodyLength lengthOf kindOf bodyBytes pick
 said g f p = kinds (λ kind. length f ≡ bodyAt + bodyLength g kind → Said g f kind)
     (λ e. record { kind-is = refl; bytes-are = none-left f e })
     (λ e. record { kind-is = refl; bytes-are = time-left f p e })
@@ -147,7 +147,7 @@ value-formed g f p e s = (
 
 body-formed : (g : Params) (f : List ℕ) → Bytes f → (kind : ℕ) → 1 ≤ kind → kind ≤ 12 → length f ≡ bodyAt + bodyLength g kind
     → (kind ≡ 11 → StampFine (stampIn f)) → FormedBody g (bodyIn g kind f)
-unfolding bodyIn bodyLength pick
+unfolding bodyIn bodyLength lengthOf pick
 body-formed g f p =
     kinds (λ kind. length f ≡ bodyAt + bodyLength g kind → (kind ≡ 11 → StampFine (stampIn f)) → FormedBody g (bodyIn g kind f))
     (λ e s. tt)

@@ -4,3 +4,6 @@ pub mod Sizes
 pub mod RoundTrip
 pub mod Converse
 pub mod StampOrder
+pub mod Chunks
+pub mod Outbox
+pub mod Chain

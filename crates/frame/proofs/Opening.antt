@@ -45,7 +45,7 @@ kind-is : (f : List ℕ) (h : Header) → headerIn f ≡ h → getD f kindAt 0 �
 unfolding headerIn
 kind-is f h e = ap (λ x. x .kind) e
 
-framing-facts : (f : List ℕ) → framingTest f ≡ J.Fine → (bodyAt ≤ length f) × (be2 f 0 + 2 ≡ length f)
+pub framing-facts : (f : List ℕ) → framingTest f ≡ J.Fine → (bodyAt ≤ length f) × (be2 f 0 + 2 ≡ length f)
 unfolding framingTest
 framing-facts f e =
     let a = fine-not (ltb (length f) bodyAt) R.Framing _ e in
@@ -89,7 +89,7 @@ content-facts : (kind : ℕ) (f : List ℕ) → contentTest kind f ≡ J.Fine �
 unfolding contentTest pick
 content-facts kind f e k = stamp-facts (stampIn f) (rw (eq-eqb kind 11 k) at e)
 
-body-facts : (g : Params) (kind l : ℕ) → bodyTest g kind l ≡ J.Fine → l ≡ bodyAt + bodyLength g kind
+pub body-facts : (g : Params) (kind l : ℕ) → bodyTest g kind l ≡ J.Fine → l ≡ bodyAt + bodyLength g kind
 unfolding bodyTest
 body-facts g kind l e = eqb-true _ _ (fine-is (eqb l (bodyAt + bodyLength g kind)) R.Body J.Fine e .0)
 

@@ -16,7 +16,7 @@ use Rattle.frame.specs.declared.Opened.{Opened}
 use Rattle.frame.specs.declared.Opened.the-variants as O
 use Rattle.frame.specs.Params.{width, listed, entryLength, Bounded}
 use Rattle.frame.specs.Messages.{Entry, Stage, send, echo, ready, Body, getStamp, ack, askRead, readComplete, stampIs, blockIs, timeIs, valueIs, Message, message, Sized, FormedBody, Formed}
-use Rattle.frame.specs.Frames.{version, versionAt, bodyAt, valueAt, kindOf, bodyLength, entryBytes, stampBytes, bodyBytes, headerBytes, frameOf, build, headerIn, stampIn, opened, entryIn, bodyIn, messageIn, headerFor}
+use Rattle.frame.specs.Frames.{version, versionAt, bodyAt, valueAt, kindOf, bodyLength, lengthOf, entryBytes, stampBytes, bodyBytes, headerBytes, frameOf, build, headerIn, stampIn, opened, entryIn, bodyIn, messageIn, headerFor}
 use Rattle.frame.proofs.Sizes.{Small, small}
 use Rattle.frame.proofs.Opening.{StampFine, Opens, opens}
 
@@ -86,7 +86,7 @@ value-back g kind c q s e Q =
 -- ---- the whole message
 
 pub length-body : (g : Params) (b : Body) → FormedBody g b → length (bodyBytes b) ≡ bodyLength g (kindOf b)
-unfolding bodyBytes bodyLength kindOf pick
+unfolding bodyBytes bodyLength lengthOf kindOf pick
 length-body g getStamp f = refl
 length-body g ack f = refl
 length-body g askRead f = refl

@@ -25,7 +25,7 @@ small g B = record {
     go : Dec (1 ≤ (g .size + (g .k - 1)) / g .k) → 1 ≤ (g .size + (g .k - 1)) / g .k
     go (yes h) = h
     go (no h) = absurd (
-      let z : (g .size + (g .k - 1)) / g .k < 1 = omega (arith, h) in
-      let w = div-lt-iff-lt-mul {x = g .size + (g .k - 1)} {y = 1} (B .blocks-low) .0 z in
-      omega (arith, B .size-low, B .blocks-low, w)
-    )
+        let z : (g .size + (g .k - 1)) / g .k < 1 = omega (arith, h) in
+        let w = div-lt-iff-lt-mul {x = g .size + (g .k - 1)} {y = 1} (B .blocks-low) .0 z in
+        omega (arith, B .size-low, B .blocks-low, w)
+        )

@@ -6,7 +6,7 @@ use mathlib.Core.Bool.{Bool, true, false, _&&_, _||_}
 use mathlib.Core.Path.{_≡_, refl, ap, sym, _∙_}
 use mathlib.Core.Logic.{_⊎_, inl, inr, ⊎-elim}
 use lib.Dec.{ltb, eqb}
-use borrow.Author.Tests.{ltb-true, eqb-true, lt-ltb, eq-eqb}
+use borrow.Author.Tests.{ltb-true, eqb-true, lt-ltb, le-ltb, eq-eqb, ne-eqb}
 use Rattle.area.proofs.Tests.{and-left, and-right}
 use Rattle.frame.specs.declared.Stamp.{Stamp}
 use Rattle.frame.specs.Stamps.{older, sameStamp, zeroStamp}
@@ -37,10 +37,13 @@ and-both a b p q = rw (p, q)
 
 pub less-of : (a b : Stamp) → older a b ≡ true → Less a b
 unfolding older
-less-of a b e = ⊎-elim (λ u. inl (ltb-true _ _ u)) (λ u. inr (eqb-true _ _ (and-left (eqb (a .time) (b .time)) _ u), ⊎-elim
-    (λ z. inl (ltb-true _ _ z))
-    (λ z. inr (eqb-true _ _ (and-left (eqb (a .writer) (b .writer)) _ z), ltb-true _ _ (and-right (eqb (a .writer) (b .writer)) _ z)))
-    (or-split (ltb (a .writer) (b .writer)) _ (and-right (eqb (a .time) (b .time)) _ u))))
+less-of a b e = ⊎-elim (λ u. inl (ltb-true _ _ u)) (λ u. inr (
+  eqb-true _ _ (and-left (eqb (a .time) (b .time)) _ u),
+  ⊎-elim
+      (λ z. inl (ltb-true _ _ z))
+      (λ z. inr (eqb-true _ _ (and-left (eqb (a .writer) (b .writer)) _ z), ltb-true _ _ (and-right (eqb (a .writer) (b .writer)) _ z)))
+      (or-split (ltb (a .writer) (b .writer)) _ (and-right (eqb (a .time) (b .time)) _ u)),
+))
     (or-split (ltb (a .time) (b .time)) _ e)
 
 pub older-of : (a b : Stamp) → Less a b → older a b ≡ true
@@ -178,3 +181,26 @@ key-time a b ra rb h = go (decLe (a .time) (b .time))
     go : Dec (a .time ≤ b .time) → a .time ≤ b .time
     go (yes z) = z
     go (no z) = omega arith
+
+-- ---- the code's turns: the first part that differs decides
+
+or-false : (a : Bool) → (a || false) ≡ a
+or-false true = refl
+or-false false = refl
+
+pub older-time : (a b : Stamp) → (a .time ≡ b .time → ⊥) → ltb (a .time) (b .time) ≡ older a b
+unfolding older
+older-time a b h = rw (ne-eqb _ _ h) (sym (or-false (ltb (a .time) (b .time))))
+
+pub older-writer : (a b : Stamp) → a .time ≡ b .time → (a .writer ≡ b .writer → ⊥) → ltb (a .writer) (b .writer) ≡ older a b
+unfolding older
+older-writer a b e h =
+    let k : b .time ≤ a .time = omega arith in
+    rw (le-ltb _ _ k, eq-eqb _ _ e, ne-eqb _ _ h) (sym (or-false (ltb (a .writer) (b .writer))))
+
+pub older-sequence : (a b : Stamp) → a .time ≡ b .time → a .writer ≡ b .writer → ltb (a .sequence) (b .sequence) ≡ older a b
+unfolding older
+older-sequence a b e f =
+    let k : b .time ≤ a .time = omega arith in
+    let l : b .writer ≤ a .writer = omega arith in
+    rw (le-ltb _ _ k, eq-eqb _ _ e, le-ltb _ _ l, eq-eqb _ _ f)

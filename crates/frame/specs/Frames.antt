@@ -68,14 +68,19 @@ kindOf askRead = 10
 kindOf (valueIs s e) = 11
 kindOf readComplete = 12
 
--- the length of the body of a kind, from the table
+-- the length of the body of a kind, from the table by rising kind; entry is the length of a digest list and a block
+unfoldable pub lengthOf : ℕ → ℕ → ℕ
+lengthOf kind entry =
+    pick (leb kind 1) 0
+    (pick (leb kind 2) 8
+    (pick (leb kind 5) entry
+    (pick (leb kind 8) 8
+    (pick (leb kind 10) 0
+    (pick (leb kind 11) (13 + entry)
+    0)))))
+
 unfoldable pub bodyLength : Params → ℕ → ℕ
-bodyLength g kind =
-    pick (eqb kind 2) 8
-    (pick (leb 3 kind && leb kind 5) (entryLength g)
-    (pick (leb 6 kind && leb kind 8) 8
-    (pick (eqb kind 11) (13 + entryLength g)
-    0)))
+bodyLength g kind = lengthOf kind (entryLength g)
 
 -- ---- building
 

@@ -1,5 +1,7 @@
 // What servers and clients share: parties, stamps and refusals, and frames as they are opened and written.
-ghost use mathlib.Core.Path.{_≡_};
+pub mod bounds;
+pub mod opener;
+pub mod stamps;
 
 // A client 1 to 8 or a server 1 to n, as the host names it.
 pub enum Party {
@@ -60,10 +62,4 @@ pub enum Opened {
 pub struct Place {
     pub at: usize,
     pub count: usize,
-}
-
-pub fn limit(n: usize) -> usize
-    ensures { λ r. ⌜ r ≡ n ⌝ }
-{
-    n
 }

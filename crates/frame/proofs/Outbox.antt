@@ -1,0 +1,52 @@
+-- Frames sent one after the other, and how much room they take. Assumes nothing.
+use Prim.Native.Nat.{ℕ, zero, suc, _+_, _*_, _≤_}
+use native.Mathlib.Omega.{arith}
+use native.Mathlib.Nat.{suc-mul}
+use mathlib.Core.Path.{_≡_, refl, ap, sym, _∙_}
+use mathlib.Core.List.{List, [], _∷_, _++_, append-assoc}
+use lib.ListN.{length, length-append}
+use lib.Seq.{sets, length-sets}
+use Rattle.area.proofs.Sets.{sets-append}
+use Rattle.blocks.specs.declared.Params.{Params}
+use Rattle.frame.specs.declared.Party.{Party}
+use Rattle.frame.specs.declared.Party.the-variants as P
+use Rattle.frame.specs.declared.Place.{Place}
+use Rattle.frame.specs.Params.{largestFrame, Bounded}
+use Rattle.frame.specs.Messages.{Message, Sending, sending, Formed, toFrom, toAll}
+use Rattle.frame.specs.Frames.{build}
+use Rattle.frame.specs.Outbox.{frames, partyBytes, receivers, Outbox, outbox, sent}
+
+pub frames-append : (xs ys : List Sending) → frames (xs ++ ys) ≡ frames xs ++ frames ys
+unfolding frames
+frames-append [] ys = refl
+frames-append (x ∷ xs) ys = rw (frames-append xs ys) (sym (append-assoc (build (x .says)) (frames xs) (frames ys)))
+
+pub receivers-append : (xs ys : List Sending) → receivers (xs ++ ys) ≡ receivers xs ++ receivers ys
+unfolding receivers
+receivers-append [] ys = refl
+receivers-append (x ∷ xs) ys = rw (receivers-append xs ys) (sym (append-assoc (partyBytes (x .receiver)) (receivers xs) (receivers ys)))
+
+length-party : (p : Party) → length (partyBytes p) ≡ 2
+unfolding partyBytes
+length-party (P.Client c) = refl
+length-party (P.Server j) = refl
+
+pub length-receivers : (xs : List Sending) → length (receivers xs) ≡ 2 * length xs
+unfolding receivers
+length-receivers [] = refl
+length-receivers (x ∷ xs) =
+    omega (arith, length-append (partyBytes (x .receiver)) (receivers xs), length-party (x .receiver), length-receivers xs)
+
+-- first xs, then ys
+pub sent-append : (q : Outbox) (xs ys : List Sending) → sent (sent q xs) ys ≡ sent q (xs ++ ys)
+unfolding sent
+sent-append q xs ys =
+    let o : sets (sets (q .out) (q .place .at) (frames xs)) (q .place .at + length (frames xs)) (frames ys) ≡ sets (q .out) (q .place .at) (frames (xs ++ ys)) =
+    rw (frames-append xs ys) (sym (sets-append (q .out) (q .place .at) (frames xs) (frames ys))) in
+    let l : 2 * q .place .count + length (receivers xs) ≡ 2 * (q .place .count + length xs) = omega (arith, length-receivers xs) in
+    let r : sets (sets (q .to) (2 * q .place .count) (receivers xs)) (2 * (q .place .count + length xs)) (receivers ys) ≡ sets (q .to) (2 * q .place .count) (receivers (xs ++ ys)) =
+    rw (receivers-append xs ys, ← l) (sym (sets-append (q .to) (2 * q .place .count) (receivers xs) (receivers ys))) in
+    let a : q .place .at + length (frames xs) + length (frames ys) ≡ q .place .at + length (frames (xs ++ ys)) =
+    omega (arith, ap length (frames-append xs ys), length-append (frames xs) (frames ys)) in
+    let c : q .place .count + length xs + length ys ≡ q .place .count + length (xs ++ ys) = omega (arith, length-append xs ys) in
+    λ i. record { out = o i; to = r i; place = record { at = a i; count = c i } }

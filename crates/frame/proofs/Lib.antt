@@ -7,3 +7,7 @@ pub mod StampOrder
 pub mod Chunks
 pub mod Outbox
 pub mod Chain
+pub mod Within
+pub mod Writing
+pub mod Cases
+pub mod Rooms

@@ -1,13 +1,17 @@
 -- Frames sent: end to end in the out area, and for each the class and number of its receiver in the to area, "the answer names each
 -- sent frame's receiver". Assumes nothing: these are definitions.
-use Prim.Native.Nat.{ℕ, _+_, _*_}
+use Prim.Native.Nat.{ℕ, zero, suc, _+_, _*_, _≤_}
 use mathlib.Core.List.{List, [], _∷_, _++_}
 use lib.ListN.{length}
 use lib.Seq.{sets}
 use Rattle.frame.specs.declared.Party.{Party}
 use Rattle.frame.specs.declared.Party.the-variants as P
 use Rattle.frame.specs.declared.Place.{Place}
-use Rattle.frame.specs.Messages.{Sending}
+use Rattle.frame.specs.declared.Broadcast.{Broadcast}
+use Rattle.frame.specs.declared.Broadcast.the-variants as B
+use Rattle.frame.specs.declared.Ask.{Ask}
+use Rattle.frame.specs.declared.Ask.the-variants as A
+use Rattle.frame.specs.Messages.{Sending, Stage, send, echo, ready, Body, getStamp, askRead, readComplete}
 use Rattle.frame.specs.Frames.{build}
 
 -- frames end to end
@@ -43,3 +47,32 @@ sent q xs = record {
   to = sets (q .to) (2 * q .place .count) (receivers xs);
   place = record { at = q .place .at + length (frames xs); count = q .place .count + length xs };
 }
+
+-- after one frame f is sent to a party
+unfoldable pub wrote : Outbox → Party → List ℕ → Outbox
+wrote q p f = record {
+  out = sets (q .out) (q .place .at) f;
+  to = sets (q .to) (2 * q .place .count) (partyBytes p);
+  place = record { at = q .place .at + length f; count = q .place .count + 1 };
+}
+
+-- after the frame f is sent to servers 1 to m
+unfoldable pub wroteTo : Outbox → List ℕ → ℕ → Outbox
+wroteTo q f zero = q
+wroteTo q f (suc m) = wrote (wroteTo q f m) (P.Server (suc m)) f
+
+-- room for m frames of a size from a place on, in areas of these lengths
+pub record Room (p : Place) (m size out to : ℕ) : Type 0 where
+  pub out-room : p .at + m * size ≤ out
+  pub to-room : 2 * (p .count + m) ≤ to
+
+-- the code's names of a broadcast's steps and of what clients ask
+abbrev pub stageOf : Broadcast → Stage
+stageOf B.Send = send
+stageOf B.Echo = echo
+stageOf B.Ready = ready
+
+abbrev pub askOf : Ask → Body
+askOf A.GetStamp = getStamp
+askOf A.Read = askRead
+askOf A.ReadComplete = readComplete

@@ -5,12 +5,8 @@ use mathlib.Core.List.{List}
 use lib.Dec.{ltb}
 use Rattle.area.specs.Area.{pick}
 use Rattle.blocks.specs.declared.Params.{Params}
-use Rattle.blocks.specs.declared.Fault.{Fault}
-use Rattle.blocks.specs.declared.Fault.the-variants as F
-use Rattle.blocks.specs.declared.Coded.{Coded}
-use Rattle.blocks.specs.declared.Coded.the-variants as C
 use Rattle.blocks.specs.Code.{blockLength}
-use Rattle.blocks.specs.Params.{partiesTest, thresholdTest, lengthTest}
+use Rattle.blocks.specs.Params.{partiesFit, thresholdFits, lengthFits}
 use Rattle.frame.specs.declared.Refusal.{Refusal}
 use Rattle.frame.specs.declared.Refusal.the-variants as R
 use Rattle.frame.specs.declared.Verdict.{Verdict}
@@ -55,33 +51,22 @@ toRoom m = 2 * m
 
 -- ---- bounds
 
--- the refusals of the block code are those of the same numbers
-unfoldable pub refusalOf : Fault → Refusal
-refusalOf F.Parties = R.Parties
-refusalOf F.Threshold = R.Threshold
-refusalOf F.Length = R.Length
-refusalOf F.Blocks = R.Content
-refusalOf F.Room = R.Room
-
-unfoldable pub verdictOf : Coded → Verdict
-verdictOf C.Done = J.Fine
-verdictOf (C.Refused f) = J.Bad (refusalOf f)
-
 -- 1, the own number: party me of parties 1 to most
 unfoldable pub ownTest : ℕ → ℕ → Verdict
 ownTest me most = pick (ltb me 1) (J.Bad R.Parties) (pick (ltb most me) (J.Bad R.Parties) J.Fine)
 
 -- 2 and 3, but for a value's length
 unfoldable pub codeTest : Params → Verdict
-codeTest g = andThen (verdictOf (thresholdTest g)) (verdictOf (lengthTest g))
+codeTest g =
+    pick (thresholdFits (g .n) (g .t) (g .k)) (pick (lengthFits (g .size)) J.Fine (J.Bad R.Length)) (J.Bad R.Threshold)
 
 -- 1 to 3, without an own number
 unfoldable pub boundsTest : Params → Verdict
-boundsTest g = andThen (verdictOf (partiesTest g)) (codeTest g)
+boundsTest g = pick (partiesFit (g .n) (g .t)) (codeTest g) (J.Bad R.Parties)
 
 -- 1 to 3, of party me of parties 1 to most
 unfoldable pub paramsTest : Params → ℕ → ℕ → Verdict
-paramsTest g me most = andThen (verdictOf (partiesTest g)) (andThen (ownTest me most) (codeTest g))
+paramsTest g me most = pick (partiesFit (g .n) (g .t)) (andThen (ownTest me most) (codeTest g)) (J.Bad R.Parties)
 
 -- what 1 to 3 leave: "n from 4 to 10; t is at least 1 with n > 3t", "k is 1 to n - 2t", "L, 1 to 256 bytes"
 pub record Bounded (g : Params) : Type 0 where

@@ -2,9 +2,12 @@
 use crate::Refusal;
 use crate::Verdict;
 use blocks::Params;
+use blocks::bounds::length_fits;
+use blocks::bounds::parties_fit;
+use blocks::bounds::threshold_fits;
 ghost use mathlib.Core.Path.{_≡_};
 ghost use Prim.Native.Nat.{_≤_};
-ghost use Rattle.frame.specs.Params.{Bounded, width, ownTest, largestFrame, outRoom, quota};
+ghost use Rattle.frame.specs.Params.{Bounded, width, ownTest, codeTest, boundsTest, paramsTest, largestFrame, outRoom, quota};
 
 // 1, the own number: party me of parties 1 to most.
 pub fn own_test(me: usize, most: usize) -> Verdict
@@ -17,6 +20,51 @@ pub fn own_test(me: usize, most: usize) -> Verdict
         return Verdict::Bad(Refusal::Parties);
     }
     Verdict::Fine
+}
+
+// 2 and 3, but for a value's length.
+pub fn code_test(g: Params) -> Verdict
+    ensures { λ r. ⌜ r ≡ codeTest g ⌝ }
+{
+    let n = g.n;
+    let t = g.t;
+    let k = g.k;
+    let size = g.size;
+    if !threshold_fits(n, t, k) {
+        return Verdict::Bad(Refusal::Threshold);
+    }
+    if !length_fits(size) {
+        return Verdict::Bad(Refusal::Length);
+    }
+    Verdict::Fine
+}
+
+// 1 to 3, without an own number.
+pub fn bounds_test(g: Params) -> Verdict
+    ensures { λ r. ⌜ r ≡ boundsTest g ⌝ }
+{
+    let n = g.n;
+    let t = g.t;
+    if !parties_fit(n, t) {
+        return Verdict::Bad(Refusal::Parties);
+    }
+    code_test(g)
+}
+
+// 1 to 3, of party me of parties 1 to most.
+pub fn params_test(g: Params, me: usize, most: usize) -> Verdict
+    ensures { λ r. ⌜ r ≡ paramsTest g me most ⌝ }
+{
+    let n = g.n;
+    let t = g.t;
+    if !parties_fit(n, t) {
+        return Verdict::Bad(Refusal::Parties);
+    }
+    let own = own_test(me, most);
+    if let Verdict::Bad(r) = own {
+        return Verdict::Bad(r);
+    }
+    code_test(g)
 }
 
 // b: the bytes of a block.

@@ -1,6 +1,9 @@
 // What servers and clients share: parties, stamps and refusals, and frames as they are opened and written.
 pub mod bounds;
+pub mod digests;
+pub mod entries;
 pub mod opener;
+pub mod send;
 pub mod stamps;
 
 // A client 1 to 8 or a server 1 to n, as the host names it.
@@ -62,4 +65,18 @@ pub enum Opened {
 pub struct Place {
     pub at: usize,
     pub count: usize,
+}
+
+// The three steps of a broadcast.
+pub enum Broadcast {
+    Send,
+    Echo,
+    Ready,
+}
+
+// What a client asks of all servers with no body.
+pub enum Ask {
+    GetStamp,
+    Read,
+    ReadComplete,
 }

@@ -4,6 +4,7 @@ use crate::Opened;
 use crate::Refusal;
 use crate::Stamp;
 use crate::Verdict;
+use crate::bounds::bounds_test;
 use crate::bounds::width;
 use crate::stamps::parts_agree;
 use blocks::Params;
@@ -11,7 +12,7 @@ ghost use mathlib.Core.Path.{_≡_};
 ghost use Prim.Native.Nat.{_+_, _≤_, _<_};
 ghost use lib.ListN.{length, getD};
 ghost use Rattle.frame.specs.Params.{Bounded};
-ghost use Rattle.frame.specs.Frames.{lengthOf, bodyLength, framingTest, headerIn, headerTest, bodyTest, stampIn, stampTest, contentTest, opened};
+ghost use Rattle.frame.specs.Frames.{lengthOf, bodyLength, framingTest, headerIn, headerTest, bodyTest, stampIn, stampTest, contentTest, opened, openedUnder};
 
 // 4: under 9 bytes, or length field wrong.
 pub fn framing_test(f: &[u8]) -> Verdict
@@ -170,4 +171,15 @@ pub fn open_frame(g: Params, f: &[u8]) -> Opened
         return Opened::Refused(r);
     }
     Opened::Frame(h)
+}
+
+// What opening a frame finds, for any parameters: 1 to 9 in the order of the numbers.
+pub fn opened(g: Params, f: &[u8]) -> Opened
+    ensures { λ r. ⌜ r ≡ openedUnder g (now (f .entry)) ⌝ }
+{
+    let bounds = bounds_test(g);
+    if let Verdict::Bad(r) = bounds {
+        return Opened::Refused(r);
+    }
+    open_frame(g, f)
 }

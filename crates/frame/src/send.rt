@@ -1,0 +1,386 @@
+// Frames written end to end into the out area, and the class and number of each receiver into the to area.
+use crate::Ask;
+use crate::Broadcast;
+use crate::Party;
+use crate::Place;
+use crate::Stamp;
+use blocks::Params;
+ghost use mathlib.Core.Path.{_≡_};
+ghost use mathlib.Core.List.{_∷_, [], _++_};
+ghost use Prim.Native.Nat.{_+_, _*_, _≤_, _<_};
+ghost use lib.ListN.{length};
+ghost use lib.Seq.{sets};
+ghost use Rattle.area.specs.Numbers.{bytes8};
+ghost use Rattle.frame.specs.Params.{Bounded, entryLength};
+ghost use Rattle.frame.specs.Messages.{entry, message, sending, toAll, Sized, getStamp, ack, stampIs, blockIs, timeIs, valueIs, send};
+ghost use Rattle.frame.specs.Frames.{kindOf, stampBytes, headerBytes, frameOf};
+ghost use Rattle.frame.specs.Outbox.{partyBytes, outbox, sent, wrote, wroteTo, Room, stageOf, askOf};
+
+// The bytes before the body, of which size follow.
+fn header_bytes(size: usize, kind: u8, client: u8, sequence: u32) -> [u8; 9]
+    ensures { λ r. ⌜ r ≡ headerBytes size kind client sequence ⌝ }
+{
+    [
+        (size / 256 % 256) as u8,
+        (size % 256) as u8,
+        1,
+        kind,
+        client,
+        (sequence / 65536 / 256 % 256) as u8,
+        (sequence / 65536 % 256) as u8,
+        (sequence % 65536 / 256 % 256) as u8,
+        (sequence % 65536 % 256) as u8,
+    ]
+}
+
+// The class and the number of a party.
+fn receiver_bytes(p: Party) -> [u8; 2]
+    ensures { λ r. ⌜ r ≡ partyBytes p ⌝ }
+{
+    match p {
+        Party::Client(c) => [0, c],
+        Party::Server(j) => [1, j],
+    }
+}
+
+// A time, as a frame's body holds it.
+fn time_bytes(time: u64) -> [u8; 8]
+    ensures { λ r. ⌜ r ≡ bytes8 time ⌝ }
+{
+    let mut b = [0u8; 8];
+    area::write8(&mut b, 0, time);
+    b
+}
+
+// A stamp, as a value's body holds it.
+fn stamp_bytes(s: Stamp) -> [u8; 13]
+    ensures { λ r. ⌜ r ≡ stampBytes s ⌝ }
+{
+    let mut b = [0u8; 13];
+    area::write8(&mut b, 0, s.time);
+    b[8] = s.writer;
+    area::write4(&mut b, 9, s.sequence);
+    b
+}
+
+// Writes a frame from index at on; its body is given in three parts.
+fn put_frame(
+    out: &mut [u8],
+    at: usize,
+    kind: u8,
+    client: u8,
+    sequence: u32,
+    lead: &[u8],
+    digests: &[u8],
+    block: &[u8],
+)
+    requires { ⌜ at + (9 + (length (now lead) + (length (now digests) + length (now block)))) ≤ length (now out) ⌝ }
+    ensures { λ _. ⌜ now (out .exit) ≡ sets (now (out .entry)) at (frameOf kind client sequence (now (lead .entry) ++ (now (digests .entry) ++ now (block .entry)))) ⌝ }
+{
+    let body = at + 9;
+    let list = body + lead.len();
+    let header = header_bytes(
+        7 + (lead.len() + (digests.len() + block.len())),
+        kind,
+        client,
+        sequence,
+    );
+    area::put(out, at, &header);
+    area::put(out, body, lead);
+    area::put(out, list, digests);
+    area::put(out, list + digests.len(), block);
+}
+
+// Sends one frame, behind those before it.
+fn deposit(
+    out: &mut [u8],
+    to: &mut [u8],
+    p: Place,
+    receiver: Party,
+    kind: u8,
+    client: u8,
+    sequence: u32,
+    lead: &[u8],
+    digests: &[u8],
+    block: &[u8],
+) -> Place
+    requires { ⌜ Room p 1 (9 + (length (now lead) + (length (now digests) + length (now block)))) (length (now out)) (length (now to)) ⌝ }
+    ensures { λ r. ⌜ outbox (now (out .exit)) (now (to .exit)) r ≡ wrote (outbox (now (out .entry)) (now (to .entry)) p) receiver (frameOf kind client sequence (now (lead .entry) ++ (now (digests .entry) ++ now (block .entry)))) ⌝ }
+{
+    let bytes = receiver_bytes(receiver);
+    area::put(to, 2 * p.count, &bytes);
+    put_frame(out, p.at, kind, client, sequence, lead, digests, block);
+    Place {
+        at: p.at + (9 + (lead.len() + (digests.len() + block.len()))),
+        count: p.count + 1,
+    }
+}
+
+// Sends one frame to each of servers 1 to n.
+fn deposit_all(
+    out: &mut [u8],
+    to: &mut [u8],
+    p: Place,
+    n: usize,
+    kind: u8,
+    client: u8,
+    sequence: u32,
+    lead: &[u8],
+    digests: &[u8],
+    block: &[u8],
+) -> Place
+    requires { ⌜ (n ≤ 10) × Room p n (9 + (length (now lead) + (length (now digests) + length (now block)))) (length (now out)) (length (now to)) ⌝ }
+    ensures { λ r. ⌜ outbox (now (out .exit)) (now (to .exit)) r ≡ wroteTo (outbox (now (out .entry)) (now (to .entry)) p) (frameOf kind client sequence (now (lead .entry) ++ (now (digests .entry) ++ now (block .entry)))) n ⌝ }
+{
+    let mut q = p;
+    let mut j: usize = 0;
+    while j < n {
+        j += 1;
+        q = deposit(
+            out,
+            to,
+            q,
+            Party::Server(j as u8),
+            kind,
+            client,
+            sequence,
+            lead,
+            digests,
+            block,
+        );
+    }
+    q
+}
+
+fn block_kind(z: Broadcast) -> u8
+    ensures { λ r. ⌜ r ≡ kindOf (blockIs (stageOf z) (entry [] [])) ⌝ }
+{
+    match z {
+        Broadcast::Send => 3,
+        Broadcast::Echo => 4,
+        Broadcast::Ready => 5,
+    }
+}
+
+fn time_kind(z: Broadcast) -> u8
+    ensures { λ r. ⌜ r ≡ kindOf (timeIs (stageOf z) 0) ⌝ }
+{
+    match z {
+        Broadcast::Send => 6,
+        Broadcast::Echo => 7,
+        Broadcast::Ready => 8,
+    }
+}
+
+fn ask_kind(a: Ask) -> u8
+    ensures { λ r. ⌜ r ≡ kindOf (askOf a) ⌝ }
+{
+    match a {
+        Ask::GetStamp => 1,
+        Ask::Read => 10,
+        Ask::ReadComplete => 12,
+    }
+}
+
+// Sends a client's question with no body to all servers.
+pub fn ask_all(
+    out: &mut [u8],
+    to: &mut [u8],
+    p: Place,
+    g: Params,
+    a: Ask,
+    client: u8,
+    sequence: u32,
+) -> Place
+    requires { ⌜ Bounded g × Room p (g .n) 9 (length (now out)) (length (now to)) ⌝ }
+    ensures { λ r. ⌜ outbox (now (out .exit)) (now (to .exit)) r ≡ sent (outbox (now (out .entry)) (now (to .entry)) p) (toAll g (λ j. message client sequence (askOf a))) ⌝ }
+{
+    let kind = ask_kind(a);
+    let no_lead = [0u8; 0];
+    let no_list = [0u8; 0];
+    let no_block = [0u8; 0];
+    deposit_all(
+        out,
+        to,
+        p,
+        g.n,
+        kind,
+        client,
+        sequence,
+        &no_lead,
+        &no_list,
+        &no_block,
+    )
+}
+
+// Sends a step of the time's broadcast to all servers.
+pub fn time_all(
+    out: &mut [u8],
+    to: &mut [u8],
+    p: Place,
+    g: Params,
+    z: Broadcast,
+    client: u8,
+    sequence: u32,
+    time: u64,
+) -> Place
+    requires { ⌜ Bounded g × Room p (g .n) 17 (length (now out)) (length (now to)) ⌝ }
+    ensures { λ r. ⌜ outbox (now (out .exit)) (now (to .exit)) r ≡ sent (outbox (now (out .entry)) (now (to .entry)) p) (toAll g (λ j. message client sequence (timeIs (stageOf z) time))) ⌝ }
+{
+    let kind = time_kind(z);
+    let t = time_bytes(time);
+    let no_list = [0u8; 0];
+    let no_block = [0u8; 0];
+    deposit_all(
+        out,
+        to,
+        p,
+        g.n,
+        kind,
+        client,
+        sequence,
+        &t,
+        &no_list,
+        &no_block,
+    )
+}
+
+// Sends a step of the blocks' broadcast, the same digest list and block, to all servers.
+pub fn block_all(
+    out: &mut [u8],
+    to: &mut [u8],
+    p: Place,
+    g: Params,
+    z: Broadcast,
+    client: u8,
+    sequence: u32,
+    digests: &[u8],
+    block: &[u8],
+) -> Place
+    requires { ⌜ Bounded g × Room p (g .n) (9 + (length (now digests) + length (now block))) (length (now out)) (length (now to)) ⌝ }
+    ensures { λ r. ⌜ outbox (now (out .exit)) (now (to .exit)) r ≡ sent (outbox (now (out .entry)) (now (to .entry)) p) (toAll g (λ j. message client sequence (blockIs (stageOf z) (entry (now (digests .entry)) (now (block .entry)))))) ⌝ }
+{
+    let kind = block_kind(z);
+    let no_lead = [0u8; 0];
+    deposit_all(
+        out,
+        to,
+        p,
+        g.n,
+        kind,
+        client,
+        sequence,
+        &no_lead,
+        digests,
+        block,
+    )
+}
+
+// Sends server j its block of a write.
+pub fn send_block(
+    out: &mut [u8],
+    to: &mut [u8],
+    p: Place,
+    j: u8,
+    client: u8,
+    sequence: u32,
+    digests: &[u8],
+    block: &[u8],
+) -> Place
+    requires { ⌜ Room p 1 (9 + (length (now digests) + length (now block))) (length (now out)) (length (now to)) ⌝ }
+    ensures { λ r. ⌜ outbox (now (out .exit)) (now (to .exit)) r ≡ sent (outbox (now (out .entry)) (now (to .entry)) p) (sending (Party.Server j) (message client sequence (blockIs send (entry (now (digests .entry)) (now (block .entry))))) ∷ []) ⌝ }
+{
+    let no_lead = [0u8; 0];
+    deposit(
+        out,
+        to,
+        p,
+        Party::Server(j),
+        3,
+        client,
+        sequence,
+        &no_lead,
+        digests,
+        block,
+    )
+}
+
+// Sends a client the server's present time.
+pub fn send_stamp(
+    out: &mut [u8],
+    to: &mut [u8],
+    p: Place,
+    client: u8,
+    sequence: u32,
+    time: u64,
+) -> Place
+    requires { ⌜ Room p 1 17 (length (now out)) (length (now to)) ⌝ }
+    ensures { λ r. ⌜ outbox (now (out .exit)) (now (to .exit)) r ≡ sent (outbox (now (out .entry)) (now (to .entry)) p) (sending (Party.Client client) (message client sequence (stampIs time)) ∷ []) ⌝ }
+{
+    let t = time_bytes(time);
+    let no_list = [0u8; 0];
+    let no_block = [0u8; 0];
+    deposit(
+        out,
+        to,
+        p,
+        Party::Client(client),
+        2,
+        client,
+        sequence,
+        &t,
+        &no_list,
+        &no_block,
+    )
+}
+
+// Sends a client the acknowledgement of its write.
+pub fn send_ack(out: &mut [u8], to: &mut [u8], p: Place, client: u8, sequence: u32) -> Place
+    requires { ⌜ Room p 1 9 (length (now out)) (length (now to)) ⌝ }
+    ensures { λ r. ⌜ outbox (now (out .exit)) (now (to .exit)) r ≡ sent (outbox (now (out .entry)) (now (to .entry)) p) (sending (Party.Client client) (message client sequence ack) ∷ []) ⌝ }
+{
+    let no_lead = [0u8; 0];
+    let no_list = [0u8; 0];
+    let no_block = [0u8; 0];
+    deposit(
+        out,
+        to,
+        p,
+        Party::Client(client),
+        9,
+        client,
+        sequence,
+        &no_lead,
+        &no_list,
+        &no_block,
+    )
+}
+
+// Sends a client a value.
+pub fn send_value(
+    out: &mut [u8],
+    to: &mut [u8],
+    p: Place,
+    client: u8,
+    sequence: u32,
+    s: Stamp,
+    digests: &[u8],
+    block: &[u8],
+) -> Place
+    requires { ⌜ Room p 1 (22 + (length (now digests) + length (now block))) (length (now out)) (length (now to)) ⌝ }
+    ensures { λ r. ⌜ outbox (now (out .exit)) (now (to .exit)) r ≡ sent (outbox (now (out .entry)) (now (to .entry)) p) (sending (Party.Client client) (message client sequence (valueIs s (entry (now (digests .entry)) (now (block .entry))))) ∷ []) ⌝ }
+{
+    let t = stamp_bytes(s);
+    deposit(
+        out,
+        to,
+        p,
+        Party::Client(client),
+        11,
+        client,
+        sequence,
+        &t,
+        digests,
+        block,
+    )
+}

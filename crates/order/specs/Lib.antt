@@ -1,1 +1,3 @@
 pub mod Operations
+pub mod Histories
+pub mod Orders

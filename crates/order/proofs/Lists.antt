@@ -1,0 +1,105 @@
+-- What counting and searching tell of the elements of a list. Assumes nothing.
+use mathlib.Core.Path.{_≡_, refl, sym, ap, _∙_}
+use mathlib.Core.Bool.{Bool, true, false}
+use mathlib.Core.List.{List, [], _∷_}
+use Prim.Native.Nat.{ℕ, zero, suc, _+_, _<_, _≤_}
+use native.Mathlib.Nat.{not-suc-le-zero, zero-add}
+use native.Mathlib.Omega.{arith}
+use lib.Dec.{ltb}
+use lib.ListN.{length, getD}
+use borrow.Author.Tests.{ltb-true, ltb-false}
+use Rattle.area.specs.Area.{pick}
+use Rattle.order.specs.Histories.{count, place, any}
+use Rattle.order.proofs.Less.{true-false}
+
+-- the two values of a test
+pub by-test : {X : Type 0} (b : Bool) → (b ≡ true → X) → (b ≡ false → X) → X
+by-test true f g = f refl
+by-test false f g = g refl
+
+pub not-true : (b : Bool) → (b ≡ true → ⊥) → b ≡ false
+not-true b f = by-test b (λ t. absurd (f t)) (λ e. e)
+
+-- ---- searching
+
+place-cons : {A : Type 0} (f : A → Bool) (x : A) (l : List A) → place f (x ∷ l) ≡ pick (f x) 0 (suc (place f l))
+unfolding place
+place-cons f x l = refl
+
+place-hit : {A : Type 0} (f : A → Bool) (x : A) (l : List A) → f x ≡ true → place f (x ∷ l) ≡ 0
+unfolding pick
+place-hit f x l e = place-cons f x l ∙ rw e
+
+place-miss : {A : Type 0} (f : A → Bool) (x : A) (l : List A) → f x ≡ false → place f (x ∷ l) ≡ suc (place f l)
+unfolding pick
+place-miss f x l e = place-cons f x l ∙ rw e
+
+pub place-le : {A : Type 0} (f : A → Bool) (l : List A) → place f l ≤ length l
+unfolding place
+place-le f [] = omega arith
+place-le f (x ∷ l) =
+    by-test (f x)
+    (λ t. let e = place-hit f x l t in omega arith)
+    (λ t. let e = place-miss f x l t in let r = place-le f l in omega arith)
+
+-- an element that passes stands no earlier than the first that does
+pub place-first : {A : Type 0} (f : A → Bool) (l : List A) (i : ℕ) (d : A) → i < length l → f (getD l i d) ≡ true → place f l ≤ i
+place-first f [] i d h p = absurd (not-suc-le-zero h)
+place-first f (x ∷ l) zero d h p = let e = place-hit f x l p in omega arith
+place-first f (x ∷ l) (suc i) d h p =
+    by-test (f x)
+    (λ t. let e = place-hit f x l t in omega arith)
+    (λ t. let e = place-miss f x l t in let r = place-first f l i d (omega arith) p in omega arith)
+
+-- the first that passes does pass
+pub place-passes : {A : Type 0} (f : A → Bool) (l : List A) (d : A) → place f l < length l → f (getD l (place f l) d) ≡ true
+unfolding place
+place-passes f [] d h = absurd (not-suc-le-zero h)
+place-passes f (x ∷ l) d h =
+    by-test (f x)
+    (λ t. ap (λ k. f (getD (x ∷ l) k d)) (place-hit f x l t) ∙ t)
+    (λ t. ap (λ k. f (getD (x ∷ l) k d)) (place-miss f x l t)
+    ∙ place-passes f l d (let e = place-miss f x l t in omega arith))
+
+-- none passes, and one does
+pub none-passes : {A : Type 0} (f : A → Bool) (l : List A) (i : ℕ) (d : A) → any f l ≡ false → i < length l → f (getD l i d) ≡ false
+unfolding any
+none-passes f l i d e h =
+    not-true (f (getD l i d)) (λ t. let a = ltb-false (place f l) (length l) e in let b = place-first f l i d h t in omega arith)
+
+-- ---- counting
+
+count-hit : {A : Type 0} (f : A → Bool) (x : A) (l : List A) → f x ≡ true → count f (x ∷ l) ≡ 1 + count f l
+unfolding count pick
+count-hit f x l e = rw e
+
+count-miss : {A : Type 0} (f : A → Bool) (x : A) (l : List A) → f x ≡ false → count f (x ∷ l) ≡ 0 + count f l
+unfolding count pick
+count-miss f x l e = rw e
+
+-- where the count is not 0, one passes
+pub count-some : {A : Type 0} (f : A → Bool) (l : List A) → (count f l ≡ 0 → ⊥) → place f l < length l
+unfolding count
+count-some f [] h = absurd (h refl)
+count-some f (x ∷ l) h =
+    by-test (f x)
+    (λ t. let e = place-hit f x l t in omega arith)
+    (λ t. let e = place-miss f x l t in let r = count-some f l (λ z. h (count-miss f x l t ∙ zero-add (count f l) ∙ z)) in omega arith)
+
+count-one : {A : Type 0} (f : A → Bool) (l : List A) (i : ℕ) (d : A) → i < length l → f (getD l i d) ≡ true → 1 ≤ count f l
+count-one f [] i d h p = absurd (not-suc-le-zero h)
+count-one f (x ∷ l) zero d h p = let e = count-hit f x l p in omega arith
+count-one f (x ∷ l) (suc i) d h p =
+    let r = count-one f l i d (omega arith) p in
+    by-test (f x) (λ t. let e = count-hit f x l t in omega arith) (λ t. let e = count-miss f x l t in omega arith)
+
+-- where two pass, the count is at least 2
+pub count-two : {A : Type 0} (f : A → Bool) (l : List A) (i j : ℕ) (d : A) → i < j → j < length l
+    → f (getD l i d) ≡ true → f (getD l j d) ≡ true → 2 ≤ count f l
+count-two f [] i j d g h p q = absurd (not-suc-le-zero h)
+count-two f (x ∷ l) i zero d g h p q = absurd (not-suc-le-zero g)
+count-two f (x ∷ l) zero (suc j) d g h p q =
+    let r = count-one f l j d (omega arith) q in let e = count-hit f x l p in omega arith
+count-two f (x ∷ l) (suc i) (suc j) d g h p q =
+    let r = count-two f l i j d (omega arith) (omega arith) p q in
+    by-test (f x) (λ t. let e = count-hit f x l t in omega arith) (λ t. let e = count-miss f x l t in omega arith)

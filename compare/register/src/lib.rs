@@ -1,0 +1,18 @@
+//! A second, independent implementation of the register of document 01, written from the
+//! documents. `server` and `client` follow the text with ordinary data structures; `flat` does
+//! the same steps on fixed arrays and lent areas, without allocation.
+
+pub mod blocks;
+pub mod client;
+pub mod field;
+pub mod flat;
+pub mod frame;
+pub mod history;
+pub mod params;
+pub mod random;
+pub mod server;
+pub mod sha256;
+pub mod variant;
+
+pub use params::{Params, Party, Refusal, Send};
+pub use variant::Variant;

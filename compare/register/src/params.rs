@@ -1,0 +1,155 @@
+//! Parameters and their bounds, parties, and the refusals of document 01's table.
+
+/// The refusals, numbered as in document 01.
+#[derive(Clone, Copy, Debug, PartialEq, Eq, PartialOrd, Ord)]
+#[repr(u8)]
+pub enum Refusal {
+    Parties = 1,
+    Threshold = 2,
+    ValueLength = 3,
+    FrameLength = 4,
+    Version = 5,
+    Kind = 6,
+    Operation = 7,
+    BodyLength = 8,
+    Parts = 9,
+    Room = 10,
+    Sender = 11,
+    Old = 12,
+    Early = 13,
+    Digest = 14,
+    Open = 15,
+    UsedUp = 16,
+    OutOfStamps = 17,
+    Record = 18,
+    Unlisted = 19,
+}
+
+impl Refusal {
+    pub fn number(self) -> u8 {
+        self as u8
+    }
+}
+
+/// A server or a client with its number, as the host names it; the number may be anything.
+#[derive(Clone, Copy, Debug, PartialEq, Eq, PartialOrd, Ord, Hash)]
+pub enum Party {
+    Client(usize),
+    Server(usize),
+}
+
+/// A sent frame with its receiver.
+#[derive(Clone, Debug, PartialEq, Eq)]
+pub struct Send {
+    pub to: Party,
+    pub frame: Vec<u8>,
+}
+
+pub const CLIENTS: usize = 8;
+pub const MAX_SERVERS: usize = 10;
+pub const MAX_K: usize = 8;
+pub const MAX_VALUE: usize = 256;
+pub const DIGEST: usize = 32;
+
+/// n servers, t of them may be false, k blocks rebuild a value of l bytes.
+#[derive(Clone, Copy, Debug, PartialEq, Eq)]
+pub struct Params {
+    pub n: usize,
+    pub t: usize,
+    pub k: usize,
+    pub l: usize,
+}
+
+impl Params {
+    pub fn new(n: usize, t: usize, k: usize, l: usize) -> Params {
+        Params { n, t, k, l }
+    }
+
+    /// Refusal 1, without a party's own number.
+    pub fn check_parties(&self) -> Result<(), Refusal> {
+        let n_ok = (4..=MAX_SERVERS).contains(&self.n);
+        if n_ok && self.t >= 1 && self.t < self.n && self.n > 3 * self.t {
+            Ok(())
+        } else {
+            Err(Refusal::Parties)
+        }
+    }
+
+    /// Refusals 2 and 3, for parameters that passed 1.
+    pub fn check_sizes(&self) -> Result<(), Refusal> {
+        if self.k < 1 || self.k > self.n - 2 * self.t {
+            return Err(Refusal::Threshold);
+        }
+        if self.l < 1 || self.l > MAX_VALUE {
+            return Err(Refusal::ValueLength);
+        }
+        Ok(())
+    }
+
+    /// Refusals 1 to 3 as server `own` meets them.
+    pub fn check_server(&self, own: usize) -> Result<(), Refusal> {
+        self.check_parties()?;
+        if own < 1 || own > self.n {
+            return Err(Refusal::Parties);
+        }
+        self.check_sizes()
+    }
+
+    /// Refusals 1 to 3 as client `own` meets them.
+    pub fn check_client(&self, own: usize) -> Result<(), Refusal> {
+        self.check_parties()?;
+        if !(1..=CLIENTS).contains(&own) {
+            return Err(Refusal::Parties);
+        }
+        self.check_sizes()
+    }
+
+    /// b, the bytes of a block.
+    pub fn block(&self) -> usize {
+        self.l.div_ceil(self.k)
+    }
+
+    /// Bytes of a digest list.
+    pub fn list(&self) -> usize {
+        DIGEST * self.n
+    }
+
+    /// n − t.
+    pub fn most(&self) -> usize {
+        self.n - self.t
+    }
+
+    /// q, the larger of k and t + 1.
+    pub fn q(&self) -> usize {
+        self.k.max(self.t + 1)
+    }
+
+    /// Bytes of the largest frame, kind 11.
+    pub fn largest(&self) -> usize {
+        22 + self.list() + self.block()
+    }
+
+    pub fn server_room(&self) -> usize {
+        (self.n + 9) * self.largest()
+    }
+
+    pub fn client_room(&self) -> usize {
+        2 * self.n * self.largest()
+    }
+
+    /// Every parameter set (n, t, k) with the given length.
+    pub fn all(l: usize) -> Vec<Params> {
+        let mut sets = Vec::new();
+        for n in 4..=MAX_SERVERS {
+            for t in 1..=3 {
+                for k in 1..=MAX_K {
+                    let p = Params::new(n, t, k, l);
+                    if p.check_parties().is_ok() && p.check_sizes().is_ok() {
+                        sets.push(p);
+                    }
+                }
+            }
+        }
+        sets
+    }
+}

@@ -1,0 +1,52 @@
+//! Deliberately wrong protocols, "wrong by a hair". Tests switch them on to show that the
+//! simulator's checks can fail; everything else runs `Variant::Right`.
+
+#[derive(Clone, Copy, Debug, PartialEq, Eq)]
+pub enum Variant {
+    /// Document 01's protocol.
+    Right,
+    /// Client: the (t + 1)th largest time in place of the largest.
+    SmallerTime,
+    /// Client: a stamp of an earlier write sequence is counted.
+    StaleStamp,
+    /// Client: a read settles on n − t − 1 rows.
+    FewRows,
+    /// Client: a second value with the same stamp from one server is counted too.
+    ValueTwice,
+    /// Client: a second ack from one server is counted too.
+    AckTwice,
+    /// Client: the block of a value is not compared with its digest.
+    NoDigest,
+    /// Server: a frame above the open sequence opens that sequence, before acceptance.
+    EarlyOpen,
+    /// Server: every send of the client is echoed, not only the first.
+    EchoAgain,
+    /// Server: ready without comparing the digests of the fresh encoding.
+    NoCompare,
+    /// Server: ready at n − 2t equal echoes.
+    FewEchoes,
+    /// Server: a listener gets no value when its noted stamp is smaller.
+    NoListeners,
+    /// Server: an accepted write replaces a larger stamp.
+    StampFalls,
+    /// Server: kinds 3 and 6 are not echoed after the own ready.
+    LateSendSilent,
+}
+
+impl Variant {
+    pub const WRONG: [Variant; 13] = [
+        Variant::SmallerTime,
+        Variant::StaleStamp,
+        Variant::FewRows,
+        Variant::ValueTwice,
+        Variant::AckTwice,
+        Variant::NoDigest,
+        Variant::EarlyOpen,
+        Variant::EchoAgain,
+        Variant::NoCompare,
+        Variant::FewEchoes,
+        Variant::NoListeners,
+        Variant::StampFalls,
+        Variant::LateSendSilent,
+    ];
+}

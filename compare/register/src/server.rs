@@ -60,7 +60,7 @@ pub struct Reader {
 #[derive(Clone, Debug, PartialEq, Eq)]
 pub struct Accepted {
     pub stamp: Stamp,
-    pub digests: Vec<u8>,
+    pub own: Dispersed,
     /// Present stamp, digests and block were replaced.
     pub replaced: bool,
 }
@@ -338,7 +338,7 @@ impl Server {
         let ack = build(frame.client, frame.sequence, Body::Ack);
         step.sends.push(Send { to: Party::Client(owner), frame: ack });
         self.slots[owner - 1] = Slot::fresh(frame.sequence as u64 + 1);
-        step.accepted = Some(Accepted { stamp, digests: own.digests, replaced });
+        step.accepted = Some(Accepted { stamp, own, replaced });
     }
 
     fn answer(&self, frame: &Frame, body: Body) -> Step {

@@ -1,0 +1,7 @@
+//! Random adversarial runs of the register, and the check of demand 3's row on each.
+
+pub mod adversary;
+pub mod check;
+pub mod lockstep;
+pub mod run;
+pub mod world;

@@ -1,1 +1,64 @@
-fn main() {}
+//! simulate [COUNT [SEED]] [--both] [--variant NAME]: COUNT runs from SEED on. A failure prints
+//! the seed that reproduces it: simulate 1 SEED.
+
+use register::Variant;
+use simulate::run::{run, Options, Summary};
+use std::process::ExitCode;
+use std::time::Instant;
+
+fn usage() -> ExitCode {
+    eprintln!("simulate [COUNT [SEED]] [--both] [--variant NAME]");
+    ExitCode::from(2)
+}
+
+fn main() -> ExitCode {
+    let mut numbers = vec![];
+    let mut options = Options { variant: Variant::Right, both: false };
+    let mut arguments = std::env::args().skip(1);
+    while let Some(argument) = arguments.next() {
+        if argument == "--both" {
+            options.both = true;
+        } else if argument == "--variant" {
+            let name = arguments.next().unwrap_or_default();
+            match Variant::WRONG.iter().find(|v| format!("{v:?}") == name) {
+                Some(variant) => options.variant = *variant,
+                None => return usage(),
+            }
+        } else if let Ok(number) = argument.parse::<u64>() {
+            numbers.push(number);
+        } else {
+            return usage();
+        }
+    }
+    if numbers.len() > 2 {
+        return usage();
+    }
+    let count = numbers.first().copied().unwrap_or(1000);
+    let seed = numbers.get(1).copied().unwrap_or(1);
+    println!("{count} runs from seed {seed}, {options:?}");
+    let begun = Instant::now();
+    let mut total = Summary::default();
+    let mut failures = 0;
+    for seed in seed..seed.saturating_add(count) {
+        match run(seed, options) {
+            Ok(summary) => total.add(&summary),
+            Err(violation) => {
+                failures += 1;
+                println!("seed {seed}: {violation}");
+                if failures == 10 {
+                    println!("and no further");
+                    break;
+                }
+            }
+        }
+    }
+    let Summary { calls, reads, writes, foreign, steps, refusals } = total;
+    println!("{calls} calls of the schedule, {steps} steps; reads {reads}, writes {writes}, false writes accepted {foreign}");
+    println!("refusals by number {:?}", &refusals[1..]);
+    println!("{failures} failures, {:.1} s", begun.elapsed().as_secs_f64());
+    if failures == 0 {
+        ExitCode::SUCCESS
+    } else {
+        ExitCode::FAILURE
+    }
+}

@@ -1,0 +1,500 @@
+//! The false servers and clients of a run: they see every frame and may send anything, from
+//! noise to well-formed equivocation.
+
+use crate::check::Violation;
+use crate::world::{Sent, World};
+use register::blocks::encoded;
+use register::frame::{build, open, Body, Frame, Stage, Stamp};
+use register::random::Random;
+use register::server::{digest_list, Server};
+use register::{Params, Party, Send};
+use std::collections::BTreeMap;
+
+/// How a false server takes the frames sent to it.
+#[derive(Clone, Copy, Debug)]
+enum Mood {
+    Silent,
+    /// As an honest server would.
+    Faithful,
+    /// Answers from the initial state and acknowledges every write at once.
+    Frozen,
+    /// Two honest servers in one, each seen by one half of the others.
+    TwoFaced,
+    /// Any of these, anew for each frame.
+    Changing,
+}
+
+const MOODS: [Mood; 5] =
+    [Mood::Silent, Mood::Faithful, Mood::Frozen, Mood::TwoFaced, Mood::Changing];
+
+/// A write as false servers may support it: a list with the blocks they know, and a time.
+struct Known {
+    client: u8,
+    sequence: u32,
+    digests: Vec<u8>,
+    blocks: BTreeMap<usize, Vec<u8>>,
+    time: u64,
+}
+
+pub struct Adversary {
+    p: Params,
+    servers: Vec<usize>,
+    clients: Vec<usize>,
+    moods: BTreeMap<usize, Mood>,
+    faces: BTreeMap<usize, [Server; 2]>,
+    /// Which face each party sees.
+    halves: u32,
+    /// Frames of false parties to honest ones, to be handed in at any time.
+    stock: Vec<Sent>,
+    /// Frames to false servers from false parties.
+    inner: Vec<Sent>,
+    known: Vec<Known>,
+    writes: [u32; 9],
+    reads: [u32; 9],
+    initial: Vec<Vec<u8>>,
+}
+
+const STOCK: usize = 600;
+
+fn bit(party: Party) -> u32 {
+    match party {
+        Party::Server(j) => j as u32,
+        Party::Client(c) => 16 + c as u32,
+    }
+}
+
+impl Adversary {
+    pub fn new(p: Params, servers: &[usize], clients: &[usize], initial: &[u8], random: &mut Random) -> Adversary {
+        let face = |j: usize| Server::fresh(p, j, initial).unwrap();
+        Adversary {
+            p,
+            servers: servers.to_vec(),
+            clients: clients.to_vec(),
+            moods: servers.iter().map(|&j| (j, random.pick(&MOODS))).collect(),
+            faces: servers.iter().map(|&j| (j, [face(j), face(j)])).collect(),
+            halves: random.next() as u32,
+            stock: Vec::new(),
+            inner: Vec::new(),
+            known: Vec::new(),
+            writes: [1; 9],
+            reads: [0; 9],
+            initial: encoded(&p, initial),
+        }
+    }
+
+    /// True if there is anybody false to act.
+    pub fn present(&self) -> bool {
+        !self.servers.is_empty() || !self.clients.is_empty()
+    }
+
+    /// One action of the false parties.
+    pub fn act(&mut self, world: &mut World, random: &mut Random) -> Result<(), Violation> {
+        if self.stock.len() > STOCK {
+            let cut = self.stock.len() - STOCK / 2;
+            self.stock.drain(..cut);
+        }
+        match random.below(20) {
+            0..=4 => self.work(world, random),
+            5..=10 => return self.hand_stock(world, random),
+            11 => return self.hand_mutated(world, random),
+            12 => return self.hand_noise(world, random),
+            13 | 14 => self.write(world, random),
+            15 => self.read(random),
+            16 | 17 => self.support(world, random),
+            18 => self.reply(world, random),
+            _ => {
+                for mood in self.moods.values_mut() {
+                    if random.chance(1, 10) {
+                        *mood = random.pick(&MOODS);
+                    }
+                }
+                if random.chance(1, 10) {
+                    self.halves = random.next() as u32;
+                }
+            }
+        }
+        Ok(())
+    }
+
+    fn put(&mut self, world: &World, from: Party, to: Party, frame: Vec<u8>) {
+        if world.honest(to) {
+            self.stock.push(Sent { from, to, frame });
+        } else if let Party::Server(_) = to {
+            self.inner.push(Sent { from, to, frame });
+        }
+    }
+
+    /// False servers take frames that were sent to them.
+    fn work(&mut self, world: &mut World, random: &mut Random) {
+        for _ in 0..random.range(1, 6) {
+            let sent = if !world.caught.is_empty() && (self.inner.is_empty() || random.chance(1, 2)) {
+                let i = random.below(world.caught.len());
+                world.log[world.caught.swap_remove(i)].clone()
+            } else if !self.inner.is_empty() {
+                let i = random.below(self.inner.len());
+                self.inner.swap_remove(i)
+            } else {
+                return;
+            };
+            self.take(world, &sent, random);
+        }
+    }
+
+    fn take(&mut self, world: &World, sent: &Sent, random: &mut Random) {
+        let Party::Server(j) = sent.to else { return };
+        let Ok(frame) = open(&self.p, &sent.frame) else { return };
+        self.learn(j, &frame);
+        let mood = match self.moods[&j] {
+            Mood::Changing => random.pick(&MOODS[..4]),
+            mood => mood,
+        };
+        match mood {
+            Mood::Silent | Mood::Changing => {}
+            Mood::Faithful => self.face(world, j, 0, sent, false),
+            Mood::TwoFaced => {
+                let client = matches!(sent.from, Party::Client(_));
+                let half = self.halves >> bit(sent.from) & 1;
+                for face in 0..2 {
+                    if client || face == half as usize {
+                        self.face(world, j, face, sent, true);
+                    }
+                }
+            }
+            Mood::Frozen => self.frozen(world, j, sent, &frame),
+        }
+    }
+
+    /// Remembers the block and list of a write that was sent to a false server.
+    fn learn(&mut self, j: usize, frame: &Frame) {
+        if let Body::Block { stage: Stage::Send, digests, block } = frame.body {
+            let same = |k: &&mut Known| {
+                k.client == frame.client && k.sequence == frame.sequence && k.digests == digests
+            };
+            if let Some(known) = self.known.iter_mut().find(same) {
+                known.blocks.insert(j, block.to_vec());
+                return;
+            }
+            self.known.push(Known {
+                client: frame.client,
+                sequence: frame.sequence,
+                digests: digests.to_vec(),
+                blocks: BTreeMap::from([(j, block.to_vec())]),
+                time: 0,
+            });
+        } else if let Body::Time { stage: Stage::Send, time } = frame.body {
+            for known in &mut self.known {
+                if known.client == frame.client && known.sequence == frame.sequence {
+                    known.time = time;
+                }
+            }
+        }
+    }
+
+    fn face(&mut self, world: &World, j: usize, face: usize, sent: &Sent, half: bool) {
+        let server = &mut self.faces.get_mut(&j).unwrap()[face];
+        let mut queue = vec![(sent.from, sent.frame.clone())];
+        let mut sends: Vec<Send> = Vec::new();
+        while let Some((from, frame)) = queue.pop() {
+            if let Ok(step) = server.deliver(from, &frame, usize::MAX) {
+                for send in step.sends {
+                    if send.to == Party::Server(j) {
+                        queue.push((send.to, send.frame));
+                    } else {
+                        sends.push(send);
+                    }
+                }
+            }
+        }
+        for Send { to, frame } in sends {
+            if !half || self.halves >> bit(to) & 1 == face as u32 {
+                self.put(world, Party::Server(j), to, frame);
+            }
+        }
+    }
+
+    fn frozen(&mut self, world: &World, j: usize, sent: &Sent, frame: &Frame) {
+        let digests = digest_list(&self.initial);
+        let body = match frame.body {
+            Body::GetStamp => Body::Stamp { time: 0 },
+            Body::Read => {
+                Body::Value { stamp: Stamp::default(), digests: &digests, block: &self.initial[j - 1] }
+            }
+            Body::Block { stage: Stage::Send, .. } => Body::Ack,
+            _ => return,
+        };
+        let bytes = build(frame.client, frame.sequence, body);
+        self.put(world, Party::Server(j), sent.from, bytes);
+    }
+
+    /// A frame of the stock, mostly a recent one; it may be handed in again later.
+    fn hand_stock(&mut self, world: &mut World, random: &mut Random) -> Result<(), Violation> {
+        for _ in 0..random.range(1, 8) {
+            if self.stock.is_empty() {
+                return Ok(());
+            }
+            let length = self.stock.len();
+            let reach = if random.chance(3, 4) { length.min(40) } else { length };
+            let i = length - 1 - random.below(reach);
+            let sent =
+                if random.chance(9, 10) { self.stock.remove(i) } else { self.stock[i].clone() };
+            let room = world.room(sent.to);
+            world.hand_false(sent.to, sent.from, &sent.frame, room)?;
+        }
+        Ok(())
+    }
+
+    /// Someone who is not honest.
+    fn anyone(&self, world: &World, random: &mut Random) -> Party {
+        let mut parties: Vec<Party> = self.servers.iter().map(|&j| Party::Server(j)).collect();
+        parties.extend(self.clients.iter().map(|&c| Party::Client(c)));
+        if parties.is_empty() || random.chance(1, 8) {
+            parties = vec![
+                Party::Server(0),
+                Party::Server(self.p.n + 1),
+                Party::Server(255),
+                Party::Client(0),
+                Party::Client(9),
+                Party::Client(usize::MAX),
+            ];
+        }
+        let party = random.pick(&parties);
+        assert!(!world.honest(party));
+        party
+    }
+
+    fn honest_receiver(&self, world: &World, random: &mut Random) -> Party {
+        loop {
+            let party = if random.chance(2, 3) {
+                Party::Server(random.range(1, self.p.n))
+            } else {
+                Party::Client(random.range(1, 8))
+            };
+            if world.honest(party) {
+                return party;
+            }
+        }
+    }
+
+    /// A frame of anybody's, changed a little or only handed in as a false party's.
+    fn hand_mutated(&mut self, world: &mut World, random: &mut Random) -> Result<(), Violation> {
+        let from_log = !world.log.is_empty() && (self.stock.is_empty() || random.chance(1, 2));
+        let mut sent = if from_log {
+            world.log[random.below(world.log.len())].clone()
+        } else if !self.stock.is_empty() {
+            self.stock[random.below(self.stock.len())].clone()
+        } else {
+            return Ok(());
+        };
+        if world.honest(sent.from) || random.chance(1, 10) {
+            sent.from = self.anyone(world, random);
+        }
+        if !world.honest(sent.to) || random.chance(1, 3) {
+            sent.to = self.honest_receiver(world, random);
+        }
+        let frame = &mut sent.frame;
+        match random.below(8) {
+            0 => {}
+            1 => frame[2] = random.byte(),
+            2 => frame[3] = random.range(0, 13) as u8,
+            3 => frame[4] = random.range(0, 9) as u8,
+            4 => frame[8] = random.range(0, 4) as u8,
+            5 => {
+                let i = random.below(frame.len());
+                frame[i] ^= 1 << random.below(8);
+            }
+            6 => {
+                let length = random.below(frame.len() + 1);
+                frame.truncate(length);
+                if length > 2 && random.chance(1, 2) {
+                    frame[..2].copy_from_slice(&((length - 2) as u16).to_be_bytes());
+                }
+            }
+            _ => {
+                let from = 9.min(frame.len());
+                for byte in frame[from..].iter_mut().take(8) {
+                    *byte = if random.chance(1, 2) { 0 } else { random.byte() };
+                }
+            }
+        }
+        let room = world.room(sent.to);
+        world.hand_false(sent.to, sent.from, &sent.frame, room)?;
+        Ok(())
+    }
+
+    fn hand_noise(&mut self, world: &mut World, random: &mut Random) -> Result<(), Violation> {
+        let length = random.below(40);
+        let mut frame = random.bytes(length);
+        if length >= 9 && random.chance(3, 4) {
+            frame[..2].copy_from_slice(&((length - 2) as u16).to_be_bytes());
+            frame[2] = 1;
+            frame[3] = random.range(0, 13) as u8;
+            frame[4] = random.range(0, 9) as u8;
+            frame[5..8].fill(0);
+            frame[8] = random.range(0, 3) as u8;
+        }
+        let (to, from) = (self.honest_receiver(world, random), self.anyone(world, random));
+        let room = world.room(to);
+        world.hand_false(to, from, &frame, room)?;
+        Ok(())
+    }
+
+    /// A time that a false party may name.
+    fn some_time(&self, world: &World, random: &mut Random) -> u64 {
+        let highest = world.seen.accepted.iter().map(|a| a.stamp.time).max().unwrap_or(0);
+        match random.below(40) {
+            0..=9 => 0,
+            10..=19 => highest,
+            20..=29 => highest.saturating_add(random.below(3) as u64),
+            30..=36 => random.below(4) as u64,
+            37 => u64::MAX - 1,
+            38 if random.chance(1, 4) => u64::MAX,
+            _ => highest.saturating_sub(1),
+        }
+    }
+
+    /// Blocks of a value, or such that no value has; always with their right digests.
+    fn some_blocks(&self, random: &mut Random) -> Vec<Vec<u8>> {
+        let p = &self.p;
+        let value = random.bytes(p.l);
+        let mut blocks = encoded(p, &value);
+        match random.below(8) {
+            0 => {
+                for block in &mut blocks {
+                    *block = random.bytes(p.block());
+                }
+            }
+            1 => {
+                let j = random.below(p.n);
+                blocks[j] = random.bytes(p.block());
+            }
+            2 => {
+                // Padding that is not zero.
+                let padded = Params { l: p.k * p.block(), ..*p };
+                if padded.check_sizes().is_ok() {
+                    blocks = encoded(&padded, &random.bytes(padded.l));
+                }
+            }
+            _ => {}
+        }
+        blocks
+    }
+
+    /// A false client's write: one version or two, to all servers or some.
+    fn write(&mut self, world: &World, random: &mut Random) {
+        if self.clients.is_empty() {
+            return;
+        }
+        let client = random.pick(&self.clients);
+        let accepted = |s: u32| world.seen.accepted.iter().any(|a| a.client == client && a.sequence == s);
+        while accepted(self.writes[client]) {
+            self.writes[client] += 1;
+        }
+        let sequence = self.writes[client] + random.chance(1, 6) as u32;
+        let versions = random.range(1, 2);
+        let split = random.next() as u32;
+        let blocks: Vec<Vec<Vec<u8>>> = (0..versions).map(|_| self.some_blocks(random)).collect();
+        let lists: Vec<Vec<u8>> = blocks.iter().map(|b| digest_list(b)).collect();
+        let times: Vec<u64> = (0..versions).map(|_| self.some_time(world, random)).collect();
+        let (one_value, one_time) = (random.chance(1, 3), random.chance(1, 3));
+        let reach = if random.chance(1, 3) { random.next() as u32 } else { u32::MAX };
+        for j in 1..=self.p.n {
+            if reach >> j & 1 == 0 {
+                continue;
+            }
+            let version = if versions == 2 { (split >> j & 1) as usize } else { 0 };
+            let v = if one_value { 0 } else { version };
+            let body = Body::Block { stage: Stage::Send, digests: &lists[v], block: &blocks[v][j - 1] };
+            let frame = build(client as u8, sequence, body);
+            self.put(world, Party::Client(client), Party::Server(j), frame);
+            let time = times[if one_time { 0 } else { version }];
+            let frame = build(client as u8, sequence, Body::Time { stage: Stage::Send, time });
+            self.put(world, Party::Client(client), Party::Server(j), frame);
+        }
+        for v in 0..versions {
+            self.known.push(Known {
+                client: client as u8,
+                sequence,
+                digests: lists[v].clone(),
+                blocks: (1..=self.p.n).map(|j| (j, blocks[v][j - 1].clone())).collect(),
+                time: times[v],
+            });
+        }
+    }
+
+    fn read(&mut self, random: &mut Random) {
+        if self.clients.is_empty() {
+            return;
+        }
+        let client = random.pick(&self.clients);
+        self.reads[client] += random.below(2) as u32;
+        let sequence = self.reads[client].max(1);
+        for j in 1..=self.p.n {
+            if !self.servers.contains(&j) && random.chance(1, 2) {
+                let body = if random.chance(2, 3) { Body::Read } else { Body::ReadComplete };
+                let frame = build(client as u8, sequence, body);
+                self.stock.push(Sent { from: Party::Client(client), to: Party::Server(j), frame });
+            }
+        }
+    }
+
+    /// False servers echo and confirm one version of a write to some servers.
+    fn support(&mut self, world: &World, random: &mut Random) {
+        if self.known.is_empty() || self.servers.is_empty() {
+            return;
+        }
+        let reach = self.known.len().min(6);
+        let known = &self.known[self.known.len() - 1 - random.below(reach)];
+        let receivers = random.next() as u32;
+        let time = if random.chance(1, 6) { self.some_time(world, random) } else { known.time };
+        let mut frames = Vec::new();
+        for &j in &self.servers {
+            for to in (1..=self.p.n).filter(|&to| receivers >> to & 1 == 1) {
+                for stage in [Stage::Echo, Stage::Ready] {
+                    if let Some(block) = known.blocks.get(&j) {
+                        let body = Body::Block { stage, digests: &known.digests, block };
+                        frames.push((j, to, build(known.client, known.sequence, body)));
+                    }
+                    let body = Body::Time { stage, time };
+                    frames.push((j, to, build(known.client, known.sequence, body)));
+                }
+            }
+        }
+        for (j, to, frame) in frames {
+            self.put(world, Party::Server(j), Party::Server(to), frame);
+        }
+    }
+
+    /// False servers answer an honest client's operation as they like.
+    fn reply(&mut self, world: &World, random: &mut Random) {
+        if world.log.is_empty() || self.servers.is_empty() {
+            return;
+        }
+        let reach = world.log.len().min(200);
+        let sent = &world.log[world.log.len() - 1 - random.below(reach)];
+        let Party::Client(c) = sent.from else { return };
+        let Ok(frame) = open(&self.p, &sent.frame) else { return };
+        let initial = digest_list(&self.initial);
+        for j in self.servers.clone() {
+            let mut digests = &initial;
+            let mut block = &self.initial[j - 1];
+            let mut stamp = Stamp::default();
+            if let Some(known) = self.known.last().filter(|_| random.chance(2, 3)) {
+                if let Some(own) = known.blocks.get(&j) {
+                    (digests, block) = (&known.digests, own);
+                }
+                let time = self.some_time(world, random).max(1);
+                stamp = Stamp { time, writer: known.client, sequence: known.sequence };
+            }
+            if let Some(a) = world.seen.accepted.last().filter(|_| random.chance(1, 3)) {
+                stamp = a.stamp;
+            }
+            let body = match frame.body {
+                Body::GetStamp => Body::Stamp { time: self.some_time(world, random) },
+                Body::Read => Body::Value { stamp, digests, block },
+                _ => Body::Ack,
+            };
+            let bytes = build(frame.client, frame.sequence, body);
+            self.put(world, Party::Server(j), Party::Client(c), bytes);
+        }
+    }
+}

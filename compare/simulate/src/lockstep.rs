@@ -1,0 +1,336 @@
+//! Each party in both styles, called side by side: every byte of answers, states and lent areas
+//! is compared. A wrong variant runs in the clear style alone.
+
+use register::client::{self, Client, Operation, Outcome};
+use register::flat::{self, CHUNK, ROWS_AREA, STATE_AREA};
+use register::frame::{open, Body, Stage};
+use register::server::{self, Dispersed, Server};
+use register::{Params, Party, Refusal, Send, Variant};
+
+/// What the unused bytes of lent areas hold.
+fn pattern(length: usize, salt: usize) -> Vec<u8> {
+    (0..length).map(|i| (i * 7 + salt * 31 + 5) as u8).collect()
+}
+
+/// Compares frames and receivers with the out and to areas, whose further bytes are as lent.
+fn compare_out(sends: &[Send], done: &flat::Done, out: &[u8], to: &[u8], salt: usize) -> Result<(), String> {
+    let mut expected = pattern(out.len(), salt);
+    let mut receivers = pattern(to.len(), salt + 1);
+    let mut at = 0;
+    for (i, send) in sends.iter().enumerate() {
+        expected[at..at + send.frame.len()].copy_from_slice(&send.frame);
+        at += send.frame.len();
+        let (class, number) = match send.to {
+            Party::Client(c) => (0, c),
+            Party::Server(j) => (1, j),
+        };
+        receivers[2 * i] = class;
+        receivers[2 * i + 1] = number as u8;
+    }
+    if done.frames != sends.len() || done.bytes != at || out != expected || to != receivers {
+        return Err("frames sent".to_string());
+    }
+    Ok(())
+}
+
+fn unchanged_out(out: &[u8], to: &[u8], salt: usize) -> Result<(), String> {
+    if out != pattern(out.len(), salt) || to != pattern(to.len(), salt + 1) {
+        return Err("a refusal wrote to a lent area".to_string());
+    }
+    Ok(())
+}
+
+struct FlatServer {
+    server: flat::Server,
+    area: Vec<u8>,
+    initial: Vec<u8>,
+}
+
+pub struct ServerPair {
+    p: Params,
+    own: usize,
+    pub clear: Server,
+    flat: Option<FlatServer>,
+}
+
+impl ServerPair {
+    pub fn fresh(p: Params, own: usize, value: &[u8], variant: Variant, both: bool) -> ServerPair {
+        let clear = Server::fresh(p, own, value).unwrap().with_variant(variant);
+        let flat = both.then(|| {
+            let mut area = pattern(STATE_AREA + own % 3, own);
+            let mut initial = pattern(p.block() + own % 2, own);
+            let server = flat::Server::fresh(&p, own, value, &mut initial, &mut area).unwrap();
+            FlatServer { server, area, initial }
+        });
+        ServerPair { p, own, clear, flat }
+    }
+
+    /// One call, with both answers compared.
+    pub fn deliver(&mut self, from: Party, bytes: &[u8], room: usize) -> Result<Result<server::Step, Refusal>, String> {
+        let answer = self.clear.deliver(from, bytes, room);
+        let Some(flat) = &mut self.flat else { return Ok(answer) };
+        let before = flat.area.clone();
+        let server_before = flat.server;
+        let initial_before = flat.initial.clone();
+        let mut out = pattern(room, self.own);
+        let mut to = pattern(2 * (self.p.n + 9) + 1, self.own + 1);
+        let (p, own) = (self.p, self.own);
+        let other =
+            flat.server.deliver(&p, own, &flat.initial, &mut flat.area, from, bytes, &mut out, &mut to);
+        if flat.initial != initial_before {
+            return Err("initial area".to_string());
+        }
+        match (&answer, other) {
+            (Err(a), Err(b)) if *a == b => {
+                unchanged_out(&out, &to, self.own)?;
+                if flat.area != before || flat.server != server_before {
+                    return Err("a refusal changed a server".to_string());
+                }
+            }
+            (Ok(step), Ok(done)) => {
+                compare_out(&step.sends, &done, &out, &to, self.own)?;
+                if (done.outcome == flat::Outcome::Accepted) != step.accepted.is_some() {
+                    return Err("acceptance".to_string());
+                }
+                let area = std::mem::take(&mut flat.area);
+                let same = area == self.expected_area(before, from, bytes, step);
+                self.flat.as_mut().unwrap().area = area;
+                if !same {
+                    return Err("state area".to_string());
+                }
+                self.compare_state()?;
+            }
+            _ => return Err(format!("answers {answer:?} and {other:?}")),
+        }
+        Ok(answer)
+    }
+
+    /// The state area after a step: the kept frame, the complete write, the present value.
+    fn expected_area(&self, mut area: Vec<u8>, from: Party, bytes: &[u8], step: &server::Step) -> Vec<u8> {
+        let frame = open(&self.p, bytes).expect("a step's frame opens");
+        let c = frame.client as usize;
+        if let (Body::Block { stage, digests, block }, Party::Server(j)) = (frame.body, from) {
+            let chunk = match stage {
+                Stage::Echo => flat::echo_chunk(c, j),
+                _ => flat::ready_chunk(c, j),
+            };
+            flat::store(&mut area, chunk, digests, block);
+        }
+        let complete = match &step.accepted {
+            Some(accepted) => Some(&accepted.own),
+            None => self.clear.slots[c - 1].complete.as_ref(),
+        };
+        if let Some(Dispersed { digests, block }) = complete {
+            flat::store(&mut area, flat::complete_chunk(c), digests, block);
+        }
+        if let Some(accepted) = step.accepted.as_ref().filter(|a| a.replaced) {
+            flat::store(&mut area, 0, &accepted.own.digests, &accepted.own.block);
+        }
+        area
+    }
+
+    fn compare_state(&self) -> Result<(), String> {
+        let flat = self.flat.as_ref().unwrap();
+        let (p, a, b) = (&self.p, &self.clear, &flat.server);
+        let present = b.present(p, &flat.initial, &flat.area);
+        if a.stamp != b.stamp || a.present.block != present || a.present.digests != flat::list_in(p, &flat.area, 0) {
+            return Err("present value".to_string());
+        }
+        for c in 1..=8 {
+            let (x, y) = (&a.slots[c - 1], &b.slots[c]);
+            let flags = x.open == y.open
+                && x.block_sent == y.blocks.sent
+                && x.block_ready == y.blocks.ready
+                && x.complete.is_some() == y.blocks.complete
+                && x.time_sent == y.times.sent
+                && x.time_ready == y.times.ready
+                && x.delivered == y.times.delivered.then_some(y.times.time);
+            let kept = (1..=p.n).all(|j| {
+                let at = |chunk| Dispersed {
+                    digests: flat::list_in(p, &flat.area, chunk).to_vec(),
+                    block: flat::block_in(p, &flat.area, chunk).to_vec(),
+                };
+                x.echoes.get(&j) == y.blocks.echoes[j].then(|| at(flat::echo_chunk(c, j))).as_ref()
+                    && x.readies.get(&j) == y.blocks.readies[j].then(|| at(flat::ready_chunk(c, j))).as_ref()
+                    && x.time_echoes.get(&j).copied() == y.times.echoes[j].then_some(y.times.echo_times[j])
+                    && x.time_readies.get(&j).copied() == y.times.readies[j].then_some(y.times.ready_times[j])
+            });
+            let (r, s) = (&a.readers[c - 1], &b.readers[c]);
+            if !flags || !kept || r.newest != s.newest || r.listening != s.listening.then_some(s.noted) {
+                return Err(format!("slot or reader of client {c}"));
+            }
+        }
+        Ok(())
+    }
+}
+
+struct FlatClient {
+    client: flat::Client,
+    rows: Vec<u8>,
+}
+
+pub struct ClientPair {
+    p: Params,
+    own: usize,
+    pub clear: Client,
+    flat: Option<FlatClient>,
+    /// The value of the open write.
+    value: Vec<u8>,
+}
+
+impl ClientPair {
+    pub fn fresh(p: Params, own: usize, variant: Variant, both: bool) -> ClientPair {
+        let clear = Client::fresh(p, own).unwrap().with_variant(variant);
+        let flat = both.then(|| FlatClient {
+            client: flat::Client::fresh(),
+            rows: pattern(ROWS_AREA + own % 3, own),
+        });
+        ClientPair { p, own, clear, flat, value: Vec::new() }
+    }
+
+    fn compare(
+        &self,
+        answer: &Result<client::Step, Refusal>,
+        other: Result<flat::Done, Refusal>,
+        before: flat::Client,
+        areas: (&[u8], &[u8], &[u8]),
+    ) -> Result<(), String> {
+        let (out, to, value) = areas;
+        let flat = self.flat.as_ref().unwrap();
+        let mut expected_value = pattern(value.len(), self.own + 2);
+        match (answer, other) {
+            (Err(a), Err(b)) if *a == b => {
+                unchanged_out(out, to, self.own)?;
+                if flat.client != before {
+                    return Err("a refusal changed a client".to_string());
+                }
+            }
+            (Ok(step), Ok(done)) => {
+                compare_out(&step.sends, &done, out, to, self.own)?;
+                let outcome = match &step.outcome {
+                    Outcome::Going => flat::Outcome::Going,
+                    Outcome::Written => flat::Outcome::Written,
+                    Outcome::OutOfStamps => flat::Outcome::OutOfStamps,
+                    Outcome::Value(stamp, bytes) => {
+                        expected_value[..bytes.len()].copy_from_slice(bytes);
+                        flat::Outcome::Value(*stamp)
+                    }
+                };
+                if done.outcome != outcome {
+                    return Err("outcome".to_string());
+                }
+                self.compare_state()?;
+            }
+            _ => return Err(format!("answers {answer:?} and {other:?}")),
+        }
+        if value != expected_value {
+            return Err("value area".to_string());
+        }
+        Ok(())
+    }
+
+    fn compare_state(&self) -> Result<(), String> {
+        let flat = self.flat.as_ref().unwrap();
+        let (p, a, b) = (&self.p, &self.clear, &flat.client);
+        let operation = match &a.operation {
+            Operation::None => b.operation == flat::Operation::None,
+            Operation::Stamps(times) => {
+                b.operation == flat::Operation::Stamps
+                    && (1..=p.n).all(|j| times.contains_key(&j) == b.counted[j])
+                    && times.values().max().copied().unwrap_or(0) == b.largest
+            }
+            Operation::Acks(from) => {
+                b.operation == flat::Operation::Acks && (1..=p.n).all(|j| from.contains(&j) == b.counted[j])
+            }
+            Operation::Read(rows) => {
+                b.operation == flat::Operation::Read
+                    && rows.iter().enumerate().all(|(i, row)| {
+                        row.len() == b.kept[i + 1] as usize
+                            && row.iter().enumerate().all(|(place, kept)| {
+                                let chunk = flat::row_chunk(i + 1, place);
+                                kept.stamp == b.stamps[i + 1][place]
+                                    && kept.digests == flat::list_in(p, &flat.rows, chunk)
+                                    && kept.block == flat::block_in(p, &flat.rows, chunk)
+                            })
+                    })
+            }
+        };
+        let numbers =
+            a.writes == b.writes && a.reads == b.reads && a.out_of_stamps == b.out_of_stamps;
+        if !operation || !numbers {
+            return Err("client record".to_string());
+        }
+        Ok(())
+    }
+
+    pub fn begin_read(&mut self, room: usize) -> Result<Result<client::Step, Refusal>, String> {
+        let answer = self.clear.begin_read(room);
+        if let Some(flat) = &mut self.flat {
+            let before = flat.client;
+            let (mut out, mut to) = self.areas(room);
+            let flat = self.flat.as_mut().unwrap();
+            let other = flat.client.begin_read(&self.p, self.own, &mut out, &mut to);
+            self.compare(&answer, other, before, (&out, &to, &[]))?;
+        }
+        Ok(answer)
+    }
+
+    pub fn begin_write(&mut self, value: &[u8], room: usize) -> Result<Result<client::Step, Refusal>, String> {
+        let answer = self.clear.begin_write(value, room);
+        if let Some(flat) = &mut self.flat {
+            let before = flat.client;
+            let (mut out, mut to) = self.areas(room);
+            let flat = self.flat.as_mut().unwrap();
+            let other = flat.client.begin_write(&self.p, self.own, value, &mut out, &mut to);
+            self.compare(&answer, other, before, (&out, &to, &[]))?;
+        }
+        if answer.is_ok() {
+            self.value = value.to_vec();
+        }
+        Ok(answer)
+    }
+
+    fn areas(&self, room: usize) -> (Vec<u8>, Vec<u8>) {
+        (pattern(room, self.own), pattern(4 * self.p.n + self.own % 2, self.own + 1))
+    }
+
+    pub fn deliver(&mut self, from: Party, bytes: &[u8], room: usize) -> Result<Result<client::Step, Refusal>, String> {
+        let rows_before = match &self.clear.operation {
+            Operation::Read(rows) if self.flat.is_some() => Some(rows.clone()),
+            _ => None,
+        };
+        let answer = self.clear.deliver(from, bytes, &self.value, room);
+        if self.flat.is_none() {
+            return Ok(answer);
+        }
+        let (mut out, mut to) = self.areas(room);
+        let mut value = pattern(self.p.l + self.own % 2, self.own + 2);
+        let flat = self.flat.as_mut().unwrap();
+        let before = flat.client;
+        let mut expected = flat.rows.clone();
+        let (p, own) = (self.p, self.own);
+        let other = flat.client.deliver(
+            &p, own, &self.value, &mut flat.rows, from, bytes, &mut out, &mut to, &mut value,
+        );
+        // The rows area: the new value in a free place or in that of the smallest of five.
+        if let (Ok(_), Some(rows), Party::Server(j)) = (&answer, rows_before, from) {
+            let row: Vec<_> = rows[j - 1].iter().map(|kept| kept.stamp).collect();
+            if let Ok(Body::Value { stamp, digests, block }) = open(&p, bytes).map(|frame| frame.body) {
+                let smallest = (0..row.len()).min_by_key(|&i| row[i]);
+                let place = match smallest {
+                    Some(i) if row.len() == 4 => (row[i] < stamp).then_some(i),
+                    _ => Some(row.len()),
+                };
+                if let Some(place) = place {
+                    flat::store(&mut expected, flat::row_chunk(j, place), digests, block);
+                }
+            }
+        }
+        if flat.rows != expected {
+            let at = flat.rows.iter().zip(&expected).position(|(a, b)| a != b).unwrap();
+            return Err(format!("rows area, chunk {}", at / CHUNK));
+        }
+        self.compare(&answer, other, before, (&out, &to, &value))?;
+        Ok(answer)
+    }
+}

@@ -1,0 +1,263 @@
+//! One run from a seed: parameters, parties, a schedule that delays, reorders, repeats and drops,
+//! the row check, and at the end the delivery of everything.
+
+use crate::adversary::Adversary;
+use crate::check::{check_row, Violation};
+use crate::world::{Setup, World};
+use register::random::Random;
+use register::{Params, Party, Refusal, Variant};
+
+#[derive(Clone, Copy, Debug)]
+pub struct Options {
+    pub variant: Variant,
+    /// Run both styles side by side and compare every byte.
+    pub both: bool,
+}
+
+/// What happened in a run or in many.
+#[derive(Clone, Debug, Default)]
+pub struct Summary {
+    pub calls: u64,
+    pub reads: u64,
+    pub writes: u64,
+    /// Accepted writes of false clients.
+    pub foreign: u64,
+    pub steps: u64,
+    /// Answers by number.
+    pub refusals: [u64; 20],
+}
+
+impl Summary {
+    pub fn add(&mut self, other: &Summary) {
+        self.calls += other.calls;
+        self.reads += other.reads;
+        self.writes += other.writes;
+        self.foreign += other.foreign;
+        self.steps += other.steps;
+        for (a, b) in self.refusals.iter_mut().zip(other.refusals) {
+            *a += b;
+        }
+    }
+
+    fn count(&mut self, answer: Option<Refusal>) -> Option<Refusal> {
+        self.calls += 1;
+        match answer {
+            None => self.steps += 1,
+            Some(refusal) => self.refusals[refusal.number() as usize] += 1,
+        }
+        answer
+    }
+}
+
+#[derive(Clone, Copy)]
+enum Pick {
+    Oldest,
+    Newest,
+    Any,
+}
+
+/// For a while, frames to or from some servers, or of one kind to one server, are held back.
+struct Phase {
+    held: Vec<Party>,
+    kind: Option<(u8, Party)>,
+    pick: Pick,
+    left: usize,
+}
+
+impl Phase {
+    fn new(p: &Params, random: &mut Random) -> Phase {
+        let mut held = Vec::new();
+        if random.chance(3, 5) {
+            let most = if random.chance(1, 5) { p.n } else { p.t };
+            for _ in 0..random.range(1, most) {
+                held.push(Party::Server(random.range(1, p.n)));
+            }
+        }
+        let kind = random
+            .chance(1, 5)
+            .then(|| (random.range(1, 12) as u8, Party::Server(random.range(1, p.n))));
+        let left = random.range(5, 40 * p.n);
+        Phase { held, kind, pick: random.pick(&[Pick::Oldest, Pick::Newest, Pick::Any, Pick::Any]), left }
+    }
+
+    fn holds(&self, world: &World, place: usize) -> bool {
+        let sent = &world.log[place];
+        self.held.contains(&sent.from)
+            || self.held.contains(&sent.to)
+            || self.kind == Some((sent.frame[3], sent.to))
+    }
+
+    /// The place among the pending frames of one that is not held back.
+    fn choose(&self, world: &World, random: &mut Random) -> Option<usize> {
+        let count = world.pending.len();
+        if count == 0 {
+            return None;
+        }
+        let start = match self.pick {
+            Pick::Oldest | Pick::Newest => 0,
+            Pick::Any => random.below(count),
+        };
+        (0..count)
+            .map(|i| match self.pick {
+                Pick::Newest => count - 1 - i,
+                _ => (start + i) % count,
+            })
+            .find(|&i| !self.holds(world, world.pending[i]))
+    }
+}
+
+fn parameters(random: &mut Random) -> Params {
+    let l = match random.below(10) {
+        0..=5 => random.range(1, 8),
+        6..=8 => random.range(1, 40),
+        _ => random.range(1, 256),
+    };
+    let sets = Params::all(l);
+    let small: Vec<Params> = sets.iter().copied().filter(|p| p.n == 4).collect();
+    if random.chance(1, 2) {
+        random.pick(&small)
+    } else {
+        random.pick(&sets)
+    }
+}
+
+/// Shuffles and takes some.
+fn some(items: std::ops::RangeInclusive<usize>, count: usize, random: &mut Random) -> Vec<usize> {
+    let mut items: Vec<usize> = items.collect();
+    for i in (1..items.len()).rev() {
+        items.swap(i, random.below(i + 1));
+    }
+    items.truncate(count);
+    items
+}
+
+/// Mostly enough room, sometimes too little.
+fn some_room(needed: usize, random: &mut Random) -> usize {
+    if random.chance(1, 100) {
+        random.pick(&[0, needed / 2, needed - 1])
+    } else {
+        needed + random.below(3)
+    }
+}
+
+struct Run {
+    world: World,
+    adversary: Adversary,
+    clients: Vec<usize>,
+    summary: Summary,
+    operations: usize,
+}
+
+impl Run {
+    fn begin(&mut self, client: usize, random: &mut Random) -> Result<(), Violation> {
+        let room = some_room(self.world.p.client_room(), random);
+        let answer = if random.chance(1, 2) {
+            self.world.begin_read(client, room)?
+        } else {
+            let l = self.world.p.l;
+            let length = if random.chance(1, 30) { l + 1 } else { l };
+            self.world.begin_write(client, &random.bytes(length), room)?
+        };
+        if self.summary.count(answer).is_none() {
+            self.operations -= 1;
+        }
+        Ok(())
+    }
+
+    fn deliver(&mut self, phase: &Phase, random: &mut Random) -> Result<bool, Violation> {
+        let Some(i) = phase.choose(&self.world, random) else { return Ok(false) };
+        let place = match phase.pick {
+            Pick::Any => self.world.pending.swap_remove(i),
+            _ => self.world.pending.remove(i),
+        };
+        let room = some_room(self.world.room(self.world.log[place].to), random);
+        let answer = self.world.hand_sent(place, room)?;
+        if let Some(Refusal::Room | Refusal::Early) = self.summary.count(answer) {
+            self.world.pending.push(place);
+        }
+        Ok(true)
+    }
+
+    /// Hands in again a frame that an honest party once sent to an honest party.
+    fn repeat(&mut self, random: &mut Random) -> Result<(), Violation> {
+        if self.world.log.is_empty() {
+            return Ok(());
+        }
+        let place = random.below(self.world.log.len());
+        let to = self.world.log[place].to;
+        if self.world.honest(to) {
+            let room = some_room(self.world.room(to), random);
+            let answer = self.world.hand_sent(place, room)?;
+            self.summary.count(answer);
+        }
+        Ok(())
+    }
+
+    fn step(&mut self, phase: &mut Phase, random: &mut Random) -> Result<(), Violation> {
+        let open = self.clients.iter().filter(|&&c| self.world.is_open(c)).count();
+        let eager = if open == 0 { 50 } else { 3 };
+        if self.operations > 0 && random.chance(eager, 100) {
+            let client = random.pick(&self.clients);
+            return self.begin(client, random);
+        }
+        if self.adversary.present() && random.chance(1, 4) {
+            return self.adversary.act(&mut self.world, random);
+        }
+        if random.chance(1, 15) {
+            return self.repeat(random);
+        }
+        if phase.left == 0 || !self.deliver(phase, random)? {
+            *phase = Phase::new(&self.world.p, random);
+        }
+        phase.left -= 1;
+        Ok(())
+    }
+}
+
+/// The run of a seed.
+pub fn run(seed: u64, options: Options) -> Result<Summary, Violation> {
+    let mut random = Random::new(seed);
+    let random = &mut random;
+    let p = parameters(random);
+    let initial = random.bytes(p.l);
+    let false_count = if random.chance(4, 5) { p.t } else { random.range(0, p.t) };
+    let false_servers = some(1..=p.n, false_count, random);
+    let honest_count = random.range(1, 4);
+    let clients = some(1..=8, honest_count + random.range(0, 3), random);
+    let (honest, others) = clients.split_at(honest_count);
+    let setup = Setup {
+        p,
+        initial: &initial,
+        false_servers: &false_servers,
+        honest_clients: honest,
+        variant: options.variant,
+        both: options.both,
+    };
+    let mut run = Run {
+        world: World::new(&setup),
+        adversary: Adversary::new(p, &false_servers, others, &initial, random),
+        clients: honest.to_vec(),
+        summary: Summary::default(),
+        operations: random.range(2, 12),
+    };
+    let mut phase = Phase::new(&p, random);
+    let limit = run.operations * p.n * p.n * 20;
+    for _ in 0..limit {
+        let done = run.operations == 0 && !run.clients.iter().any(|&c| run.world.is_open(c));
+        if done || run.clients.iter().all(|&c| run.world.out_of_stamps(c)) {
+            break;
+        }
+        run.step(&mut phase, random)?;
+    }
+    check_row(&run.world.seen)?;
+    run.world.flush()?;
+    check_row(&run.world.seen)?;
+    let seen = &run.world.seen;
+    run.summary.reads = seen.reads.len() as u64;
+    run.summary.writes = seen.writes.values().filter(|w| w.ended.is_some()).count() as u64;
+    let mut foreign: Vec<(usize, u32)> = seen.accepted.iter().map(|a| (a.client, a.sequence)).collect();
+    foreign.sort();
+    foreign.dedup();
+    run.summary.foreign = foreign.iter().filter(|name| !seen.writes.contains_key(name)).count() as u64;
+    Ok(run.summary)
+}

@@ -1,0 +1,229 @@
+//! The honest parties of a run, every frame they sent, and what the run showed. Frames named as
+//! an honest party's come from the log alone.
+
+use crate::check::{Acceptance, Observed, Read, Violation, Write};
+use crate::lockstep::{ClientPair, ServerPair};
+use register::client::Outcome;
+use register::{Params, Party, Refusal, Send, Variant};
+
+/// A frame that an honest party sent.
+#[derive(Clone, Debug)]
+pub struct Sent {
+    pub from: Party,
+    pub to: Party,
+    pub frame: Vec<u8>,
+}
+
+pub struct World {
+    pub p: Params,
+    /// Place j is server j's or client j's; none for a false or absent one.
+    servers: Vec<Option<ServerPair>>,
+    clients: Vec<Option<ClientPair>>,
+    pub log: Vec<Sent>,
+    /// Places in the log of frames to honest parties that are still to be delivered.
+    pub pending: Vec<usize>,
+    /// Places in the log of frames to false servers that the adversary has not looked at.
+    pub caught: Vec<usize>,
+    pub seen: Observed,
+    calls: u64,
+    /// When each client's open operation began.
+    begun: [u64; 9],
+}
+
+pub struct Setup<'a> {
+    pub p: Params,
+    pub initial: &'a [u8],
+    pub false_servers: &'a [usize],
+    pub honest_clients: &'a [usize],
+    pub variant: Variant,
+    pub both: bool,
+}
+
+impl World {
+    pub fn new(setup: &Setup) -> World {
+        let p = setup.p;
+        let server = |j: usize| {
+            let honest = 1 <= j && !setup.false_servers.contains(&j);
+            honest.then(|| ServerPair::fresh(p, j, setup.initial, setup.variant, setup.both))
+        };
+        let client = |c: usize| {
+            let honest = setup.honest_clients.contains(&c);
+            honest.then(|| ClientPair::fresh(p, c, setup.variant, setup.both))
+        };
+        World {
+            p,
+            servers: (0..=p.n).map(server).collect(),
+            clients: (0..=8).map(client).collect(),
+            log: Vec::new(),
+            pending: Vec::new(),
+            caught: Vec::new(),
+            seen: Observed { initial: setup.initial.to_vec(), ..Observed::default() },
+            calls: 0,
+            begun: [0; 9],
+        }
+    }
+
+    pub fn honest(&self, party: Party) -> bool {
+        match party {
+            Party::Server(j) => self.servers.get(j).is_some_and(|s| s.is_some()),
+            Party::Client(c) => self.clients.get(c).is_some_and(|s| s.is_some()),
+        }
+    }
+
+    pub fn is_open(&self, client: usize) -> bool {
+        self.clients[client].as_ref().is_some_and(|c| c.clear.is_open())
+    }
+
+    pub fn out_of_stamps(&self, client: usize) -> bool {
+        self.clients[client].as_ref().is_some_and(|c| c.clear.out_of_stamps)
+    }
+
+    fn record(&mut self, from: Party, sends: Vec<Send>) {
+        for Send { to, frame } in sends {
+            let place = self.log.len();
+            if self.honest(to) {
+                self.pending.push(place);
+            } else if matches!(to, Party::Server(_)) {
+                self.caught.push(place);
+            }
+            self.log.push(Sent { from, to, frame });
+        }
+    }
+
+    pub fn begin_read(&mut self, client: usize, room: usize) -> Result<Option<Refusal>, Violation> {
+        self.calls += 1;
+        let party = self.clients[client].as_mut().expect("an honest client");
+        match party.begin_read(room).map_err(Violation::Differ)? {
+            Ok(step) => {
+                self.begun[client] = self.calls;
+                self.record(Party::Client(client), step.sends);
+                Ok(None)
+            }
+            Err(refusal) => Ok(Some(refusal)),
+        }
+    }
+
+    pub fn begin_write(&mut self, client: usize, value: &[u8], room: usize) -> Result<Option<Refusal>, Violation> {
+        self.calls += 1;
+        let party = self.clients[client].as_mut().expect("an honest client");
+        match party.begin_write(value, room).map_err(Violation::Differ)? {
+            Ok(step) => {
+                let sequence = party.clear.writes;
+                let write = Write { begun: self.calls, ended: None, value: value.to_vec() };
+                self.seen.writes.insert((client, sequence), write);
+                self.record(Party::Client(client), step.sends);
+                Ok(None)
+            }
+            Err(refusal) => Ok(Some(refusal)),
+        }
+    }
+
+    /// Hands in a frame of the log.
+    pub fn hand_sent(&mut self, place: usize, room: usize) -> Result<Option<Refusal>, Violation> {
+        let Sent { from, to, frame } = self.log[place].clone();
+        self.hand(to, from, &frame, room)
+    }
+
+    /// Hands in any frame, named as a party's that is not honest.
+    pub fn hand_false(&mut self, to: Party, from: Party, frame: &[u8], room: usize) -> Result<Option<Refusal>, Violation> {
+        assert!(!self.honest(from) && self.honest(to));
+        self.hand(to, from, frame, room)
+    }
+
+    fn hand(&mut self, to: Party, from: Party, frame: &[u8], room: usize) -> Result<Option<Refusal>, Violation> {
+        self.calls += 1;
+        match to {
+            Party::Server(j) => {
+                let server = self.servers[j].as_mut().expect("an honest server");
+                let step = match server.deliver(from, frame, room).map_err(Violation::Differ)? {
+                    Ok(step) => step,
+                    Err(refusal) => return Ok(Some(refusal)),
+                };
+                if let Some(accepted) = step.accepted {
+                    self.seen.accepted.push(Acceptance {
+                        server: j,
+                        client: frame[4] as usize,
+                        sequence: u32::from_be_bytes(frame[5..9].try_into().unwrap()),
+                        stamp: accepted.stamp,
+                        digests: accepted.own.digests,
+                    });
+                }
+                self.record(to, step.sends);
+            }
+            Party::Client(c) => {
+                let client = self.clients[c].as_mut().expect("an honest client");
+                let step = match client.deliver(from, frame, room).map_err(Violation::Differ)? {
+                    Ok(step) => step,
+                    Err(refusal) => return Ok(Some(refusal)),
+                };
+                match step.outcome {
+                    Outcome::Value(stamp, value) => self.seen.reads.push(Read {
+                        client: c,
+                        sequence: client.clear.reads,
+                        begun: self.begun[c],
+                        ended: self.calls,
+                        stamp,
+                        value,
+                    }),
+                    Outcome::Written => {
+                        let name = (c, client.clear.writes);
+                        self.seen.writes.get_mut(&name).expect("a begun write").ended = Some(self.calls);
+                    }
+                    Outcome::OutOfStamps | Outcome::Going => {}
+                }
+                self.record(to, step.sends);
+            }
+        }
+        Ok(None)
+    }
+
+    /// The room that a call on this party asks for.
+    pub fn room(&self, to: Party) -> usize {
+        match to {
+            Party::Server(_) => self.p.server_room(),
+            Party::Client(_) => self.p.client_room(),
+        }
+    }
+
+    /// Delivers every frame between honest parties, offering again what was 10 or 13, until none
+    /// gives a step; then no honest operation may be open.
+    pub fn flush(&mut self) -> Result<(), Violation> {
+        let mut waiting: Vec<usize> = Vec::new();
+        loop {
+            let mut progress = false;
+            let round = std::mem::take(&mut self.pending);
+            for place in waiting.drain(..).chain(round).collect::<Vec<_>>() {
+                let room = self.room(self.log[place].to);
+                match self.hand_sent(place, room)? {
+                    None => progress = true,
+                    Some(Refusal::Early) => waiting.push(place),
+                    Some(_) => {}
+                }
+            }
+            if !progress && self.pending.is_empty() {
+                break;
+            }
+        }
+        self.pending = waiting;
+        for (c, client) in self.clients.iter().enumerate() {
+            if let Some(client) = client.as_ref().filter(|client| client.clear.is_open()) {
+                return Err(Violation::StillOpen(format!("client {c}: {:?}", short(&client.clear))));
+            }
+        }
+        Ok(())
+    }
+}
+
+fn short(client: &register::client::Client) -> String {
+    use register::client::Operation::*;
+    match &client.operation {
+        None => "nothing open".to_string(),
+        Stamps(times) => format!("write {} awaits stamps, has {times:?}", client.writes),
+        Acks(from) => format!("write {} awaits acks, has {from:?}", client.writes),
+        Read(rows) => {
+            let stamps: Vec<Vec<_>> =
+                rows.iter().map(|row| row.iter().map(|kept| kept.stamp).collect()).collect();
+            format!("read {} has {stamps:?}", client.reads)
+        }
+    }
+}

@@ -226,7 +226,7 @@ impl Client {
             return Err(Refusal::Digest);
         }
         keep(row, kept);
-        let Some((stamp, chosen)) = settled(rows, p.most(), variant) else {
+        let Some((stamp, chosen)) = settled(&p, rows, variant) else {
             return Ok(Step { sends: Vec::new(), outcome: Outcome::Going });
         };
         let lowest: Vec<(usize, &[u8])> =
@@ -252,9 +252,9 @@ fn keep(row: &mut Vec<Kept>, new: Kept) {
     }
 }
 
-/// The first stamp and digest list in `most` rows, with the servers and blocks that have it.
-fn settled(rows: &[Vec<Kept>], most: usize, variant: Variant) -> Option<(Stamp, Vec<(usize, Vec<u8>)>)> {
-    let most = if variant == Variant::FewRows { most - 1 } else { most };
+/// The first stamp and digest list in n − t rows, with the servers and blocks that have it.
+fn settled(p: &Params, rows: &[Vec<Kept>], variant: Variant) -> Option<(Stamp, Vec<(usize, Vec<u8>)>)> {
+    let most = if variant == Variant::FewRows { p.most() - 1 } else { p.most() };
     for candidate in rows.iter().flatten() {
         let same = |kept: &&Kept| kept.stamp == candidate.stamp && kept.digests == candidate.digests;
         let mut values = 0;
@@ -266,7 +266,7 @@ fn settled(rows: &[Vec<Kept>], most: usize, variant: Variant) -> Option<(Stamp, 
             }
         }
         let counted = if variant == Variant::ValueTwice { values } else { chosen.len() };
-        if counted >= most {
+        if counted >= most && chosen.len() >= p.k {
             return Some((candidate.stamp, chosen));
         }
     }

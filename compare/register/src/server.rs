@@ -181,10 +181,10 @@ impl Server {
             return Err(Refusal::Early);
         }
         let again = match (frame.body, stage) {
-            (Body::Block { .. }, Stage::Send) => slot.block_sent && variant != Variant::EchoAgain,
+            (Body::Block { .. }, Stage::Send) => slot.block_sent,
             (Body::Block { .. }, Stage::Echo) => slot.echoes.contains_key(&from),
             (Body::Block { .. }, Stage::Ready) => slot.readies.contains_key(&from),
-            (_, Stage::Send) => slot.time_sent && variant != Variant::EchoAgain,
+            (_, Stage::Send) => slot.time_sent,
             (_, Stage::Echo) => slot.time_echoes.contains_key(&from),
             (_, Stage::Ready) => slot.time_readies.contains_key(&from),
         };

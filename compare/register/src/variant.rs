@@ -19,8 +19,6 @@ pub enum Variant {
     NoDigest,
     /// Server: a frame above the open sequence opens that sequence, before acceptance.
     EarlyOpen,
-    /// Server: every send of the client is echoed, not only the first.
-    EchoAgain,
     /// Server: ready without comparing the digests of the fresh encoding.
     NoCompare,
     /// Server: ready at n − 2t equal echoes.
@@ -34,7 +32,7 @@ pub enum Variant {
 }
 
 impl Variant {
-    pub const WRONG: [Variant; 13] = [
+    pub const WRONG: [Variant; 12] = [
         Variant::SmallerTime,
         Variant::StaleStamp,
         Variant::FewRows,
@@ -42,7 +40,6 @@ impl Variant {
         Variant::AckTwice,
         Variant::NoDigest,
         Variant::EarlyOpen,
-        Variant::EchoAgain,
         Variant::NoCompare,
         Variant::FewEchoes,
         Variant::NoListeners,

@@ -18,14 +18,33 @@ enum Mood {
     Faithful,
     /// Answers from the initial state and acknowledges every write at once.
     Frozen,
+    /// Takes part in broadcasts, but answers get-stamp and read from the initial state.
+    Forgetful,
     /// Two honest servers in one, each seen by one half of the others.
     TwoFaced,
     /// Any of these, anew for each frame.
     Changing,
 }
 
-const MOODS: [Mood; 5] =
-    [Mood::Silent, Mood::Faithful, Mood::Frozen, Mood::TwoFaced, Mood::Changing];
+const MOODS: [Mood; 6] = [
+    Mood::Silent,
+    Mood::Faithful,
+    Mood::Frozen,
+    Mood::Forgetful,
+    Mood::TwoFaced,
+    Mood::Changing,
+];
+
+/// How the false parties act together.
+#[derive(Clone, Copy, Debug, PartialEq, Eq)]
+pub enum Profile {
+    /// Everything at random, much of it noise.
+    Noisy,
+    /// Prompt and well-formed, with one plan for the whole run.
+    Cunning,
+    /// As cunning, with two-faced servers, and clients that write two versions, one to each half.
+    Splitting,
+}
 
 /// A write as false servers may support it: a list with the blocks they know, and a time.
 struct Known {
@@ -42,8 +61,9 @@ pub struct Adversary {
     clients: Vec<usize>,
     moods: BTreeMap<usize, Mood>,
     faces: BTreeMap<usize, [Server; 2]>,
-    /// Which face each party sees.
-    halves: u32,
+    profile: Profile,
+    /// Which face, and which version of a false client's write, each party sees.
+    pub halves: u32,
     /// Frames of false parties to honest ones, to be handed in at any time.
     stock: Vec<Sent>,
     /// Frames to false servers from false parties.
@@ -64,14 +84,27 @@ fn bit(party: Party) -> u32 {
 }
 
 impl Adversary {
-    pub fn new(p: Params, servers: &[usize], clients: &[usize], initial: &[u8], random: &mut Random) -> Adversary {
+    pub fn new(
+        p: Params,
+        servers: &[usize],
+        clients: &[usize],
+        initial: &[u8],
+        profile: Profile,
+        random: &mut Random,
+    ) -> Adversary {
+        let moods = match profile {
+            Profile::Noisy => &MOODS[..],
+            Profile::Cunning => &[Mood::Faithful, Mood::Forgetful, Mood::Forgetful, Mood::TwoFaced],
+            Profile::Splitting => &[Mood::TwoFaced],
+        };
         let face = |j: usize| Server::fresh(p, j, initial).unwrap();
         Adversary {
             p,
             servers: servers.to_vec(),
             clients: clients.to_vec(),
-            moods: servers.iter().map(|&j| (j, random.pick(&MOODS))).collect(),
+            moods: servers.iter().map(|&j| (j, random.pick(moods))).collect(),
             faces: servers.iter().map(|&j| (j, [face(j), face(j)])).collect(),
+            profile,
             halves: random.next() as u32,
             stock: Vec::new(),
             inner: Vec::new(),
@@ -93,6 +126,9 @@ impl Adversary {
             let cut = self.stock.len() - STOCK / 2;
             self.stock.drain(..cut);
         }
+        if self.profile != Profile::Noisy {
+            return self.act_cunning(world, random);
+        }
         match random.below(20) {
             0..=4 => self.work(world, random),
             5..=10 => return self.hand_stock(world, random),
@@ -111,6 +147,22 @@ impl Adversary {
                 if random.chance(1, 10) {
                     self.halves = random.next() as u32;
                 }
+            }
+        }
+        Ok(())
+    }
+
+    fn act_cunning(&mut self, world: &mut World, random: &mut Random) -> Result<(), Violation> {
+        match random.below(if self.profile == Profile::Splitting { 20 } else { 60 }) {
+            0 => self.write(world, random),
+            1 => self.support(world, random),
+            2 => self.reply(world, random),
+            3 => self.read(random),
+            _ => {
+                while !world.caught.is_empty() || !self.inner.is_empty() {
+                    self.work(world, random);
+                }
+                return self.hand_stock(world, random);
             }
         }
         Ok(())
@@ -145,7 +197,7 @@ impl Adversary {
         let Ok(frame) = open(&self.p, &sent.frame) else { return };
         self.learn(j, &frame);
         let mood = match self.moods[&j] {
-            Mood::Changing => random.pick(&MOODS[..4]),
+            Mood::Changing => random.pick(&MOODS[..5]),
             mood => mood,
         };
         match mood {
@@ -161,6 +213,10 @@ impl Adversary {
                 }
             }
             Mood::Frozen => self.frozen(world, j, sent, &frame),
+            Mood::Forgetful => match frame.body {
+                Body::GetStamp | Body::Read => self.frozen(world, j, sent, &frame),
+                _ => self.face(world, j, 0, sent, false),
+            },
         }
     }
 
@@ -390,18 +446,23 @@ impl Adversary {
             self.writes[client] += 1;
         }
         let sequence = self.writes[client] + random.chance(1, 6) as u32;
-        let versions = random.range(1, 2);
-        let split = random.next() as u32;
+        let splitting = self.profile == Profile::Splitting;
+        let versions = if splitting { 2 } else { random.range(1, 2) };
+        let aligned = splitting || random.chance(1, 2);
+        let split = if aligned { self.halves } else { random.next() as u32 };
         let blocks: Vec<Vec<Vec<u8>>> = (0..versions).map(|_| self.some_blocks(random)).collect();
         let lists: Vec<Vec<u8>> = blocks.iter().map(|b| digest_list(b)).collect();
         let times: Vec<u64> = (0..versions).map(|_| self.some_time(world, random)).collect();
         let (one_value, one_time) = (random.chance(1, 3), random.chance(1, 3));
         let reach = if random.chance(1, 3) { random.next() as u32 } else { u32::MAX };
-        for j in 1..=self.p.n {
+        // Sometimes every server gets both versions, in turns.
+        let rounds = if random.chance(1, 3) { versions } else { 1 };
+        let n = self.p.n;
+        for (round, j) in (0..rounds).flat_map(|round| (1..=n).map(move |j| (round, j))) {
             if reach >> j & 1 == 0 {
                 continue;
             }
-            let version = if versions == 2 { (split >> j & 1) as usize } else { 0 };
+            let version = if versions == 2 { (split >> j & 1) as usize ^ round } else { 0 };
             let v = if one_value { 0 } else { version };
             let body = Body::Block { stage: Stage::Send, digests: &lists[v], block: &blocks[v][j - 1] };
             let frame = build(client as u8, sequence, body);
@@ -474,6 +535,7 @@ impl Adversary {
         let Party::Client(c) = sent.from else { return };
         let Ok(frame) = open(&self.p, &sent.frame) else { return };
         let initial = digest_list(&self.initial);
+        let wrong = random.bytes(self.p.block());
         for j in self.servers.clone() {
             let mut digests = &initial;
             let mut block = &self.initial[j - 1];
@@ -487,6 +549,9 @@ impl Adversary {
             }
             if let Some(a) = world.seen.accepted.last().filter(|_| random.chance(1, 3)) {
                 stamp = a.stamp;
+            }
+            if random.chance(1, 4) {
+                block = &wrong;
             }
             let body = match frame.body {
                 Body::GetStamp => Body::Stamp { time: self.some_time(world, random) },

@@ -52,8 +52,8 @@ fn main() -> ExitCode {
             }
         }
     }
-    let Summary { calls, reads, writes, foreign, steps, refusals } = total;
-    println!("{calls} calls of the schedule, {steps} steps; reads {reads}, writes {writes}, false writes accepted {foreign}");
+    let Summary { reads, writes, foreign, steps, refusals } = total;
+    println!("{steps} steps; reads {reads}, writes {writes}, false writes accepted {foreign}");
     println!("refusals by number {:?}", &refusals[1..]);
     println!("{failures} failures, {:.1} s", begun.elapsed().as_secs_f64());
     if failures == 0 {

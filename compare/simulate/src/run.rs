@@ -1,11 +1,12 @@
 //! One run from a seed: parameters, parties, a schedule that delays, reorders, repeats and drops,
 //! the row check, and at the end the delivery of everything.
 
-use crate::adversary::Adversary;
+use crate::adversary::{Adversary, Profile};
 use crate::check::{check_row, Violation};
 use crate::world::{Setup, World};
 use register::random::Random;
 use register::{Params, Party, Refusal, Variant};
+use std::collections::BTreeSet;
 
 #[derive(Clone, Copy, Debug)]
 pub struct Options {
@@ -17,7 +18,6 @@ pub struct Options {
 /// What happened in a run or in many.
 #[derive(Clone, Debug, Default)]
 pub struct Summary {
-    pub calls: u64,
     pub reads: u64,
     pub writes: u64,
     /// Accepted writes of false clients.
@@ -29,7 +29,6 @@ pub struct Summary {
 
 impl Summary {
     pub fn add(&mut self, other: &Summary) {
-        self.calls += other.calls;
         self.reads += other.reads;
         self.writes += other.writes;
         self.foreign += other.foreign;
@@ -37,15 +36,6 @@ impl Summary {
         for (a, b) in self.refusals.iter_mut().zip(other.refusals) {
             *a += b;
         }
-    }
-
-    fn count(&mut self, answer: Option<Refusal>) -> Option<Refusal> {
-        self.calls += 1;
-        match answer {
-            None => self.steps += 1,
-            Some(refusal) => self.refusals[refusal.number() as usize] += 1,
-        }
-        answer
     }
 }
 
@@ -56,34 +46,71 @@ enum Pick {
     Any,
 }
 
-/// For a while, frames to or from some servers, or of one kind to one server, are held back.
+/// For a while, some frames are held back.
 struct Phase {
+    /// Frames to or from these.
     held: Vec<Party>,
+    /// Frames of kinds 3 to 8 to these.
+    lagging: Vec<Party>,
+    /// Frames to clients from these.
+    slow: Vec<Party>,
+    /// Frames between servers of different halves.
+    halves: Option<u32>,
     kind: Option<(u8, Party)>,
     pick: Pick,
     left: usize,
 }
 
+fn some_servers(p: &Params, most: usize, random: &mut Random) -> Vec<Party> {
+    (0..random.range(0, most)).map(|_| Party::Server(random.range(1, p.n))).collect()
+}
+
 impl Phase {
-    fn new(p: &Params, random: &mut Random) -> Phase {
-        let mut held = Vec::new();
-        if random.chance(3, 5) {
-            let most = if random.chance(1, 5) { p.n } else { p.t };
-            for _ in 0..random.range(1, most) {
-                held.push(Party::Server(random.range(1, p.n)));
-            }
-        }
+    fn noisy(p: &Params, random: &mut Random) -> Phase {
+        let most = if random.chance(1, 5) { p.n } else { p.t };
+        let held = if random.chance(3, 5) { some_servers(p, most, random) } else { Vec::new() };
         let kind = random
             .chance(1, 5)
             .then(|| (random.range(1, 12) as u8, Party::Server(random.range(1, p.n))));
-        let left = random.range(5, 40 * p.n);
-        Phase { held, kind, pick: random.pick(&[Pick::Oldest, Pick::Newest, Pick::Any, Pick::Any]), left }
+        Phase {
+            held,
+            lagging: Vec::new(),
+            slow: Vec::new(),
+            halves: None,
+            kind,
+            pick: random.pick(&[Pick::Oldest, Pick::Newest, Pick::Any, Pick::Any]),
+            left: random.range(5, 40 * p.n),
+        }
+    }
+
+    /// Up to t servers lag behind for long; others answer clients late.
+    fn cunning(before: Option<&Phase>, p: &Params, halves: Option<u32>, random: &mut Random) -> Phase {
+        let lagging = match before {
+            Some(phase) if random.chance(4, 5) => phase.lagging.clone(),
+            _ => some_servers(p, p.t, random),
+        };
+        Phase {
+            held: Vec::new(),
+            lagging,
+            slow: some_servers(p, p.t, random),
+            halves,
+            kind: None,
+            pick: random.pick(&[Pick::Oldest, Pick::Newest, Pick::Any, Pick::Any]),
+            left: random.range(20, 30 * p.n),
+        }
     }
 
     fn holds(&self, world: &World, place: usize) -> bool {
         let sent = &world.log[place];
-        self.held.contains(&sent.from)
+        let across = match (self.halves, sent.from, sent.to) {
+            (Some(halves), Party::Server(i), Party::Server(j)) => (halves >> i ^ halves >> j) & 1 == 1,
+            _ => false,
+        };
+        across
+            || self.held.contains(&sent.from)
             || self.held.contains(&sent.to)
+            || ((3..=8).contains(&sent.frame[3]) && self.lagging.contains(&sent.to))
+            || (matches!(sent.to, Party::Client(_)) && self.slow.contains(&sent.from))
             || self.kind == Some((sent.frame[3], sent.to))
     }
 
@@ -144,11 +171,24 @@ struct Run {
     world: World,
     adversary: Adversary,
     clients: Vec<usize>,
-    summary: Summary,
     operations: usize,
+    profile: Profile,
+    /// One in so many calls repeats a frame.
+    repeats: usize,
 }
 
 impl Run {
+    fn phase(&self, before: Option<&Phase>, random: &mut Random) -> Phase {
+        match self.profile {
+            Profile::Noisy => Phase::noisy(&self.world.p, random),
+            Profile::Cunning => Phase::cunning(before, &self.world.p, None, random),
+            Profile::Splitting => {
+                let halves = random.chance(2, 3).then_some(self.adversary.halves);
+                Phase::cunning(before, &self.world.p, halves, random)
+            }
+        }
+    }
+
     fn begin(&mut self, client: usize, random: &mut Random) -> Result<(), Violation> {
         let room = some_room(self.world.p.client_room(), random);
         let answer = if random.chance(1, 2) {
@@ -158,7 +198,7 @@ impl Run {
             let length = if random.chance(1, 30) { l + 1 } else { l };
             self.world.begin_write(client, &random.bytes(length), room)?
         };
-        if self.summary.count(answer).is_none() {
+        if answer.is_none() {
             self.operations -= 1;
         }
         Ok(())
@@ -172,7 +212,7 @@ impl Run {
         };
         let room = some_room(self.world.room(self.world.log[place].to), random);
         let answer = self.world.hand_sent(place, room)?;
-        if let Some(Refusal::Room | Refusal::Early) = self.summary.count(answer) {
+        if let Some(Refusal::Room | Refusal::Early) = answer {
             self.world.pending.push(place);
         }
         Ok(true)
@@ -183,12 +223,18 @@ impl Run {
         if self.world.log.is_empty() {
             return Ok(());
         }
-        let place = random.below(self.world.log.len());
+        let mut place = random.below(self.world.log.len());
+        for _ in 0..random.below(20) {
+            // Mostly an answer to a client that awaits one.
+            if matches!(self.world.log[place].to, Party::Client(c) if self.world.is_open(c)) {
+                break;
+            }
+            place = random.below(self.world.log.len());
+        }
         let to = self.world.log[place].to;
         if self.world.honest(to) {
             let room = some_room(self.world.room(to), random);
-            let answer = self.world.hand_sent(place, room)?;
-            self.summary.count(answer);
+            self.world.hand_sent(place, room)?;
         }
         Ok(())
     }
@@ -203,11 +249,11 @@ impl Run {
         if self.adversary.present() && random.chance(1, 4) {
             return self.adversary.act(&mut self.world, random);
         }
-        if random.chance(1, 15) {
+        if random.chance(1, self.repeats) {
             return self.repeat(random);
         }
         if phase.left == 0 || !self.deliver(phase, random)? {
-            *phase = Phase::new(&self.world.p, random);
+            *phase = self.phase(Some(phase), random);
         }
         phase.left -= 1;
         Ok(())
@@ -233,14 +279,16 @@ pub fn run(seed: u64, options: Options) -> Result<Summary, Violation> {
         variant: options.variant,
         both: options.both,
     };
+    let profile = random.pick(&[Profile::Noisy, Profile::Cunning, Profile::Cunning, Profile::Splitting]);
     let mut run = Run {
         world: World::new(&setup),
-        adversary: Adversary::new(p, &false_servers, others, &initial, random),
+        adversary: Adversary::new(p, &false_servers, others, &initial, profile, random),
         clients: honest.to_vec(),
-        summary: Summary::default(),
         operations: random.range(2, 12),
+        profile,
+        repeats: random.pick(&[2, 15, 15]),
     };
-    let mut phase = Phase::new(&p, random);
+    let mut phase = run.phase(None, random);
     let limit = run.operations * p.n * p.n * 20;
     for _ in 0..limit {
         let done = run.operations == 0 && !run.clients.iter().any(|&c| run.world.is_open(c));
@@ -253,11 +301,13 @@ pub fn run(seed: u64, options: Options) -> Result<Summary, Violation> {
     run.world.flush()?;
     check_row(&run.world.seen)?;
     let seen = &run.world.seen;
-    run.summary.reads = seen.reads.len() as u64;
-    run.summary.writes = seen.writes.values().filter(|w| w.ended.is_some()).count() as u64;
-    let mut foreign: Vec<(usize, u32)> = seen.accepted.iter().map(|a| (a.client, a.sequence)).collect();
-    foreign.sort();
-    foreign.dedup();
-    run.summary.foreign = foreign.iter().filter(|name| !seen.writes.contains_key(name)).count() as u64;
-    Ok(run.summary)
+    let accepted: BTreeSet<(usize, u32)> =
+        seen.accepted.iter().map(|a| (a.client, a.sequence)).collect();
+    Ok(Summary {
+        reads: seen.reads.len() as u64,
+        writes: seen.writes.values().filter(|w| w.ended.is_some()).count() as u64,
+        foreign: accepted.iter().filter(|name| !seen.writes.contains_key(name)).count() as u64,
+        steps: run.world.steps,
+        refusals: run.world.refusals,
+    })
 }

@@ -25,6 +25,9 @@ pub struct World {
     /// Places in the log of frames to false servers that the adversary has not looked at.
     pub caught: Vec<usize>,
     pub seen: Observed,
+    /// Calls that gave a step, and refusals by number.
+    pub steps: u64,
+    pub refusals: [u64; 20],
     calls: u64,
     /// When each client's open operation began.
     begun: [u64; 9],
@@ -58,6 +61,8 @@ impl World {
             pending: Vec::new(),
             caught: Vec::new(),
             seen: Observed { initial: setup.initial.to_vec(), ..Observed::default() },
+            steps: 0,
+            refusals: [0; 20],
             calls: 0,
             begun: [0; 9],
         }
@@ -78,7 +83,13 @@ impl World {
         self.clients[client].as_ref().is_some_and(|c| c.clear.out_of_stamps)
     }
 
+    fn refuse(&mut self, refusal: Refusal) -> Result<Option<Refusal>, Violation> {
+        self.refusals[refusal.number() as usize] += 1;
+        Ok(Some(refusal))
+    }
+
     fn record(&mut self, from: Party, sends: Vec<Send>) {
+        self.steps += 1;
         for Send { to, frame } in sends {
             let place = self.log.len();
             if self.honest(to) {
@@ -99,7 +110,7 @@ impl World {
                 self.record(Party::Client(client), step.sends);
                 Ok(None)
             }
-            Err(refusal) => Ok(Some(refusal)),
+            Err(refusal) => self.refuse(refusal),
         }
     }
 
@@ -114,7 +125,7 @@ impl World {
                 self.record(Party::Client(client), step.sends);
                 Ok(None)
             }
-            Err(refusal) => Ok(Some(refusal)),
+            Err(refusal) => self.refuse(refusal),
         }
     }
 
@@ -137,7 +148,7 @@ impl World {
                 let server = self.servers[j].as_mut().expect("an honest server");
                 let step = match server.deliver(from, frame, room).map_err(Violation::Differ)? {
                     Ok(step) => step,
-                    Err(refusal) => return Ok(Some(refusal)),
+                    Err(refusal) => return self.refuse(refusal),
                 };
                 if let Some(accepted) = step.accepted {
                     self.seen.accepted.push(Acceptance {
@@ -154,7 +165,7 @@ impl World {
                 let client = self.clients[c].as_mut().expect("an honest client");
                 let step = match client.deliver(from, frame, room).map_err(Violation::Differ)? {
                     Ok(step) => step,
-                    Err(refusal) => return Ok(Some(refusal)),
+                    Err(refusal) => return self.refuse(refusal),
                 };
                 match step.outcome {
                     Outcome::Value(stamp, value) => self.seen.reads.push(Read {

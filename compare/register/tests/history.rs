@@ -1,0 +1,184 @@
+//! Histories: document 01's examples, the judgement against brute force, and damaged input.
+
+use register::frame::Stamp;
+use register::history::{judge, offends, parse, precedes, report, Judgement, Record};
+use register::random::Random;
+use register::Refusal;
+
+const EXAMPLE: &str = "W 1 4 1 2 1\nR 2 6 0 0 0\nR 5 8 1 2 1\n";
+
+#[test]
+fn examples() {
+    let answer = |text: &str| report(text.as_bytes());
+    assert_eq!(answer(""), "order\n");
+    assert_eq!(answer(EXAMPLE), "order 2 1 3\n");
+    assert_eq!(answer("W 1 4 1 2 1\nR 5 6 0 0 0\nR 5 8 1 2 1\n"), "no order 1 2\n");
+    assert_eq!(answer("R 6 6 0 0 0\n"), "refused 18\n");
+    assert_eq!(answer("R 1 2 7 1 1\n"), "refused 19\n");
+    // 18 anywhere comes before 19; a read with some zero parts is unlisted.
+    assert_eq!(answer("R 1 2 7 1 1\nR 6 6 0 0 0\n"), "refused 18\n");
+    assert_eq!(answer("R 1 2 7 0 1\n"), "refused 19\n");
+    assert_eq!(answer("R 1 2 0 1 0\n"), "refused 19\n");
+    // A read before the write of its own stamp.
+    assert_eq!(answer("R 1 2 1 1 1\nW 3 4 1 1 1\n"), "no order 1 2\n");
+    // Equal points are concurrent; an unknown end precedes nothing.
+    assert_eq!(answer("R 1 3 1 1 1\nW 3 4 1 1 1\n"), "order 2 1\n");
+    assert_eq!(answer("W 0 4294967295 2 1 1\nW 5 6 1 1 2\nR 7 8 1 1 2\n"), "order 2 3 1\n");
+    // Reads of equal stamps go by end, then line.
+    assert_eq!(answer("R 1 9 0 0 0\nR 2 5 0 0 0\nR 3 5 0 0 0\n"), "order 2 3 1\n");
+    // The pair with the smallest later line, then the smallest earlier one.
+    let three = "W 5 6 1 1 1\nR 1 2 1 1 1\nR 2 3 1 1 1\nR 7 8 0 0 0\n";
+    assert_eq!(answer(three), "no order 2 1\n");
+}
+
+#[test]
+fn malformed() {
+    for line in [
+        "\n", " \n", "W 1 4 1 2 1", "W 1 4 1 2 1\r\n", "W 1 4 1 2 1 \n", " W 1 4 1 2 1\n", "W  1 4 1 2 1\n", "W 1 4 1 2\n",
+        "W 1 4 1 2 1 0\n", "X 1 4 1 2 1\n", "w 1 4 1 2 1\n", "W 01 4 1 2 1\n", "W 1 4 1 2 01\n", "W 1 4 1 9 1\n",
+        "W 4 4 1 2 1\n", "W 5 4 1 2 1\n", "W 1 4294967296 1 2 1\n", "W 1 4 18446744073709551616 2 1\n",
+        "W 1 4 1 2 4294967296\n", "W 1 4 1 2 -1\n", "W +1 4 1 2 1\n", "W 1 4 1 2 1\n\n", "W\t1 4 1 2 1\n", "W 1 4 0 2 1\n",
+        "W 1 4 1 0 1\n", "W 1 4 1 2 0\n", "W 1 4 1 2 1\nW 5 6 1 2 1\n", "W 1 4 00 2 1\n", "W 1 4 1 2 1\0\n",
+        "W 1 4 999999999999999999999999999999 2 1\n",
+    ] {
+        assert_eq!(report(line.as_bytes()), "refused 18\n", "{line:?}");
+    }
+    assert_eq!(report(b"W 0 4294967295 18446744073709551615 8 4294967295\n"), "order 1\n");
+    let many = |count: usize| "R 1 2 0 0 0\n".repeat(count);
+    assert!(report(many(64).as_bytes()).starts_with("order 1 2"));
+    assert_eq!(report(many(65).as_bytes()), "refused 18\n");
+}
+
+/// Three reads of one stamp, ordered by precedence and then by identifier, go round in a ring;
+/// by end they do not.
+#[test]
+fn no_ring_of_reads() {
+    // 3 precedes 1; by line 1 before 2 and 2 before 3.
+    let text = "R 5 6 0 0 0\nR 1 7 0 0 0\nR 2 3 0 0 0\n";
+    assert_eq!(report(text.as_bytes()), "order 3 1 2\n");
+}
+
+/// Document 01's words: a row that keeps precedence, has writes in stamp order, and each read
+/// after the write of its own stamp and before any larger.
+fn is_order(records: &[Record], row: &[usize]) -> bool {
+    for (place, &later) in row.iter().enumerate() {
+        for &earlier in &row[..place] {
+            let (a, b) = (&records[earlier], &records[later]);
+            let wrong = precedes(b, a)
+                || (a.write && b.write && a.stamp > b.stamp)
+                || (a.write && !b.write && a.stamp > b.stamp)
+                || (!a.write && b.write && a.stamp >= b.stamp);
+            if wrong {
+                return false;
+            }
+        }
+    }
+    true
+}
+
+/// Whether some permutation of the records is an order, trying all.
+fn some_order(records: &[Record], row: &mut Vec<usize>) -> bool {
+    if row.len() == records.len() {
+        return is_order(records, row);
+    }
+    (0..records.len()).any(|i| {
+        if row.contains(&i) {
+            return false;
+        }
+        row.push(i);
+        let found = some_order(records, row);
+        row.pop();
+        found
+    })
+}
+
+fn some_history(random: &mut Random, length: usize) -> Vec<Record> {
+    let mut stamps = vec![Stamp::default()];
+    (0..length)
+        .map(|_| {
+            let start = random.below(8) as u32;
+            let end = if random.chance(1, 10) { u32::MAX } else { start + 1 + random.below(4) as u32 };
+            if random.chance(1, 2) {
+                let time = random.range(1, 3) as u64;
+                let stamp = Stamp { time, writer: random.range(1, 2) as u8, sequence: random.range(1, 2) as u32 };
+                stamps.push(stamp);
+                Record { write: true, start, end, stamp }
+            } else {
+                Record { write: false, start, end, stamp: random.pick(&stamps) }
+            }
+        })
+        .collect()
+}
+
+fn line(r: &Record) -> String {
+    let kind = if r.write { 'W' } else { 'R' };
+    let Stamp { time, writer, sequence } = r.stamp;
+    format!("{kind} {} {} {time} {writer} {sequence}\n", r.start, r.end)
+}
+
+#[test]
+fn against_all_permutations() {
+    let mut random = Random::new(5);
+    let (mut orders, mut pairs, mut refused) = (0, 0, 0);
+    for round in 0..6000 {
+        let length = if round % 20 == 0 { 7 } else { random.range(1, 5) };
+        let mut records = some_history(&mut random, length);
+        for i in (1..length).rev() {
+            records.swap(i, random.below(i + 1));
+        }
+        let text: String = records.iter().map(line).collect();
+        assert_eq!(parse(text.as_bytes()).as_ref(), Ok(&records));
+        match judge(&records) {
+            Err(refusal) => {
+                assert!(matches!(refusal, Refusal::Record | Refusal::Unlisted));
+                refused += 1;
+            }
+            Ok(Judgement::Order(row)) => {
+                let row: Vec<usize> = row.iter().map(|i| i - 1).collect();
+                let mut sorted = row.clone();
+                sorted.sort();
+                assert!(sorted.iter().copied().eq(0..length));
+                assert!(is_order(&records, &row), "round {round}: {text}");
+                orders += 1;
+            }
+            Ok(Judgement::NoOrder(a, b)) => {
+                assert!(offends(&records[a - 1], &records[b - 1]));
+                assert!(!some_order(&records, &mut Vec::new()), "round {round}: {text}");
+                pairs += 1;
+            }
+        }
+    }
+    assert!(orders > 1000 && pairs > 1000 && refused > 300, "{orders} {pairs} {refused}");
+}
+
+/// Damaged input: what parses is exactly what prints back to the same bytes.
+#[test]
+fn damaged_input() {
+    let mut random = Random::new(6);
+    let mut parsed = 0;
+    for _ in 0..100_000 {
+        let length = random.range(0, 4);
+        let records = some_history(&mut random, length);
+        let mut text: Vec<u8> = records.iter().map(line).collect::<String>().into_bytes();
+        for _ in 0..random.range(0, 2) {
+            let spare = *b" 0123456789WR\n-+x";
+            let c = if random.chance(1, 10) { random.byte() } else { random.pick(&spare) };
+            let at = random.below(text.len() + 1);
+            match random.below(3) {
+                0 => text.insert(at, c),
+                1 if at < text.len() => text[at] = c,
+                _ if at < text.len() => {
+                    text.remove(at);
+                }
+                _ => {}
+            }
+        }
+        if let Ok(records) = parse(&text) {
+            let back: String = records.iter().map(line).collect();
+            assert_eq!(back.as_bytes(), &text[..]);
+            parsed += 1;
+        }
+        report(&text);
+    }
+    assert!(parsed > 10_000 && parsed < 90_000);
+}

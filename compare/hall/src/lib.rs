@@ -77,10 +77,7 @@ fn refuse(out: &mut dyn Write, refusal: Refusal) -> io::Result<()> {
     writeln!(out, "refused {}", refusal.number())
 }
 
-fn print_client(
-    out: &mut dyn Write,
-    step: Result<register::client::Step, Refusal>,
-) -> io::Result<()> {
+fn print_client(out: &mut dyn Write, step: Result<register::client::Step, Refusal>) -> io::Result<()> {
     let step = match step {
         Ok(step) => step,
         Err(refusal) => return refuse(out, refusal),
@@ -97,8 +94,7 @@ fn print_client(
 impl Hall {
     fn open(p: Params, initial: &[u8]) -> Result<Hall, Refusal> {
         p.check_parties()?;
-        let servers: Result<Vec<Server>, Refusal> =
-            (1..=p.n).map(|j| Server::fresh(p, j, initial)).collect();
+        let servers: Result<Vec<Server>, Refusal> = (1..=p.n).map(|j| Server::fresh(p, j, initial)).collect();
         let clients: Result<Vec<Client>, Refusal> = (1..=8).map(|i| Client::fresh(p, i)).collect();
         Ok(Hall { p, servers: servers?, clients: clients?, values: vec![Vec::new(); 8] })
     }

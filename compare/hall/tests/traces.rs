@@ -35,22 +35,48 @@ fn traces() {
 fn other_forms() {
     let text = |input: &str| String::from_utf8(answer(input.as_bytes())).unwrap();
     assert_eq!(text(""), "");
-    assert_eq!(text("C 1 read\nhall 6 2 1 1 00\nhall 4 1 3 3 010203\nhall 4 1 2 257 00\nhall 4 1 2 3 00\n"),
-        "what?\nrefused 1\nrefused 2\nrefused 3\nrefused 3\n");
+    assert_eq!(
+        text("C 1 read\nhall 6 2 1 1 00\nhall 4 1 3 3 010203\nhall 4 1 2 257 00\nhall 4 1 2 3 00\n"),
+        "what?\nrefused 1\nrefused 2\nrefused 3\nrefused 3\n"
+    );
     let all = |rest: &str| text(&format!("hall 4 1 2 3 010203\n{rest}"));
     for line in [
-        "", " ", "hall 4 1 2 3 010203", "C 1 read ", "C  1 read", "c 1 read", "C 01 read", "C -1 read", "C 1 write",
-        "C 1 write 0", "C 1 write 0G0102", "C 1 write 0A0102", "C 1 write 01 02 03", "S 1 x 1 00", "S 1 c 1", "S 1 c 1 ",
-        "C 1 read\r", "S 1 c 1 00 00", "S + c 1 00", "read", "C x read",
+        "",
+        " ",
+        "hall 4 1 2 3 010203",
+        "C 1 read ",
+        "C  1 read",
+        "c 1 read",
+        "C 01 read",
+        "C -1 read",
+        "C 1 write",
+        "C 1 write 0",
+        "C 1 write 0G0102",
+        "C 1 write 0A0102",
+        "C 1 write 01 02 03",
+        "S 1 x 1 00",
+        "S 1 c 1",
+        "S 1 c 1 ",
+        "C 1 read\r",
+        "S 1 c 1 00 00",
+        "S + c 1 00",
+        "read",
+        "C x read",
     ] {
         assert_eq!(all(&format!("{line}\n")), "ready\nwhat?\n", "line {line:?}");
     }
-    assert_eq!(all("C 0 read\nC 9 read\nC 99999999999999999999999 read\nS 0 c 1 00\nS 5 c 1 -\n"),
-        "ready\nrefused 1\nrefused 1\nrefused 1\nrefused 1\nrefused 1\n");
-    assert_eq!(all("C 1 write -\nS 1 c 1 -\nS 1 c 1 000701\nC 1 s 1 -"),
-        "ready\nrefused 3\nrefused 4\nrefused 4\nrefused 4\n");
-    assert_eq!(all("what\nS 1 c 2 000701010200000005"),
-        "ready\nwhat?\nstep\n> c 2 000f01020200000005".to_string() + "0000000000000000\n");
+    assert_eq!(
+        all("C 0 read\nC 9 read\nC 99999999999999999999999 read\nS 0 c 1 00\nS 5 c 1 -\n"),
+        "ready\nrefused 1\nrefused 1\nrefused 1\nrefused 1\nrefused 1\n"
+    );
+    assert_eq!(
+        all("C 1 write -\nS 1 c 1 -\nS 1 c 1 000701\nC 1 s 1 -"),
+        "ready\nrefused 3\nrefused 4\nrefused 4\nrefused 4\n"
+    );
+    assert_eq!(
+        all("what\nS 1 c 2 000701010200000005"),
+        "ready\nwhat?\nstep\n> c 2 000f01020200000005".to_string() + "0000000000000000\n"
+    );
     let long = format!("S 1 c 1 {}\n", "00".repeat(200_000));
     assert_eq!(all(&long), "ready\nrefused 4\n");
     assert_eq!(answer(b"hall 4 1 1 1 00\n\xff\xfe\n"), b"ready\nwhat?\n");

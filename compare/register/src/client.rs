@@ -131,13 +131,7 @@ impl Client {
 
     /// A frame handed in, named as `from`'s. `value` is that of the open write, and is not
     /// looked at when no write is open.
-    pub fn deliver(
-        &mut self,
-        from: Party,
-        bytes: &[u8],
-        value: &[u8],
-        room: usize,
-    ) -> Result<Step, Refusal> {
+    pub fn deliver(&mut self, from: Party, bytes: &[u8], value: &[u8], room: usize) -> Result<Step, Refusal> {
         let writing = matches!(self.operation, Operation::Stamps(_) | Operation::Acks(_));
         if writing && value.len() != self.p.l {
             return Err(Refusal::ValueLength);

@@ -463,8 +463,7 @@ impl Server {
         if !slot.blocks.complete || !slot.times.delivered || slot.times.time == u64::MAX {
             return false;
         }
-        let stamp =
-            Stamp { time: slot.times.time + 1, writer: frame.client, sequence: frame.sequence };
+        let stamp = Stamp { time: slot.times.time + 1, writer: frame.client, sequence: frame.sequence };
         *slot = Slot::fresh(frame.sequence as u64 + 1);
         let chunk = complete_chunk(c);
         if stamp > self.stamp {
@@ -606,11 +605,7 @@ impl Client {
             return Err(Refusal::ValueLength);
         }
         let frame = open(p, bytes)?;
-        if out.len() < p.client_room()
-            || to.len() < 4 * p.n
-            || rows.len() < ROWS_AREA
-            || value.len() < p.l
-        {
+        if out.len() < p.client_room() || to.len() < 4 * p.n || rows.len() < ROWS_AREA || value.len() < p.l {
             return Err(Refusal::Room);
         }
         let server = match from {
@@ -737,20 +732,12 @@ impl Client {
 
     /// The place in a server's row with this stamp and list.
     fn find(&self, p: &Params, rows: &[u8], server: usize, stamp: Stamp, digests: &[u8]) -> Option<usize> {
-        (0..self.kept[server] as usize).find(|&i| {
-            self.stamps[server][i] == stamp && list_in(p, rows, row_chunk(server, i)) == digests
-        })
+        (0..self.kept[server] as usize)
+            .find(|&i| self.stamps[server][i] == stamp && list_in(p, rows, row_chunk(server, i)) == digests)
     }
 
     /// The search of the rows: the first stamp and list in n − t of them ends the read.
-    fn settle(
-        &mut self,
-        p: &Params,
-        rows: &[u8],
-        frame: &Frame,
-        out: &mut Out,
-        value: &mut [u8],
-    ) -> Outcome {
+    fn settle(&mut self, p: &Params, rows: &[u8], frame: &Frame, out: &mut Out, value: &mut [u8]) -> Outcome {
         for j in 1..=p.n {
             for i in 0..self.kept[j] as usize {
                 let stamp = self.stamps[j][i];

@@ -247,8 +247,7 @@ impl Server {
             return Step::default();
         }
         let group = if readies.len() >= p.q() { &readies } else { &echoes };
-        let lowest: Vec<(usize, &[u8])> =
-            group.iter().take(p.k).map(|(j, block)| (*j, &block[..])).collect();
+        let lowest: Vec<(usize, &[u8])> = group.iter().take(p.k).map(|(j, block)| (*j, &block[..])).collect();
         let mut value = vec![0; p.l];
         decode(&p, &lowest, &mut value).expect("k different senders");
         let blocks = encoded(&p, &value);
@@ -326,9 +325,7 @@ impl Server {
             self.present = own.clone();
         }
         for (i, reader) in self.readers.iter().enumerate() {
-            if reader.listening.is_some_and(|noted| noted < stamp)
-                && self.variant != Variant::NoListeners
-            {
+            if reader.listening.is_some_and(|noted| noted < stamp) && self.variant != Variant::NoListeners {
                 let value = Body::Value { stamp, digests: &own.digests, block: &own.block };
                 let frame = build(i as u8 + 1, reader.newest, value);
                 step.sends.push(Send { to: Party::Client(i + 1), frame });

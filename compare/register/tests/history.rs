@@ -34,11 +34,35 @@ fn examples() {
 #[test]
 fn malformed() {
     for line in [
-        "\n", " \n", "W 1 4 1 2 1", "W 1 4 1 2 1\r\n", "W 1 4 1 2 1 \n", " W 1 4 1 2 1\n", "W  1 4 1 2 1\n", "W 1 4 1 2\n",
-        "W 1 4 1 2 1 0\n", "X 1 4 1 2 1\n", "w 1 4 1 2 1\n", "W 01 4 1 2 1\n", "W 1 4 1 2 01\n", "W 1 4 1 9 1\n",
-        "W 4 4 1 2 1\n", "W 5 4 1 2 1\n", "W 1 4294967296 1 2 1\n", "W 1 4 18446744073709551616 2 1\n",
-        "W 1 4 1 2 4294967296\n", "W 1 4 1 2 -1\n", "W +1 4 1 2 1\n", "W 1 4 1 2 1\n\n", "W\t1 4 1 2 1\n", "W 1 4 0 2 1\n",
-        "W 1 4 1 0 1\n", "W 1 4 1 2 0\n", "W 1 4 1 2 1\nW 5 6 1 2 1\n", "W 1 4 00 2 1\n", "W 1 4 1 2 1\0\n",
+        "\n",
+        " \n",
+        "W 1 4 1 2 1",
+        "W 1 4 1 2 1\r\n",
+        "W 1 4 1 2 1 \n",
+        " W 1 4 1 2 1\n",
+        "W  1 4 1 2 1\n",
+        "W 1 4 1 2\n",
+        "W 1 4 1 2 1 0\n",
+        "X 1 4 1 2 1\n",
+        "w 1 4 1 2 1\n",
+        "W 01 4 1 2 1\n",
+        "W 1 4 1 2 01\n",
+        "W 1 4 1 9 1\n",
+        "W 4 4 1 2 1\n",
+        "W 5 4 1 2 1\n",
+        "W 1 4294967296 1 2 1\n",
+        "W 1 4 18446744073709551616 2 1\n",
+        "W 1 4 1 2 4294967296\n",
+        "W 1 4 1 2 -1\n",
+        "W +1 4 1 2 1\n",
+        "W 1 4 1 2 1\n\n",
+        "W\t1 4 1 2 1\n",
+        "W 1 4 0 2 1\n",
+        "W 1 4 1 0 1\n",
+        "W 1 4 1 2 0\n",
+        "W 1 4 1 2 1\nW 5 6 1 2 1\n",
+        "W 1 4 00 2 1\n",
+        "W 1 4 1 2 1\0\n",
         "W 1 4 999999999999999999999999999999 2 1\n",
     ] {
         assert_eq!(report(line.as_bytes()), "refused 18\n", "{line:?}");
@@ -100,7 +124,8 @@ fn some_history(random: &mut Random, length: usize) -> Vec<Record> {
             let end = if random.chance(1, 10) { u32::MAX } else { start + 1 + random.below(4) as u32 };
             if random.chance(1, 2) {
                 let time = random.range(1, 3) as u64;
-                let stamp = Stamp { time, writer: random.range(1, 2) as u8, sequence: random.range(1, 2) as u32 };
+                let stamp =
+                    Stamp { time, writer: random.range(1, 2) as u8, sequence: random.range(1, 2) as u32 };
                 stamps.push(stamp);
                 Record { write: true, start, end, stamp }
             } else {

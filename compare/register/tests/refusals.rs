@@ -27,7 +27,14 @@ fn lent(own: usize) -> Lent {
 }
 
 impl Lent {
-    fn deliver(&mut self, p: Params, own: usize, from: Party, frame: &[u8], room: usize) -> Result<usize, u8> {
+    fn deliver(
+        &mut self,
+        p: Params,
+        own: usize,
+        from: Party,
+        frame: &[u8],
+        room: usize,
+    ) -> Result<usize, u8> {
         let mut out = vec![0; room];
         let mut to = vec![0; 40];
         self.server
@@ -40,7 +47,8 @@ impl Lent {
 /// One delivery to server 1 in both styles, which agree on the number.
 fn to_server(from: Party, frame: &[u8]) -> Result<usize, u8> {
     let mut server = Server::fresh(P, 1, &INITIAL).unwrap();
-    let one = server.deliver(from, frame, P.server_room()).map(|step| step.sends.len()).map_err(Refusal::number);
+    let one =
+        server.deliver(from, frame, P.server_room()).map(|step| step.sends.len()).map_err(Refusal::number);
     let two = lent(1).deliver(P, 1, from, frame, P.server_room());
     assert_eq!(one, two);
     one
@@ -105,9 +113,8 @@ fn examples_of_the_table() {
     assert_eq!(to_server(Party::Server(2), &GET_STAMP), Err(11));
     let initial = blocks::encoded(&P, &INITIAL);
     let digests = digest_list(&initial);
-    let block = |stage, j: usize| {
-        build(2, 1, Body::Block { stage, digests: &digests, block: &initial[j - 1] })
-    };
+    let block =
+        |stage, j: usize| build(2, 1, Body::Block { stage, digests: &digests, block: &initial[j - 1] });
     assert_eq!(to_server(owner, &block(Stage::Echo, 2)), Err(11));
     assert_eq!(to_server(Party::Server(5), &block(Stage::Echo, 2)), Err(11));
     assert_eq!(to_server(Party::Server(0), &block(Stage::Echo, 2)), Err(11));
@@ -289,10 +296,8 @@ fn last_sequence() {
     let digests = digest_list(&blocks);
     for j in 2..=4 {
         let body = Body::Block { stage: Stage::Ready, digests: &digests, block: &blocks[j - 1] };
-        let frames = [
-            build(2, u32::MAX, body),
-            build(2, u32::MAX, Body::Time { stage: Stage::Ready, time: 0 }),
-        ];
+        let frames =
+            [build(2, u32::MAX, body), build(2, u32::MAX, Body::Time { stage: Stage::Ready, time: 0 })];
         for frame in frames {
             let one = server.deliver(Party::Server(j), &frame, P.server_room()).unwrap().sends.len();
             let two = flat.deliver(P, 1, Party::Server(j), &frame, P.server_room());

@@ -26,14 +26,8 @@ enum Mood {
     Changing,
 }
 
-const MOODS: [Mood; 6] = [
-    Mood::Silent,
-    Mood::Faithful,
-    Mood::Frozen,
-    Mood::Forgetful,
-    Mood::TwoFaced,
-    Mood::Changing,
-];
+const MOODS: [Mood; 6] =
+    [Mood::Silent, Mood::Faithful, Mood::Frozen, Mood::Forgetful, Mood::TwoFaced, Mood::Changing];
 
 /// How the false parties act together.
 #[derive(Clone, Copy, Debug, PartialEq, Eq)]
@@ -291,8 +285,7 @@ impl Adversary {
             let length = self.stock.len();
             let reach = if random.chance(3, 4) { length.min(40) } else { length };
             let i = length - 1 - random.below(reach);
-            let sent =
-                if random.chance(9, 10) { self.stock.remove(i) } else { self.stock[i].clone() };
+            let sent = if random.chance(9, 10) { self.stock.remove(i) } else { self.stock[i].clone() };
             let room = world.room(sent.to);
             world.hand_false(sent.to, sent.from, &sent.frame, room)?;
         }

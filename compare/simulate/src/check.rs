@@ -182,7 +182,14 @@ mod tests {
             let a = Acceptance { server, client: 1, sequence: 1, stamp: stamp(1, 1, 1), digests: vec![7] };
             seen.accepted.push(a);
         }
-        seen.reads.push(Read { client: 2, sequence: 1, begun: 6, ended: 9, stamp: stamp(1, 1, 1), value: vec![1] });
+        seen.reads.push(Read {
+            client: 2,
+            sequence: 1,
+            begun: 6,
+            ended: 9,
+            stamp: stamp(1, 1, 1),
+            value: vec![1],
+        });
         seen
     }
 

@@ -66,7 +66,12 @@ impl ServerPair {
     }
 
     /// One call, with both answers compared.
-    pub fn deliver(&mut self, from: Party, bytes: &[u8], room: usize) -> Result<Result<server::Step, Refusal>, String> {
+    pub fn deliver(
+        &mut self,
+        from: Party,
+        bytes: &[u8],
+        room: usize,
+    ) -> Result<Result<server::Step, Refusal>, String> {
         let answer = self.clear.deliver(from, bytes, room);
         let Some(flat) = &mut self.flat else { return Ok(answer) };
         let before = flat.area.clone();
@@ -133,7 +138,10 @@ impl ServerPair {
         let flat = self.flat.as_ref().unwrap();
         let (p, a, b) = (&self.p, &self.clear, &flat.server);
         let present = b.present(p, &flat.initial, &flat.area);
-        if a.stamp != b.stamp || a.present.block != present || a.present.digests != flat::list_in(p, &flat.area, 0) {
+        if a.stamp != b.stamp
+            || a.present.block != present
+            || a.present.digests != flat::list_in(p, &flat.area, 0)
+        {
             return Err("present value".to_string());
         }
         for c in 1..=8 {
@@ -181,10 +189,8 @@ pub struct ClientPair {
 impl ClientPair {
     pub fn fresh(p: Params, own: usize, variant: Variant, both: bool) -> ClientPair {
         let clear = Client::fresh(p, own).unwrap().with_variant(variant);
-        let flat = both.then(|| FlatClient {
-            client: flat::Client::fresh(),
-            rows: pattern(ROWS_AREA + own % 3, own),
-        });
+        let flat = both
+            .then(|| FlatClient { client: flat::Client::fresh(), rows: pattern(ROWS_AREA + own % 3, own) });
         ClientPair { p, own, clear, flat, value: Vec::new() }
     }
 
@@ -255,8 +261,7 @@ impl ClientPair {
                     })
             }
         };
-        let numbers =
-            a.writes == b.writes && a.reads == b.reads && a.out_of_stamps == b.out_of_stamps;
+        let numbers = a.writes == b.writes && a.reads == b.reads && a.out_of_stamps == b.out_of_stamps;
         if !operation || !numbers {
             return Err("client record".to_string());
         }
@@ -275,7 +280,11 @@ impl ClientPair {
         Ok(answer)
     }
 
-    pub fn begin_write(&mut self, value: &[u8], room: usize) -> Result<Result<client::Step, Refusal>, String> {
+    pub fn begin_write(
+        &mut self,
+        value: &[u8],
+        room: usize,
+    ) -> Result<Result<client::Step, Refusal>, String> {
         let answer = self.clear.begin_write(value, room);
         if let Some(flat) = &mut self.flat {
             let before = flat.client;
@@ -294,7 +303,12 @@ impl ClientPair {
         (pattern(room, self.own), pattern(4 * self.p.n + self.own % 2, self.own + 1))
     }
 
-    pub fn deliver(&mut self, from: Party, bytes: &[u8], room: usize) -> Result<Result<client::Step, Refusal>, String> {
+    pub fn deliver(
+        &mut self,
+        from: Party,
+        bytes: &[u8],
+        room: usize,
+    ) -> Result<Result<client::Step, Refusal>, String> {
         let rows_before = match &self.clear.operation {
             Operation::Read(rows) if self.flat.is_some() => Some(rows.clone()),
             _ => None,
@@ -310,7 +324,15 @@ impl ClientPair {
         let mut expected = flat.rows.clone();
         let (p, own) = (self.p, self.own);
         let other = flat.client.deliver(
-            &p, own, &self.value, &mut flat.rows, from, bytes, &mut out, &mut to, &mut value,
+            &p,
+            own,
+            &self.value,
+            &mut flat.rows,
+            from,
+            bytes,
+            &mut out,
+            &mut to,
+            &mut value,
         );
         // The rows area: the new value in a free place or in that of the smallest of five.
         if let (Ok(_), Some(rows), Party::Server(j)) = (&answer, rows_before, from) {

@@ -69,9 +69,8 @@ impl Phase {
     fn noisy(p: &Params, random: &mut Random) -> Phase {
         let most = if random.chance(1, 5) { p.n } else { p.t };
         let held = if random.chance(3, 5) { some_servers(p, most, random) } else { Vec::new() };
-        let kind = random
-            .chance(1, 5)
-            .then(|| (random.range(1, 12) as u8, Party::Server(random.range(1, p.n))));
+        let kind =
+            random.chance(1, 5).then(|| (random.range(1, 12) as u8, Party::Server(random.range(1, p.n))));
         Phase {
             held,
             lagging: Vec::new(),
@@ -301,8 +300,7 @@ pub fn run(seed: u64, options: Options) -> Result<Summary, Violation> {
     run.world.flush()?;
     check_row(&run.world.seen)?;
     let seen = &run.world.seen;
-    let accepted: BTreeSet<(usize, u32)> =
-        seen.accepted.iter().map(|a| (a.client, a.sequence)).collect();
+    let accepted: BTreeSet<(usize, u32)> = seen.accepted.iter().map(|a| (a.client, a.sequence)).collect();
     Ok(Summary {
         reads: seen.reads.len() as u64,
         writes: seen.writes.values().filter(|w| w.ended.is_some()).count() as u64,

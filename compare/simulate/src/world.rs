@@ -114,7 +114,12 @@ impl World {
         }
     }
 
-    pub fn begin_write(&mut self, client: usize, value: &[u8], room: usize) -> Result<Option<Refusal>, Violation> {
+    pub fn begin_write(
+        &mut self,
+        client: usize,
+        value: &[u8],
+        room: usize,
+    ) -> Result<Option<Refusal>, Violation> {
         self.calls += 1;
         let party = self.clients[client].as_mut().expect("an honest client");
         match party.begin_write(value, room).map_err(Violation::Differ)? {
@@ -136,12 +141,24 @@ impl World {
     }
 
     /// Hands in any frame, named as a party's that is not honest.
-    pub fn hand_false(&mut self, to: Party, from: Party, frame: &[u8], room: usize) -> Result<Option<Refusal>, Violation> {
+    pub fn hand_false(
+        &mut self,
+        to: Party,
+        from: Party,
+        frame: &[u8],
+        room: usize,
+    ) -> Result<Option<Refusal>, Violation> {
         assert!(!self.honest(from) && self.honest(to));
         self.hand(to, from, frame, room)
     }
 
-    fn hand(&mut self, to: Party, from: Party, frame: &[u8], room: usize) -> Result<Option<Refusal>, Violation> {
+    fn hand(
+        &mut self,
+        to: Party,
+        from: Party,
+        frame: &[u8],
+        room: usize,
+    ) -> Result<Option<Refusal>, Violation> {
         self.calls += 1;
         match to {
             Party::Server(j) => {

@@ -6,7 +6,7 @@ mod side;
 mod system;
 
 use rows::{growth, rows, Row};
-use side::Plain;
+use side::{Plain, Side};
 use std::time::{Duration, Instant};
 
 #[cfg(feature = "linked")]
@@ -46,15 +46,32 @@ fn main() {
     }
     let quick = arguments.iter().any(|a| a == "--quick");
     let (rounds, length) = if quick { (3, Duration::from_millis(1)) } else { (15, Duration::from_millis(8)) };
-    let mut plain = rows::<Plain>();
-    if arguments.iter().any(|a| a == "--growth") {
-        plain.extend(growth::<Plain>());
+    let mut sides = vec![all::<Plain>(arguments.iter().any(|a| a == "--growth"))];
+    println!("{:>12} {:>12} {:>8}  what", "plain ns", "linked ns", "ratio");
+    for i in 0..sides[0].len() {
+        let mut rows: Vec<&mut Row> = sides.iter_mut().map(|side| &mut side[i]).collect();
+        let times: Vec<u64> = rows.iter_mut().map(|row| times_for(row, length)).collect();
+        let mut figures = vec![Vec::new(); rows.len()];
+        // In turns, so that both sides meet the same machine.
+        for _ in 0..rounds {
+            for (side, row) in rows.iter_mut().enumerate() {
+                figures[side].push(round(row, times[side]));
+            }
+        }
+        let medians: Vec<f64> = figures.into_iter().map(median).collect();
+        let (linked, ratio) = match medians.get(1) {
+            Some(linked) => (format!("{linked:.1}"), format!("{:.2}", linked / medians[0])),
+            None => ("-".to_string(), "-".to_string()),
+        };
+        println!("{:>12.1} {linked:>12} {ratio:>8}  {}", medians[0], rows[0].name);
     }
-    println!("{:>12} {:>12}  what", "median ns", "least ns");
-    for row in &mut plain {
-        let times = times_for(row, length);
-        let figures: Vec<f64> = (0..rounds).map(|_| round(row, times)).collect();
-        let least = figures.iter().copied().fold(f64::INFINITY, f64::min);
-        println!("{:>12.1} {:>12.1}  {}", median(figures), least, row.name);
+}
+
+/// The rows of a side.
+fn all<S: Side + 'static>(with_growth: bool) -> Vec<Row> {
+    let mut all = rows::<S>();
+    if with_growth {
+        all.extend(growth::<S>());
     }
+    all
 }

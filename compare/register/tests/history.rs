@@ -79,6 +79,12 @@ fn malformed() {
 fn no_ring_of_reads() {
     // 3 precedes 1; by line 1 before 2 and 2 before 3.
     let text = "R 5 6 0 0 0\nR 1 7 0 0 0\nR 2 3 0 0 0\n";
+    let reads = parse(text.as_bytes()).unwrap();
+    let by_identifier = |a: usize, b: usize| {
+        let (x, y) = (&reads[a - 1], &reads[b - 1]);
+        precedes(x, y) || (!precedes(y, x) && a < b)
+    };
+    assert!(by_identifier(1, 2) && by_identifier(2, 3) && by_identifier(3, 1));
     assert_eq!(report(text.as_bytes()), "order 3 1 2\n");
 }
 

@@ -70,6 +70,16 @@ pub struct Adversary {
 
 const STOCK: usize = 600;
 
+/// Two halves of the servers, equal or nearly so, and of the clients.
+fn some_halves(n: usize, random: &mut Random) -> u32 {
+    let mut servers: Vec<usize> = (1..=n).collect();
+    for i in (1..n).rev() {
+        servers.swap(i, random.below(i + 1));
+    }
+    let clients = (random.next() as u32) << 16;
+    servers[..n / 2].iter().fold(clients, |halves, j| halves | 1 << j)
+}
+
 fn bit(party: Party) -> u32 {
     match party {
         Party::Server(j) => j as u32,
@@ -99,7 +109,7 @@ impl Adversary {
             moods: servers.iter().map(|&j| (j, random.pick(moods))).collect(),
             faces: servers.iter().map(|&j| (j, [face(j), face(j)])).collect(),
             profile,
-            halves: random.next() as u32,
+            halves: some_halves(p.n, random),
             stock: Vec::new(),
             inner: Vec::new(),
             known: Vec::new(),
@@ -139,7 +149,7 @@ impl Adversary {
                     }
                 }
                 if random.chance(1, 10) {
-                    self.halves = random.next() as u32;
+                    self.halves = some_halves(self.p.n, random);
                 }
             }
         }
@@ -396,7 +406,7 @@ impl Adversary {
             20..=29 => highest.saturating_add(random.below(3) as u64),
             30..=36 => random.below(4) as u64,
             37 => u64::MAX - 1,
-            38 if random.chance(1, 4) => u64::MAX,
+            38 => u64::MAX,
             _ => highest.saturating_sub(1),
         }
     }

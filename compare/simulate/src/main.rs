@@ -1,5 +1,6 @@
-//! simulate [COUNT [SEED]] [--both] [--variant NAME]: COUNT runs from SEED on. A failure prints
-//! the seed that reproduces it: simulate 1 SEED.
+//! simulate [COUNT [SEED]] [--both] [--variant NAME] [--scripts FOLDER]: COUNT runs from SEED on. A
+//! failure prints the seed that reproduces it: simulate 1 SEED. With --scripts each run is also
+//! written as input of the hall program with the expected output, SEED.in and SEED.out.
 
 use register::Variant;
 use simulate::run::{run, Options, Summary};
@@ -7,13 +8,23 @@ use std::process::ExitCode;
 use std::time::Instant;
 
 fn usage() -> ExitCode {
-    eprintln!("simulate [COUNT [SEED]] [--both] [--variant NAME]");
+    eprintln!("simulate [COUNT [SEED]] [--both] [--variant NAME] [--scripts FOLDER]");
     ExitCode::from(2)
+}
+
+fn write_script(folder: &str, seed: u64, lines: &[String]) -> std::io::Result<()> {
+    let input = lines.join("\n") + "\n";
+    let mut output = Vec::new();
+    hall::run(&mut input.as_bytes(), &mut output)?;
+    std::fs::create_dir_all(folder)?;
+    std::fs::write(format!("{folder}/{seed:05}.in"), input)?;
+    std::fs::write(format!("{folder}/{seed:05}.out"), output)
 }
 
 fn main() -> ExitCode {
     let mut numbers = vec![];
-    let mut options = Options { variant: Variant::Right, both: false };
+    let mut options = Options::RIGHT;
+    let mut folder = None;
     let mut arguments = std::env::args().skip(1);
     while let Some(argument) = arguments.next() {
         if argument == "--both" {
@@ -23,6 +34,12 @@ fn main() -> ExitCode {
             match Variant::WRONG.iter().find(|v| format!("{v:?}") == name) {
                 Some(variant) => options.variant = *variant,
                 None => return usage(),
+            }
+        } else if argument == "--scripts" {
+            folder = arguments.next();
+            options.script = true;
+            if folder.is_none() {
+                return usage();
             }
         } else if let Ok(number) = argument.parse::<u64>() {
             numbers.push(number);
@@ -41,7 +58,15 @@ fn main() -> ExitCode {
     let mut failures = 0;
     for seed in seed..seed.saturating_add(count) {
         match run(seed, options) {
-            Ok(summary) => total.add(&summary),
+            Ok(summary) => {
+                total.add(&summary);
+                if let Some(folder) = &folder {
+                    if let Err(error) = write_script(folder, seed, &summary.script) {
+                        eprintln!("{folder}: {error}");
+                        return ExitCode::FAILURE;
+                    }
+                }
+            }
             Err(violation) => {
                 failures += 1;
                 println!("seed {seed}: {violation}");
@@ -52,7 +77,7 @@ fn main() -> ExitCode {
             }
         }
     }
-    let Summary { reads, writes, foreign, steps, refusals } = total;
+    let Summary { reads, writes, foreign, steps, refusals, .. } = total;
     println!("{steps} steps; reads {reads}, writes {writes}, false writes accepted {foreign}");
     println!("refusals by number {:?}", &refusals[1..]);
     println!("{failures} failures, {:.1} s", begun.elapsed().as_secs_f64());

@@ -4,6 +4,7 @@
 use crate::adversary::{Adversary, Profile};
 use crate::check::{check_row, Violation};
 use crate::world::{Setup, World};
+use hall::to_hex;
 use register::random::Random;
 use register::{Params, Party, Refusal, Variant};
 use std::collections::BTreeSet;
@@ -13,6 +14,12 @@ pub struct Options {
     pub variant: Variant,
     /// Run both styles side by side and compare every byte.
     pub both: bool,
+    /// Give the calls as a script of the hall program, where no area is short.
+    pub script: bool,
+}
+
+impl Options {
+    pub const RIGHT: Options = Options { variant: Variant::Right, both: false, script: false };
 }
 
 /// What happened in a run or in many.
@@ -25,6 +32,8 @@ pub struct Summary {
     pub steps: u64,
     /// Answers by number.
     pub refusals: [u64; 20],
+    /// The script, if asked for.
+    pub script: Vec<String>,
 }
 
 impl Summary {
@@ -132,7 +141,8 @@ impl Phase {
     }
 }
 
-fn parameters(random: &mut Random) -> Params {
+/// Every other seed goes through all sets in turn.
+fn parameters(seed: u64, random: &mut Random) -> Params {
     let l = match random.below(10) {
         0..=5 => random.range(1, 8),
         6..=8 => random.range(1, 40),
@@ -140,10 +150,10 @@ fn parameters(random: &mut Random) -> Params {
     };
     let sets = Params::all(l);
     let small: Vec<Params> = sets.iter().copied().filter(|p| p.n == 4).collect();
-    if random.chance(1, 2) {
+    if seed % 2 == 0 {
         random.pick(&small)
     } else {
-        random.pick(&sets)
+        sets[(seed / 2) as usize % sets.len()]
     }
 }
 
@@ -157,9 +167,9 @@ fn some(items: std::ops::RangeInclusive<usize>, count: usize, random: &mut Rando
     items
 }
 
-/// Mostly enough room, sometimes too little.
-fn some_room(needed: usize, random: &mut Random) -> usize {
-    if random.chance(1, 100) {
+/// Mostly enough room, in a run that is no script sometimes too little.
+fn some_room(script: bool, needed: usize, random: &mut Random) -> usize {
+    if random.chance(1, 100) && !script {
         random.pick(&[0, needed / 2, needed - 1])
     } else {
         needed + random.below(3)
@@ -189,7 +199,7 @@ impl Run {
     }
 
     fn begin(&mut self, client: usize, random: &mut Random) -> Result<(), Violation> {
-        let room = some_room(self.world.p.client_room(), random);
+        let room = some_room(self.world.script.is_some(), self.world.p.client_room(), random);
         let answer = if random.chance(1, 2) {
             self.world.begin_read(client, room)?
         } else {
@@ -209,7 +219,7 @@ impl Run {
             Pick::Any => self.world.pending.swap_remove(i),
             _ => self.world.pending.remove(i),
         };
-        let room = some_room(self.world.room(self.world.log[place].to), random);
+        let room = some_room(self.world.script.is_some(), self.world.room(self.world.log[place].to), random);
         let answer = self.world.hand_sent(place, room)?;
         if let Some(Refusal::Room | Refusal::Early) = answer {
             self.world.pending.push(place);
@@ -232,7 +242,7 @@ impl Run {
         }
         let to = self.world.log[place].to;
         if self.world.honest(to) {
-            let room = some_room(self.world.room(to), random);
+            let room = some_room(self.world.script.is_some(), self.world.room(to), random);
             self.world.hand_sent(place, room)?;
         }
         Ok(())
@@ -263,12 +273,14 @@ impl Run {
 pub fn run(seed: u64, options: Options) -> Result<Summary, Violation> {
     let mut random = Random::new(seed);
     let random = &mut random;
-    let p = parameters(random);
+    let p = parameters(seed, random);
     let initial = random.bytes(p.l);
-    let false_count = if random.chance(4, 5) { p.t } else { random.range(0, p.t) };
+    let profile = random.pick(&[Profile::Noisy, Profile::Cunning, Profile::Cunning, Profile::Splitting]);
+    let splitting = profile == Profile::Splitting;
+    let false_count = if splitting || random.chance(4, 5) { p.t } else { random.range(0, p.t) };
     let false_servers = some(1..=p.n, false_count, random);
     let honest_count = random.range(1, 4);
-    let clients = some(1..=8, honest_count + random.range(0, 3), random);
+    let clients = some(1..=8, honest_count + random.range(splitting as usize, 3), random);
     let (honest, others) = clients.split_at(honest_count);
     let setup = Setup {
         p,
@@ -278,7 +290,6 @@ pub fn run(seed: u64, options: Options) -> Result<Summary, Violation> {
         variant: options.variant,
         both: options.both,
     };
-    let profile = random.pick(&[Profile::Noisy, Profile::Cunning, Profile::Cunning, Profile::Splitting]);
     let mut run = Run {
         world: World::new(&setup),
         adversary: Adversary::new(p, &false_servers, others, &initial, profile, random),
@@ -288,6 +299,10 @@ pub fn run(seed: u64, options: Options) -> Result<Summary, Violation> {
         repeats: random.pick(&[2, 15, 15]),
     };
     let mut phase = run.phase(None, random);
+    if options.script {
+        let Params { n, t, k, l } = p;
+        run.world.script = Some(vec![format!("hall {n} {t} {k} {l} {}", to_hex(&initial))]);
+    }
     let limit = run.operations * p.n * p.n * 20;
     for _ in 0..limit {
         let done = run.operations == 0 && !run.clients.iter().any(|&c| run.world.is_open(c));
@@ -297,7 +312,15 @@ pub fn run(seed: u64, options: Options) -> Result<Summary, Violation> {
         run.step(&mut phase, random)?;
     }
     check_row(&run.world.seen)?;
-    run.world.flush()?;
+    let Run { world, adversary, .. } = &mut run;
+    let mut actions = random.range(0, 200);
+    world.flush(|world| {
+        if actions > 0 && adversary.present() && random.chance(1, 4) {
+            actions -= 1;
+            adversary.act(world, random)?;
+        }
+        Ok(())
+    })?;
     check_row(&run.world.seen)?;
     let seen = &run.world.seen;
     let accepted: BTreeSet<(usize, u32)> = seen.accepted.iter().map(|a| (a.client, a.sequence)).collect();
@@ -307,5 +330,6 @@ pub fn run(seed: u64, options: Options) -> Result<Summary, Violation> {
         foreign: accepted.iter().filter(|name| !seen.writes.contains_key(name)).count() as u64,
         steps: run.world.steps,
         refusals: run.world.refusals,
+        script: run.world.script.unwrap_or_default(),
     })
 }

@@ -3,6 +3,7 @@
 
 use crate::check::{Acceptance, Observed, Read, Violation, Write};
 use crate::lockstep::{ClientPair, ServerPair};
+use hall::to_hex;
 use register::client::Outcome;
 use register::{Params, Party, Refusal, Send, Variant};
 
@@ -28,6 +29,8 @@ pub struct World {
     /// Calls that gave a step, and refusals by number.
     pub steps: u64,
     pub refusals: [u64; 20],
+    /// The calls as lines of the hall program, if asked for.
+    pub script: Option<Vec<String>>,
     calls: u64,
     /// When each client's open operation began.
     begun: [u64; 9],
@@ -63,6 +66,7 @@ impl World {
             seen: Observed { initial: setup.initial.to_vec(), ..Observed::default() },
             steps: 0,
             refusals: [0; 20],
+            script: None,
             calls: 0,
             begun: [0; 9],
         }
@@ -81,6 +85,13 @@ impl World {
 
     pub fn out_of_stamps(&self, client: usize) -> bool {
         self.clients[client].as_ref().is_some_and(|c| c.clear.out_of_stamps)
+    }
+
+    fn note(&mut self, line: impl FnOnce() -> String) {
+        self.calls += 1;
+        if let Some(script) = &mut self.script {
+            script.push(line());
+        }
     }
 
     fn refuse(&mut self, refusal: Refusal) -> Result<Option<Refusal>, Violation> {
@@ -102,7 +113,7 @@ impl World {
     }
 
     pub fn begin_read(&mut self, client: usize, room: usize) -> Result<Option<Refusal>, Violation> {
-        self.calls += 1;
+        self.note(|| format!("C {client} read"));
         let party = self.clients[client].as_mut().expect("an honest client");
         match party.begin_read(room).map_err(Violation::Differ)? {
             Ok(step) => {
@@ -120,7 +131,7 @@ impl World {
         value: &[u8],
         room: usize,
     ) -> Result<Option<Refusal>, Violation> {
-        self.calls += 1;
+        self.note(|| format!("C {client} write {}", to_hex(value)));
         let party = self.clients[client].as_mut().expect("an honest client");
         match party.begin_write(value, room).map_err(Violation::Differ)? {
             Ok(step) => {
@@ -159,7 +170,7 @@ impl World {
         frame: &[u8],
         room: usize,
     ) -> Result<Option<Refusal>, Violation> {
-        self.calls += 1;
+        self.note(|| call_line(to, from, frame));
         match to {
             Party::Server(j) => {
                 let server = self.servers[j].as_mut().expect("an honest server");
@@ -214,13 +225,17 @@ impl World {
     }
 
     /// Delivers every frame between honest parties, offering again what was 10 or 13, until none
-    /// gives a step; then no honest operation may be open.
-    pub fn flush(&mut self) -> Result<(), Violation> {
+    /// gives a step; then no honest operation may be open. `meanwhile` acts before each delivery.
+    pub fn flush(
+        &mut self,
+        mut meanwhile: impl FnMut(&mut World) -> Result<(), Violation>,
+    ) -> Result<(), Violation> {
         let mut waiting: Vec<usize> = Vec::new();
         loop {
             let mut progress = false;
             let round = std::mem::take(&mut self.pending);
             for place in waiting.drain(..).chain(round).collect::<Vec<_>>() {
+                meanwhile(self)?;
                 let room = self.room(self.log[place].to);
                 match self.hand_sent(place, room)? {
                     None => progress = true,
@@ -240,6 +255,15 @@ impl World {
         }
         Ok(())
     }
+}
+
+/// A handed frame as the hall program reads it.
+fn call_line(to: Party, from: Party, frame: &[u8]) -> String {
+    let party = |party, client, server| match party {
+        Party::Client(c) => format!("{client} {}", c.min(255)),
+        Party::Server(j) => format!("{server} {}", j.min(255)),
+    };
+    format!("{} {} {}", party(to, 'C', 'S'), party(from, 'c', 's'), to_hex(frame))
 }
 
 fn short(client: &register::client::Client) -> String {

@@ -7,7 +7,7 @@ use simulate::run::{run, Options, Summary};
 fn all(seeds: std::ops::Range<u64>, both: bool) -> Summary {
     let mut total = Summary::default();
     for seed in seeds {
-        match run(seed, Options { variant: Variant::Right, both }) {
+        match run(seed, Options { both, ..Options::RIGHT }) {
             Ok(summary) => total.add(&summary),
             Err(violation) => panic!("seed {seed}: {violation}; reproduce with: simulate 1 {seed}"),
         }
@@ -33,8 +33,8 @@ fn both_styles_agree() {
 /// The first violation that fits within 500 runs of a wrong variant. The first seed of a rare
 /// one is chosen near a find, to keep the test short.
 fn must_find(variant: Variant, first: u64, fits: fn(&Violation) -> bool) {
-    for seed in first..first + 500 {
-        if let Err(violation) = run(seed, Options { variant, both: false }) {
+    for seed in first..first + 5000 {
+        if let Err(violation) = run(seed, Options { variant, ..Options::RIGHT }) {
             if fits(&violation) {
                 println!("{variant:?}: seed {seed}");
                 return;
@@ -78,12 +78,12 @@ fn finds_a_value_counted_twice() {
 
 #[test]
 fn finds_an_ack_counted_twice() {
-    must_find(Variant::AckTwice, 200, in_time);
+    must_find(Variant::AckTwice, 1, in_time);
 }
 
 #[test]
 fn finds_a_block_against_its_digest() {
-    must_find(Variant::NoDigest, 400, bytes);
+    must_find(Variant::NoDigest, 1, bytes);
 }
 
 #[test]
@@ -93,12 +93,12 @@ fn finds_early_opening() {
 
 #[test]
 fn finds_missing_comparison() {
-    must_find(Variant::NoCompare, 1700, bytes);
+    must_find(Variant::NoCompare, 1, bytes);
 }
 
 #[test]
 fn finds_few_echoes() {
-    must_find(Variant::FewEchoes, 600, |v| matches!(v, Violation::Agreement(_)));
+    must_find(Variant::FewEchoes, 1, |v| matches!(v, Violation::Agreement(_)));
 }
 
 #[test]
@@ -113,5 +113,39 @@ fn finds_falling_stamps() {
 
 #[test]
 fn finds_silence_after_ready() {
-    must_find(Variant::LateSendSilent, 300, still_open);
+    must_find(Variant::LateSendSilent, 1, still_open);
+}
+
+/// A wrong variant beside the right flat style: the comparison finds every one.
+#[test]
+fn comparison_finds_differences() {
+    for variant in Variant::WRONG {
+        let differs = |seed| {
+            let found = run(seed, Options { variant, both: true, ..Options::RIGHT });
+            matches!(found, Err(Violation::Differ(_)))
+        };
+        assert!((1..200).any(differs), "{variant:?} was not found");
+    }
+}
+
+/// A run as a script of the hall program gives the same steps, refusals and values there.
+#[test]
+fn scripts_say_the_same() {
+    for seed in 1..20 {
+        let summary = run(seed, Options { script: true, ..Options::RIGHT }).unwrap();
+        let input = summary.script.join("\n");
+        let mut output = Vec::new();
+        hall::run(&mut input.as_bytes(), &mut output).unwrap();
+        let output = String::from_utf8(output).unwrap();
+        let count = |start: &str| output.lines().filter(|line| line.starts_with(start)).count() as u64;
+        assert_eq!(count("ready"), 1);
+        assert_eq!(count("what?"), 0);
+        assert_eq!(count("step"), summary.steps);
+        assert_eq!(count("value "), summary.reads);
+        assert_eq!(count("written"), summary.writes);
+        for number in 1..20 {
+            let refused = output.lines().filter(|line| *line == format!("refused {number}")).count();
+            assert_eq!(refused as u64, summary.refusals[number], "seed {seed}, refusal {number}");
+        }
+    }
 }

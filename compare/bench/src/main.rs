@@ -46,7 +46,7 @@ fn main() {
     }
     let quick = arguments.iter().any(|a| a == "--quick");
     let (rounds, length) = if quick { (3, Duration::from_millis(1)) } else { (15, Duration::from_millis(8)) };
-    let mut sides = vec![all::<Plain>(arguments.iter().any(|a| a == "--growth"))];
+    let mut sides = [all::<Plain>(arguments.iter().any(|a| a == "--growth"))];
     println!("{:>12} {:>12} {:>8}  what", "plain ns", "linked ns", "ratio");
     for i in 0..sides[0].len() {
         let mut rows: Vec<&mut Row> = sides.iter_mut().map(|side| &mut side[i]).collect();

@@ -179,8 +179,8 @@ mod tests {
                     for (r, byte) in block.iter().enumerate() {
                         let mut sum = 0;
                         let mut factor = 1;
-                        for i in r * p.k..(r * p.k + p.k).min(l) {
-                            sum ^= mul_by_shift(factor, value[i]);
+                        for coefficient in &value[r * p.k..(r * p.k + p.k).min(l)] {
+                            sum ^= mul_by_shift(factor, *coefficient);
                             factor = mul_by_shift(factor, j as u8 + 1);
                         }
                         assert_eq!(*byte, sum);

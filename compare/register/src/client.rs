@@ -246,8 +246,11 @@ fn keep(row: &mut Vec<Kept>, new: Kept) {
     }
 }
 
+/// Servers with their blocks, by rising number.
+type Chosen = Vec<(usize, Vec<u8>)>;
+
 /// The first stamp and digest list in n − t rows, with the servers and blocks that have it.
-fn settled(p: &Params, rows: &[Vec<Kept>], variant: Variant) -> Option<(Stamp, Vec<(usize, Vec<u8>)>)> {
+fn settled(p: &Params, rows: &[Vec<Kept>], variant: Variant) -> Option<(Stamp, Chosen)> {
     let most = if variant == Variant::FewRows { p.most() - 1 } else { p.most() };
     for candidate in rows.iter().flatten() {
         let same = |kept: &&Kept| kept.stamp == candidate.stamp && kept.digests == candidate.digests;

@@ -71,12 +71,12 @@ impl Out<'_> {
         self.frames += 1;
     }
 
-    fn to_client(&mut self, frame: &Frame) {
+    fn send_client(&mut self, frame: &Frame) {
         self.send(0, frame.client as usize, frame);
     }
 
     /// One frame to servers 1 to n: written once and copied.
-    fn to_servers(&mut self, n: usize, frame: &Frame) {
+    fn send_servers(&mut self, n: usize, frame: &Frame) {
         let start = self.bytes;
         self.send(1, 1, frame);
         let length = self.bytes - start;
@@ -257,14 +257,14 @@ impl Server {
         match frame.body {
             Body::GetStamp => {
                 let body = Body::Stamp { time: self.stamp.time };
-                out.to_client(&Frame { body, ..frame });
+                out.send_client(&Frame { body, ..frame });
             }
             Body::Block { stage, digests, block } => {
                 self.check_open(&frame)?;
                 self.keep_block(area, own, c, stage, from, digests, block)?;
                 if stage == Stage::Send {
                     let body = Body::Block { stage: Stage::Echo, digests, block };
-                    out.to_servers(p.n, &Frame { body, ..frame });
+                    out.send_servers(p.n, &Frame { body, ..frame });
                 } else {
                     self.compare(p, own, area, &frame, digests, &mut out);
                     accepted = self.accept(p, area, &frame, &mut out);
@@ -275,7 +275,7 @@ impl Server {
                 self.keep_time(c, stage, from, time)?;
                 if stage == Stage::Send {
                     let body = Body::Time { stage: Stage::Echo, time };
-                    out.to_servers(p.n, &Frame { body, ..frame });
+                    out.send_servers(p.n, &Frame { body, ..frame });
                 } else {
                     self.count_times(p, &frame, time, &mut out);
                     accepted = self.accept(p, area, &frame, &mut out);
@@ -290,7 +290,7 @@ impl Server {
                 *reader = Reader { newest: frame.sequence, listening: true, noted: stamp };
                 let digests = list_in(p, area, 0);
                 let block = self.present(p, initial, area);
-                out.to_client(&Frame { body: Body::Value { stamp, digests, block }, ..frame });
+                out.send_client(&Frame { body: Body::Value { stamp, digests, block }, ..frame });
             }
             Body::ReadComplete => {
                 let reader = &mut self.readers[c];
@@ -429,7 +429,7 @@ impl Server {
         if !part.ready {
             part.ready = true;
             let body = Body::Block { stage: Stage::Ready, digests, block };
-            out.to_servers(p.n, &Frame { body, ..*frame });
+            out.send_servers(p.n, &Frame { body, ..*frame });
         }
         if completes {
             part.complete = true;
@@ -449,7 +449,7 @@ impl Server {
         if !part.ready && (echoes >= p.most() || readies > p.t) {
             part.ready = true;
             let body = Body::Time { stage: Stage::Ready, time };
-            out.to_servers(p.n, &Frame { body, ..*frame });
+            out.send_servers(p.n, &Frame { body, ..*frame });
         }
         if !part.delivered && readies > 2 * p.t {
             part.delivered = true;
@@ -477,14 +477,14 @@ impl Server {
         for client in 1..=CLIENTS {
             let reader = &self.readers[client];
             if reader.listening && reader.noted < stamp {
-                out.to_client(&Frame {
+                out.send_client(&Frame {
                     client: client as u8,
                     sequence: reader.newest,
                     body: Body::Value { stamp, digests, block },
                 });
             }
         }
-        out.to_client(&Frame { body: Body::Ack, ..*frame });
+        out.send_client(&Frame { body: Body::Ack, ..*frame });
         true
     }
 }
@@ -562,7 +562,7 @@ impl Client {
         self.largest = 0;
         let mut out = Out { out, to, bytes: 0, frames: 0 };
         let frame = Frame { client: own as u8, sequence: self.writes, body: Body::GetStamp };
-        out.to_servers(p.n, &frame);
+        out.send_servers(p.n, &frame);
         Ok(Done { frames: out.frames, bytes: out.bytes, outcome: Outcome::Going })
     }
 
@@ -580,7 +580,7 @@ impl Client {
         self.kept = [0; SEATS];
         let mut out = Out { out, to, bytes: 0, frames: 0 };
         let frame = Frame { client: own as u8, sequence: self.reads, body: Body::Read };
-        out.to_servers(p.n, &frame);
+        out.send_servers(p.n, &frame);
         Ok(Done { frames: out.frames, bytes: out.bytes, outcome: Outcome::Going })
     }
 
@@ -683,7 +683,7 @@ impl Client {
             out.send(1, j, &Frame { body, ..*frame });
         }
         let body = Body::Time { stage: Stage::Send, time: self.largest };
-        out.to_servers(p.n, &Frame { body, ..*frame });
+        out.send_servers(p.n, &Frame { body, ..*frame });
         Ok(Outcome::Going)
     }
 
@@ -757,7 +757,7 @@ impl Client {
                 if found >= p.most() {
                     decode_into(p, &numbers[..p.k], &blocks[..p.k], value);
                     self.operation = Operation::None;
-                    out.to_servers(p.n, &Frame { body: Body::ReadComplete, ..*frame });
+                    out.send_servers(p.n, &Frame { body: Body::ReadComplete, ..*frame });
                     return Outcome::Value(stamp);
                 }
             }

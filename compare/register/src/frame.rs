@@ -56,7 +56,7 @@ impl Body<'_> {
 fn body_length(p: &Params, kind: u8) -> usize {
     match kind {
         2 | 6 | 7 | 8 => 8,
-        3 | 4 | 5 => p.list() + p.block(),
+        3..=5 => p.list() + p.block(),
         11 => 13 + p.list() + p.block(),
         _ => 0,
     }
@@ -172,11 +172,11 @@ mod tests {
     fn some_frame(random: &mut Random, p: &Params) -> Vec<u8> {
         let digests = random.bytes(p.list());
         let block = random.bytes(p.block());
-        let time = random.next();
+        let time = random.word();
         let stamp = if random.chance(1, 4) {
             Stamp::default()
         } else {
-            let sequence = (random.next() as u32).max(1);
+            let sequence = (random.word() as u32).max(1);
             Stamp { time: time.max(1), writer: random.range(1, 8) as u8, sequence }
         };
         let stage = random.pick(&[Stage::Send, Stage::Echo, Stage::Ready]);
@@ -190,7 +190,7 @@ mod tests {
             6 => Body::Value { stamp, digests: &digests, block: &block },
             _ => Body::ReadComplete,
         };
-        build(random.range(1, 8) as u8, (random.next() as u32).max(1), body)
+        build(random.range(1, 8) as u8, (random.word() as u32).max(1), body)
     }
 
     /// Frames read back to what was written, and what opens is written the same again.

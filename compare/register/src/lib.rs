@@ -2,6 +2,9 @@
 //! documents. `server` and `client` follow the text with ordinary data structures; `flat` does
 //! the same steps on fixed arrays and lent areas, without allocation.
 
+// Thresholds read as the documents have them: t + 1, 2t + 1.
+#![allow(clippy::int_plus_one)]
+
 pub mod blocks;
 pub mod client;
 pub mod field;

@@ -95,8 +95,7 @@ fn is_order(records: &[Record], row: &[usize]) -> bool {
         for &earlier in &row[..place] {
             let (a, b) = (&records[earlier], &records[later]);
             let wrong = precedes(b, a)
-                || (a.write && b.write && a.stamp > b.stamp)
-                || (a.write && !b.write && a.stamp > b.stamp)
+                || (a.write && a.stamp > b.stamp)
                 || (!a.write && b.write && a.stamp >= b.stamp);
             if wrong {
                 return false;

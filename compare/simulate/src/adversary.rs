@@ -76,7 +76,7 @@ fn some_halves(n: usize, random: &mut Random) -> u32 {
     for i in (1..n).rev() {
         servers.swap(i, random.below(i + 1));
     }
-    let clients = (random.next() as u32) << 16;
+    let clients = (random.word() as u32) << 16;
     servers[..n / 2].iter().fold(clients, |halves, j| halves | 1 << j)
 }
 
@@ -452,12 +452,12 @@ impl Adversary {
         let splitting = self.profile == Profile::Splitting;
         let versions = if splitting { 2 } else { random.range(1, 2) };
         let aligned = splitting || random.chance(1, 2);
-        let split = if aligned { self.halves } else { random.next() as u32 };
+        let split = if aligned { self.halves } else { random.word() as u32 };
         let blocks: Vec<Vec<Vec<u8>>> = (0..versions).map(|_| self.some_blocks(random)).collect();
         let lists: Vec<Vec<u8>> = blocks.iter().map(|b| digest_list(b)).collect();
         let times: Vec<u64> = (0..versions).map(|_| self.some_time(world, random)).collect();
         let (one_value, one_time) = (random.chance(1, 3), random.chance(1, 3));
-        let reach = if random.chance(1, 3) { random.next() as u32 } else { u32::MAX };
+        let reach = if random.chance(1, 3) { random.word() as u32 } else { u32::MAX };
         // Sometimes every server gets both versions, in turns.
         let rounds = if random.chance(1, 3) { versions } else { 1 };
         let n = self.p.n;
@@ -508,7 +508,7 @@ impl Adversary {
         }
         let reach = self.known.len().min(6);
         let known = &self.known[self.known.len() - 1 - random.below(reach)];
-        let receivers = random.next() as u32;
+        let receivers = random.word() as u32;
         let time = if random.chance(1, 6) { self.some_time(world, random) } else { known.time };
         let mut frames = Vec::new();
         for &j in &self.servers {

@@ -77,8 +77,8 @@ fn main() -> ExitCode {
             }
         }
     }
-    let Summary { reads, writes, foreign, steps, refusals, .. } = total;
-    println!("{steps} steps; reads {reads}, writes {writes}, false writes accepted {foreign}");
+    let Summary { reads, writes, foreign, steps, refusals, overflows, .. } = total;
+    println!("{steps} steps; reads {reads}, writes {writes}, false writes accepted {foreign}, rows overflown {overflows}");
     println!("refusals by number {:?}", &refusals[1..]);
     println!("{failures} failures, {:.1} s", begun.elapsed().as_secs_f64());
     if failures == 0 {

@@ -32,6 +32,8 @@ pub struct Summary {
     pub steps: u64,
     /// Answers by number.
     pub refusals: [u64; 20],
+    /// Values that came to a row of four.
+    pub overflows: u64,
     /// The script, if asked for.
     pub script: Vec<String>,
 }
@@ -42,6 +44,7 @@ impl Summary {
         self.writes += other.writes;
         self.foreign += other.foreign;
         self.steps += other.steps;
+        self.overflows += other.overflows;
         for (a, b) in self.refusals.iter_mut().zip(other.refusals) {
             *a += b;
         }
@@ -63,6 +66,8 @@ struct Phase {
     lagging: Vec<Party>,
     /// Frames to clients from these.
     slow: Vec<Party>,
+    /// Frames to this client.
+    starved: Option<usize>,
     /// Frames between servers of different halves.
     halves: Option<u32>,
     kind: Option<(u8, Party)>,
@@ -84,6 +89,7 @@ impl Phase {
             held,
             lagging: Vec::new(),
             slow: Vec::new(),
+            starved: None,
             halves: None,
             kind,
             pick: random.pick(&[Pick::Oldest, Pick::Newest, Pick::Any, Pick::Any]),
@@ -92,16 +98,21 @@ impl Phase {
     }
 
     /// Up to t servers lag behind for long; others answer clients late.
-    fn cunning(before: Option<&Phase>, p: &Params, halves: Option<u32>, random: &mut Random) -> Phase {
+    fn cunning(before: Option<&Phase>, p: &Params, clients: &[usize], random: &mut Random) -> Phase {
         let lagging = match before {
             Some(phase) if random.chance(4, 5) => phase.lagging.clone(),
             _ => some_servers(p, p.t, random),
         };
+        let starved = match before {
+            Some(phase) if random.chance(19, 20) => phase.starved,
+            _ => (clients.len() > 1 && random.chance(1, 3)).then(|| random.pick(clients)),
+        };
         Phase {
             held: Vec::new(),
             lagging,
+            starved,
             slow: some_servers(p, p.t, random),
-            halves,
+            halves: None,
             kind: None,
             pick: random.pick(&[Pick::Oldest, Pick::Newest, Pick::Any, Pick::Any]),
             left: random.range(20, 30 * p.n),
@@ -120,6 +131,7 @@ impl Phase {
             || ((3..=8).contains(&sent.frame[3]) && self.lagging.contains(&sent.to))
             || (matches!(sent.to, Party::Client(_)) && self.slow.contains(&sent.from))
             || self.kind == Some((sent.frame[3], sent.to))
+            || matches!(sent.to, Party::Client(c) if self.starved == Some(c))
     }
 
     /// The place among the pending frames of one that is not held back.
@@ -150,7 +162,7 @@ fn parameters(seed: u64, random: &mut Random) -> Params {
     };
     let sets = Params::all(l);
     let small: Vec<Params> = sets.iter().copied().filter(|p| p.n == 4).collect();
-    if seed % 2 == 0 {
+    if seed.is_multiple_of(2) {
         random.pick(&small)
     } else {
         sets[(seed / 2) as usize % sets.len()]
@@ -190,10 +202,14 @@ impl Run {
     fn phase(&self, before: Option<&Phase>, random: &mut Random) -> Phase {
         match self.profile {
             Profile::Noisy => Phase::noisy(&self.world.p, random),
-            Profile::Cunning => Phase::cunning(before, &self.world.p, None, random),
+            Profile::Cunning => Phase::cunning(before, &self.world.p, &self.clients, random),
             Profile::Splitting => {
-                let halves = random.chance(2, 3).then_some(self.adversary.halves);
-                Phase::cunning(before, &self.world.p, halves, random)
+                let phase = Phase::cunning(before, &self.world.p, &self.clients, random);
+                if random.chance(1, 3) {
+                    return phase;
+                }
+                let halves = Some(self.adversary.halves);
+                Phase { halves, lagging: Vec::new(), slow: Vec::new(), starved: None, ..phase }
             }
         }
     }
@@ -249,7 +265,8 @@ impl Run {
     }
 
     fn step(&mut self, phase: &mut Phase, random: &mut Random) -> Result<(), Violation> {
-        let open = self.clients.iter().filter(|&&c| self.world.is_open(c)).count();
+        let waiting = |c: usize| self.world.is_open(c) && phase.starved != Some(c);
+        let open = self.clients.iter().filter(|&&c| waiting(c)).count();
         let eager = if open == 0 { 50 } else { 3 };
         if self.operations > 0 && random.chance(eager, 100) {
             let client = random.pick(&self.clients);
@@ -294,7 +311,7 @@ pub fn run(seed: u64, options: Options) -> Result<Summary, Violation> {
         world: World::new(&setup),
         adversary: Adversary::new(p, &false_servers, others, &initial, profile, random),
         clients: honest.to_vec(),
-        operations: random.range(2, 12),
+        operations: random.range(2, if profile == Profile::Cunning { 20 } else { 12 }),
         profile,
         repeats: random.pick(&[2, 15, 15]),
     };
@@ -330,6 +347,7 @@ pub fn run(seed: u64, options: Options) -> Result<Summary, Violation> {
         foreign: accepted.iter().filter(|name| !seen.writes.contains_key(name)).count() as u64,
         steps: run.world.steps,
         refusals: run.world.refusals,
+        overflows: run.world.overflows,
         script: run.world.script.unwrap_or_default(),
     })
 }

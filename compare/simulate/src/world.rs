@@ -4,7 +4,7 @@
 use crate::check::{Acceptance, Observed, Read, Violation, Write};
 use crate::lockstep::{ClientPair, ServerPair};
 use hall::to_hex;
-use register::client::Outcome;
+use register::client::{Operation, Outcome, KEPT};
 use register::{Params, Party, Refusal, Send, Variant};
 
 /// A frame that an honest party sent.
@@ -29,6 +29,8 @@ pub struct World {
     /// Calls that gave a step, and refusals by number.
     pub steps: u64,
     pub refusals: [u64; 20],
+    /// Values that came to a row of four.
+    pub overflows: u64,
     /// The calls as lines of the hall program, if asked for.
     pub script: Option<Vec<String>>,
     calls: u64,
@@ -66,6 +68,7 @@ impl World {
             seen: Observed { initial: setup.initial.to_vec(), ..Observed::default() },
             steps: 0,
             refusals: [0; 20],
+            overflows: 0,
             script: None,
             calls: 0,
             begun: [0; 9],
@@ -191,10 +194,17 @@ impl World {
             }
             Party::Client(c) => {
                 let client = self.clients[c].as_mut().expect("an honest client");
+                let full = match (&client.clear.operation, from) {
+                    (Operation::Read(rows), Party::Server(j)) => {
+                        rows.get(j.wrapping_sub(1)).is_some_and(|r| r.len() == KEPT)
+                    }
+                    _ => false,
+                };
                 let step = match client.deliver(from, frame, room).map_err(Violation::Differ)? {
                     Ok(step) => step,
                     Err(refusal) => return self.refuse(refusal),
                 };
+                self.overflows += full as u64;
                 match step.outcome {
                     Outcome::Value(stamp, value) => self.seen.reads.push(Read {
                         client: c,

@@ -1,5 +1,6 @@
 //! bench [--quick] [--growth]: times of the plain Rust side and, with the feature `linked`, of the
-//! proved static library beside it with their ratio. Each figure is the median of several rounds.
+//! proved static library beside it with their ratio. Each figure is the median of
+//! several rounds, taken in turns, with the least beside it (steadier on a busy machine).
 
 mod rows;
 mod side;
@@ -47,7 +48,10 @@ fn main() {
     let quick = arguments.iter().any(|a| a == "--quick");
     let (rounds, length) = if quick { (3, Duration::from_millis(1)) } else { (15, Duration::from_millis(8)) };
     let mut sides = [all::<Plain>(arguments.iter().any(|a| a == "--growth"))];
-    println!("{:>12} {:>12} {:>8}  what", "plain ns", "linked ns", "ratio");
+    println!(
+        "{:>11} {:>11} {:>11} {:>11} {:>7} {:>7}  what",
+        "plain ns", "least", "linked ns", "least", "ratio", "least"
+    );
     for i in 0..sides[0].len() {
         let mut rows: Vec<&mut Row> = sides.iter_mut().map(|side| &mut side[i]).collect();
         let times: Vec<u64> = rows.iter_mut().map(|row| times_for(row, length)).collect();
@@ -58,12 +62,19 @@ fn main() {
                 figures[side].push(round(row, times[side]));
             }
         }
-        let medians: Vec<f64> = figures.into_iter().map(median).collect();
-        let (linked, ratio) = match medians.get(1) {
-            Some(linked) => (format!("{linked:.1}"), format!("{:.2}", linked / medians[0])),
-            None => ("-".to_string(), "-".to_string()),
+        let of = |i: usize| {
+            figures.get(i).map(|f| [median(f.clone()), f.iter().copied().fold(f64::MAX, f64::min)])
         };
-        println!("{:>12.1} {linked:>12} {ratio:>8}  {}", medians[0], rows[0].name);
+        let [plain, plain_least] = of(0).expect("the plain side");
+        print!("{plain:>11.1} {plain_least:>11.1} ");
+        match of(1) {
+            Some([linked, least]) => {
+                let (ratio, least_ratio) = (linked / plain, least / plain_least);
+                print!("{linked:>11.1} {least:>11.1} {ratio:>7.2} {least_ratio:>7.2}");
+            }
+            None => print!("{:>11} {:>11} {:>7} {:>7}", "-", "-", "-", "-"),
+        }
+        println!("  {}", rows[0].name);
     }
 }
 

@@ -3,7 +3,7 @@
 //! written as input of the hall program with the expected output, SEED.in and SEED.out.
 
 use register::Variant;
-use simulate::run::{run, Options, Summary};
+use simulate::run::{parameters_of, run, Options, Summary};
 use std::process::ExitCode;
 use std::time::Instant;
 
@@ -69,7 +69,7 @@ fn main() -> ExitCode {
             }
             Err(violation) => {
                 failures += 1;
-                println!("seed {seed}: {violation}");
+                println!("seed {seed}, {:?}: {violation}", parameters_of(seed));
                 if failures == 10 {
                     println!("and no further");
                     break;

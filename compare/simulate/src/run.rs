@@ -169,6 +169,11 @@ fn parameters(seed: u64, random: &mut Random) -> Params {
     }
 }
 
+/// The parameters of a seed's run.
+pub fn parameters_of(seed: u64) -> Params {
+    parameters(seed, &mut Random::new(seed))
+}
+
 /// Shuffles and takes some.
 fn some(items: std::ops::RangeInclusive<usize>, count: usize, random: &mut Random) -> Vec<usize> {
     let mut items: Vec<usize> = items.collect();

@@ -27,7 +27,7 @@ fn row_holds() {
 
 #[test]
 fn both_styles_agree() {
-    all(10_001..10_081, true);
+    all(10_001..10_061, true);
 }
 
 /// The first violation that fits within 500 runs of a wrong variant. The first seed of a rare

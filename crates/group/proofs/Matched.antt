@@ -1,0 +1,180 @@
+-- What the specifications of a server and a client say of entries, by flags: the counts, and the value that is decoded. `f` is what each server sent, as a
+-- specification has it, and it agrees with `entries` for servers 1 to n. Assumes nothing.
+use mathlib.Core.Path.{_≡_, refl, sym, ap, ap₂, _∙_}
+use mathlib.Core.Bool.{Bool, true, false, _&&_}
+use mathlib.Core.Option.{Option, none, some}
+use mathlib.Core.List.{List, [], _∷_, _++_, map}
+use Prim.Native.Nat.{ℕ, zero, suc, _+_, _*_, _≤_, _<_}
+use native.Mathlib.Omega.{arith}
+use native.Mathlib.Nat.{zero-add}
+use native.Mathlib.Numerals.{add-one}
+use lib.ListN.{length, getD, take, set}
+use lib.Seq.{sets}
+use lib.Dec.{leb}
+use borrow.Author.Tests.{le-leb}
+use Rattle.area.specs.Area.{pick, part, same, table}
+use Rattle.area.proofs.Fills.{getD-table, length-table, sets-table, table-agree}
+use Rattle.quorum.specs.Quorum.{bit, count}
+use Rattle.quorum.proofs.Counting.{count-suc}
+use Rattle.blocks.specs.declared.Params.{Params}
+use Rattle.blocks.specs.Code.{valueOf}
+use Rattle.frame.specs.Params.{width, listed}
+use Rattle.frame.specs.Messages.{Entry, entry}
+use Rattle.frame.specs.Chunks.{chunkAt, entryAt}
+use Rattle.frame.specs.Coded.{Piece, hasList, pieceOf, pieces, numbers, joinedBytes, decoded}
+use Rattle.group.specs.Entries.{kept, marked, entries, sentList, passing, flags}
+use Rattle.group.specs.Choice.{chosen, lowest, blockIn, blocksIn, valueFrom}
+use Rattle.group.proofs.Lists.{sets-whole}
+use Rattle.group.proofs.Choosing.{lowest-agree}
+
+-- ---- tests and entries that agree
+
+pub count-agree : (p q : ℕ → Bool) (n : ℕ) → ((j : ℕ) → 1 ≤ j → j ≤ n → p j ≡ q j) → count p n ≡ count q n
+unfolding count
+count-agree p q zero h = refl
+count-agree p q (suc n) h =
+    ap₂ (λ a b. bit a + b) (h (suc n) (omega arith) (omega arith)) (count-agree p q n (λ j a b. h j a (omega arith)))
+
+pieces-agree : (f h : ℕ → Option Entry) (d : List ℕ) (j m : ℕ) → ((i : ℕ) → j ≤ i → i < j + m → f i ≡ h i) → pieces f d j m ≡ pieces h d j m
+unfolding pieces
+pieces-agree f h d j zero e = refl
+pieces-agree f h d j (suc m) e =
+    ap₂ (λ o l. pieceOf o d j l) (e j (omega arith) (omega arith)) (pieces-agree f h d (suc j) m (λ i a b. e i (omega arith) (omega arith)))
+
+pub decoded-agree : (g : Params) (f h : ℕ → Option Entry) (d : List ℕ) → ((j : ℕ) → 1 ≤ j → j ≤ g .n → f j ≡ h j) → decoded g f d ≡ decoded g h d
+unfolding decoded
+decoded-agree g f h d e =
+    ap (λ l. valueOf (numbers (take (g .k) l)) (g .size) (joinedBytes (take (g .k) l)))
+    (pieces-agree f h d 1 (g .n) (λ i a b. e i a (omega arith)))
+
+-- ---- flags
+
+-- the flag of server j
+pub marked-flags : (p : ℕ → Bool) (n : ℕ) → n ≤ 10 → (j : ℕ) → 1 ≤ j → j ≤ n → marked (flags p n) j ≡ p j
+unfolding marked flags passing
+marked-flags p n m j l h =
+    let k : j < 11 = omega arith in
+    getD-table 11 (passing p n) j false k
+    ∙ ap₂ (λ a b. a && (b && p j)) (le-leb 1 j l) (le-leb j n h)
+
+-- the flagged are as many as pass
+pub count-flags : (p : ℕ → Bool) (n : ℕ) → n ≤ 10 → count (marked (flags p n)) n ≡ count p n
+count-flags p n m = count-agree (marked (flags p n)) p n (marked-flags p n m)
+
+-- ---- the loops over the flags
+
+-- server j + 1 was counted
+pub tally-turn : (on : List Bool) (j r x : ℕ) → r ≡ count (marked on) j → x ≡ bit (getD on (j + 1) false) → x + r ≡ count (marked on) (j + 1)
+unfolding marked
+tally-turn on j r x e q =
+    ap₂ (λ a b. a + b) q e
+    ∙ ap (λ t. bit (getD on t false) + count (marked on) j) (add-one j)
+    ∙ sym (ap (count (marked on)) (add-one j) ∙ count-suc (marked on) j)
+
+pub tally-end : (p : ℕ → Bool) (j n r : ℕ) → r ≡ count p j → n ≤ j → j ≤ n → r ≡ count p n
+tally-end p j n r e a b = let q : j ≡ n = omega arith in e ∙ ap (count p) q
+
+-- the flag of server j was stored
+pub flag-turn : (f : ℕ → Bool) (d r : List Bool) (j : ℕ) (x : Bool) → r ≡ sets d 0 (table j f) → x ≡ f j → set r j x ≡ sets d 0 (table (j + 1) f)
+flag-turn f d r j x e q =
+    ap₂ (λ l y. set l j y) e q ∙ ap (λ i. set (sets d 0 (table j f)) i (f j)) (sym (zero-add j)) ∙ sets-table d 0 j f
+
+pub flag-end : (f : ℕ → Bool) (d r : List Bool) (j : ℕ) → length d ≡ 11 → 11 ≤ j → j ≤ 11 → r ≡ sets d 0 (table j f) → r ≡ table 11 f
+flag-end f d r j l a b e =
+    let q : j ≡ 11 = omega arith in
+    e ∙ ap (λ i. sets d 0 (table i f)) q ∙ sets-whole d (table 11 f) (length-table 11 f ∙ sym l)
+
+-- what the loop stores for server j, but for the bounds of j
+unfoldable pub equalAt : List Bool → List ℕ → List ℕ → List ℕ → ℕ → Bool
+equalAt on at a d j = getD on j false && same (part a (chunkAt (getD at j 0)) (length d)) d
+
+pub flag-equalAt : (on : List Bool) (at a d : List ℕ) (n j : ℕ) (x : Bool)
+    → x ≡ leb 1 j && (leb j n && (getD on j false && same (part a (chunkAt (getD at j 0)) (length d)) d))
+    → x ≡ passing (equalAt on at a d) n j
+unfolding passing equalAt
+flag-equalAt on at a d n j x e = e
+
+-- ---- pieces
+
+numbers-take : (k : ℕ) (l : List Piece) → numbers (take k l) ≡ take k (numbers l)
+numbers-take zero l = refl
+numbers-take (suc k) [] = refl
+numbers-take (suc k) (x ∷ l) = ap (λ t. x .number ∷ t) (numbers-take k l)
+
+numbers-of : (o : Option Entry) (d : List ℕ) (j : ℕ) (l : List Piece) (ns : List ℕ) → numbers l ≡ ns
+    → numbers (pieceOf o d j l) ≡ pick (hasList o d) (j ∷ ns) ns
+unfolding pick
+numbers-of none d j l ns e = e
+numbers-of (some x) d j l ns e = go (same (x .digests) d)
+  where
+    go : (b : Bool) → numbers (pick b (record { number = j; bytes = x .block } ∷ l) l) ≡ pick b (j ∷ ns) ns
+    go true = ap (λ t. j ∷ t) e
+    go false = e
+
+numbers-pieces : (f : ℕ → Option Entry) (d : List ℕ) (j m : ℕ) → numbers (pieces f d j m) ≡ chosen (λ i. hasList (f i) d) j m
+unfolding pieces chosen
+numbers-pieces f d j zero = refl
+numbers-pieces f d j (suc m) =
+    numbers-of (f j) d j (pieces f d (suc j) m) (chosen (λ i. hasList (f i) d) (suc j) m) (numbers-pieces f d (suc j) m)
+
+module _ (g : Params) (on : List Bool) (at a d : List ℕ) where
+  -- what server j's flag and chunk say
+  pub sent-law : (j : ℕ) → length d ≡ listed g → sentList g on at a d j ≡ getD on j false && same (part a (chunkAt (getD at j 0)) (length d)) d
+  unfolding sentList entries marked entryAt
+  sent-law j e = go (getD on j false)
+    where
+      go : (b : Bool) → hasList (kept b (entryAt g a (getD at j 0))) d ≡ b && same (part a (chunkAt (getD at j 0)) (length d)) d
+      go true = rw e
+      go false = refl
+
+  -- what the loop stores are the flags
+  pub matched-flags : length d ≡ listed g → table 11 (passing (equalAt on at a d) (g .n)) ≡ flags (sentList g on at a d) (g .n)
+  unfolding flags passing equalAt
+  matched-flags e =
+      table-agree 11 (passing (equalAt on at a d) (g .n)) (passing (sentList g on at a d) (g .n))
+      (λ j h. ap (λ s. leb 1 j && (leb j (g .n) && s)) (sym (sent-law j e)))
+
+  bytes-of : (b : Bool) (j : ℕ) (l : List Piece) (ns : List ℕ) → ((k : ℕ) → joinedBytes (take k l) ≡ blocksIn (width g) at a (take k ns))
+      → (k : ℕ) → joinedBytes (take k (pieceOf (kept b (entryAt g a (getD at j 0))) d j l))
+      ≡ blocksIn (width g) at a (take k (pick (hasList (kept b (entryAt g a (getD at j 0))) d) (j ∷ ns) ns))
+  unfolding entryAt pick blocksIn
+  bytes-of false j l ns h k = h k
+  bytes-of true j l ns h k = go (same (part a (chunkAt (getD at j 0)) (listed g)) d) k
+    where
+      go : (s : Bool) (i : ℕ) → joinedBytes (take i (pick s (record { number = j; bytes = blockIn (width g) at a j } ∷ l) l))
+          ≡ blocksIn (width g) at a (take i (pick s (j ∷ ns) ns))
+      go false i = h i
+      go true zero = refl
+      go true (suc i) = ap (λ t. blockIn (width g) at a j ++ t) (h i)
+
+  bytes-pieces : (j m k : ℕ) → joinedBytes (take k (pieces (entries g on at a) d j m)) ≡ blocksIn (width g) at a (take k (chosen (sentList g on at a d) j m))
+  unfolding pieces chosen sentList entries blocksIn
+  bytes-pieces j zero zero = refl
+  bytes-pieces j zero (suc k) = refl
+  bytes-pieces j (suc m) k =
+      bytes-of (marked on j) j (pieces (entries g on at a) d (suc j) m) (chosen (sentList g on at a d) (suc j) m) (bytes-pieces (suc j) m) k
+
+  value-law : g .n ≤ 10 → valueFrom g (flags (sentList g on at a d) (g .n)) at a ≡ decoded g (entries g on at a) d
+  unfolding valueFrom decoded lowest sentList
+  value-law m =
+      let P = pieces (entries g on at a) d 1 (g .n) in
+      let L = lowest (sentList g on at a d) (g .k) (g .n) in
+      let e : lowest (marked (flags (sentList g on at a d) (g .n))) (g .k) (g .n) ≡ L =
+      lowest-agree (marked (flags (sentList g on at a d) (g .n))) (sentList g on at a d) (g .k) (g .n) (marked-flags (sentList g on at a d) (g .n) m) in
+      let ns : numbers (take (g .k) P) ≡ L = numbers-take (g .k) P ∙ ap (take (g .k)) (numbers-pieces (entries g on at a) d 1 (g .n)) in
+      let bs : joinedBytes (take (g .k) P) ≡ blocksIn (width g) at a L = bytes-pieces 1 (g .n) (g .k) in
+      ap (λ l. valueOf l (g .size) (blocksIn (width g) at a l)) e ∙ sym (ap₂ (λ l w. valueOf l (g .size) w) ns bs)
+
+  -- ---- the two laws for the crates above
+
+  module _ (f : ℕ → Option Entry) (agree : (j : ℕ) → 1 ≤ j → j ≤ g .n → entries g on at a j ≡ f j) (most : g .n ≤ 10) where
+    -- how many sent the list d
+    pub matched-count : count (marked (flags (sentList g on at a d) (g .n))) (g .n) ≡ count (λ j. hasList (f j) d) (g .n)
+    unfolding sentList
+    matched-count =
+        count-flags (sentList g on at a d) (g .n) most
+        ∙ count-agree (sentList g on at a d) (λ j. hasList (f j) d) (g .n) (λ j l h. ap (λ o. hasList o d) (agree j l h))
+
+    -- "decode from the k lowest senders with that list"
+    pub matched-value : valueFrom g (flags (sentList g on at a d) (g .n)) at a ≡ decoded g f d
+    matched-value = value-law most ∙ decoded-agree g (entries g on at a) f d agree

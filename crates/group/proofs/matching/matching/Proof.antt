@@ -1,0 +1,70 @@
+-- After j turns the flags of places 0 to j - 1 are stored. Assumes nothing.
+use Prim.Native.Nat.{_+_, _-_, _*_, _≤_, _<_}
+use mathlib.Core.Path.{_≡_, refl, sym, ap, _∙_}
+use mathlib.Core.Bool.{false}
+use lib.ListN.{replicate}
+use lib.Seq.{sets}
+use Rattle.area.specs.Area.{table, tableFrom}
+use Rattle.group.specs.Entries.{passing, Within}
+use Rattle.group.proofs.Matched.{equalAt, flag-equalAt, flag-turn, flag-end, matched-flags}
+use native.Mathlib.Omega.{arith}
+use borrow.Author.Needs.{needs}
+use Rattle.group.proofs.matching.matching.Statement.{statement}
+use Rattle.group.proofs.matching.matching.Tie as tie
+
+abbrev Inv-loop : tie.InvT-loop
+Inv-loop area list on at n r₀ j₀ r j = (r ≡ sets (replicate 11 false) 0 (table j (passing (equalAt on at area list) n))) × (j ≤ 11)
+
+abbrev μ-loop : tie.MeasureT-loop
+μ-loop area list on at n r₀ j₀ r j = 11 - j
+
+loop-holds : tie.Need-loop-holds Inv-loop μ-loop
+unfolding table tableFrom
+loop-holds c = (refl, omega arith)
+
+array-read-has-list : tie.Need-array-read-has-list Inv-loop μ-loop
+array-read-has-list c = search needs
+
+mul-has-list : tie.Need-mul-has-list Inv-loop μ-loop
+mul-has-list c = search needs
+
+array-read-has-list-2 : tie.Need-array-read-has-list-2 Inv-loop μ-loop
+array-read-has-list-2 c = search needs
+
+has-list-requires : tie.Need-has-list-requires Inv-loop μ-loop
+unfolding Within
+has-list-requires c κs =
+    let p = c .before .before .before .before .pre in
+    (p .within (c .before .loop .j), omega (arith, p .list-is, p .bounded .servers-high))
+
+array-write-r : tie.Need-array-write-r Inv-loop μ-loop
+array-write-r c = search needs
+
+add-j : tie.Need-add-j Inv-loop μ-loop
+add-j c = search needs
+
+loop-less : tie.Need-loop-less Inv-loop μ-loop
+loop-less c = search needs
+
+loop-again : tie.Need-loop-again Inv-loop μ-loop
+loop-again c = (flag-turn _ _ _ _ _ (c .before .before .loop .inv .0) (flag-equalAt _ _ _ _ _ _ _ (c .has-list .ensures)), omega arith)
+
+returns : tie.Need-returns Inv-loop μ-loop
+returns c = flag-end _ _ _ _ refl (c .loop-test .left) (c .before .loop .inv .1) (c .before .loop .inv .0) ∙ matched-flags _ _ _ _ _ (c .before .before .before .before .pre .list-is)
+
+pub matching-spec : {M : Type 1} → statement M
+matching-spec =
+    tie.close
+    (tie.spec
+    Inv-loop
+    μ-loop
+    loop-holds
+    array-read-has-list
+    mul-has-list
+    array-read-has-list-2
+    has-list-requires
+    array-write-r
+    add-j
+    loop-less
+    loop-again
+    returns)

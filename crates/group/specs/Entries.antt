@@ -1,0 +1,42 @@
+-- The entries that servers sent, kept in the chunks of a lent area: for server j of 1 to 10 a flag at place j of one array and a chunk's number at
+-- place j of another, both of 11 places. Assumes nothing: these are definitions.
+use Prim.Native.Nat.{ℕ, _+_, _*_, _≤_}
+use mathlib.Core.Bool.{Bool, true, false, _&&_}
+use mathlib.Core.Option.{Option, none, some}
+use mathlib.Core.List.{List}
+use lib.ListN.{length, getD}
+use lib.Dec.{leb}
+use Rattle.area.specs.Area.{table}
+use Rattle.blocks.specs.declared.Params.{Params}
+use Rattle.frame.specs.Messages.{Entry}
+use Rattle.frame.specs.Chunks.{chunkAt, entryAt}
+use Rattle.frame.specs.Coded.{hasList}
+
+-- a payload beside its flag
+abbrev pub kept : {P : Type 0} → Bool → P → Option P
+kept true p = some p
+kept false p = none
+
+-- whether server j is flagged
+unfoldable pub marked : List Bool → ℕ → Bool
+marked on j = getD on j false
+
+-- what server j sent
+unfoldable pub entries : Params → List Bool → List ℕ → List ℕ → ℕ → Option Entry
+entries g on at a j = kept (marked on j) (entryAt g a (getD at j 0))
+
+-- whether server j sent the digest list d
+unfoldable pub sentList : Params → List Bool → List ℕ → List ℕ → List ℕ → ℕ → Bool
+sentList g on at a d j = hasList (entries g on at a j) d
+
+-- whether j is a server of 1 to n and passes a test
+unfoldable pub passing : (ℕ → Bool) → ℕ → ℕ → Bool
+passing p n j = leb 1 j && (leb j n && p j)
+
+-- the flags of the servers that do
+unfoldable pub flags : (ℕ → Bool) → ℕ → List Bool
+flags p n = table 11 (passing p n)
+
+-- every chunk lies within the area
+unfoldable pub Within : List ℕ → List ℕ → Type 0
+Within at a = (j : ℕ) → chunkAt (getD at j 0) + 576 ≤ length a

@@ -1,0 +1,90 @@
+// The value from the blocks of the k lowest servers of a group.
+use blocks::Params;
+use blocks::bounds::block_length;
+use blocks::decoder::decode_into;
+ghost use mathlib.Core.Path.{_≡_};
+ghost use mathlib.Core.Bool.{_&&_};
+ghost use Prim.Native.Nat.{_+_, _*_, _≤_, _<_};
+ghost use lib.ListN.{length, set};
+ghost use lib.Seq.{sets};
+ghost use lib.Dec.{ltb};
+ghost use Rattle.area.specs.Area.{pick, part};
+ghost use Rattle.frame.specs.Chunks.{chunkAt, blockPlace};
+ghost use Rattle.group.specs.Entries.{marked};
+ghost use Rattle.group.specs.Choice.{lowest, blocksIn, valueFrom};
+ghost use Rattle.group.specs.Needs.{Collecting, Decoding};
+
+// Server j as the next number behind the c before it, if it is flagged and these are fewer than k; the answer is how many there are then.
+fn add_number(mark: bool, j: u8, c: usize, k: usize, numbers: &mut [u8; 8]) -> usize
+    requires { ⌜ (c ≤ k) × (k ≤ 8) ⌝ }
+    ensures { λ r. ⌜ (r ≡ pick (mark && ltb c k) (c + 1) c) × (now (numbers .exit) ≡ pick (mark && ltb c k) (set (now (numbers .entry)) c j) (now (numbers .entry))) ⌝ }
+{
+    if mark {
+        if c < k {
+            numbers[c] = j;
+            return c + 1;
+        }
+    }
+    c
+}
+
+// The k lowest flagged servers of 1 to n.
+fn choose(on: [bool; 11], n: usize, k: usize, numbers: &mut [u8; 8])
+    requires { ⌜ (n ≤ 10) × (k ≤ 8) ⌝ }
+    ensures { λ _. ⌜ now (numbers .exit) ≡ sets (now (numbers .entry)) 0 (lowest (marked on) k n) ⌝ }
+{
+    let mut c = 0;
+    let mut j = 0;
+    while j < n {
+        c = add_number(on[j + 1], (j + 1) as u8, c, k, numbers);
+        j += 1;
+    }
+}
+
+// The block of b bytes in chunk p of the area, into out from index at on.
+fn put_block(area: &[u8], p: usize, b: usize, out: &mut [u8], at: usize)
+    requires { ⌜ (chunkAt p + 576 ≤ length (now area)) × (b ≤ 256) × (at + b ≤ length (now out)) ⌝ }
+    ensures { λ _. ⌜ now (out .exit) ≡ sets (now (out .entry)) at (part (now (area .entry)) (blockPlace p) b) ⌝ }
+{
+    let start = 576 * p + 320;
+    let end = start + b;
+    area::put(out, at, &area[start..end]);
+}
+
+// The blocks of servers js, of b bytes each, end to end.
+fn collect(js: &[u8], at: [usize; 11], area: &[u8], b: usize, out: &mut [u8])
+    requires { ⌜ Collecting (now js) at (now area) b (length (now out)) ⌝ }
+    ensures { λ _. ⌜ now (out .exit) ≡ sets (now (out .entry)) 0 (blocksIn b at (now (area .entry)) (now (js .entry))) ⌝ }
+{
+    let mut i = 0;
+    while i < js.len() {
+        let j = js[i] as usize;
+        put_block(area, at[j], b, out, i * b);
+        i += 1;
+    }
+}
+
+// The value from the blocks of the k lowest flagged servers.
+pub fn regain(
+    on: [bool; 11],
+    at: [usize; 11],
+    area: &[u8],
+    g: Params,
+    value: &mut [u8],
+    ps: &[u8; 255],
+    ls: &[u8; 256],
+)
+    requires { ⌜ Decoding g on at (now area) (length (now value)) (now ps) (now ls) ⌝ }
+    ensures { λ _. ⌜ now (value .exit) ≡ sets (now (value .entry)) 0 (valueFrom g on at (now (area .entry))) ⌝ }
+{
+    let n = g.n;
+    let k = g.k;
+    let size = g.size;
+    let b = block_length(size, k);
+    let end = k * b;
+    let mut js = [0u8; 8];
+    let mut w = [0u8; 264];
+    choose(on, n, k, &mut js);
+    collect(&js[..k], at, area, b, &mut w);
+    decode_into(&js[..k], &w[..end], size, value, 0, ps, ls);
+}

@@ -1,0 +1,69 @@
+// Digests of a value's blocks, and of one block, against a digest list.
+use blocks::Params;
+use blocks::bounds::block_length;
+use blocks::encoder::encode_block;
+ghost use mathlib.Core.Path.{_≡_};
+ghost use Prim.Native.Nat.{_+_, _*_, _≤_, _<_};
+ghost use lib.ListN.{length};
+ghost use lib.Seq.{sets};
+ghost use Rattle.area.specs.Area.{same};
+ghost use Rattle.field.specs.Field.{Tables};
+ghost use Rattle.blocks.specs.Code.{blockOf};
+ghost use Rattle.sha256.specs.Hash.{digestOf};
+ghost use Rattle.frame.specs.Params.{listed};
+ghost use Rattle.frame.specs.Messages.{entry};
+ghost use Rattle.frame.specs.Coded.{digestsOf, fits as fitsIn};
+ghost use Rattle.group.specs.Needs.{Encoding};
+
+// The digest of block j of a value.
+fn block_digest(value: &[u8], k: usize, j: u8, ps: &[u8; 255], ls: &[u8; 256]) -> [u8; 32]
+    requires { ⌜ (1 ≤ k) × (k ≤ 8) × (length (now value) ≤ 256) × Tables (now ps) (now ls) ⌝ }
+    ensures { λ r. ⌜ r ≡ digestOf (blockOf k (now (value .entry)) j) ⌝ }
+{
+    let b = block_length(value.len(), k);
+    let mut block = [0u8; 256];
+    encode_block(value, k, j, &mut block, 0, ps, ls);
+    sha256::digest(&block[..b])
+}
+
+// The digests of the n blocks of a value, end to end, into out from index at on.
+pub fn digests(value: &[u8], g: Params, out: &mut [u8], at: usize, ps: &[u8; 255], ls: &[u8; 256])
+    requires { ⌜ Encoding g (now value) (now ps) (now ls) × (at + listed g ≤ length (now out)) ⌝ }
+    ensures { λ _. ⌜ now (out .exit) ≡ sets (now (out .entry)) at (digestsOf digestOf g (now (value .entry))) ⌝ }
+{
+    let n = g.n;
+    let k = g.k;
+    let mut j = 0;
+    while j < n {
+        let d = block_digest(value, k, (j + 1) as u8, ps, ls);
+        area::put(out, at + 32 * j, &d);
+        j += 1;
+    }
+}
+
+// Whether the digests of the n blocks of a value are the list.
+pub fn agrees(value: &[u8], list: &[u8], g: Params, ps: &[u8; 255], ls: &[u8; 256]) -> bool
+    requires { ⌜ Encoding g (now value) (now ps) (now ls) × (length (now list) ≡ listed g) ⌝ }
+    ensures { λ r. ⌜ r ≡ same (digestsOf digestOf g (now (value .entry))) (now (list .entry)) ⌝ }
+{
+    let n = g.n;
+    let k = g.k;
+    let mut j = 0;
+    while j < n {
+        let d = block_digest(value, k, (j + 1) as u8, ps, ls);
+        if !area::equal_at(list, 32 * j, &d) {
+            return false;
+        }
+        j += 1;
+    }
+    true
+}
+
+// Whether a block has the digest at place j of a list.
+pub fn fits(block: &[u8], list: &[u8], j: usize) -> bool
+    requires { ⌜ (length (now block) ≤ 256) × (1 ≤ j) × (32 * j ≤ length (now list)) ⌝ }
+    ensures { λ r. ⌜ r ≡ fitsIn digestOf (entry (now (list .entry)) (now (block .entry))) j ⌝ }
+{
+    let d = sha256::digest(block);
+    area::equal_at(list, 32 * (j - 1), &d)
+}

@@ -10,12 +10,14 @@ use lib.Seq.{sets, drop-drop}
 use Rattle.area.specs.Area.{part, same, joined}
 use Rattle.area.proofs.Sets.{sets-next}
 use Rattle.area.proofs.Fills.{joined-snoc, length-joined}
+use Rattle.blocks.specs.declared.Params.{Params}
 use Rattle.blocks.specs.Code.{blockLength, blockOf}
 use Rattle.blocks.proofs.Stripes.{length-blockOf}
 use Rattle.sha256.specs.Hash.{digestOf}
 use Rattle.sha256.proofs.Bytes.{length-digest}
 use Rattle.frame.specs.Messages.{entry}
-use Rattle.frame.specs.Coded.{fits}
+use Rattle.frame.specs.Params.{listed}
+use Rattle.frame.specs.Coded.{digestsOf, fits}
 use Rattle.group.proofs.Lists.{take-front, same-comm, same-split}
 
 module _ (f : ℕ → List ℕ) (sized : (j : ℕ) → length (f j) ≡ 32) where
@@ -103,6 +105,10 @@ digest-law k j b v d block r a h m e s q =
     let n : b ≤ length d = omega arith in
     q ∙ ap (λ l. digestOf (take b l)) s ∙ ap digestOf (take-front d (blockOf k v j) b (length-blockOf k v j ∙ sym e) n)
 
--- the digests of a value's blocks are of 32 bytes
+-- the digests of a value's blocks are of 32 bytes, and their list has its length
 pub block-digests : (k : ℕ) (v : List ℕ) (j : ℕ) → length (digestOf (blockOf k v j)) ≡ 32
 block-digests k v j = length-digest (blockOf k v j)
+
+pub length-digests : (g : Params) (v : List ℕ) → length (digestsOf digestOf g v) ≡ listed g
+unfolding digestsOf
+length-digests g v = length-joined (λ j. digestOf (blockOf (g .k) v j)) 32 1 (g .n) (block-digests (g .k) v) ∙ omega arith

@@ -3,14 +3,16 @@ use mathlib.Core.Path.{_≡_, refl, sym, ap, ap₂, _∙_}
 use mathlib.Core.Bool.{Bool, true, false, _&&_}
 use mathlib.Core.List.{List, [], _∷_, _++_, append-nil}
 use Prim.Native.Nat.{ℕ, zero, suc, _+_, _≤_, _<_}
+use native.Mathlib.Nat.{zero-add}
 use native.Mathlib.Omega.{arith}
 use native.Mathlib.Decide.{decLe}
-use lib.ListN.{length, getD, take, drop, length-append, drop-of-length-le}
+use lib.ListN.{length, getD, take, drop, set, length-append, drop-of-length-le}
 use lib.Seq.{sets, sets-eq, take-all, take-append-le, length-take-le}
 use lib.Dec.{eqb, ltb}
 use borrow.Author.Tests.{eqb-true, eqb-false, eq-eqb, ne-eqb, lt-ltb, le-ltb}
-use Rattle.area.specs.Area.{pick, part, same}
+use Rattle.area.specs.Area.{pick, part, same, table}
 use Rattle.area.proofs.Sets.{part-sets-same}
+use Rattle.area.proofs.Fills.{length-table, sets-table}
 
 -- ---- stores at the front
 
@@ -20,6 +22,16 @@ sets-whole l vs e =
     let h : 0 + length vs ≤ length l = omega arith in
     let k : length l ≤ 0 + length vs = omega arith in
     sets-eq vs l 0 h ∙ ap (λ t. vs ++ t) (drop-of-length-le l k) ∙ append-nil vs
+
+-- a turn of a loop that stores a table from the front on, and its end
+pub table-turn : {A : Type 0} (f : ℕ → A) (d r : List A) (j : ℕ) (x : A) → r ≡ sets d 0 (table j f) → x ≡ f j → set r j x ≡ sets d 0 (table (j + 1) f)
+table-turn f d r j x e q =
+    ap₂ (λ l y. set l j y) e q ∙ ap (λ i. set (sets d 0 (table j f)) i (f j)) (sym (zero-add j)) ∙ sets-table d 0 j f
+
+pub table-end : {A : Type 0} (f : ℕ → A) (d r : List A) (j n : ℕ) → length d ≡ n → n ≤ j → j ≤ n → r ≡ sets d 0 (table j f) → r ≡ table n f
+table-end f d r j n l a b e =
+    let q : j ≡ n = omega arith in
+    e ∙ ap (λ i. sets d 0 (table i f)) q ∙ sets-whole d (table n f) (length-table n f ∙ sym l)
 
 -- the front that was stored
 pub take-front : (l vs : List ℕ) (k : ℕ) → length vs ≡ k → k ≤ length l → take k (sets l 0 vs) ≡ vs

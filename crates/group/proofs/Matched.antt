@@ -6,14 +6,13 @@ use mathlib.Core.Option.{Option, none, some}
 use mathlib.Core.List.{List, [], _∷_, _++_, map}
 use Prim.Native.Nat.{ℕ, zero, suc, _+_, _*_, _≤_, _<_}
 use native.Mathlib.Omega.{arith}
-use native.Mathlib.Nat.{zero-add}
+use native.Mathlib.Decide.{decLe}
 use native.Mathlib.Numerals.{add-one}
-use lib.ListN.{length, getD, take, set}
-use lib.Seq.{sets}
+use lib.ListN.{length, getD, take, List·getD-eq-default}
 use lib.Dec.{leb}
 use borrow.Author.Tests.{le-leb}
 use Rattle.area.specs.Area.{pick, part, same, table}
-use Rattle.area.proofs.Fills.{getD-table, length-table, sets-table, table-agree}
+use Rattle.area.proofs.Fills.{getD-table, length-table, table-agree}
 use Rattle.quorum.specs.Quorum.{bit, count}
 use Rattle.quorum.proofs.Counting.{count-suc}
 use Rattle.blocks.specs.declared.Params.{Params}
@@ -22,9 +21,8 @@ use Rattle.frame.specs.Params.{width, listed}
 use Rattle.frame.specs.Messages.{Entry, entry}
 use Rattle.frame.specs.Chunks.{chunkAt, entryAt}
 use Rattle.frame.specs.Coded.{Piece, hasList, pieceOf, pieces, numbers, joinedBytes, decoded}
-use Rattle.group.specs.Entries.{kept, marked, entries, sentList, passing, flags}
+use Rattle.group.specs.Entries.{kept, marked, entries, sentList, passing, flags, placesFrom, Within}
 use Rattle.group.specs.Choice.{chosen, lowest, blockIn, blocksIn, valueFrom}
-use Rattle.group.proofs.Lists.{sets-whole}
 use Rattle.group.proofs.Choosing.{lowest-agree}
 
 -- ---- tests and entries that agree
@@ -74,16 +72,6 @@ tally-turn on j r x e q =
 pub tally-end : (p : ℕ → Bool) (j n r : ℕ) → r ≡ count p j → n ≤ j → j ≤ n → r ≡ count p n
 tally-end p j n r e a b = let q : j ≡ n = omega arith in e ∙ ap (count p) q
 
--- the flag of server j was stored
-pub flag-turn : (f : ℕ → Bool) (d r : List Bool) (j : ℕ) (x : Bool) → r ≡ sets d 0 (table j f) → x ≡ f j → set r j x ≡ sets d 0 (table (j + 1) f)
-flag-turn f d r j x e q =
-    ap₂ (λ l y. set l j y) e q ∙ ap (λ i. set (sets d 0 (table j f)) i (f j)) (sym (zero-add j)) ∙ sets-table d 0 j f
-
-pub flag-end : (f : ℕ → Bool) (d r : List Bool) (j : ℕ) → length d ≡ 11 → 11 ≤ j → j ≤ 11 → r ≡ sets d 0 (table j f) → r ≡ table 11 f
-flag-end f d r j l a b e =
-    let q : j ≡ 11 = omega arith in
-    e ∙ ap (λ i. sets d 0 (table i f)) q ∙ sets-whole d (table 11 f) (length-table 11 f ∙ sym l)
-
 -- what the loop stores for server j, but for the bounds of j
 unfoldable pub equalAt : List Bool → List ℕ → List ℕ → List ℕ → ℕ → Bool
 equalAt on at a d j = getD on j false && same (part a (chunkAt (getD at j 0)) (length d)) d
@@ -93,6 +81,27 @@ pub flag-equalAt : (on : List Bool) (at a d : List ℕ) (n j : ℕ) (x : Bool)
     → x ≡ passing (equalAt on at a d) n j
 unfolding passing equalAt
 flag-equalAt on at a d n j x e = e
+
+-- ---- places
+
+pub place-law : (p j : ℕ) → j ≤ 10 → getD (placesFrom p) j 0 ≡ p + j
+unfolding placesFrom
+place-law p j h = let k : j < 11 = omega arith in getD-table 11 (λ i. p + i) j 0 k
+
+no-place : (p j : ℕ) → 11 ≤ j → getD (placesFrom p) j 0 ≡ 0
+unfolding placesFrom
+no-place p j h =
+    let n = length-table 11 (λ i. p + i) in
+    let k : length (table 11 (λ i. p + i)) ≤ j = omega arith in
+    List·getD-eq-default (table 11 (λ i. p + i)) 0 k
+
+pub within-places : (p : ℕ) (a : List ℕ) → chunkAt (p + 10) + 576 ≤ length a → Within (placesFrom p) a
+unfolding Within
+within-places p a h j = go (decLe j 10)
+  where
+    go : Dec (j ≤ 10) → chunkAt (getD (placesFrom p) j 0) + 576 ≤ length a
+    go (yes k) = rw (place-law p j k) (omega arith)
+    go (no k) = let m : 11 ≤ j = omega (arith, k) in rw (no-place p j m) (omega arith)
 
 -- ---- pieces
 
@@ -118,6 +127,11 @@ numbers-pieces f d j (suc m) =
     numbers-of (f j) d j (pieces f d (suc j) m) (chosen (λ i. hasList (f i) d) (suc j) m) (numbers-pieces f d (suc j) m)
 
 module _ (g : Params) (on : List Bool) (at a d : List ℕ) where
+  -- what server j sent, whose chunk is p
+  pub entry-law : (j p : ℕ) → getD at j 0 ≡ p → entries g on at a j ≡ kept (getD on j false) (entryAt g a p)
+  unfolding entries marked
+  entry-law j p e = ap (λ i. kept (getD on j false) (entryAt g a i)) e
+
   -- what server j's flag and chunk say
   pub sent-law : (j : ℕ) → length d ≡ listed g → sentList g on at a d j ≡ getD on j false && same (part a (chunkAt (getD at j 0)) (length d)) d
   unfolding sentList entries marked entryAt

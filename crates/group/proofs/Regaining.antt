@@ -9,6 +9,7 @@ use lib.ListN.{length, getD, take}
 use lib.Seq.{sets, length-sets, length-take-le}
 use Rattle.blocks.specs.declared.Params.{Params}
 use Rattle.blocks.specs.Code.{blockLength, valueOf}
+use Rattle.blocks.proofs.Values.{length-valueOf}
 use Rattle.frame.specs.Params.{width}
 use Rattle.group.specs.Entries.{marked}
 use Rattle.group.specs.Choice.{lowest, blocksIn, valueFrom}
@@ -35,6 +36,19 @@ module _ (g : Params) (on : List Bool) (at a : List ℕ) (out : ℕ) (ps ls : Li
   total b e =
       let h = all-blocks (g .size) (g .k) in
       rw e (omega (arith, few, D .bounded .blocks-low, D .bounded .size-high))
+
+  -- the value has its length, and is the front of an area in which it was stored
+  pub length-value : length (valueFrom g on at a) ≡ g .size
+  unfolding valueFrom
+  length-value =
+      let n = length-lowest (marked on) (g .k) (g .n) (D .enough) in
+      let h : 0 < length (lowest (marked on) (g .k) (g .n)) = omega (arith, D .bounded .blocks-low) in
+      length-valueOf (lowest (marked on) (g .k) (g .n)) (blocksIn (width g) at a (lowest (marked on) (g .k) (g .n))) (g .size) h
+
+  pub value-front : (v r : List ℕ) → length v ≡ out → r ≡ sets v 0 (valueFrom g on at a) → take (g .size) r ≡ valueFrom g on at a
+  value-front v r q e =
+      let h : g .size ≤ length v = omega (arith, D .room) in
+      ap (take (g .size)) e ∙ take-front v (valueFrom g on at a) (g .size) length-value h
 
   module _ (d l : List ℕ) (chosen : l ≡ sets d 0 (lowest (marked on) (g .k) (g .n))) (eight : length d ≡ 8) where
     -- the front of the array of numbers

@@ -8,7 +8,7 @@ ghost use lib.Dec.{leb};
 ghost use Rattle.area.specs.Area.{part, same};
 ghost use Rattle.quorum.specs.Quorum.{bit, count};
 ghost use Rattle.frame.specs.Chunks.{chunkAt};
-ghost use Rattle.group.specs.Entries.{marked, sentList, flags};
+ghost use Rattle.group.specs.Entries.{marked, sentList, flags, placesFrom};
 ghost use Rattle.group.specs.Needs.{Comparing};
 
 // 1 for true, 0 for false.
@@ -30,6 +30,20 @@ pub fn tally(on: [bool; 11], n: usize) -> usize
     let mut j = 0;
     while j < n {
         r = one(on[j + 1]) + r;
+        j += 1;
+    }
+    r
+}
+
+// The chunks of servers 1 to 10, where server j's is chunk first + j.
+pub fn places(first: usize) -> [usize; 11]
+    requires { ⌜ first ≤ 1000 ⌝ }
+    ensures { λ r. ⌜ r ≡ placesFrom first ⌝ }
+{
+    let mut r = [0usize; 11];
+    let mut j = 0;
+    while j < 11 {
+        r[j] = first + j;
         j += 1;
     }
     r

@@ -6,7 +6,8 @@ use lib.ListN.{replicate}
 use lib.Seq.{sets}
 use Rattle.area.specs.Area.{table, tableFrom}
 use Rattle.group.specs.Entries.{passing, Within}
-use Rattle.group.proofs.Matched.{equalAt, flag-equalAt, flag-turn, flag-end, matched-flags}
+use Rattle.group.proofs.Lists.{table-turn, table-end}
+use Rattle.group.proofs.Matched.{equalAt, flag-equalAt, matched-flags}
 use native.Mathlib.Omega.{arith}
 use borrow.Author.Needs.{needs}
 use Rattle.group.proofs.matching.matching.Statement.{statement}
@@ -47,10 +48,10 @@ loop-less : tie.Need-loop-less Inv-loop μ-loop
 loop-less c = search needs
 
 loop-again : tie.Need-loop-again Inv-loop μ-loop
-loop-again c = (flag-turn _ _ _ _ _ (c .before .before .loop .inv .0) (flag-equalAt _ _ _ _ _ _ _ (c .has-list .ensures)), omega arith)
+loop-again c = (table-turn _ _ _ _ _ (c .before .before .loop .inv .0) (flag-equalAt _ _ _ _ _ _ _ (c .has-list .ensures)), omega arith)
 
 returns : tie.Need-returns Inv-loop μ-loop
-returns c = flag-end _ _ _ _ refl (c .loop-test .left) (c .before .loop .inv .1) (c .before .loop .inv .0) ∙ matched-flags _ _ _ _ _ (c .before .before .before .before .pre .list-is)
+returns c = table-end _ _ _ _ _ refl (c .loop-test .left) (c .before .loop .inv .1) (c .before .loop .inv .0) ∙ matched-flags _ _ _ _ _ (c .before .before .before .before .pre .list-is)
 
 pub matching-spec : {M : Type 1} → statement M
 matching-spec =

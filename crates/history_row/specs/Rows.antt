@@ -1,0 +1,27 @@
+-- Operations added one after the other to a history by value. Assumes nothing: these are definitions.
+use Prim.Native.Nat.{ℕ, _+_}
+use mathlib.Core.Bool.{Bool, true, false}
+use mathlib.Core.List.{List, [], _∷_}
+use lib.Dec.{leb, ltb}
+use lib.ListN.{set, take, replicate}
+use Rattle.area.specs.Area.{pick}
+use Rattle.order.specs.Histories.{noOperation, refused, judged}
+use Rattle.order.specs.declared.operation.Operation.{Operation}
+use Rattle.order.specs.declared.judge.Verdict.{Verdict}
+use Rattle.history_row.specs.declared.History.{History}
+
+-- the history without operations
+unfoldable pub none : History
+none = record { rows = replicate 64 noOperation; count = 0 }
+
+-- one operation more; 65 stands for more than 64
+unfoldable pub added : History → Operation → History
+added h a = pick (leb 64 (h .count)) (record { rows = h .rows; count = 65 }) (record { rows = set (h .rows) (h .count) a; count = h .count + 1 })
+
+unfoldable pub addedAll : History → List Operation → History
+addedAll h [] = h
+addedAll h (a ∷ ops) = addedAll (added h a) ops
+
+-- the answer for a history by value
+unfoldable pub verdictOf : History → Verdict
+verdictOf h = pick (ltb 64 (h .count)) (refused 18) (judged (take (h .count) (h .rows)))

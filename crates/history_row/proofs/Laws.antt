@@ -78,7 +78,7 @@ verdict-added h (a ∷ ops) e l =
     (λ t.
     let g : 64 ≤ h .count = ltb-false (h .count) 64 t in
     let n : length (take (h .count) (h .rows) ++ a ∷ ops) ≡ h .count + suc (length ops) =
-        length-append (take (h .count) (h .rows)) (a ∷ ops) ∙ ap (λ k. k + suc (length ops)) (length-take-le (h .count) (h .rows) (omega arith)) in
+    length-append (take (h .count) (h .rows)) (a ∷ ops) ∙ ap (λ k. k + suc (length ops)) (length-take-le (h .count) (h .rows) (omega arith)) in
     ap (λ k. verdictOf (addedAll k ops)) (added-full h a g)
     ∙ verdict-over (record { rows = h .rows; count = 65 }) ops (omega arith)
     ∙ sym (judged-over (take (h .count) (h .rows) ++ a ∷ ops) (omega arith)))

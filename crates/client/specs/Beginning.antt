@@ -8,19 +8,19 @@ use lib.Seq.{sets}
 use lib.Dec.{leb, eqb}
 use Rattle.area.specs.Area.{pick}
 use Rattle.blocks.specs.declared.Params.{Params}
-use Rattle.frame.specs.declared.Refusal.the-variants as R
 use Rattle.frame.specs.declared.Verdict.{Verdict}
+use Rattle.frame.specs.declared.Refusal.the-variants as R
 use Rattle.frame.specs.declared.Verdict.the-variants as J
 use Rattle.frame.specs.Refusals.{andThen}
 use Rattle.frame.specs.Params.{paramsTest}
 use Rattle.frame.specs.Stamps.{lastSequence, lastClient}
 use Rattle.frame.specs.Messages.{getStamp, askRead, message, toAll}
 use Rattle.frame.specs.Outbox.{frames, receivers}
-use Rattle.client.specs.declared.Phase.the-variants as F
 use Rattle.client.specs.declared.Client.{Client}
 use Rattle.client.specs.declared.Answer.{Answer}
-use Rattle.client.specs.declared.Answer.the-variants as Y
 use Rattle.client.specs.declared.Answered.{Answered}
+use Rattle.client.specs.declared.Phase.the-variants as F
+use Rattle.client.specs.declared.Answer.the-variants as Y
 use Rattle.client.specs.State.{freshRow, idle}
 use Rattle.client.specs.Tests.{sendRoom}
 use Rattle.client.specs.Steps.{nothing, Effect, quiet}

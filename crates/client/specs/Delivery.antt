@@ -9,8 +9,8 @@ use Rattle.frame.specs.Messages.{Judged, bad, good}
 use Rattle.frame.specs.Outbox.{frames, receivers}
 use Rattle.client.specs.declared.Client.{Client}
 use Rattle.client.specs.declared.Answer.{Answer}
-use Rattle.client.specs.declared.Answer.the-variants as Y
 use Rattle.client.specs.declared.Answered.{Answered}
+use Rattle.client.specs.declared.Answer.the-variants as Y
 use Rattle.client.specs.Tests.{judge}
 use Rattle.client.specs.Steps.{Event, nothing, written, outOfStamps, completed, Effect, quiet, effect}
 

@@ -57,7 +57,7 @@ placeFor r x =
     (pick (older (getD (r .stamps) (smallest (r .stamps) 3) noStamp) x) (some (smallest (r .stamps) 3))
     none)
 
-unfoldable pub rowWith : Row → ℕ → Stamp → Row
+abbrev pub rowWith : Row → ℕ → Stamp → Row
 rowWith r i x = record { count = pick (ltb (r .count) 4) (r .count + 1) (r .count); stamps = set (r .stamps) i x }
 
 -- ---- the search

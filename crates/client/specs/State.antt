@@ -6,9 +6,9 @@ use lib.ListN.{getD, set, replicate}
 use Rattle.frame.specs.declared.Stamp.{Stamp}
 use Rattle.frame.specs.Stamps.{zeroStamp}
 use Rattle.client.specs.declared.Phase.{Phase}
-use Rattle.client.specs.declared.Phase.the-variants as F
 use Rattle.client.specs.declared.Row.{Row}
 use Rattle.client.specs.declared.Client.{Client}
+use Rattle.client.specs.declared.Phase.the-variants as F
 
 -- ---- fresh
 

@@ -11,12 +11,11 @@ use Rattle.blocks.specs.declared.Params.{Params}
 use Rattle.frame.specs.declared.Stamp.{Stamp}
 use Rattle.frame.specs.declared.Party.{Party}
 use Rattle.frame.specs.Stamps.{lastTime}
-use Rattle.frame.specs.Messages.{Entry, Stage, send, Body, getStamp, ack, askRead, readComplete, stampIs, blockIs, timeIs, valueIs}
-use Rattle.frame.specs.Messages.{Message, message, Sending, toAll, numberIn}
+use Rattle.frame.specs.Messages.{Entry, send, Body, getStamp, ack, askRead, readComplete, stampIs, blockIs, timeIs, valueIs, Message, message, Sending, toAll, numberIn}
 use Rattle.frame.specs.Chunks.{storeEntry, placeAt}
 use Rattle.frame.specs.Coded.{entryOf}
-use Rattle.client.specs.declared.Phase.the-variants as F
 use Rattle.client.specs.declared.Client.{Client}
+use Rattle.client.specs.declared.Phase.the-variants as F
 use Rattle.client.specs.State.{rowOf, largest, inPhase, shut, withRow}
 use Rattle.client.specs.Rows.{rowView, placeFor, rowWith, Found, search}
 

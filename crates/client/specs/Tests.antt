@@ -8,16 +8,15 @@ use lib.Dec.{ltb, eqb}
 use Rattle.area.specs.Area.{pick}
 use Rattle.blocks.specs.declared.Params.{Params}
 use Rattle.frame.specs.declared.Party.{Party}
-use Rattle.frame.specs.declared.Refusal.the-variants as R
 use Rattle.frame.specs.declared.Verdict.{Verdict}
-use Rattle.frame.specs.declared.Verdict.the-variants as J
 use Rattle.frame.specs.declared.Opened.{Opened}
+use Rattle.frame.specs.declared.Refusal.the-variants as R
+use Rattle.frame.specs.declared.Verdict.the-variants as J
 use Rattle.frame.specs.declared.Opened.the-variants as O
 use Rattle.frame.specs.Refusals.{andThen}
 use Rattle.frame.specs.Params.{clientFrames, outRoom, toRoom, paramsTest}
 use Rattle.frame.specs.Stamps.{lastClient}
-use Rattle.frame.specs.Messages.{Entry, Body, getStamp, ack, askRead, readComplete, stampIs, blockIs, timeIs, valueIs, Message}
-use Rattle.frame.specs.Messages.{numberIn, fromServer, Judged, bad, good, judgedBy, after}
+use Rattle.frame.specs.Messages.{Entry, Body, getStamp, ack, askRead, readComplete, stampIs, blockIs, timeIs, valueIs, Message, numberIn, fromServer, Judged, bad, judgedBy, after}
 use Rattle.frame.specs.Frames.{opened, messageIn}
 use Rattle.frame.specs.Chunks.{rowsBytes}
 use Rattle.frame.specs.Coded.{fits}

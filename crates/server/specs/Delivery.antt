@@ -9,8 +9,8 @@ use lib.Dec.{ltb, eqb}
 use Rattle.area.specs.Area.{pick}
 use Rattle.blocks.specs.declared.Params.{Params}
 use Rattle.frame.specs.declared.Party.{Party}
-use Rattle.frame.specs.declared.Refusal.the-variants as R
 use Rattle.frame.specs.declared.Verdict.{Verdict}
+use Rattle.frame.specs.declared.Refusal.the-variants as R
 use Rattle.frame.specs.declared.Verdict.the-variants as J
 use Rattle.frame.specs.Refusals.{andThen}
 use Rattle.frame.specs.Params.{width, paramsTest}
@@ -20,8 +20,8 @@ use Rattle.frame.specs.Chunks.{areaBytes, chunkAt, presentAt}
 use Rattle.frame.specs.Coded.{blockAt, digestsOf}
 use Rattle.server.specs.declared.Server.{Server}
 use Rattle.server.specs.declared.Reply.{Reply}
-use Rattle.server.specs.declared.Reply.the-variants as Y
 use Rattle.server.specs.declared.Served.{Served}
+use Rattle.server.specs.declared.Reply.the-variants as Y
 use Rattle.server.specs.State.{freshServer}
 use Rattle.server.specs.Tests.{judge}
 use Rattle.server.specs.Steps.{Effect, sendOnly, effect}

@@ -1,6 +1,6 @@
 -- The two broadcasts of a write, "Blocks, server" and "Time, server" of document 01. H is the digest; it is never unfolded. These are definitions.
 use Prim.Native.Nat.{ℕ, _+_, _*_}
-use mathlib.Core.Bool.{Bool, true, false}
+use mathlib.Core.Bool.{true}
 use mathlib.Core.Option.{Option}
 use mathlib.Core.List.{List}
 use lib.Dec.{leb, eqb}

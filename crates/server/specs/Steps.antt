@@ -12,15 +12,12 @@ use Rattle.frame.specs.declared.Stamp.{Stamp}
 use Rattle.frame.specs.declared.Party.{Party}
 use Rattle.frame.specs.declared.Party.the-variants as P
 use Rattle.frame.specs.Stamps.{older, lastTime}
-use Rattle.frame.specs.Messages.{Entry, Stage, send, echo, ready, Body, getStamp, ack, askRead, readComplete, stampIs, blockIs, timeIs, valueIs}
-use Rattle.frame.specs.Messages.{Message, message, Sending, sending, toAll, numberIn}
+use Rattle.frame.specs.Messages.{Entry, Stage, send, echo, ready, Body, getStamp, ack, askRead, readComplete, stampIs, blockIs, timeIs, valueIs, Message, message, Sending, sending, toAll, numberIn}
 use Rattle.frame.specs.Chunks.{storeEntry, storeIf, presentAt, completeAt, echoAt, readyAt}
 use Rattle.server.specs.declared.Slot.{Slot}
-use Rattle.server.specs.declared.Reader.{Reader}
 use Rattle.server.specs.declared.Server.{Server}
 use Rattle.server.specs.Broadcast.{due, full, matters}
-use Rattle.server.specs.State.{freshSlot, slotOf, readerOf, withSlot, withReader, withBlocks, withTimes, blockView, timeView, presentEntry}
-use Rattle.server.specs.State.{blockSent, blockEcho, blockReady, blockMarks, timeSent, timeEcho, timeReady, timeMarks}
+use Rattle.server.specs.State.{freshSlot, slotOf, readerOf, withSlot, withReader, withBlocks, withTimes, blockView, timeView, presentEntry, blockSent, blockEcho, blockReady, blockMarks, timeSent, timeEcho, timeReady, timeMarks}
 use Rattle.server.specs.Rules.{regained, blockRules, timeRules}
 
 -- a write that is accepted, with the time that was delivered and the entry that was completed

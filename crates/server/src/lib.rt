@@ -45,6 +45,7 @@ pub struct Server {
 
 impl Server {
     pub const CLIENTS: usize = 8;
+
     pub const LAST_TIME: u64 = 18446744073709551615;
 }
 

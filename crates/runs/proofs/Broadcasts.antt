@@ -1,0 +1,337 @@
+-- The runs of the register keep the laws of a broadcast, of the times and of the blocks. One thing is asked for as a hypothesis: that
+-- what honest parties send can be said in a frame.
+use Prim.Native.Nat.{ℕ, suc, _-_, _≤_}
+use native.Mathlib.Omega.{arith}
+use mathlib.Core.Bool.{Bool, true, false, _&&_}
+use mathlib.Core.Path.{_≡_, refl, ap, sym, _∙_, subst}
+use mathlib.Core.Logic.{_⊎_, inl, inr, ⊎-elim}
+use mathlib.Core.Option.{Option, some}
+use mathlib.Core.List.{List, [], _∷_, List·Memᴰ, List·Memᴰ·not-nil}
+use lib.ListN.{length}
+use lib.Dec.{leb}
+use borrow.Author.Tests.{leb-true, le-leb}
+use Rattle.quorum.specs.Quorum.{Among}
+use Rattle.quorum.proofs.Logic.{impossible, and-split, and-true, and-false}
+use Rattle.quorum.proofs.Quorums as B
+use Rattle.broadcast.proofs.Laws as BL
+use Rattle.frame.specs.declared.Stamp.{Stamp}
+use Rattle.frame.specs.declared.Party.{Party}
+use Rattle.frame.specs.declared.Party.the-variants as A
+use Rattle.frame.specs.declared.Opened.the-variants as O
+use Rattle.frame.specs.Chunks.{storeIf, areaBytes}
+use Rattle.frame.specs.Frames.{build, opened, messageIn, headerFor}
+use Rattle.frame.specs.Messages.{Entry, Stage, send, echo, ready, Body, ack, valueIs, Message, message, Sending, sending, Sized, Formed}
+use Rattle.frame.proofs.RoundTrip.{opened-build}
+use Rattle.frame.proofs.Sizes.{Small}
+use Rattle.server.specs.declared.Slot.{Slot}
+use Rattle.server.specs.declared.Server.{Server}
+use Rattle.server.specs.Broadcast.{Part}
+use Rattle.server.specs.State.{freshSlot, slotOf, blockView, timeView}
+use Rattle.server.specs.Steps as S
+use Rattle.server.proofs.Parts.{put-same, noPart, put-cases}
+use Rattle.server.proofs.Views as SV
+use Rattle.steps.proofs.PartFacts.{Heard}
+use Rattle.steps.proofs.ServerFacts.{ServerShape, BroadcastFacts, New}
+use Rattle.steps.proofs.ServerFits.{Delivered, refused, taken, delivered, shape-delivered, shape-fresh}
+use Rattle.steps.proofs.ServerTaken.{Taken}
+use Rattle.runs.specs.Admissible.{Sent, Honest, Proper, Admissible}
+use Rattle.runs.specs.Events.{At, Accepts}
+use Rattle.runs.specs.World.{Setup, Sound, Call, toServer, toClient, beginRead, beginWrite, caller, ServerSide, initialOf, start, serverEffect, serverLeft, step, run, sends, put}
+
+module _ (Z : Setup) (G : Sound Z) (M : Small (Z .g)) where
+  open Setup Z using (H, g, initialValue, faultyServer, faultyClient, stateAreas, initialAreas, rowsAreas)
+
+  abbrev pub serverAt : List Call → ℕ → ServerSide
+  serverAt ks i = run Z ks .servers i
+
+  -- ---- what was said
+
+  abbrev pub SentMessage : List Call → Party → Party → Message → Type 0
+  SentMessage [] a b m = ⊥
+  SentMessage (k ∷ ks) a b m = ((caller k ≡ a) × List·Memᴰ (sending b m) (sends Z (run Z ks) k)) ⊎ SentMessage ks a b m
+
+  pub sent-message : (ks : List Call) (a b : Party) (f : List ℕ) → Sent Z ks a b f → (m : Message) × SentMessage ks a b m × (build m ≡ f)
+  sent-message [] a b f u = absurd u
+  sent-message (k ∷ ks) a b f (inr u) = let w = sent-message ks a b f u in (w .0, inr (w .1), w .2)
+  sent-message (k ∷ ks) a b f (inl u) =
+      let e : u .1 ≡ sending b (u .1 .says) = λ i. record { receiver = u .3 i; says = u .1 .says } in
+      (u .1 .says, inl (u .0, subst (λ y. List·Memᴰ y (sends Z (run Z ks) k)) e (u .2)), u .4)
+
+  -- ---- one call
+
+  pub record Takes (ks : List Call) (k : Call) (j : ℕ) : Type 0 where
+    pub from : Party
+    pub f : List ℕ
+    pub out : List ℕ
+    pub to : List ℕ
+    pub is : k ≡ toServer j from f out to
+    pub m : Message
+    pub took : Taken H g j (serverAt ks j .server) from f m
+    pub moves : serverEffect Z (run Z ks) j from f out to ≡ S.effect H g j (serverAt ks j .server) (serverAt ks j .area) (initialOf Z j) from m
+
+  abbrev pub effectOf : {ks : List Call} {k : Call} {j : ℕ} → Takes ks k j → S.Effect
+  effectOf {ks} {k} {j} C = S.effect H g j (serverAt ks j .server) (serverAt ks j .area) (initialOf Z j) (C .from) (C .m)
+
+  abbrev Next : (ks : List Call) (k : Call) (j : ℕ) → Type 0
+  Next ks k j = (serverAt (k ∷ ks) j ≡ serverAt ks j) ⊎ ((C : Takes ks k j) × (serverAt (k ∷ ks) j ≡ serverLeft Z (effectOf C)))
+
+  at-server : (ks : List Call) (i : ℕ) (from : Party) (f out to : List ℕ) (h : ServerSide) → h ≡ serverLeft Z (serverEffect Z (run Z ks) i from f out to)
+      → {r : S.Effect} → serverEffect Z (run Z ks) i from f out to ≡ r → Delivered H g M (G .bounded .servers-high) i (serverAt ks i .server) (serverAt ks i .area) (initialOf Z i) from f r
+      → (h ≡ serverAt ks i) ⊎ ((C : Takes ks (toServer i from f out to) i) × (h ≡ serverLeft Z (effectOf C)))
+  at-server ks i from f out to h e q (refused z) = inl (e ∙ ap (serverLeft Z) (q ∙ z))
+  at-server ks i from f out to h e q (taken m T z) =
+      inr (record { from = from; f = f; out = out; to = to; is = refl; m = m; took = T; moves = q ∙ z }, e ∙ ap (serverLeft Z) (q ∙ z))
+
+  pub server-next : (ks : List Call) (k : Call) (j : ℕ) → Next ks k j
+  unfolding run step
+  server-next ks (toServer i from f out to) j = ⊎-elim
+      (λ w. subst (λ y. Next ks (toServer i from f out to) y) (sym (w .0))
+      (at-server ks i from f out to (serverAt (toServer i from f out to ∷ ks) i) (ap (put (run Z ks .servers) i _) (sym (w .0)) ∙ w .1) refl
+      (delivered H g M (G .bounded .servers-high) i (serverAt ks i .server) (serverAt ks i .area) (initialOf Z i) from f out to)))
+      (λ w. inl w)
+      (put-cases (run Z ks .servers) i (serverLeft Z (serverEffect Z (run Z ks) i from f out to)) j)
+  server-next ks (toClient c from f result out to) j = inl refl
+  server-next ks (beginRead c out to) j = inl refl
+  server-next ks (beginWrite c v out to) j = inl refl
+
+  pub server-left : (ks : List Call) (k : Call) (j : ℕ) (C : Takes ks k j) → serverAt (k ∷ ks) j ≡ serverLeft Z (effectOf C)
+  unfolding run step
+  server-left ks k j C = subst (λ y. serverAt (y ∷ ks) j ≡ serverLeft Z (effectOf C)) (sym (C .is)) (put-same (run Z ks .servers) j _ ∙ ap (serverLeft Z) (C .moves))
+
+  pub shape : (ks : List Call) (i : ℕ) → ServerShape (serverAt ks i .server) (serverAt ks i .area)
+  unfolding run start
+  shape [] i = shape-fresh H g M (G .bounded .servers-high) i initialValue (stateAreas i) (initialAreas i) (G .state-room i)
+  shape (k ∷ ks) i = go (shape ks i) (server-next ks k i)
+    where
+      go : ServerShape (serverAt ks i .server) (serverAt ks i .area) → Next ks k i → ServerShape (serverAt (k ∷ ks) i .server) (serverAt (k ∷ ks) i .area)
+      go F (inl e) = subst (λ h. ServerShape (h .server) (h .area)) (sym e) F
+      go F (inr (C, e)) = subst (λ h. ServerShape (h .server) (h .area)) (sym e)
+          (shape-delivered H g M (G .bounded .servers-high) i (serverAt ks i .server) (serverAt ks i .area) (initialOf Z i) F (C .from) (C .f) (effectOf C) (taken (C .m) (C .took) refl))
+
+  sent-by : (ks : List Call) (i : ℕ) (from : Party) (f out to : List ℕ) (x : Sending) {r : S.Effect} → serverEffect Z (run Z ks) i from f out to ≡ r
+      → Delivered H g M (G .bounded .servers-high) i (serverAt ks i .server) (serverAt ks i .area) (initialOf Z i) from f r → List·Memᴰ x (r .sends)
+      → (C : Takes ks (toServer i from f out to) i) × List·Memᴰ x (effectOf C .sends)
+  sent-by ks i from f out to x q (refused z) u = absurd (List·Memᴰ·not-nil (subst (λ y. List·Memᴰ x (y .sends)) z u))
+  sent-by ks i from f out to x q (taken m T z) u =
+      (record { from = from; f = f; out = out; to = to; is = refl; m = m; took = T; moves = q ∙ z }, subst (λ y. List·Memᴰ x (y .sends)) z u)
+
+  took-by : (ks : List Call) (i : ℕ) (from : Party) (f out to : List ℕ) (x : S.Write) {r : S.Effect} → serverEffect Z (run Z ks) i from f out to ≡ r
+      → Delivered H g M (G .bounded .servers-high) i (serverAt ks i .server) (serverAt ks i .area) (initialOf Z i) from f r → r .accepted ≡ some x
+      → (C : Takes ks (toServer i from f out to) i) × (effectOf C .accepted ≡ some x)
+  took-by ks i from f out to x q (refused z) u = impossible (cc (ap (λ y. y .accepted) z, u))
+  took-by ks i from f out to x q (taken m T z) u =
+      (record { from = from; f = f; out = out; to = to; is = refl; m = m; took = T; moves = q ∙ z }, ap (λ y. y .accepted) (sym z) ∙ u)
+
+  pub accepts-new : (ks : List Call) (k : Call) (j : ℕ) (x : S.Write) → Accepts Z j x ks k → (C : Takes ks k j) × (effectOf C .accepted ≡ some x)
+  accepts-new ks (toServer i from f out to) j x u =
+      subst (λ y. (C : Takes ks (toServer i from f out to) y) × (effectOf C .accepted ≡ some x)) (sym (u .0))
+      (took-by ks i from f out to x refl (delivered H g M (G .bounded .servers-high) i (serverAt ks i .server) (serverAt ks i .area) (initialOf Z i) from f out to) (u .1))
+  accepts-new ks (toClient c from f result out to) j x u = absurd u
+  accepts-new ks (beginRead c out to) j x u = absurd u
+  accepts-new ks (beginWrite c v out to) j x u = absurd u
+
+  -- one call takes one message
+  pub one-message : (ks : List Call) (k : Call) (j : ℕ) (C C′ : Takes ks k j) → C .m ≡ C′ .m
+  one-message ks k j C C′ =
+      let f : C .f ≡ C′ .f = cc (C .is, C′ .is) in
+      let h : C .took .header ≡ C′ .took .header = cc (C .took .opens, C′ .took .opens, f) in
+      sym (C .took .says) ∙ (λ i. messageIn g (h i) (f i)) ∙ C′ .took .says
+
+  pub sent-new : (ks : List Call) (k : Call) (j : ℕ) (b : Party) (m : Message) → SentMessage (k ∷ ks) (A.Server j) b m
+      → SentMessage ks (A.Server j) b m ⊎ ((C : Takes ks k j) × List·Memᴰ (sending b m) (effectOf C .sends))
+  unfolding sends
+  sent-new ks k j b m (inr u) = inl u
+  sent-new ks (toServer i from f out to) j b m (inl u) =
+      let e : i ≡ j = cc (u .0) in
+      inr (subst (λ y. (C : Takes ks (toServer i from f out to) y) × List·Memᴰ (sending b m) (effectOf C .sends)) e
+      (sent-by ks i from f out to (sending b m) refl (delivered H g M (G .bounded .servers-high) i (serverAt ks i .server) (serverAt ks i .area) (initialOf Z i) from f out to) (u .1)))
+  sent-new ks (toClient c from f result out to) j b m (inl u) = impossible (cc (u .0))
+  sent-new ks (beginRead c out to) j b m (inl u) = impossible (cc (u .0))
+  sent-new ks (beginWrite c v out to) j b m (inl u) = impossible (cc (u .0))
+
+  -- ---- what an honest sender's frame rests on
+
+  module _ (formed : (ks : List Call) → Admissible Z ks → (a b : Party) (m : Message) → Honest Z a → SentMessage ks a b m → Formed g m) where
+    pub message-sent : {ks : List Call} {k : Call} {j : ℕ} → Admissible Z ks → Proper Z ks k → (C : Takes ks k j) → Honest Z (C .from) → SentMessage ks (C .from) (A.Server j) (C .m)
+    message-sent {ks} {k} {j} adm p C h =
+        let q : Proper Z ks (toServer j (C .from) (C .f) (C .out) (C .to)) = subst (Proper Z ks) (C .is) p in
+        let w = sent-message ks (C .from) (A.Server j) (C .f) (q .2 h) in
+        let b = opened-build g (G .bounded) (w .0) (formed ks adm (C .from) (A.Server j) (w .0) h (w .1)) in
+        let o : opened g (C .f) ≡ O.Frame (headerFor (w .0)) = ap (opened g) (sym (w .2)) ∙ b .opens in
+        let e : C .took .header ≡ headerFor (w .0) = cc (C .took .opens, o) in
+        let same : w .0 ≡ C .m = sym (b .says) ∙ (λ i. messageIn g (sym e i) (w .2 i)) ∙ C .took .says in
+        subst (SentMessage ks (C .from) (A.Server j)) same (w .1)
+
+    -- ---- a broadcast
+
+    abbrev pub inRange : ℕ → Bool
+    inRange c = leb 1 c && leb c 8
+
+    in-range : (c : ℕ) → inRange c ≡ true → Among 8 c
+    in-range c e = let w = and-split (leb 1 c) (leb c 8) e in (leb-true 1 c (w .0), leb-true c 8 (w .1))
+
+    range-in : (c : ℕ) → Among 8 c → inRange c ≡ true
+    range-in c i = rw (le-leb 1 c (i .0), le-leb c 8 (i .1))
+
+    module _ {P D : Type 0} (view : List ℕ → ℕ → Slot → Part P) (wrap : Stage → P → Body)
+        (no-value : (z : Stage) (p : P) (x : Stamp) (e : Entry) → wrap z p ≡ valueIs x e → ⊥) (no-ack : (z : Stage) (p : P) → wrap z p ≡ ack → ⊥)
+        (fresh : (a : List ℕ) (c q : ℕ) → view a c (freshSlot q) ≡ noPart)
+        (present : (a : List ℕ) → areaBytes ≤ length a → (c : ℕ) → Among 8 c → (x : Slot) → SV.Shaped x → (t : Bool) (e : Entry) → (t ≡ true → Sized g e)
+        → view (storeIf t a 0 e) c x ≡ view a c x)
+        (sel : S.Write → P)
+        (sel-done : (a : List ℕ) (c : ℕ) (x : Slot) (T : ℕ) (y : Entry) (q : ℕ) → timeView x .done ≡ some T → blockView g a c x .done ≡ some y
+        → view a c x .done ≡ some (sel (record { client = c; sequence = q; time = T; entry = y })))
+        (ρ : P → D) (inj : (z : Stage) (p q : P) → wrap z p ≡ wrap z q → p ≡ q)
+        (facts : (ks : List Call) (k : Call) (j : ℕ) (C : Takes ks k j)
+        → BroadcastFacts H g M j view wrap no-value no-ack fresh present sel sel-done ρ (g .n) (g .t) (serverAt ks j .server) (serverAt ks j .area) (C .from) (C .m) (effectOf C)) where
+      abbrev pub part : List Call → ℕ → ℕ → Part P
+      part ks i c = view (serverAt ks i .area) c (slotOf (serverAt ks i .server) c)
+
+      abbrev pub SaidBy : Stage → List Call → ℕ → ℕ → ℕ → D → Type 0
+      SaidBy z ks i c s d = (b : Party) × (p : P) × (ρ p ≡ d) × SentMessage ks (A.Server i) b (message c s (wrap z p))
+
+      abbrev pub views : BL.Views Call D
+      views = record {
+        sequence = λ ks i c. slotOf (serverAt ks i .server) c .sequence;
+        echoed = λ ks i c. inRange c && part ks i c .sent;
+        KeptEcho = λ ks i c j d. Among 8 c × (p : P) × (ρ p ≡ d) × (part ks i c .echoes j ≡ some p);
+        KeptReady = λ ks i c j d. Among 8 c × (p : P) × (ρ p ≡ d) × (part ks i c .readies j ≡ some p);
+        SentEcho = SaidBy echo;
+        SentReady = SaidBy ready;
+        Delivered = λ ks i c d. Among 8 c × (p : P) × (ρ p ≡ d) × (part ks i c .done ≡ some p);
+        Accepted = λ ks i c s d. (x : S.Write) × (n : ℕ) × At (Accepts Z i x) ks n × (x .client ≡ c) × (x .sequence ≡ s) × (ρ (sel x) ≡ d);
+        ClientSent = λ ks c s d. (b : Party) × (p : P) × (ρ p ≡ d) × SentMessage ks (A.Client c) b (message c s (wrap send p));
+      }
+
+      module _ (ks : List Call) (k : Call) (adm : Admissible Z ks) (pr : Proper Z ks k) where
+        F : (j : ℕ) (C : Takes ks k j)
+            → BroadcastFacts H g M j view wrap no-value no-ack fresh present sel sel-done ρ (g .n) (g .t) (serverAt ks j .server) (serverAt ks j .area) (C .from) (C .m) (effectOf C)
+        F j C = facts ks k j C
+
+        owner : (i c : ℕ) (C : Takes ks k i) (q : ℕ) (b : Body) → C .m ≡ message c q b → Among 8 c
+        owner i c C q b e = subst (Among 8) (ap (λ m. m .client) e) (C .took .client)
+
+        -- a frame of an honest server was sent by it
+        this : (i : ℕ) (C : Takes ks k i) (c j : ℕ) (z : Stage) (x : P) (d : D) → ρ x ≡ d → faultyServer j ≡ false → Among (g .n) j
+            → New H g M i view wrap no-value no-ack fresh present sel sel-done ρ (g .n) (g .t) (serverAt ks i .server) (C .from) (C .m) c z j x
+            → SaidBy z ks j c (slotOf (serverAt ks i .server) c .sequence) d
+        this i C c j z x d e ok is n = (
+          A.Server i,
+          x,
+          e,
+          subst (λ a. SentMessage ks a (A.Server i) (message c (slotOf (serverAt ks i .server) c .sequence) (wrap z x))) (n .0)
+              (subst (SentMessage ks (C .from) (A.Server i)) (n .1) (message-sent adm pr C (subst (Honest Z) (sym (n .0)) (is, ok)))),
+        )
+
+        known : (i : ℕ) (C : Takes ks k i) (c : ℕ) → Among 8 c → (f : ℕ → Option P) (z : Stage) (d : D) (m : ℕ)
+            → B.AtLeast (g .n) m (Heard ρ f (New H g M i view wrap no-value no-ack fresh present sel sel-done ρ (g .n) (g .t) (serverAt ks i .server) (C .from) (C .m) c z) d)
+            → B.AtLeast (g .n) m (λ j. faultyServer j ≡ false → (Among 8 c × (x : P) × (ρ x ≡ d) × (f j ≡ some x)) ⊎ SaidBy z ks j c (slotOf (serverAt ks i .server) c .sequence) d)
+        known i C c ic f z d m = B.at-least-map (λ j is y ok. ⊎-elim (λ a. inl (ic, y .0, y .1, a)) (λ a. inr (this i C c j z (y .0) d (y .1) ok is a)) (y .2))
+
+        moved : (i c : ℕ) (C : Takes ks k i) → part (k ∷ ks) i c ≡ view (effectOf C .area) c (slotOf (effectOf C .server) c)
+        moved i c C = ap (λ h. view (h .area) c (slotOf (h .server) c)) (server-left ks k i C)
+
+        moved-seq : (i c : ℕ) (C : Takes ks k i) → slotOf (serverAt (k ∷ ks) i .server) c .sequence ≡ slotOf (effectOf C .server) c .sequence
+        moved-seq i c C = ap (λ h. slotOf (h .server) c .sequence) (server-left ks k i C)
+
+        on-sent : (i c : ℕ) (u v : Bool) → (Among 8 c → u ≡ true → v ≡ true) → (inRange c && u) ≡ true → (inRange c && v) ≡ true
+        on-sent i c u v f e = let w = and-split (inRange c) u e in rw (w .0) (f (in-range c (w .0)) (w .1))
+
+        lawful : BL.Lawful views (g .n) (g .t) faultyServer faultyClient ks k
+        lawful = record {
+          echo-stays = λ i c s d u. (u .0, u .1, u .2, inr (u .3));
+          ready-stays = λ i c s d u. (u .0, u .1, u .2, inr (u .3));
+          client-stays = λ c s d u. (u .0, u .1, u .2, inr (u .3));
+          onward = λ i c. ⊎-elim
+              (λ e. inl (ap (λ h. slotOf (h .server) c .sequence) e, λ u. ap (λ h. inRange c && view (h .area) c (slotOf (h .server) c) .sent) e ∙ u))
+              (λ N.
+              let C = N .0 in
+              ⊎-elim
+              (λ w. inl (moved-seq i c C ∙ w .0, λ u. ap (λ y. inRange c && y .sent) (moved i c C) ∙ on-sent i c _ _ (w .1) u))
+              (λ w. inr (omega (arith, w, moved-seq i c C)))
+              (F i C .onward c))
+              (server-next ks k i);
+          echo-new = λ i c s d u. ⊎-elim
+              (λ o. inl (u .0, u .1, u .2, o))
+              (λ N.
+              let C = N .0 in
+              let w = F i C .an-echo c (u .0) s (u .1) (N .1) in
+              let ic = owner i c C _ _ (w .4) in
+              inr (record {
+                current = w .0;
+                first = and-false (inRange c) _ (w .1);
+                then = ⊎-elim
+                    (λ z. inl (moved-seq i c C ∙ z .0, ap (λ y. inRange c && y .sent) (moved i c C) ∙ and-true (inRange c) _ (range-in c ic) (z .1)))
+                    (λ z. inr (omega (arith, z, moved-seq i c C))) (w .2);
+                sent = λ h.
+                    let r : SentMessage ks (A.Client c) (A.Server i) (message c (slotOf (serverAt ks i .server) c .sequence) (wrap send (u .1))) =
+                    subst (λ a. SentMessage ks a (A.Server i) _) (w .3)
+                    (subst (SentMessage ks (C .from) (A.Server i)) (w .4) (message-sent adm pr C (subst (Honest Z) (sym (w .3)) (ic, h)))) in
+                    (A.Server i, u .1, u .2, rw (w .0) r);
+              }))
+              (sent-new ks k i (u .0) _ (u .3));
+          echo-one = λ i c s x y u v. ⊎-elim
+              (λ o. inr (inl (u .0, u .1, u .2, o)))
+              (λ N. ⊎-elim
+              (λ o. inr (inr (v .0, v .1, v .2, o)))
+              (λ N′.
+              let e1 = F i (N .0) .an-echo c (u .0) s (u .1) (N .1) .4 in
+              let e2 = F i (N′ .0) .an-echo c (v .0) s (v .1) (N′ .1) .4 in
+              inl (sym (u .2) ∙ ap ρ (inj send (u .1) (v .1) (ap (λ z. z .body) (sym e1 ∙ one-message ks k i (N .0) (N′ .0) ∙ e2))) ∙ v .2))
+              (sent-new ks k i (v .0) _ (v .3)))
+              (sent-new ks k i (u .0) _ (u .3));
+          echo-kept = λ i c j d is ok u. ⊎-elim
+              (λ e. (ap (λ h. slotOf (h .server) c .sequence) e, inl (u .0, u .1, u .2, ap (λ h. view (h .area) c (slotOf (h .server) c) .echoes j) (sym e) ∙ u .3)))
+              (λ N.
+              let C = N .0 in
+              let w = F i C .echo-kept c (u .0) j (u .1) (ap (λ y. y .echoes j) (sym (moved i c C)) ∙ u .3) in
+              (moved-seq i c C ∙ w .0, ⊎-elim (λ a. inl (u .0, u .1, u .2, a)) (λ a. inr (this i C c j echo (u .1) d (u .2) ok is a)) (w .1)))
+              (server-next ks k i);
+          ready-kept = λ i c j d is ok u. ⊎-elim
+              (λ e. (ap (λ h. slotOf (h .server) c .sequence) e, inl (u .0, u .1, u .2, ap (λ h. view (h .area) c (slotOf (h .server) c) .readies j) (sym e) ∙ u .3)))
+              (λ N.
+              let C = N .0 in
+              let w = F i C .ready-kept c (u .0) j (u .1) (ap (λ y. y .readies j) (sym (moved i c C)) ∙ u .3) in
+              (moved-seq i c C ∙ w .0, ⊎-elim (λ a. inl (u .0, u .1, u .2, a)) (λ a. inr (this i C c j ready (u .1) d (u .2) ok is a)) (w .1)))
+              (server-next ks k i);
+          ready-new = λ i c s d u. ⊎-elim
+              (λ o. inl (u .0, u .1, u .2, o))
+              (λ N.
+              let C = N .0 in
+              let w = F i C .a-ready c (u .0) s (u .1) (N .1) in
+              inr (
+                w .1,
+                rw (← u .2) (⊎-elim
+                    (λ a. inl (known i C c (w .0) (part ks i c .echoes) echo (ρ (u .1)) (g .n - g .t) a))
+                    (λ a. inr (known i C c (w .0) (part ks i c .readies) ready (ρ (u .1)) (suc (g .t)) a)) (w .2)),
+              ))
+              (sent-new ks k i (u .0) _ (u .3));
+          accepted-new = λ i c s d u. ⊎-elim
+              (λ N.
+              let T = accepts-new ks k i (u .0) (N .1) in
+              let C = T .0 in
+              let w = F i C .took-why (u .0) (T .1) in
+              inr (rw (← u .3, ← u .4, ← u .5) (
+                w .1,
+                ⊎-elim
+                    (λ a. inl (w .0, sel (u .0), refl, a))
+                    (λ a. inr (known i C (u .0 .client) (w .0) (part ks i (u .0 .client) .readies) ready (ρ (sel (u .0))) (suc (g .t)) a)) (w .2),
+              )))
+              (λ o. inl (u .0, u .1, o, u .3, u .4, u .5))
+              (u .2);
+          delivered-new = λ i c d u. ⊎-elim
+              (λ e. (ap (λ h. slotOf (h .server) c .sequence) e, inl (u .0, u .1, u .2, ap (λ h. view (h .area) c (slotOf (h .server) c) .done) (sym e) ∙ u .3)))
+              (λ N.
+              let C = N .0 in
+              let w = F i C .done-kept c (u .0) (u .1) (ap (λ y. y .done) (sym (moved i c C)) ∙ u .3) in (
+                moved-seq i c C ∙ w .0,
+                ⊎-elim
+                    (λ a. inl (u .0, u .1, u .2, a))
+                    (λ a. inr (rw (← u .2) (known i C c (u .0) (part ks i c .readies) ready (ρ (u .1)) (suc (g .t)) a))) (w .1),
+              ))
+              (server-next ks k i);
+        }
+
+      pub lawful-run : (ks : List Call) → Admissible Z ks → BL.Run views (g .n) (g .t) faultyServer faultyClient ks
+      lawful-run [] a = BL.fresh
+      lawful-run (k ∷ ks) a = BL.call k (lawful ks k (a .1) (a .0)) (lawful-run ks (a .1))

@@ -1,0 +1,263 @@
+-- The clients' half of the laws of the order, at each call of an admissible run. Assumes nothing.
+use Prim.Native.Nat.{ℕ, _-_, _≤_}
+use native.Mathlib.Omega.{arith}
+use mathlib.Core.Bool.{Bool, true, false, cond}
+use mathlib.Core.Path.{_≡_, refl, ap, sym, _∙_, subst}
+use mathlib.Core.Logic.{_⊎_, inl, inr, ⊎-elim}
+use mathlib.Core.Option.{some}
+use mathlib.Core.List.{List, [], _∷_, List·Memᴰ}
+use lib.Dec.{eqb}
+use borrow.Author.Tests.{eqb-false}
+use Rattle.quorum.specs.Quorum.{Among}
+use Rattle.quorum.proofs.Logic.{impossible}
+use Rattle.quorum.proofs.Quorums.{AtLeast, at-least-map}
+use Rattle.precedence.proofs.Laws as PL
+use Rattle.frame.specs.declared.Party.{Party}
+use Rattle.frame.specs.declared.Party.the-variants as A
+use Rattle.frame.specs.declared.Opened.the-variants as Op
+use Rattle.frame.specs.declared.Verdict.the-variants as J
+use Rattle.frame.specs.Frames.{opened, messageIn, headerFor}
+use Rattle.frame.specs.Messages.{valueIs, Message, message, numberIn, Formed}
+use Rattle.frame.proofs.Converse.{formed-opened}
+use Rattle.frame.proofs.RoundTrip.{opened-build}
+use Rattle.frame.proofs.Sizes.{Small}
+use Rattle.server.proofs.Parts.{put-cases}
+use Rattle.client.specs.declared.Client.{Client}
+use Rattle.client.specs.declared.Phase.the-variants as F
+use Rattle.client.specs.Rows.{Found, Kept, rowView}
+use Rattle.client.specs.State.{heardOf}
+use Rattle.client.specs.Steps as C
+use Rattle.client.specs.Tests as CT
+use Rattle.steps.proofs.BlockFacts.{is-server}
+use Rattle.steps.proofs.ClientFacts.{timeOf, ClientShape, client-shape-fresh, ClientFacts, KnowsV, Brought, Nought, quiet-facts, effect-facts, read-facts, write-facts}
+use Rattle.steps.proofs.ClientTaken.{Taken, Delivered, refused, taken, delivered, passed}
+use Rattle.runs.specs.Admissible.{Sent, Honest, Proper, Admissible}
+use Rattle.runs.specs.World.{Setup, Sound, Call, toServer, toClient, beginRead, beginWrite, caller, ClientSide, clientEffect, readEffect, writeEffect, start, step, run, sends, put}
+use Rattle.runs.specs.Events as Rn
+use Rattle.runs.proofs.Broadcasts.{SentMessage, sent-message}
+use Rattle.runs.proofs.Formation.{formed}
+use Rattle.runs.proofs.StampViews.{views, Stamped, Agreed}
+
+pub put-at : (h : ℕ → ClientSide) (i : ℕ) (v : ClientSide) → put h i v i ≡ v
+put-at h i v = go (eqb i i) refl
+  where
+    go : (b : Bool) → eqb i i ≡ b → cond b v (h i) ≡ v
+    go true e = refl
+    go false e = absurd (eqb-false i i e refl)
+
+module _ (Z : Setup) (G : Sound Z) (M : Small (Z .g)) where
+  open Setup Z using (H, g, initialValue, faultyServer, faultyClient, rowsAreas)
+
+  abbrev Vw : PL.Views Call (Agreed Z G M) (Stamped Z G M)
+  Vw = views Z G M
+
+  abbrev home : List Call → ℕ → ClientSide
+  home ks c = run Z ks .clients c
+
+  -- what a call ended
+  abbrev ended : List Call → Call → C.Event
+  ended ks (toServer i from f out to) = C.nothing
+  ended ks (toClient c from f result out to) = clientEffect Z (run Z ks) c from f result out to .event
+  ended ks (beginRead c out to) = readEffect Z (run Z ks) c out to .event
+  ended ks (beginWrite c v out to) = writeEffect Z (run Z ks) c v out to .event
+
+  -- what a call on client c does
+  record Acts (ks : List Call) (k : Call) (c : ℕ) : Type 1 where
+    N : ℕ → Message → Type 0
+    facts : ClientFacts H g M (G .bounded .servers-high) c (home ks c .client) (home ks c .area) N (home (k ∷ ks) c .client) (home (k ∷ ks) c .area) (sends Z (run Z ks) k) (ended ks k)
+    brought : (j : ℕ) (m : Message) → Among (g .n) j → faultyServer j ≡ false → N j m → SentMessage Z G M ks (A.Server j) (A.Client c) m
+
+  cli-cases : (ks : List Call) (k : Call) (c : ℕ) → (home (k ∷ ks) c ≡ home ks c) ⊎ (caller k ≡ A.Client c)
+  unfolding run step
+  cli-cases ks (toServer i from f out to) c = inl refl
+  cli-cases ks (toClient d from f result out to) c = ⊎-elim (λ w. inr (ap A.Client (sym (w .0)))) (λ w. inl w) (put-cases (run Z ks .clients) d _ c)
+  cli-cases ks (beginRead d out to) c = ⊎-elim (λ w. inr (ap A.Client (sym (w .0)))) (λ w. inl w) (put-cases (run Z ks .clients) d _ c)
+  cli-cases ks (beginWrite d v out to) c = ⊎-elim (λ w. inr (ap A.Client (sym (w .0)))) (λ w. inl w) (put-cases (run Z ks .clients) d _ c)
+
+  -- an honest server's frame that a client takes was sent by it
+  frame-from : (ks : List Call) → Admissible Z ks → (c : ℕ) (from : Party) (f : List ℕ) → (Honest Z from → Sent Z ks from (A.Client c) f) → (s : Client) (v : List ℕ) (m : Message)
+      → Taken H g c s v from f m → Honest Z from → SentMessage Z G M ks from (A.Client c) m
+  frame-from ks adm c from f q s v m T h =
+      let w = sent-message Z G M ks from (A.Client c) f (q h) in
+      let b = opened-build g (G .bounded) (w .0) (formed Z G M ks adm from (A.Client c) (w .0) h (w .1)) in
+      let o : opened g f ≡ Op.Frame (headerFor (w .0)) = ap (opened g) (sym (w .2)) ∙ b .opens in
+      let e : T .header ≡ headerFor (w .0) = cc (T .opens, o) in
+      let same : w .0 ≡ m = sym (b .says) ∙ (λ i. messageIn g (sym e i) (w .2 i)) ∙ T .says in
+      subst (SentMessage Z G M ks from (A.Client c)) same (w .1)
+
+  module _ (ks : List Call) (adm : Admissible Z ks) where
+    abbrev Of : (c : ℕ) (N : ℕ → Message → Type 0) → C.Effect → Type 0
+    Of c N r = ClientFacts H g M (G .bounded .servers-high) c (home ks c .client) (home ks c .area) N (r .client) (r .area) (r .sends) (r .event)
+
+    record Acts′ (c : ℕ) (r : C.Effect) : Type 1 where
+      N : ℕ → Message → Type 0
+      facts : Of c N r
+      brought : (j : ℕ) (m : Message) → Among (g .n) j → faultyServer j ≡ false → N j m → SentMessage Z G M ks (A.Server j) (A.Client c) m
+
+    by-frame : (c : ℕ) → ClientShape (home ks c .client) (home ks c .area) → (from : Party) (f result out to : List ℕ) → Proper Z ks (toClient c from f result out to)
+        → {r : C.Effect} → Delivered H g c (home ks c .client) (home ks c .area) (home ks c .value) from f r → Acts′ c r
+    by-frame c X from f result out to pr {r} (refused e) = record {
+      N = Nought H g M (G .bounded .servers-high) c;
+      facts = subst (Of c (Nought H g M (G .bounded .servers-high) c)) (sym e) (quiet-facts H g M (G .bounded .servers-high) c (home ks c .client) (home ks c .area) (Nought H g M (G .bounded .servers-high) c) X);
+      brought = λ j m is ok n. absurd n;
+    }
+    by-frame c X from f result out to pr {r} (taken m T e) =
+        let s = home ks c .client in
+        let a = home ks c .area in
+        let v = home ks c .value in
+        let P = passed H g c s from m (T .passes) in
+        let j = is-server H g c from (P .server) in
+        let em : m ≡ message c (m .sequence) (m .body) = λ i. message (P .mine i) (m .sequence) (m .body) in
+        let fm : Formed g m = subst (Formed g) (T .says) (formed-opened g f (T .header) (pr .1) (T .opens)) in
+        let er : r ≡ C.effect H g c s a v (A.Server (j .0)) (message c (m .sequence) (m .body)) = e ∙ (λ i. C.effect H g c s a v (j .1 i) (em i)) in
+        let nb : numberIn from ≡ j .0 = ap numberIn (j .1) in
+        record {
+          N = Brought H g M (G .bounded .servers-high) c (j .0) (message c (m .sequence) (m .body));
+          facts = subst (Of c (Brought H g M (G .bounded .servers-high) c (j .0) (message c (m .sequence) (m .body)))) (sym er)
+              (effect-facts H g M (G .bounded .servers-high) c s a v X (j .0) (m .sequence) (m .body) (j .2) (fm .body) (subst (λ y. CT.orderTest H g c s y (m .sequence) (m .body) ≡ J.Fine) nb (P .order)));
+          brought = λ i m′ is ok n.
+              let ef : from ≡ A.Server i = j .1 ∙ ap A.Server (n .0) in
+              let h : Honest Z from = subst (Honest Z) (sym ef) (is, ok) in
+              let u = frame-from ks adm c from f (pr .2) s v m T h in
+              subst (λ y. SentMessage Z G M ks y (A.Client c) m′) ef (subst (SentMessage Z G M ks from (A.Client c)) (em ∙ n .1) u);
+        }
+
+    to-acts : (k : Call) (c : ℕ) (r : C.Effect) (h : ClientSide) → home (k ∷ ks) c ≡ h → h .client ≡ r .client → h .area ≡ r .area → sends Z (run Z ks) k ≡ r .sends → ended ks k ≡ r .event
+        → Acts′ c r → Acts ks k c
+    to-acts k c r h e ec ea es ev Q = record {
+      N = Q .N;
+      facts = subst (λ y. ClientFacts H g M (G .bounded .servers-high) c (home ks c .client) (home ks c .area) (Q .N) (y .client) (y .area) (sends Z (run Z ks) k) (ended ks k)) (sym e)
+          (rw (ec, ea, es, ev) (Q .facts));
+      brought = Q .brought;
+    }
+
+    on-client : (k : Call) → Proper Z ks k → (c : ℕ) → ClientShape (home ks c .client) (home ks c .area) → caller k ≡ A.Client c → Acts ks k c
+    unfolding run step sends
+    on-client (toServer i from f out to) pr c X e = impossible (cc)
+    on-client (toClient d from f result out to) pr c X e =
+        let z : c ≡ d = cc in
+        subst (λ y. Acts ks (toClient d from f result out to) y) (sym z)
+        (to-acts (toClient d from f result out to) d (clientEffect Z (run Z ks) d from f result out to) _ (put-at (run Z ks .clients) d _) refl refl refl refl
+        (by-frame d (subst (λ y. ClientShape (home ks y .client) (home ks y .area)) z X) from f result out to pr
+        (delivered H g d (home ks d .client) (home ks d .area) (home ks d .value) from f result out to)))
+    on-client (beginRead d out to) pr c X e =
+        let z : c ≡ d = cc in
+        let Y : ClientShape (home ks d .client) (home ks d .area) = subst (λ y. ClientShape (home ks y .client) (home ks y .area)) z X in
+        subst (λ y. Acts ks (beginRead d out to) y) (sym z) (record {
+          N = Nought H g M (G .bounded .servers-high) d;
+          facts = subst
+              (λ y. ClientFacts H g M (G .bounded .servers-high) d (home ks d .client) (home ks d .area) (Nought H g M (G .bounded .servers-high) d) (y .client) (y .area) (readEffect Z (run Z ks) d out to .sends) (readEffect Z (run Z ks) d out to .event))
+              (sym (put-at (run Z ks .clients) d _)) (read-facts H g M (G .bounded .servers-high) d (home ks d .client) (home ks d .area) Y out to);
+          brought = λ j m is ok n. absurd n;
+        })
+    on-client (beginWrite d v out to) pr c X e =
+        let z : c ≡ d = cc in
+        let Y : ClientShape (home ks d .client) (home ks d .area) = subst (λ y. ClientShape (home ks y .client) (home ks y .area)) z X in
+        subst (λ y. Acts ks (beginWrite d v out to) y) (sym z) (record {
+          N = Nought H g M (G .bounded .servers-high) d;
+          facts = subst
+              (λ y. ClientFacts H g M (G .bounded .servers-high) d (home ks d .client) (home ks d .area) (Nought H g M (G .bounded .servers-high) d) (y .client) (y .area) (writeEffect Z (run Z ks) d v out to .sends) (writeEffect Z (run Z ks) d v out to .event))
+              (sym (put-at (run Z ks .clients) d _)) (write-facts H g M (G .bounded .servers-high) d (home ks d .client) (home ks d .area) Y v out to);
+          brought = λ j m is ok n. absurd n;
+        })
+
+  pub client-shapes : (ks : List Call) → Admissible Z ks → (c : ℕ) → ClientShape (home ks c .client) (home ks c .area)
+  unfolding run start
+  client-shapes [] adm c = client-shape-fresh (rowsAreas c) (G .rows-room c)
+  client-shapes (k ∷ ks) adm c = ⊎-elim
+      (λ e. subst (λ h. ClientShape (h .client) (h .area)) (sym e) (client-shapes ks (adm .1) c))
+      (λ e. on-client ks (adm .1) k (adm .0) c (client-shapes ks (adm .1) c) e .facts .client-shape)
+      (cli-cases ks k c)
+
+  module _ (ks : List Call) (k : Call) (adm : Admissible Z ks) (pr : Proper Z ks k) where
+    act : (c : ℕ) → caller k ≡ A.Client c → Acts ks k c
+    act c e = on-client ks adm k pr c (client-shapes ks adm c) e
+
+    pub reads-up : (c : ℕ) → Vw .reads ks c ≤ Vw .reads (k ∷ ks) c
+    reads-up c = ⊎-elim (λ e. let q = ap (λ h. h .client .reads) e in omega (arith, q)) (λ e. act c e .facts .reads-up) (cli-cases ks k c)
+
+    pub writes-up : (c : ℕ) → Vw .writes ks c ≤ Vw .writes (k ∷ ks) c
+    writes-up c = ⊎-elim (λ e. let q = ap (λ h. h .client .writes) e in omega (arith, q)) (λ e. act c e .facts .writes-up) (cli-cases ks k c)
+
+    pub read-new : (c q : ℕ) → Vw .SentRead (k ∷ ks) c q → Vw .SentRead ks c q ⊎ (q ≤ Vw .reads (k ∷ ks) c)
+    read-new c q u = ⊎-elim (λ w. inr (act c (w .0) .facts .r-sent (u .0) c q (w .1))) (λ o. inl (u .0, o)) (u .1)
+
+    pub get-stamp-new : (c q : ℕ) → Vw .SentGetStamp (k ∷ ks) c q → Vw .SentGetStamp ks c q ⊎ (q ≤ Vw .writes (k ∷ ks) c)
+    get-stamp-new c q u = ⊎-elim (λ w. inr (act c (w .0) .facts .g-sent (u .0) c q (w .1))) (λ o. inl (u .0, o)) (u .1)
+
+    pub ack-kept : (c j : ℕ) → Among (g .n) j → faultyServer j ≡ false → Vw .KeptAck (k ∷ ks) c j → (Vw .writes (k ∷ ks) c ≡ Vw .writes ks c) × (Vw .KeptAck ks c j ⊎ Vw .SentAck ks j c (Vw .writes ks c))
+    ack-kept c j is ok u = ⊎-elim
+        (λ e. (ap (λ h. h .client .writes) e, inl (subst (λ h. (h .client .phase ≡ F.Acking) × (heardOf (h .client) j ≡ true)) e u)))
+        (λ e.
+        let Q = act c e in
+        let w = Q .facts .a-kept j is (u .0) (u .1) in
+        (w .0, ⊎-elim (λ y. inl y) (λ y. inr (Q .brought j _ is ok y)) (w .1)))
+        (cli-cases ks k c)
+
+    pub stamp-kept : (c j T : ℕ) → Among (g .n) j → faultyServer j ≡ false → Vw .KeptStamp (k ∷ ks) c j T
+        → (Vw .writes (k ∷ ks) c ≡ Vw .writes ks c) × (Vw .KeptStamp ks c j T ⊎ Vw .SentStamp ks j c (Vw .writes ks c) T)
+    stamp-kept c j T is ok u = ⊎-elim
+        (λ e. (ap (λ h. h .client .writes) e, inl (subst (λ h. (h .client .phase ≡ F.Asking) × (timeOf (h .client) j ≡ some T)) e u)))
+        (λ e.
+        let Q = act c e in
+        let w = Q .facts .t-kept j T is (u .0) (u .1) in
+        (w .0, ⊎-elim (λ y. inl y) (λ y. inr (Q .brought j _ is ok y)) (w .1)))
+        (cli-cases ks k c)
+
+    -- what a client knows of a kept value
+    value-known : (c : ℕ) (e : caller k ≡ A.Client c) (j : ℕ) (y : Kept) (v : Stamped Z G M) → y .stamp ≡ v .0 → y .entry .digests ≡ v .1 → Among (g .n) j → faultyServer j ≡ false
+        → KnowsV H g M (G .bounded .servers-high) c (home ks c .client) (home ks c .area) (act c e .N) j y → Vw .KeptValue ks c j v ⊎ Vw .SentValue ks j c (Vw .reads ks c) v
+    value-known c e j y v es ed is ok (inl w) = inl (w .0, y, es, ed, w .1)
+    value-known c e j y v es ed is ok (inr w) =
+        inr (y .entry, ed, subst (λ x. SentMessage Z G M ks (A.Server j) (A.Client c) (message c (home ks c .client .reads) (valueIs x (y .entry)))) es (act c e .brought j _ is ok w))
+
+    pub value-kept : (c j : ℕ) (v : Stamped Z G M) → Among (g .n) j → faultyServer j ≡ false → Vw .KeptValue (k ∷ ks) c j v
+        → (Vw .reads (k ∷ ks) c ≡ Vw .reads ks c) × (Vw .KeptValue ks c j v ⊎ Vw .SentValue ks j c (Vw .reads ks c) v)
+    value-kept c j v is ok u = ⊎-elim
+        (λ e. (
+          ap (λ h. h .client .reads) e,
+          inl (subst (λ h. (h .client .phase ≡ F.Reading) × (y : Kept) × (y .stamp ≡ v .0) × (y .entry .digests ≡ v .1) × List·Memᴰ y (rowView g (h .client) (h .area) j)) e u),
+        ))
+        (λ e.
+        let w = act c e .facts .v-kept j (u .1) is (u .0) (u .4) in
+        (w .0, value-known c e j (u .1) v (u .2) (u .3) is ok (w .1)))
+        (cli-cases ks k c)
+
+    pub time-new : (c q T : ℕ) → Vw .SentTime (k ∷ ks) c q T
+        → Vw .SentTime ks c q T
+        ⊎ ((q ≡ Vw .writes ks c) × AtLeast (g .n) (g .n - g .t) (λ j. faultyServer j ≡ false → (T′ : ℕ) × (T′ ≤ T) × (Vw .KeptStamp ks c j T′ ⊎ Vw .SentStamp ks j c (Vw .writes ks c) T′)))
+    time-new c q T u = ⊎-elim
+        (λ n.
+        let Q = act c (n .0) in
+        let w = Q .facts .t-sent (u .0) c q T (n .1) in
+        inr (w .0, at-least-map (λ j is f ok. (f .0, f .1, ⊎-elim (λ y. inl y) (λ y. inr (Q .brought j _ is ok y)) (f .2))) (w .1)))
+        (λ o. inl (u .0, o)) (u .1)
+
+    wrote-ev : (k′ : Call) (c q : ℕ) → Rn.EndsWrite Z c q ks k′ → (caller k′ ≡ A.Client c) × (home ks c .client .writes ≡ q) × (ended ks k′ ≡ C.written)
+    wrote-ev (toServer i from f out to) c q u = absurd u
+    wrote-ev (toClient d from f result out to) c q u = (ap A.Client (sym (u .0)), ap (λ y. home ks y .client .writes) (u .0) ∙ u .1, u .2)
+    wrote-ev (beginRead d out to) c q u = absurd u
+    wrote-ev (beginWrite d v out to) c q u = absurd u
+
+    read-ev : (k′ : Call) (c q : ℕ) (x : Found) → Rn.CompletesRead Z c q x ks k′ → (caller k′ ≡ A.Client c) × (home ks c .client .reads ≡ q) × (ended ks k′ ≡ C.completed x)
+    read-ev (toServer i from f out to) c q x u = absurd u
+    read-ev (toClient d from f result out to) c q x u = (ap A.Client (sym (u .0)), ap (λ y. home ks y .client .reads) (u .0) ∙ u .1, u .2)
+    read-ev (beginRead d out to) c q x u = absurd u
+    read-ev (beginWrite d v out to) c q x u = absurd u
+
+    pub write-ended-new : (c q : ℕ) → Vw .WriteEnded (k ∷ ks) c q
+        → Vw .WriteEnded ks c q ⊎ ((q ≡ Vw .writes ks c) × AtLeast (g .n) (g .n - g .t) (λ j. faultyServer j ≡ false → Vw .KeptAck ks c j ⊎ Vw .SentAck ks j c (Vw .writes ks c)))
+    write-ended-new c q u = ⊎-elim
+        (λ n.
+        let w = wrote-ev k c q (n .1) in
+        let Q = act c (w .0) in
+        inr (sym (w .1), at-least-map (λ j is f ok. ⊎-elim (λ y. inl y) (λ y. inr (Q .brought j _ is ok y)) f) (Q .facts .write-why (w .2))))
+        (λ o. inl (u .0, o)) (u .1)
+
+    pub read-ended-new : (c q : ℕ) (v : Stamped Z G M) → Vw .ReadEnded (k ∷ ks) c q v
+        → Vw .ReadEnded ks c q v ⊎ ((q ≡ Vw .reads ks c) × AtLeast (g .n) (g .n - g .t) (λ j. faultyServer j ≡ false → Vw .KeptValue ks c j v ⊎ Vw .SentValue ks j c (Vw .reads ks c) v))
+    read-ended-new c q v u = ⊎-elim
+        (λ n.
+        let w = read-ev k c q (u .0) (n .1) in
+        inr (sym (w .1), at-least-map (λ j is f ok. value-known c (w .0) j (f .0) v (f .1 ∙ u .3) (f .2 ∙ u .4) is ok (f .3)) (act c (w .0) .facts .read-why (u .0) (w .2))))
+        (λ o. inl (u .0, u .1, o, u .3, u .4)) (u .2)

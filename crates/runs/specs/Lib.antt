@@ -1,0 +1,5 @@
+pub mod World
+pub mod Admissible
+pub mod Events
+pub mod Blocks
+pub mod Demand

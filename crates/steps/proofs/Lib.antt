@@ -1,0 +1,14 @@
+pub mod Coding
+pub mod Acceptance
+pub mod PartFacts
+pub mod ServerFacts
+pub mod BlockFacts
+pub mod TimeFacts
+pub mod ServerTaken
+pub mod ServerFits
+pub mod Decoding
+pub mod ServerRanges
+pub mod Keys
+pub mod ServerStamps
+pub mod ClientTaken
+pub mod ClientFacts

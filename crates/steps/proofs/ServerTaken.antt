@@ -1,0 +1,126 @@
+-- What is known of a frame that a server takes, and that both broadcasts' rules are sound. Assumes nothing.
+use Prim.Native.Nat.{ℕ, _+_, _≤_}
+use native.Mathlib.Omega.{arith}
+use mathlib.Core.Bool.{Bool, true, false}
+use mathlib.Core.Path.{_≡_, refl, ap, subst}
+use mathlib.Core.List.{List}
+use lib.ListN.{length, drop, length-drop}
+use lib.Seq.{length-take-le}
+use lib.Dec.{eqb}
+use borrow.Author.Tests.{eqb-true}
+use Rattle.quorum.specs.Quorum.{Among}
+use Rattle.quorum.proofs.Logic.{impossible}
+use Rattle.area.specs.Area.{pick}
+use Rattle.area.proofs.Same.{same-true}
+use Rattle.blocks.specs.declared.Params.{Params}
+use Rattle.frame.specs.declared.Party.{Party}
+use Rattle.frame.specs.declared.Header.{Header}
+use Rattle.frame.specs.declared.Verdict.{Verdict}
+use Rattle.frame.specs.declared.Opened.{Opened}
+use Rattle.frame.specs.declared.Verdict.the-variants as J
+use Rattle.frame.specs.declared.Opened.the-variants as O
+use Rattle.frame.specs.Frames.{lengthOf, bodyLength, opened, entryIn, bodyIn, messageIn}
+use Rattle.frame.specs.Messages.{Message, good, judgedBy, after, Sized}
+use Rattle.frame.specs.Params.{width, listed, paramsTest}
+use Rattle.frame.specs.Refusals.{andThen}
+use Rattle.frame.proofs.Opening.{opens-facts}
+use Rattle.frame.proofs.Verdicts.{fine-both}
+use Rattle.server.specs.declared.Server.{Server}
+use Rattle.server.specs.Rules.{blockRules, timeRules}
+use Rattle.server.specs.Tests as ST
+use Rattle.steps.proofs.Decoding.{quota-faults}
+use Rattle.steps.proofs.BlockFacts.{SizedIn}
+use Rattle.steps.proofs.PartFacts.{Sane}
+
+-- ---- the rules
+
+pub sane-blocks : (H : List ℕ → List ℕ) (g : Params) → 1 ≤ g .t → Sane (blockRules H g) (g .t) (λ e. e .digests)
+sane-blocks H g h = record {
+  same-true = λ x y e. same-true (x .digests) (y .digests) e;
+  own-same = λ i es rs x. refl;
+  few-many = quota-faults g;
+  all-many = omega (arith, quota-faults g);
+}
+
+pub sane-times : (H : List ℕ → List ℕ) (g : Params) → Sane (timeRules H g) (g .t) (λ T. T)
+sane-times H g = record {
+  same-true = λ x y e. eqb-true x y e;
+  own-same = λ i es rs x. refl;
+  few-many = omega arith;
+  all-many = omega arith;
+}
+
+-- ---- opening
+
+pub by-pick {ℓ} : {A : Type 0} (Q : A → Type ℓ) (b : Bool) (x y : A) → (b ≡ true → Q x) → Q y → Q (pick b x y)
+unfolding pick
+by-pick Q true x y f q = f refl
+by-pick Q false x y f q = q
+
+pub entry-in : (g : Params) (f : List ℕ) (i : ℕ) → i + (listed g + width g) ≤ length f → Sized g (entryIn g f i)
+entry-in g f i h = record {
+  list-is = length-take-le (listed g) (drop i f) (rw length-drop (omega arith));
+  block-is = length-take-le (width g) (drop (i + listed g) f) (rw length-drop (omega arith));
+}
+
+pub long : (g : Params) (f : List ℕ) (k k′ w : ℕ) → length f ≡ 9 + bodyLength g k → bodyLength g k′ ≡ w → eqb k k′ ≡ true → 9 + w ≤ length f
+long g f k k′ w l e q = let p : bodyLength g k ≡ bodyLength g k′ = ap (bodyLength g) (eqb-true k k′ q) in omega (arith, p)
+
+pub body-sized : (g : Params) (f : List ℕ) (k : ℕ) → length f ≡ 9 + bodyLength g k → SizedIn g (bodyIn g k f)
+unfolding bodyIn bodyLength lengthOf pick
+body-sized g f k l =
+    by-pick (SizedIn g) (eqb k 1) _ _ (λ q. tt)
+    (by-pick (SizedIn g) (eqb k 2) _ _ (λ q. tt)
+    (by-pick (SizedIn g) (eqb k 3) _ _ (λ q. entry-in g f 9 (long g f k 3 (listed g + width g) l refl q))
+    (by-pick (SizedIn g) (eqb k 4) _ _ (λ q. entry-in g f 9 (long g f k 4 (listed g + width g) l refl q))
+    (by-pick (SizedIn g) (eqb k 5) _ _ (λ q. entry-in g f 9 (long g f k 5 (listed g + width g) l refl q))
+    (by-pick (SizedIn g) (eqb k 6) _ _ (λ q. tt)
+    (by-pick (SizedIn g) (eqb k 7) _ _ (λ q. tt)
+    (by-pick (SizedIn g) (eqb k 8) _ _ (λ q. tt)
+    (by-pick (SizedIn g) (eqb k 9) _ _ (λ q. tt)
+    (by-pick (SizedIn g) (eqb k 10) _ _ (λ q. tt)
+    (by-pick (SizedIn g) (eqb k 11) _ _ (λ q. entry-in g f 22 (let h = long g f k 11 (13 + (listed g + width g)) l refl q in omega (arith, h)))
+    tt))))))))))
+
+pub message-sized : (g : Params) (f : List ℕ) (h : Header) → opened g f ≡ O.Frame h → SizedIn g (messageIn g h f .body)
+unfolding messageIn
+message-sized g f h p = body-sized g f (h .kind) (opens-facts g f h p .length-is)
+
+-- ---- a frame that a server takes
+
+pub record Taken (H : List ℕ → List ℕ) (g : Params) (me : ℕ) (s : Server) (from : Party) (f : List ℕ) (m : Message) : Type 0 where
+  pub header : Header
+  pub opens : opened g f ≡ O.Frame header
+  pub says : messageIn g header f ≡ m
+  pub client : Among 8 (m .client)
+  pub sized : SizedIn g (m .body)
+  pub passes : ST.messageTest H g me s from m ≡ J.Fine
+
+module _ (H : List ℕ → List ℕ) (g : Params) (me : ℕ) where
+  took-by : (o : Opened) (room : Verdict) (s : Server) (from : Party) (f : List ℕ) (m : Message) → opened g f ≡ o
+      → ST.judgeOpened H g me o room s from f ≡ good m → Taken H g me s from f m
+  unfolding messageIn
+  took-by (O.Refused r) room s from f m p q = impossible (cc)
+  took-by (O.Frame h) room s from f m p q = go (andThen room (ST.messageTest H g me s from (messageIn g h f))) refl q
+    where
+      go : (v : Verdict) → andThen room (ST.messageTest H g me s from (messageIn g h f)) ≡ v → judgedBy v (messageIn g h f) ≡ good m → Taken H g me s from f m
+      go (J.Bad r) e u = impossible (cc)
+      go J.Fine e u =
+          let is : messageIn g h f ≡ m = cc in
+          let w = opens-facts g f h p in
+          record {
+            header = h;
+            opens = p;
+            says = is;
+            client = subst (λ x. Among 8 (x .client)) is (w .client-low, w .client-high);
+            sized = subst (λ x. SizedIn g (x .body)) is (body-sized g f (h .kind) (w .length-is));
+            passes = subst (λ x. ST.messageTest H g me s from x ≡ J.Fine) is (fine-both room _ e .1);
+          }
+
+  pub took : (s : Server) (a initial : List ℕ) (from : Party) (f out to : List ℕ) (m : Message) → ST.judge H g me s a initial from f out to ≡ good m → Taken H g me s from f m
+  unfolding ST.judge
+  took s a initial from f out to m e = go (paramsTest g me (g .n)) e
+    where
+      go : (v : Verdict) → after v (ST.judgeOpened H g me (opened g f) (ST.roomTest g (length a) (length initial) (length out) (length to)) s from f) ≡ good m → Taken H g me s from f m
+      go J.Fine e = took-by (opened g f) _ s from f m refl e
+      go (J.Bad r) e = impossible (cc)

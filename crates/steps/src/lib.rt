@@ -1,0 +1,1 @@
+// Theory only: what one step of a server or a client changes, in proofs/.

@@ -100,7 +100,7 @@ module _ (g : Params) (me : ℕ) where
     event = nothing;
   }
 
-  abbrev pub beginBy : Verdict → Client → Effect → Effect
+  unfoldable pub beginBy : Verdict → Client → Effect → Effect
   beginBy J.Fine s x = x
   beginBy (J.Bad r) s x = quiet s []
 
@@ -112,11 +112,11 @@ module _ (g : Params) (me : ℕ) where
 
   -- ---- the whole outcome
 
-  abbrev pub beginAnswer : Verdict → Effect → Answer
+  unfoldable pub beginAnswer : Verdict → Effect → Answer
   beginAnswer J.Fine x = Y.Sent (length (x .sends))
   beginAnswer (J.Bad r) x = Y.Refused r
 
-  abbrev pub begunOf : Verdict → Effect → List ℕ → List ℕ → Begun
+  unfoldable pub begunOf : Verdict → Effect → List ℕ → List ℕ → Begun
   begunOf b x out to = record {
     answer = beginAnswer b x;
     client = x .client;

@@ -26,25 +26,25 @@ pub record Outcome : Type 0 where
 abbrev pub outcome : Answered → List ℕ → List ℕ → List ℕ → List ℕ → Outcome
 outcome r area result out to = record { answer = r .answer; client = r .client; area = area; result = result; out = out; to = to }
 
-abbrev pub eventAnswer : Event → ℕ → Answer
+unfoldable pub eventAnswer : Event → ℕ → Answer
 eventAnswer nothing c = Y.Sent c
 eventAnswer written c = Y.Written
 eventAnswer outOfStamps c = Y.OutOfStamps
 eventAnswer (completed x) c = Y.Value (x .stamp)
 
-abbrev pub answerOf : Judged → Effect → Answer
+unfoldable pub answerOf : Judged → Effect → Answer
 answerOf (bad r) x = Y.Refused r
 answerOf (good m) x = eventAnswer (x .event) (length (x .sends))
 
 -- a completed read writes its value at the start of the result area
-abbrev pub resultOf : Event → List ℕ → List ℕ
+unfoldable pub resultOf : Event → List ℕ → List ℕ
 resultOf nothing l = l
 resultOf written l = l
 resultOf outOfStamps l = l
 resultOf (completed x) l = sets l 0 (x .bytes)
 
 -- frames lie end to end from the start of the out area, two bytes for the receiver of each in the to area; other bytes stay as lent
-abbrev pub outcomeOf : Judged → Effect → List ℕ → List ℕ → List ℕ → Outcome
+unfoldable pub outcomeOf : Judged → Effect → List ℕ → List ℕ → List ℕ → Outcome
 outcomeOf j x result out to = record {
   answer = answerOf j x;
   client = x .client;
@@ -56,7 +56,7 @@ outcomeOf j x result out to = record {
 
 module _ (H : List ℕ → List ℕ) (g : Params) (me : ℕ) where
   -- "The answer is the number alone; state and all lent bytes remain unchanged."
-  abbrev pub effectBy : Judged → Client → List ℕ → List ℕ → Party → Effect
+  unfoldable pub effectBy : Judged → Client → List ℕ → List ℕ → Party → Effect
   effectBy (bad r) s a v from = quiet s a
   effectBy (good m) s a v from = effect H g me s a v from m
 

@@ -83,7 +83,7 @@ module _ (g : Params) (f : ℕ → List Kept) where
   unfoldable pub agreed : Kept → Bool
   agreed k = leb (g .n) (count (λ j. hasList (atStamp (f j) (k .stamp)) (k .entry .digests)) (g .n) + g .t)
 
-  abbrev pub firstBy : Bool → Kept → Option Kept → Option Kept
+  unfoldable pub firstBy : Bool → Kept → Option Kept → Option Kept
   firstBy true k o = some k
   firstBy false k o = o
 
@@ -100,7 +100,7 @@ module _ (g : Params) (f : ℕ → List Kept) where
     bytes = decoded g (λ j. atStamp (f j) (k .stamp)) (k .entry .digests);
   }
 
-  abbrev pub foundBy : Option Kept → Option Found
+  unfoldable pub foundBy : Option Kept → Option Found
   foundBy none = none
   foundBy (some k) = some (foundOf k)
 

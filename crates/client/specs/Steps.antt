@@ -42,7 +42,7 @@ module _ (H : List ℕ → List ℕ) (g : Params) (me : ℕ) where
   -- ---- Write, client
 
   -- M is the largest time. "kind 3 to all, then kind 6 to all. If it is 2^64 - 1, the step instead closes the write as out of stamps and sends nothing."
-  abbrev pub sendBelow : Bool → Client → List ℕ → List ℕ → ℕ → Effect
+  unfoldable pub sendBelow : Bool → Client → List ℕ → List ℕ → ℕ → Effect
   sendBelow true s a v M = record {
     client = inPhase s F.Acking (replicate 11 false) (s .times);
     area = a;
@@ -52,7 +52,7 @@ module _ (H : List ℕ → List ℕ) (g : Params) (me : ℕ) where
   sendBelow false s a v M = record { client = shut s; area = a; sends = []; event = outOfStamps }
 
   -- "At n - t first stamps, take the largest time"
-  abbrev pub gatherBy : Bool → Client → List ℕ → List ℕ → Effect
+  unfoldable pub gatherBy : Bool → Client → List ℕ → List ℕ → Effect
   gatherBy true s a v =
       sendBelow (ltb (largest (λ j. getD (s .times) j 0) (g .n)) lastTime) s a v (largest (λ j. getD (s .times) j 0) (g .n))
   gatherBy false s a v = quiet s a
@@ -61,7 +61,7 @@ module _ (H : List ℕ → List ℕ) (g : Params) (me : ℕ) where
   onStamp s a v j T = gatherBy (quorate g (set (s .heard) j true)) (inPhase s F.Asking (set (s .heard) j true) (set (s .times) j T)) a v
 
   -- "At n - t acks it has ended."
-  abbrev pub endBy : Bool → Client → List ℕ → List Bool → Effect
+  unfoldable pub endBy : Bool → Client → List ℕ → List Bool → Effect
   endBy true s a h = record { client = inPhase s F.Idle h (s .times); area = a; sends = []; event = written }
   endBy false s a h = quiet (inPhase s F.Acking h (s .times)) a
 
@@ -71,7 +71,7 @@ module _ (H : List ℕ → List ℕ) (g : Params) (me : ℕ) where
   -- ---- Read
 
   -- "Then read-complete goes to all and the value is decoded"
-  abbrev pub completeBy : Option Found → Client → List ℕ → Effect
+  unfoldable pub completeBy : Option Found → Client → List ℕ → Effect
   completeBy none s a = quiet s a
   completeBy (some x) s a = record {
     client = inPhase s F.Idle (s .heard) (s .times);
@@ -84,7 +84,7 @@ module _ (H : List ℕ → List ℕ) (g : Params) (me : ℕ) where
   settle s a = completeBy (search g (rowView g s a)) s a
 
   -- a value takes place i of server j's row, or none; then the rows are searched
-  abbrev pub keepBy : Option ℕ → Client → List ℕ → ℕ → Stamp → Entry → Effect
+  unfoldable pub keepBy : Option ℕ → Client → List ℕ → ℕ → Stamp → Entry → Effect
   keepBy none s a j x e = settle s a
   keepBy (some i) s a j x e = settle (withRow s j (rowWith (rowOf s j) i x)) (storeEntry a (placeAt j i) e)
 
@@ -93,7 +93,7 @@ module _ (H : List ℕ → List ℕ) (g : Params) (me : ℕ) where
 
   -- ---- any message that passed the tests, from server j
 
-  abbrev pub onBody : Client → List ℕ → List ℕ → ℕ → Body → Effect
+  unfoldable pub onBody : Client → List ℕ → List ℕ → ℕ → Body → Effect
   onBody s a v j getStamp = quiet s a
   onBody s a v j ack = onAck s a j
   onBody s a v j askRead = quiet s a

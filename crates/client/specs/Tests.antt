@@ -43,7 +43,7 @@ unfoldable pub valueTest : Params → Client → ℕ → Verdict
 valueTest g s v = pick (writing (s .phase) && not (eqb v (g .size))) (J.Bad R.Length) J.Fine
 
 -- 11: only stamps, acks and values go to clients
-abbrev pub answers : Body → Bool
+unfoldable pub answers : Body → Bool
 answers getStamp = false
 answers ack = true
 answers askRead = false
@@ -64,7 +64,7 @@ fitTest H e j = pick (fits H e j) J.Fine (J.Bad R.Digest)
 module _ (H : List ℕ → List ℕ) (g : Params) (me : ℕ) where
   -- 12 and 14, of a frame of operation q from server j. Stamps count only in a write's first part, acks only in its second, each server's first;
   -- "of kind 11, each whose stamp is not kept from that server"
-  abbrev pub orderTest : Client → ℕ → ℕ → Body → Verdict
+  unfoldable pub orderTest : Client → ℕ → ℕ → Body → Verdict
   orderTest s j q getStamp = J.Fine
   orderTest s j q ack = awaited (acking (s .phase) && (eqb q (s .writes) && not (heardOf s j)))
   orderTest s j q askRead = J.Fine
@@ -82,7 +82,7 @@ module _ (H : List ℕ → List ℕ) (g : Params) (me : ℕ) where
       pick (fromServer g from && (answers (m .body) && eqb (m .client) me)) (orderTest s (numberIn from) (m .sequence) (m .body)) (J.Bad R.Sender)
 
   -- all of them: the lowest number, or what the frame says
-  abbrev pub judgeOpened : Opened → Verdict → Client → Party → List ℕ → Judged
+  unfoldable pub judgeOpened : Opened → Verdict → Client → Party → List ℕ → Judged
   judgeOpened (O.Refused r) room s from f = bad r
   judgeOpened (O.Frame h) room s from f = judgedBy (andThen room (messageTest s from (messageIn g h f))) (messageIn g h f)
 

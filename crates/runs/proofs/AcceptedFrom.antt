@@ -70,7 +70,7 @@ module _ (H : List ℕ → List ℕ) (g : Params) where
 
   module _ (kk : 1 ≤ g .k) where
     regained-size : (es rs : ℕ → Option Entry) (e : Entry) → quota g ≤ votes Rb (g .n) (g .t) rs e → length (regained g es rs (e .digests)) ≡ g .size
-    unfolding regained chosen pick
+    unfolding regained chosen pick votes
     regained-size es rs e v =
         let c = votes-are H g kk rs e in
         let q : quota g ≤ count (λ j. hasList (rs j) (e .digests)) (g .n) = omega (arith, v, c) in
@@ -79,7 +79,7 @@ module _ (H : List ℕ → List ℕ) (g : Params) where
     -- what is full was decoded, and has the list's digests
     full-has : (w : Part Entry) (e : Entry) → w .done ≡ none → full Rb (g .n) (g .t) w e ≡ true
         → Has (pick (matters Rb (g .n) (g .t) w e) (regained g (w .echoes) (w .readies) (e .digests) ∷ []) []) (e .digests)
-    unfolding full matters
+    unfolding full matters votes
     full-has w e n h =
         let u = and-split (leb (quota g + g .t) (votes Rb (g .n) (g .t) (w .readies) e)) _ h in
         let v = leb-true (quota g + g .t) (votes Rb (g .n) (g .t) (w .readies) e) (u .0) in
@@ -104,7 +104,7 @@ module _ (H : List ℕ → List ℕ) (g : Params) where
         go none false p q u = impossible (cc u)
 
   close-decodes : (me : ℕ) (s : Server) (a : List ℕ) (c : ℕ) (x : Slot) (l : List Sending) (vs : List (List ℕ)) → S.settle g s a c x l vs .decodes ≡ vs
-  unfolding S.settle S.accept
+  unfolding S.settle S.accept S.acceptBelow S.acceptDone
   close-decodes me s a c x l vs = go (timeView x .done) (blockView g a c x .done)
     where
       at : (b : Bool) (T : ℕ) (y : Entry) → S.acceptBelow b s a c x T y l vs .decodes ≡ vs
@@ -175,7 +175,7 @@ module _ (H : List ℕ → List ℕ) (g : Params) (M : Small g) (kk : 1 ≤ g .k
         (λ n f. subst (λ vs. Has H g vs (e .digests)) (sym (settle-decodes H g me s a₁ c x₁ e)) (full-has H g kk (bv a₁ c x₁) e n f)) y z))
 
     send-keeps : (e : Entry) → Keeps s a (S.onBlock H g me s a c (slotOf s c) c send e)
-    unfolding blockView toAll
+    unfolding blockView toAll S.onBlock
     send-keeps e = keeps-of s a c is (bv a c (withBlocks (slotOf s c) (blockSent (slotOf s c .blocks)))) (λ z p. (z ≡ echo) × (e ≡ p)) _
         (record {
           others = other-slot s c (withBlocks (slotOf s c) (blockSent (slotOf s c .blocks)));
@@ -190,6 +190,7 @@ module _ (H : List ℕ → List ℕ) (g : Params) (M : Small g) (kk : 1 ≤ g .k
         (λ y u. inl u)
 
     echo-keeps : (j : ℕ) (e : Entry) → Sized g e → Among (g .n) j → Keeps s a (S.onBlock H g me s a c (slotOf s c) j echo e)
+    unfolding S.onBlock
     echo-keeps j e Q ij =
         let x = slotOf s c in
         let i10 : Among 10 j = omega (arith, ij, few) in
@@ -199,6 +200,7 @@ module _ (H : List ℕ → List ℕ) (g : Params) (M : Small g) (kk : 1 ≤ g .k
         (ap (λ y. y .done) (SV.echo-view g M a R c x (F .shaped c is) is j i10 e Q))
 
     ready-keeps : (j : ℕ) (e : Entry) → Sized g e → Among (g .n) j → Keeps s a (S.onBlock H g me s a c (slotOf s c) j ready e)
+    unfolding S.onBlock
     ready-keeps j e Q ij =
         let x = slotOf s c in
         let i10 : Among 10 j = omega (arith, ij, few) in
@@ -217,7 +219,7 @@ module _ (H : List ℕ → List ℕ) (g : Params) (M : Small g) (kk : 1 ≤ g .k
         (λ y u. inl u)
 
     time-send-keeps : (T : ℕ) → Keeps s a (S.onTime H g me s a c (slotOf s c) c send T)
-    unfolding blockView toAll
+    unfolding blockView toAll S.onTime
     time-send-keeps T = keeps-of s a c is (bv a c (slotOf s c)) (λ z p. ⊥) _
         (record {
           others = other-slot s c (withTimes (slotOf s c) (timeSent (slotOf s c .times)));
@@ -233,7 +235,7 @@ module _ (H : List ℕ → List ℕ) (g : Params) (M : Small g) (kk : 1 ≤ g .k
   module _ (s : Server) (a initial : List ℕ) (F : ServerShape s a) where
     body-keeps : (from : Party) (c q : ℕ) → Among 8 c → (b : Body) → BM.SizedIn g b → ST.senderRight g from c b ≡ true
         → Keeps s a (S.onBody H g me s a initial (numberIn from) c q b)
-    unfolding S.onRead S.onReadComplete
+    unfolding S.onRead S.onReadComplete ST.senderRight S.onBody S.onBlock S.onTime
     body-keeps from c q is getStamp f p = keeps-idle s a _ refl refl refl
     body-keeps from c q is ack f p = keeps-idle s a _ refl refl refl
     body-keeps from c q is askRead f p = keeps-idle s a _ refl refl refl
@@ -249,7 +251,7 @@ module _ (H : List ℕ → List ℕ) (g : Params) (M : Small g) (kk : 1 ≤ g .k
 
     pub move-keeps : (from : Party) (m : Message) → Among 8 (m .client) → BM.SizedIn g (m .body) → ST.messageTest H g me s from m ≡ J.Fine
         → Keeps s a (S.effect H g me s a initial from m)
-    unfolding S.effect
+    unfolding S.effect S.onBody S.onBlock S.onTime
     move-keeps from m is f e = body-keeps from (m .client) (m .sequence) is (m .body) f (BM.test-split H g me s from m e .0)
 
 -- ---- in a run
@@ -281,7 +283,7 @@ module _ (Z : Setup) (G : Sound Z) where
   )
 
   first-slot : (i c : ℕ) → Among 8 c → slotOf (serverAt Z G M [] i .server) c ≡ freshSlot 1
-  unfolding run start SD.construction freshServer
+  unfolding run start SD.construction freshServer SD.constructBy
   first-slot i c is = go (SD.constructTest H g i initialValue (length (stateAreas i)) (length (initialAreas i)))
     where
       go : (b : Verdict) → slotOf (SD.constructBy H g i b initialValue (stateAreas i) (initialAreas i) .server) c ≡ freshSlot 1

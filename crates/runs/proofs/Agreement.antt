@@ -44,7 +44,7 @@ module _ (Z : Setup) (G : Sound Z)
   M = small Z G
 
   start-slot : (i c : ℕ) → Among 8 c → slotOf (serverAt Z G M [] i .server) c ≡ freshSlot 1
-  unfolding run start SD.construction freshServer
+  unfolding run start SD.construction freshServer SD.constructBy
   start-slot i c is = go (SD.constructTest H g i initialValue (length (stateAreas i)) (length (initialAreas i)))
     where
       go : (b : Verdict) → slotOf (SD.constructBy H g i b initialValue (stateAreas i) (initialAreas i) .server) c ≡ freshSlot 1

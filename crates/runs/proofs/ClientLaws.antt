@@ -96,6 +96,7 @@ module _ (Z : Setup) (G : Sound Z) (M : Small (Z .g)) where
 
     by-frame : (c : ℕ) → ClientShape (home ks c .client) (home ks c .area) → (from : Party) (f result out to : List ℕ) → Proper Z ks (toClient c from f result out to)
         → {r : C.Effect} → Delivered H g c (home ks c .client) (home ks c .area) (home ks c .value) from f r → Acts′ c r
+    unfolding CT.orderTest
     by-frame c X from f result out to pr {r} (refused e) = record {
       N = Nought H g M (G .bounded .servers-high) c;
       facts = subst (Of c (Nought H g M (G .bounded .servers-high) c)) (sym e) (quiet-facts H g M (G .bounded .servers-high) c (home ks c .client) (home ks c .area) (Nought H g M (G .bounded .servers-high) c) X);

@@ -31,7 +31,7 @@ module _ (Z : Setup) (G : Sound Z) (M : Small (Z .g)) where
   open Setup Z using (H, g, initialValue, faultyServer, faultyClient, stateAreas, initialAreas, rowsAreas)
 
   pub initial-long : (i : ℕ) → width g ≤ length (initialOf Z i)
-  unfolding SD.construction
+  unfolding SD.construction SD.constructBy
   initial-long i = go (SD.constructTest H g i initialValue (length (stateAreas i)) (length (initialAreas i)))
     where
       go : (b : Verdict) → width g ≤ length (SD.constructBy H g i b initialValue (stateAreas i) (initialAreas i) .initial)
@@ -49,7 +49,7 @@ module _ (Z : Setup) (G : Sound Z) (M : Small (Z .g)) where
       (initial-long j) (C .from) (C .m) (heard p C) (C .took .passes)
 
   pub in-bounds : (ks : List Call) → Admissible Z ks → (i : ℕ) → InBounds (serverAt Z G M ks i .server)
-  unfolding run start SD.construction
+  unfolding run start SD.construction SD.constructBy
   in-bounds [] a i = go (SD.constructTest H g i initialValue (length (stateAreas i)) (length (initialAreas i)))
     where
       go : (b : Verdict) → InBounds (SD.constructBy H g i b initialValue (stateAreas i) (initialAreas i) .server)

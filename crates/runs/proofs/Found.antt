@@ -32,7 +32,7 @@ at-in (k ∷ l) x e h = go (sameStamp (k .stamp) x) (λ z. at-in l x e z) h
 
 module _ (H : List ℕ → List ℕ) (g : Params) (f : ℕ → List Kept) where
   found-of : (x : Found) → search g f ≡ some x → (k : Kept) × (agreed g f k ≡ true) × (foundOf g f k ≡ x)
-  unfolding search
+  unfolding search foundBy
   found-of x h = go (firstAgreed g f (rowsFrom f 1 (g .n))) refl h
     where
       go : (o : Option Kept) → firstAgreed g f (rowsFrom f 1 (g .n)) ≡ o → foundBy g f o ≡ some x → (k : Kept) × (agreed g f k ≡ true) × (foundOf g f k ≡ x)

@@ -94,6 +94,7 @@ stored-holds g M Q s a j is x e z new i p X = record {
 module _ (H : List ℕ → List ℕ) (g : Params) (me : ℕ) where
   module _ (M : Small g) (few : g .n ≤ 10) (Q : ℕ → Entry → Type 0) where
     gather-holds : (s : Client) (a v : List ℕ) (b : Bool) → Holds g Q s a → Held g Q (C.gatherBy H g me b s a v)
+    unfolding C.sendBelow C.gatherBy
     gather-holds s a v false X = X
     gather-holds s a v true X = go (ltb (largest (λ j. getD (s .times) j 0) (g .n)) lastTime) (largest (λ j. getD (s .times) j 0) (g .n))
       where
@@ -102,11 +103,12 @@ module _ (H : List ℕ → List ℕ) (g : Params) (me : ℕ) where
         go false T = same-rows g Q s _ a refl X
 
     end-holds : (s : Client) (a : List ℕ) (h : List Bool) (b : Bool) → Holds g Q s a → Held g Q (C.endBy H g me b s a h)
+    unfolding C.endBy
     end-holds s a h true X = same-rows g Q s _ a refl X
     end-holds s a h false X = same-rows g Q s _ a refl X
 
     settle-holds : (s : Client) (a : List ℕ) → Holds g Q s a → Held g Q (C.settle H g me s a)
-    unfolding C.settle
+    unfolding C.settle C.completeBy
     settle-holds s a X = go (search g (rowView g s a))
       where
         go : (o : Option Found) → Held g Q (C.completeBy H g me o s a)
@@ -115,13 +117,14 @@ module _ (H : List ℕ → List ℕ) (g : Params) (me : ℕ) where
 
     keep-holds : (s : Client) (a : List ℕ) (j : ℕ) → Among 10 j → (x : Stamp) (e : Entry) → Sized g e → Q j e → (o : Option ℕ) → placeFor (rowOf s j) x ≡ o
         → Holds g Q s a → Held g Q (C.keepBy H g me o s a j x e)
+    unfolding C.keepBy
     keep-holds s a j is x e z new none p X = settle-holds s a X
     keep-holds s a j is x e z new (some i) p X = settle-holds _ _ (stored-holds g M Q s a j is x e z new i p X)
 
     body-holds : (s : Client) (a v : List ℕ) (from : Party) (c q : ℕ) (b : Body) → CT.messageTest H g me s from (record { client = c; sequence = q; body = b }) ≡ J.Fine
         → SizedIn g b → ((x : Stamp) (e : Entry) → b ≡ valueIs x e → fits H e (numberIn from) ≡ true → Q (numberIn from) e)
         → Holds g Q s a → Held g Q (C.onBody H g me s a v (numberIn from) b)
-    unfolding C.onAck C.onStamp C.onValue CT.fitTest
+    unfolding C.onAck C.onStamp C.onValue CT.fitTest C.onBody C.gatherBy C.sendBelow C.endBy C.keepBy CT.orderTest
     body-holds s a v from c q getStamp t z new X = X
     body-holds s a v from c q ack t z new X =
         end-holds s a (set (s .heard) (numberIn from) true) (C.quorate g (set (s .heard) (numberIn from) true)) X
@@ -144,7 +147,7 @@ module _ (H : List ℕ → List ℕ) (g : Params) (me : ℕ) where
     delivered-holds : (s : Client) (a v : List ℕ) (from : Party) (f result out to : List ℕ)
         → ((j : ℕ) (h : Header) (x : Stamp) (e : Entry) → opened g f ≡ O.Frame h → messageIn g h f .body ≡ valueIs x e → fits H e j ≡ true → Q j e)
         → Holds g Q s a → Held g Q (CD.delivered H g me s a v from f result out to)
-    unfolding C.effect
+    unfolding C.effect C.onBody
     delivered-holds s a v from f result out to new X = go (delivered H g me s a v from f result out to)
       where
         go : {r : C.Effect} → Delivered H g me s a v from f r → Held g Q r
@@ -155,7 +158,7 @@ module _ (H : List ℕ → List ℕ) (g : Params) (me : ℕ) where
             (λ x y b o. new (numberIn from) (T .header) x y (T .opens) (ap (λ z. z .body) (T .says) ∙ b) o) X)
 
   read-holds : (Q : ℕ → Entry → Type 0) (s : Client) (a out to : List ℕ) → Holds g Q s a → Holds g Q (CB.readBegun g me s out to .client) a
-  unfolding CB.readBegun CB.openRead
+  unfolding CB.readBegun CB.openRead CB.beginBy
   read-holds Q s a out to X = go (CB.readTest g me s out to)
     where
       go : (y : Verdict) → Holds g Q (CB.beginBy g me y s (CB.openRead g me s) .client) a
@@ -163,7 +166,7 @@ module _ (H : List ℕ → List ℕ) (g : Params) (me : ℕ) where
       go J.Fine = fresh-holds g Q _ a refl (X .room)
 
   write-holds : (Q : ℕ → Entry → Type 0) (s : Client) (a v out to : List ℕ) → Holds g Q s a → Holds g Q (CB.writeBegun g me s v out to .client) a
-  unfolding CB.writeBegun CB.openWrite
+  unfolding CB.writeBegun CB.openWrite CB.beginBy
   write-holds Q s a v out to X = go (CB.writeTest g me s v out to)
     where
       go : (y : Verdict) → Holds g Q (CB.beginBy g me y s (CB.openWrite g me s) .client) a

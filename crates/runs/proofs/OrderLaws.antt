@@ -67,7 +67,7 @@ module _ (Z : Setup) (G : Sound Z) (M : Small (Z .g)) where
   )
 
   first-silent : (j c : ℕ) → readerOf (serverAt Z G M [] j .server) c .listening ≡ false
-  unfolding run start SD.construction freshServer
+  unfolding run start SD.construction freshServer SD.constructBy
   first-silent j c = go (SD.constructTest H g j initialValue (length (stateAreas j)) (length (initialAreas j)))
     where
       go : (b : Verdict) → readerOf (SD.constructBy H g j b initialValue (stateAreas j) (initialAreas j) .server) c .listening ≡ false
@@ -75,7 +75,7 @@ module _ (Z : Setup) (G : Sound Z) (M : Small (Z .g)) where
       go J.Fine = silent 9 c
 
   first-shown : (j : ℕ) → Among (g .n) j → shown Z G M [] j ≡ stamps Z G M .initial
-  unfolding run start SD.construction presentEntry freshServer
+  unfolding run start SD.construction presentEntry freshServer SD.constructBy
   first-shown j is = go (SD.constructTest H g j initialValue (length (stateAreas j)) (length (initialAreas j))) (fresh-fine j is)
     where
       go : (b : Verdict) → b ≡ J.Fine → _≡_ {A = Stamped Z G M} (

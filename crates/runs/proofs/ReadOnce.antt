@@ -41,6 +41,7 @@ use Rattle.runs.specs.World.{Setup, Call, toServer, toClient, beginRead,
 module _ (H : List ℕ → List ℕ) (g : Params) (me : ℕ) where
   value-awaited : (s : Client) (from : Party) (c q : ℕ) (x : Stamp) (e : Entry)
       → CT.messageTest H g me s from (record { client = c; sequence = q; body = valueIs x e }) ≡ J.Fine → CS.reading (s .phase) ≡ true
+  unfolding CT.orderTest
   value-awaited s from c q x e h =
       let w = fine-both _ (CT.fitTest H e (numberIn from)) (Passing.passed H g me s from _ h .order) .0 in
       and-split (CS.reading (s .phase)) _ (awaited-true H g me _ w) .0
@@ -56,6 +57,7 @@ module _ (H : List ℕ → List ℕ) (g : Params) (me : ℕ) where
   quiet-does s a = record { number = refl; still = λ h. h; gives = λ x e. impossible (cc e); found = λ x e. impossible (cc e) }
 
   stamp-does : (s : Client) (a v : List ℕ) (h : List Bool) (ts : List ℕ) (b : Bool) → Does s (C.gatherBy H g me b (inPhase s F.Asking h ts) a v)
+  unfolding C.sendBelow C.gatherBy
   stamp-does s a v h ts false = record { number = refl; still = λ h. impossible (cc h); gives = λ x e. impossible (cc e); found = λ x e. impossible (cc e) }
   stamp-does s a v h ts true = go (ltb (largest (λ j. getD ts j 0) (g .n)) lastTime) (largest (λ j. getD ts j 0) (g .n))
     where
@@ -64,26 +66,28 @@ module _ (H : List ℕ → List ℕ) (g : Params) (me : ℕ) where
       go false M = record { number = refl; still = λ h. impossible (cc h); gives = λ x e. impossible (cc e); found = λ x e. impossible (cc e) }
 
   ack-does : (s : Client) (a : List ℕ) (h : List Bool) (b : Bool) → Does s (C.endBy H g me b s a h)
+  unfolding C.endBy
   ack-does s a h true = record { number = refl; still = λ h. impossible (cc h); gives = λ x e. impossible (cc e); found = λ x e. impossible (cc e) }
   ack-does s a h false = record { number = refl; still = λ h. impossible (cc h); gives = λ x e. impossible (cc e); found = λ x e. impossible (cc e) }
 
   settle-does : (s t : Client) (a : List ℕ) → CS.reading (s .phase) ≡ true → t .reads ≡ s .reads → (o : Option Found) → search g (rowView g t a) ≡ o
       → Does s (C.completeBy H g me o t a)
-  unfolding rowView
+  unfolding rowView C.completeBy
   settle-does s t a r e none f = record { number = e; still = λ h. r; gives = λ x e. impossible (cc e); found = λ x e. impossible (cc e) }
   settle-does s t a r e (some y) f = record { number = e; still = λ h. r; gives = λ x e. (r, refl); found = λ x e. let h : y ≡ x = cc e in f ∙ ap some h }
 
   settled-does : (s t : Client) (a : List ℕ) → CS.reading (s .phase) ≡ true → t .reads ≡ s .reads → Does s (C.settle H g me t a)
-  unfolding C.settle
+  unfolding C.settle C.completeBy
   settled-does s t a r e = settle-does s t a r e (search g (rowView g t a)) refl
 
   value-does : (s : Client) (a : List ℕ) (j : ℕ) (x : Stamp) (e : Entry) → CS.reading (s .phase) ≡ true → (o : Option ℕ) → Does s (C.keepBy H g me o s a j x e)
+  unfolding C.keepBy
   value-does s a j x e r none = settled-does s s a r refl
   value-does s a j x e r (some i) = settled-does s (withRow s j (rowWith (rowOf s j) i x)) (storeEntry a (placeAt j i) e) r refl
 
   move-does : (s : Client) (a v : List ℕ) (from : Party) (c q : ℕ) (b : Body) → CT.messageTest H g me s from (record { client = c; sequence = q; body = b }) ≡ J.Fine
       → Does s (C.onBody H g me s a v (numberIn from) b)
-  unfolding C.onAck C.onStamp C.onValue
+  unfolding C.onAck C.onStamp C.onValue C.onBody C.gatherBy C.sendBelow C.endBy C.keepBy
   move-does s a v from c q getStamp h = quiet-does s a
   move-does s a v from c q ack h = ack-does s a (set (s .heard) (numberIn from) true) (C.quorate g (set (s .heard) (numberIn from) true))
   move-does s a v from c q askRead h = quiet-does s a
@@ -94,7 +98,7 @@ module _ (H : List ℕ → List ℕ) (g : Params) (me : ℕ) where
   move-does s a v from c q (valueIs x e) h = value-does s a (numberIn from) x e (value-awaited s from c q x e h) (placeFor (rowOf s (numberIn from)) x)
 
   pub delivered-does : (s : Client) (a v : List ℕ) (from : Party) (f result out to : List ℕ) → Does s (CD.delivered H g me s a v from f result out to)
-  unfolding CD.delivered C.effect
+  unfolding CD.delivered C.effect CD.effectBy C.onBody
   delivered-does s a v from f result out to = go (CT.judge H g me s a v from f result out to) refl
     where
       go : (j : Judged) → CT.judge H g me s a v from f result out to ≡ j → Does s (CD.effectBy H g me j s a v from)
@@ -104,6 +108,7 @@ module _ (H : List ℕ → List ℕ) (g : Params) (me : ℕ) where
 -- ---- in a run
 
 begin-by : (H : List ℕ → List ℕ) (g : Params) (me : ℕ) (b : Verdict) (s : Client) (r : C.Effect) → (CB.beginBy g me b s r .client ≡ r .client) ⊎ (CB.beginBy g me b s r .client ≡ s)
+unfolding CB.beginBy
 begin-by H g me J.Fine s r = inl refl
 begin-by H g me (J.Bad x) s r = inr refl
 
@@ -127,14 +132,14 @@ module _ (Z : Setup) where
   next-does c s r d = record { up = omega (arith, d .number); still = λ h. inl (d .still h) }
 
   next-read : (c : ℕ) (s : Client) (out to : List ℕ) → Next s (CB.readBegun g c s out to .client)
-  unfolding CB.readBegun CB.openRead
+  unfolding CB.readBegun CB.openRead CB.beginBy
   next-read c s out to = ⊎-elim
       (λ e. rw e (record { up = omega arith; still = λ h. inr (omega arith) }))
       (λ e. next-same s _ e)
       (begin-by H g c (CB.readTest g c s out to) s (CB.openRead g c s))
 
   next-write : (c : ℕ) (s : Client) (v out to : List ℕ) → Next s (CB.writeBegun g c s v out to .client)
-  unfolding CB.writeBegun CB.openWrite
+  unfolding CB.writeBegun CB.openWrite CB.beginBy
   next-write c s v out to = ⊎-elim
       (λ e. rw e (record { up = omega arith; still = λ h. impossible (cc h) }))
       (λ e. next-same s _ e)

@@ -65,6 +65,7 @@ module _ (H : List ℕ → List ℕ) (g : Params) (me : ℕ) where
   entry-own v j e h = let w : e ≡ entryOf H g v j = cc h in sym (ap (λ z. z .digests) w)
 
   send-tells : (s : Client) (a v : List ℕ) (h : List Bool) (ts : List ℕ) (b : Bool) (M : ℕ) → Tells s v (C.sendBelow H g me b (inPhase s F.Asking h ts) a v M)
+  unfolding C.sendBelow
   send-tells s a v h ts false M = record { number = refl; own = none-own (s .writes) v }
   send-tells s a v h ts true M = record {
     number = refl;
@@ -76,14 +77,17 @@ module _ (H : List ℕ → List ℕ) (g : Params) (me : ℕ) where
   }
 
   gather-tells : (s : Client) (a v : List ℕ) (h : List Bool) (ts : List ℕ) (b : Bool) → Tells s v (C.gatherBy H g me b (inPhase s F.Asking h ts) a v)
+  unfolding C.gatherBy C.sendBelow
   gather-tells s a v h ts false = record { number = refl; own = none-own (s .writes) v }
   gather-tells s a v h ts true = send-tells s a v h ts (ltb (largest (λ j. getD ts j 0) (g .n)) lastTime) (largest (λ j. getD ts j 0) (g .n))
 
   end-tells : (s : Client) (a v : List ℕ) (h : List Bool) (b : Bool) → Tells s v (C.endBy H g me b s a h)
+  unfolding C.endBy
   end-tells s a v h true = record { number = refl; own = none-own (s .writes) v }
   end-tells s a v h false = record { number = refl; own = none-own (s .writes) v }
 
   settle-tells : (s t : Client) (a v : List ℕ) → t .writes ≡ s .writes → (o : Option Found) → Tells s v (C.completeBy H g me o t a)
+  unfolding C.completeBy
   settle-tells s t a v e none = record { number = e; own = none-own (s .writes) v }
   settle-tells s t a v e (some x) = record {
     number = e;
@@ -91,15 +95,16 @@ module _ (H : List ℕ → List ℕ) (g : Params) (me : ℕ) where
   }
 
   settled-tells : (s t : Client) (a v : List ℕ) → t .writes ≡ s .writes → Tells s v (C.settle H g me t a)
-  unfolding C.settle
+  unfolding C.settle C.completeBy
   settled-tells s t a v e = settle-tells s t a v e (search g (rowView g t a))
 
   keep-tells : (s : Client) (a v : List ℕ) (j : ℕ) (x : Stamp) (e : Entry) (o : Option ℕ) → Tells s v (C.keepBy H g me o s a j x e)
+  unfolding C.keepBy
   keep-tells s a v j x e none = settled-tells s s a v refl
   keep-tells s a v j x e (some i) = settled-tells s (withRow s j (rowWith (rowOf s j) i x)) (storeEntry a (placeAt j i) e) v refl
 
   body-tells : (s : Client) (a v : List ℕ) (j : ℕ) (b : Body) → Tells s v (C.onBody H g me s a v j b)
-  unfolding C.onAck C.onStamp C.onValue
+  unfolding C.onAck C.onStamp C.onValue C.onBody C.gatherBy C.sendBelow C.endBy C.keepBy
   body-tells s a v j getStamp = quiet-tells s a v
   body-tells s a v j ack = end-tells s a v (set (s .heard) j true) (C.quorate g (set (s .heard) j true))
   body-tells s a v j askRead = quiet-tells s a v
@@ -110,7 +115,7 @@ module _ (H : List ℕ → List ℕ) (g : Params) (me : ℕ) where
   body-tells s a v j (valueIs x e) = keep-tells s a v j x e (placeFor (rowOf s j) x)
 
   delivered-tells : (s : Client) (a v : List ℕ) (from : Party) (f result out to : List ℕ) → Tells s v (CD.delivered H g me s a v from f result out to)
-  unfolding CD.delivered C.effect
+  unfolding CD.delivered C.effect CD.effectBy C.onBody
   delivered-tells s a v from f result out to = go (CT.judge H g me s a v from f result out to)
     where
       go : (j : Judged) → Tells s v (CD.effectBy H g me j s a v from)
@@ -118,7 +123,7 @@ module _ (H : List ℕ → List ℕ) (g : Params) (me : ℕ) where
       go (good m) = body-tells s a v (numberIn from) (m .body)
 
   read-tells : (s : Client) (v out to : List ℕ) → Tells s v (CB.readBegun g me s out to)
-  unfolding CB.readBegun CB.openRead
+  unfolding CB.readBegun CB.openRead CB.beginBy
   read-tells s v out to = go (CB.readTest g me s out to)
     where
       go : (b : Verdict) → Tells s v (CB.beginBy g me b s (CB.openRead g me s))
@@ -129,7 +134,7 @@ module _ (H : List ℕ → List ℕ) (g : Params) (me : ℕ) where
       }
 
   write-own : (s : Client) (w v out to : List ℕ) → SendsOwn (s .writes) w (CB.writeBegun g me s v out to .sends)
-  unfolding CB.writeBegun CB.openWrite
+  unfolding CB.writeBegun CB.openWrite CB.beginBy
   write-own s w v out to = go (CB.writeTest g me s v out to)
     where
       go : (b : Verdict) → SendsOwn (s .writes) w (CB.beginBy g me b s (CB.openWrite g me s) .sends)
@@ -159,12 +164,12 @@ module _ (Z : Setup) where
 
   by-test : (h : ClientSide) (d : ℕ) (v : List ℕ) (b : Verdict)
       → Next h (clientLeft Z (CB.beginBy g d b (h .client) (CB.openWrite g d (h .client))) (h .area) (lentBy Z b v (h .value)))
-  unfolding CB.openWrite
+  unfolding CB.openWrite CB.beginBy
   by-test h d v J.Fine = inr refl
   by-test h d v (J.Bad r) = inl (refl, refl)
 
   next : (ks : List Call) (k : Call) (c : ℕ) → Next (home ks c) (home (k ∷ ks) c)
-  unfolding run step CB.writeBegun
+  unfolding run step CB.writeBegun CB.beginBy
   next ks (toServer j from f out to) c = inl (refl, refl)
   next ks (toClient d from f result out to) c = next-put (run Z ks .clients) d _ c
       (inl (delivered-tells H g d (home ks d .client) (home ks d .area) (home ks d .value) from f result out to .number, refl))
@@ -181,7 +186,7 @@ module _ (Z : Setup) where
     pub value : home (k ∷ ks) c .value ≡ v
 
   opened : (ks : List Call) (k : Call) (c q : ℕ) (v : List ℕ) → OpensWrite Z c q v ks k → Opened ks k c q v
-  unfolding run step CB.writeBegun CB.openWrite
+  unfolding run step CB.writeBegun CB.openWrite CB.beginBy
   opened ks (toServer j from f out to) c q v u = absurd u
   opened ks (toClient d from f result out to) c q v u = absurd u
   opened ks (beginRead d out to) c q v u = absurd u

@@ -38,7 +38,7 @@ module _ {P : Type 0} (R : Rules P) (n t : ℕ) where
   isLike (some y) x = R .alike y x
 
   -- how many of servers 1 to n said x
-  abbrev pub votes : (ℕ → Option P) → P → ℕ
+  unfoldable pub votes : (ℕ → Option P) → P → ℕ
   votes f x = count (λ j. isLike (f j) x) n
 
   -- n - t echoes, or readies enough

@@ -41,7 +41,7 @@ outcome r area out to = record { reply = r .reply; server = r .server; area = ar
 
 module _ (H : List ℕ → List ℕ) (g : Params) (me : ℕ) where
   -- "The answer is the number alone; state and all lent bytes remain unchanged."
-  abbrev pub effectBy : Judged → Server → List ℕ → List ℕ → Party → Effect
+  unfoldable pub effectBy : Judged → Server → List ℕ → List ℕ → Party → Effect
   effectBy (bad r) s a initial from = sendOnly s a []
   effectBy (good m) s a initial from = effect H g me s a initial from m
 
@@ -49,12 +49,12 @@ module _ (H : List ℕ → List ℕ) (g : Params) (me : ℕ) where
   unfoldable pub delivered : Server → List ℕ → List ℕ → Party → List ℕ → List ℕ → List ℕ → Effect
   delivered s a initial from f out to = effectBy (judge H g me s a initial from f out to) s a initial from
 
-  abbrev pub replyOf : Judged → ℕ → Reply
+  unfoldable pub replyOf : Judged → ℕ → Reply
   replyOf (bad r) c = Y.Refused r
   replyOf (good m) c = Y.Step c
 
   -- frames lie end to end from the start of the out area, two bytes for the receiver of each in the to area; other bytes stay as lent
-  abbrev pub outcomeOf : Judged → Effect → List ℕ → List ℕ → Outcome
+  unfoldable pub outcomeOf : Judged → Effect → List ℕ → List ℕ → Outcome
   outcomeOf j x out to = record {
     reply = replyOf j (length (x .sends));
     server = x .server;
@@ -88,7 +88,7 @@ module _ (H : List ℕ → List ℕ) (g : Params) (me : ℕ) where
       (pick (ltb initial (width g)) (J.Bad R.Room)
       J.Fine)))
 
-  abbrev pub constructBy : Verdict → List ℕ → List ℕ → List ℕ → Constructed
+  unfoldable pub constructBy : Verdict → List ℕ → List ℕ → List ℕ → Constructed
   constructBy (J.Bad r) v a initial = record { reply = Y.Refused r; server = freshServer; area = a; initial = initial }
   constructBy J.Fine v a initial = record {
     reply = Y.Step 0;

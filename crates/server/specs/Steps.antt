@@ -74,12 +74,12 @@ abbrev pub wait : Server → List ℕ → ℕ → Slot → List Sending → List
 wait s a c x l vs = record { server = withSlot s c x; area = a; sends = l; accepted = none; decodes = vs }
 
 -- "the time below 2^64 - 1"; "A delivered time of 2^64 - 1 is never accepted and only that client waits."
-abbrev pub acceptBelow : Bool → Server → List ℕ → ℕ → Slot → ℕ → Entry → List Sending → List (List ℕ) → Effect
+unfoldable pub acceptBelow : Bool → Server → List ℕ → ℕ → Slot → ℕ → Entry → List Sending → List (List ℕ) → Effect
 acceptBelow true s a c x T e l vs = accept s a (record { client = c; sequence = x .sequence; time = T; entry = e }) l vs
 acceptBelow false s a c x T e l vs = wait s a c x l vs
 
 -- "Both done": the time is delivered, the blocks are complete
-abbrev pub acceptDone : Option ℕ → Option Entry → Server → List ℕ → ℕ → Slot → List Sending → List (List ℕ) → Effect
+unfoldable pub acceptDone : Option ℕ → Option Entry → Server → List ℕ → ℕ → Slot → List Sending → List (List ℕ) → Effect
 acceptDone none o s a c x l vs = wait s a c x l vs
 acceptDone (some T) none s a c x l vs = wait s a c x l vs
 acceptDone (some T) (some e) s a c x l vs = acceptBelow (ltb T lastTime) s a c x T e l vs
@@ -108,7 +108,7 @@ module _ (H : List ℕ → List ℕ) (g : Params) (me : ℕ) where
       (pick (matters (blockRules H g) (g .n) (g .t) w e) (regained g (w .echoes) (w .readies) (e .digests) ∷ []) [])
 
   -- a frame of client c's open write, its slot being x, from party j
-  abbrev pub onBlock : Server → List ℕ → ℕ → Slot → ℕ → Stage → Entry → Effect
+  unfoldable pub onBlock : Server → List ℕ → ℕ → Slot → ℕ → Stage → Entry → Effect
   onBlock s a c x j send e =
       sendOnly (withSlot s c (withBlocks x (blockSent (x .blocks)))) a (toAll g (λ i. message c (x .sequence) (blockIs echo e)))
   onBlock s a c x j echo e = settleBlocks s (storeEntry a (echoAt c j) e) c (withBlocks x (blockEcho (x .blocks) j)) e
@@ -127,7 +127,7 @@ module _ (H : List ℕ → List ℕ) (g : Params) (me : ℕ) where
       (pick r (toAll g (λ j. message c (x .sequence) (timeIs ready T))) [])
       []
 
-  abbrev pub onTime : Server → List ℕ → ℕ → Slot → ℕ → Stage → ℕ → Effect
+  unfoldable pub onTime : Server → List ℕ → ℕ → Slot → ℕ → Stage → ℕ → Effect
   onTime s a c x j send T =
       sendOnly (withSlot s c (withTimes x (timeSent (x .times)))) a (toAll g (λ i. message c (x .sequence) (timeIs echo T)))
   onTime s a c x j echo T = settleTimes s a c (withTimes x (timeEcho (x .times) j T)) T
@@ -147,7 +147,7 @@ module _ (H : List ℕ → List ℕ) (g : Params) (me : ℕ) where
 
   -- ---- any message that passed the tests, from party j: client c's operation q
 
-  abbrev pub onBody : Server → List ℕ → List ℕ → ℕ → ℕ → ℕ → Body → Effect
+  unfoldable pub onBody : Server → List ℕ → List ℕ → ℕ → ℕ → ℕ → Body → Effect
   onBody s a initial j c q getStamp = sendOnly s a (sending (P.Client c) (message c q (stampIs (s .stamp .time))) ∷ [])
   onBody s a initial j c q ack = sendOnly s a []
   onBody s a initial j c q askRead = onRead s a initial c q

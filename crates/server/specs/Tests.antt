@@ -41,7 +41,7 @@ fromOwner (P.Client d) c = eqb d c
 fromOwner (P.Server j) c = false
 
 -- kinds 1, 3, 6, 10, 12 come from the owner c, 4, 5, 7, 8 from a server, and 2, 9, 11 do not go to servers
-abbrev pub senderRight : Params → Party → ℕ → Body → Bool
+unfoldable pub senderRight : Params → Party → ℕ → Body → Bool
 senderRight g from c getStamp = fromOwner from c
 senderRight g from c ack = false
 senderRight g from c askRead = fromOwner from c
@@ -58,7 +58,7 @@ senderRight g from c (valueIs s e) = false
 -- ---- 12 and 13
 
 -- "Only the first valid frame of a kind, from a sender, for an operation counts": whether the slot x has counted one from party j
-abbrev pub counted : Slot → ℕ → Body → Bool
+unfoldable pub counted : Slot → ℕ → Body → Bool
 counted x j getStamp = false
 counted x j ack = false
 counted x j askRead = false
@@ -105,7 +105,7 @@ placeIn me ready j = j
 
 module _ (H : List ℕ → List ℕ) (g : Params) (me : ℕ) where
   -- of a frame from party j whose sender is right; "Get-stamp is never 12"
-  abbrev pub orderTest : Server → ℕ → ℕ → ℕ → Body → Verdict
+  unfoldable pub orderTest : Server → ℕ → ℕ → ℕ → Body → Verdict
   orderTest s j c q getStamp = J.Fine
   orderTest s j c q ack = J.Fine
   orderTest s j c q askRead = readTest (readerOf s c) q
@@ -123,7 +123,7 @@ module _ (H : List ℕ → List ℕ) (g : Params) (me : ℕ) where
   -- ---- all of them: the lowest number, or what the frame says
 
   -- "A frame is opened first; what does not open never reaches a server's state"
-  abbrev pub judgeOpened : Opened → Verdict → Server → Party → List ℕ → Judged
+  unfoldable pub judgeOpened : Opened → Verdict → Server → Party → List ℕ → Judged
   judgeOpened (O.Refused r) room s from f = bad r
   judgeOpened (O.Frame h) room s from f = judgedBy (andThen room (messageTest s from (messageIn g h f))) (messageIn g h f)
 

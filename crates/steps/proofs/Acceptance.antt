@@ -21,7 +21,7 @@ pub data Settling (g : Params) (s : Server) (a : List ℕ) (c : ℕ) (x : Slot) 
 
 pub settling : (g : Params) (s : Server) (a : List ℕ) (c : ℕ) (x : Slot) (l : List Sending) (vs : List (List ℕ))
     → Settling g s a c x l vs (S.settle g s a c x l vs)
-unfolding S.settle
+unfolding S.settle S.acceptBelow S.acceptDone
 settling g s a c x l vs = go (timeView x .done) (blockView g a c x .done) refl refl
   where
     at : (b : Bool) (T : ℕ) (e : Entry) → timeView x .done ≡ some T → blockView g a c x .done ≡ some e → ltb T lastTime ≡ b

@@ -63,7 +63,7 @@ module _ (H : List ℕ → List ℕ) (g : Params) (me : ℕ) where
 
   pub test-split : (s : Server) (from : Party) (m : Message) → ST.messageTest H g me s from m ≡ J.Fine
       → (ST.senderRight g from (m .client) (m .body) ≡ true) × (ST.orderTest H g me s (numberIn from) (m .client) (m .sequence) (m .body) ≡ J.Fine)
-  unfolding ST.messageTest pick
+  unfolding ST.messageTest pick ST.senderRight ST.orderTest ST.counted
   test-split s from m e = go (ST.senderRight g from (m .client) (m .body)) refl e
     where
       go : (b : Bool) → ST.senderRight g from (m .client) (m .body) ≡ b
@@ -174,7 +174,7 @@ module _ (H : List ℕ → List ℕ) (g : Params) (M : Small g) (few : g .n ≤ 
 
     block-send : (q : ℕ) (e : Entry) → q ≡ slotOf s c .sequence → slotOf s c .blocks .sent ≡ false
         → BlockFacts s a (A.Client c) (message c q (blockIs send e)) (S.onBlock H g me s a c (slotOf s c) c send e)
-    unfolding blockView toAll
+    unfolding blockView toAll S.onBlock
     block-send q e eq n = facts-by (A.Client c) (message c q (blockIs send e)) (withSent (bview a c (slotOf s c))) (λ z p. (z ≡ echo) × (e ≡ p)) _
         (record {
           others = other-slot s c (withBlocks (slotOf s c) (blockSent (slotOf s c .blocks)));
@@ -190,6 +190,7 @@ module _ (H : List ℕ → List ℕ) (g : Params) (M : Small g) (few : g .n ≤ 
 
     block-echo : (q j : ℕ) (e : Entry) → Sane Rb (g .t) (λ e. e .digests) → Sized g e → Among (g .n) j → q ≡ slotOf s c .sequence
         → BlockFacts s a (A.Server j) (message c q (blockIs echo e)) (S.onBlock H g me s a c (slotOf s c) j echo e)
+    unfolding S.onBlock
     block-echo q j e O Q ij eq =
         let x = slotOf s c in
         let i10 : Among 10 j = omega arith in
@@ -206,6 +207,7 @@ module _ (H : List ℕ → List ℕ) (g : Params) (M : Small g) (few : g .n ≤ 
 
     block-ready : (q j : ℕ) (e : Entry) → Sane Rb (g .t) (λ e. e .digests) → Sized g e → Among (g .n) j → q ≡ slotOf s c .sequence
         → BlockFacts s a (A.Server j) (message c q (blockIs ready e)) (S.onBlock H g me s a c (slotOf s c) j ready e)
+    unfolding S.onBlock
     block-ready q j e O Q ij eq =
         let x = slotOf s c in
         let i10 : Among 10 j = omega arith in
@@ -231,7 +233,7 @@ module _ (H : List ℕ → List ℕ) (g : Params) (M : Small g) (few : g .n ≤ 
         (rest-facts (λ e. e .digests) (g .n) (g .t) (bview a c (slotOf s c)) _ _ _)
 
     block-by-time-send : (from : Party) (m : Message) (T : ℕ) → BlockFacts s a from m (S.onTime H g me s a c (slotOf s c) c send T)
-    unfolding blockView toAll
+    unfolding blockView toAll S.onTime
     block-by-time-send from m T = facts-by from m (bview a c (slotOf s c)) (λ z p. ⊥) _
         (record {
           others = other-slot s c (withTimes (slotOf s c) (timeSent (slotOf s c .times)));
@@ -251,7 +253,7 @@ module _ (H : List ℕ → List ℕ) (g : Params) (M : Small g) (few : g .n ≤ 
   module _ (O : Sane Rb (g .t) (λ e. e .digests)) (s : Server) (a initial : List ℕ) (F : ServerShape s a) where
     body-facts : (from : Party) (c q : ℕ) → Among 8 c → (b : Body) → SizedIn g b → ST.senderRight g from c b ≡ true → ST.orderTest H g me s (numberIn from) c q b ≡ J.Fine
         → BlockFacts s a from (message c q b) (S.onBody H g me s a initial (numberIn from) c q b)
-    unfolding S.onRead S.onReadComplete
+    unfolding S.onRead S.onReadComplete ST.senderRight ST.orderTest S.onBody ST.counted S.onBlock S.onTime
     body-facts from c q is getStamp f p o = block-idle s a from _ _ refl refl (λ b d r z y u. impossible (cc (ap (λ m. m .says .body) (List·Memᴰ·eq-of-singleton u)))) refl
     body-facts from c q is ack f p o = impossible (cc)
     body-facts from c q is askRead f p o = block-idle s a from _ _ refl refl (λ b d r z y u. impossible (cc (ap (λ m. m .says .body) (List·Memᴰ·eq-of-singleton u)))) refl
@@ -276,7 +278,7 @@ module _ (H : List ℕ → List ℕ) (g : Params) (M : Small g) (few : g .n ≤ 
     -- the blocks' broadcast, at each frame that passes the tests
     pub block-facts : (from : Party) (m : Message) → Among 8 (m .client) → SizedIn g (m .body) → ST.messageTest H g me s from m ≡ J.Fine
         → BlockFacts s a from m (S.effect H g me s a initial from m)
-    unfolding S.effect
+    unfolding S.effect S.onBody S.onBlock S.onTime
     block-facts from m is f e =
         let w = test-split H g me s from m e in
         body-facts from (m .client) (m .sequence) is (m .body) f (w .0) (w .1)

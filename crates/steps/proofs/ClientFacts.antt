@@ -63,7 +63,7 @@ row-has (k ∷ l) x d e = go (row-has l x d) (sameStamp (k .stamp) x) refl e
 
 module _ (H : List ℕ → List ℕ) (g : Params) where
   pub first-agreed : (f : ℕ → List Kept) (l : List Kept) (k : Kept) → firstAgreed g f l ≡ some k → agreed g f k ≡ true
-  unfolding firstAgreed
+  unfolding firstAgreed firstBy
   first-agreed f [] k e = impossible (cc)
   first-agreed f (y ∷ l) k e = go (first-agreed f l k) (agreed g f y) refl e
     where
@@ -81,7 +81,7 @@ module _ (H : List ℕ → List ℕ) (g : Params) where
 
   -- the search finds what n - t rows have
   pub finds : (f : ℕ → List Kept) (v : Found) → search g f ≡ some v → AtLeast (g .n) (g .n - g .t) (λ j. Has (f j) (v .stamp) (v .digests))
-  unfolding search foundOf
+  unfolding search foundOf foundBy
   finds f v e = go (firstAgreed g f (rowsFrom f 1 (g .n))) refl e
     where
       go : (o : Option Kept) → firstAgreed g f (rowsFrom f 1 (g .n)) ≡ o → foundBy g f o ≡ some v → AtLeast (g .n) (g .n - g .t) (λ j. Has (f j) (v .stamp) (v .digests))
@@ -263,7 +263,7 @@ module _ (H : List ℕ → List ℕ) (g : Params) (M : Small g) (few : g .n ≤ 
 
     stamp-facts : ClientShape s a → s .phase ≡ F.Asking → (v : List ℕ) (j T : ℕ) → Among (g .n) j → N j (message me (s .writes) (stampIs T))
         → ClientFacts (C.onStamp H g me s a v j T .client) (C.onStamp H g me s a v j T .area) (C.onStamp H g me s a v j T .sends) (C.onStamp H g me s a v j T .event)
-    unfolding C.onStamp C.quorate
+    unfolding C.onStamp C.quorate C.sendBelow C.gatherBy
     stamp-facts X p v j T ij new = gather (C.quorate g (heardNow j)) refl
       where
         Of : C.Effect → Type 0
@@ -334,7 +334,7 @@ module _ (H : List ℕ → List ℕ) (g : Params) (M : Small g) (few : g .n ≤ 
 
     ack-facts : ClientShape s a → s .phase ≡ F.Acking → (j : ℕ) → Among (g .n) j → N j (message me (s .writes) ack)
         → ClientFacts (C.onAck H g me s a j .client) (C.onAck H g me s a j .area) (C.onAck H g me s a j .sends) (C.onAck H g me s a j .event)
-    unfolding C.onAck C.quorate
+    unfolding C.onAck C.quorate C.endBy
     ack-facts X p j ij new = go (C.quorate g (heardNow j)) refl
       where
         Of : C.Effect → Type 0
@@ -373,7 +373,7 @@ module _ (H : List ℕ → List ℕ) (g : Params) (M : Small g) (few : g .n ≤ 
     settle-facts : (s′ : Client) (a′ : List ℕ) → ClientShape s′ a′ → s′ .writes ≡ s .writes → s′ .reads ≡ s .reads → s′ .phase ≡ F.Reading
         → ((i : ℕ) (k : Kept) → Among (g .n) i → List·Memᴰ k (rowView g s′ a′ i) → KnowsV i k)
         → ClientFacts (C.settle H g me s′ a′ .client) (C.settle H g me s′ a′ .area) (C.settle H g me s′ a′ .sends) (C.settle H g me s′ a′ .event)
-    unfolding C.settle
+    unfolding C.settle C.completeBy
     settle-facts s′ a′ X ew er p f = go (search g (rowView g s′ a′)) refl
       where
         Of : C.Effect → Type 0
@@ -404,7 +404,7 @@ module _ (H : List ℕ → List ℕ) (g : Params) (M : Small g) (few : g .n ≤ 
 
     value-facts : ClientShape s a → s .phase ≡ F.Reading → (j : ℕ) (x : Stamp) (e : Entry) → Sized g e → Among (g .n) j → N j (message me (s .reads) (valueIs x e))
         → ClientFacts (C.onValue H g me s a j x e .client) (C.onValue H g me s a j x e .area) (C.onValue H g me s a j x e .sends) (C.onValue H g me s a j x e .event)
-    unfolding C.onValue
+    unfolding C.onValue C.keepBy
     value-facts X p j x e Q ij new = go (placeFor (rowOf s j) x) refl
       where
         Of : C.Effect → Type 0
@@ -449,6 +449,7 @@ module _ (H : List ℕ → List ℕ) (g : Params) (M : Small g) (few : g .n ≤ 
 
   body-facts : (s : Client) (a v : List ℕ) → ClientShape s a → (j q : ℕ) (b : Body) → Among (g .n) j → FormedBody g b → CT.orderTest H g me s j q b ≡ J.Fine
       → ClientFacts s a (Brought j (message me q b)) (C.onBody H g me s a v j b .client) (C.onBody H g me s a v j b .area) (C.onBody H g me s a v j b .sends) (C.onBody H g me s a v j b .event)
+  unfolding CT.orderTest C.onBody
   body-facts s a v X j q getStamp ij f o = quiet-facts s a _ X
   body-facts s a v X j q ack ij f o =
       let w = and-split (CS.acking (s .phase)) _ (awaited-true H g me _ o) in
@@ -470,7 +471,7 @@ module _ (H : List ℕ → List ℕ) (g : Params) (M : Small g) (few : g .n ≤ 
   pub effect-facts : (s : Client) (a v : List ℕ) → ClientShape s a → (j q : ℕ) (b : Body) → Among (g .n) j → FormedBody g b → CT.orderTest H g me s j q b ≡ J.Fine
       → ClientFacts s a (Brought j (message me q b)) (C.effect H g me s a v (A.Server j) (message me q b) .client) (C.effect H g me s a v (A.Server j) (message me q b) .area)
       (C.effect H g me s a v (A.Server j) (message me q b) .sends) (C.effect H g me s a v (A.Server j) (message me q b) .event)
-  unfolding C.effect
+  unfolding C.effect CT.orderTest C.onBody
   effect-facts s a v X j q b ij f o = body-facts s a v X j q b ij f o
 
   -- ---- beginnings
@@ -480,7 +481,7 @@ module _ (H : List ℕ → List ℕ) (g : Params) (M : Small g) (few : g .n ≤ 
 
   pub read-facts : (s : Client) (a : List ℕ) → ClientShape s a → (out to : List ℕ)
       → ClientFacts s a Nought (CB.readBegun g me s out to .client) a (CB.readBegun g me s out to .sends) (CB.readBegun g me s out to .event)
-  unfolding CB.readBegun CB.openRead
+  unfolding CB.readBegun CB.openRead CB.beginBy
   read-facts s a X out to = go (CB.readTest g me s out to)
     where
       go : (y : Verdict) → ClientFacts s a Nought (CB.beginBy g me y s (CB.openRead g me s) .client) a (CB.beginBy g me y s (CB.openRead g me s) .sends) (CB.beginBy g me y s (CB.openRead g me s) .event)
@@ -504,7 +505,7 @@ module _ (H : List ℕ → List ℕ) (g : Params) (M : Small g) (few : g .n ≤ 
 
   pub write-facts : (s : Client) (a : List ℕ) → ClientShape s a → (v out to : List ℕ)
       → ClientFacts s a Nought (CB.writeBegun g me s v out to .client) a (CB.writeBegun g me s v out to .sends) (CB.writeBegun g me s v out to .event)
-  unfolding CB.writeBegun CB.openWrite
+  unfolding CB.writeBegun CB.openWrite CB.beginBy
   write-facts s a X v out to = go (CB.writeTest g me s v out to)
     where
       go : (y : Verdict) → ClientFacts s a Nought (CB.beginBy g me y s (CB.openWrite g me s) .client) a (CB.beginBy g me y s (CB.openWrite g me s) .sends) (CB.beginBy g me y s (CB.openWrite g me s) .event)

@@ -64,6 +64,7 @@ module _ (H : List ℕ → List ℕ) (g : Params) (me : ℕ) where
 
   took-by : (o : Opened) (room : Verdict) (s : Client) (v : List ℕ) (from : Party) (f : List ℕ) (m : Message) → CT.valueTest g s (length v) ≡ J.Fine → opened g f ≡ o
       → CT.judgeOpened H g me o room s from f ≡ good m → Taken s v from f m
+  unfolding CT.judgeOpened
   took-by (O.Refused r) room s v from f m t p q = impossible (cc)
   took-by (O.Frame h) room s v from f m t p q = go (andThen room (CT.messageTest H g me s from (messageIn g h f))) refl q
     where
@@ -74,7 +75,7 @@ module _ (H : List ℕ → List ℕ) (g : Params) (me : ℕ) where
           record { header = h; opens = p; says = is; passes = subst (λ x. CT.messageTest H g me s from x ≡ J.Fine) is (fine-both room _ e .1); value = t }
 
   pub took : (s : Client) (a v : List ℕ) (from : Party) (f result out to : List ℕ) (m : Message) → CT.judge H g me s a v from f result out to ≡ good m → Taken s v from f m
-  unfolding CT.judge
+  unfolding CT.judge CT.judgeOpened
   took s a v from f result out to m e = go (andThen (paramsTest g me 8) (CT.valueTest g s (length v))) refl e
     where
       go : (y : Verdict) → andThen (paramsTest g me 8) (CT.valueTest g s (length v)) ≡ y
@@ -83,7 +84,7 @@ module _ (H : List ℕ → List ℕ) (g : Params) (me : ℕ) where
       go (J.Bad r) p e = impossible (cc)
 
   pub delivered : (s : Client) (a v : List ℕ) (from : Party) (f result out to : List ℕ) → Delivered s a v from f (CD.delivered H g me s a v from f result out to)
-  unfolding CD.delivered
+  unfolding CD.delivered CT.answers CT.orderTest CD.effectBy
   delivered s a v from f result out to = go (CT.judge H g me s a v from f result out to) refl
     where
       go : (j : Judged) → CT.judge H g me s a v from f result out to ≡ j → Delivered s a v from f (CD.effectBy H g me j s a v from)
@@ -98,7 +99,7 @@ module _ (H : List ℕ → List ℕ) (g : Params) (me : ℕ) where
     pub order : CT.orderTest H g me s (numberIn from) (m .sequence) (m .body) ≡ J.Fine
 
   pub passed : (s : Client) (from : Party) (m : Message) → CT.messageTest H g me s from m ≡ J.Fine → Passed s from m
-  unfolding CT.messageTest pick
+  unfolding CT.messageTest pick CT.answers CT.orderTest
   passed s from m e = go (fromServer g from && (CT.answers (m .body) && eqb (m .client) me)) refl e
     where
       go : (b : Bool) → (fromServer g from && (CT.answers (m .body) && eqb (m .client) me)) ≡ b
@@ -144,7 +145,7 @@ module _ (H : List ℕ → List ℕ) (g : Params) (me : ℕ) where
     said q lo hi b f = record { client-low = is .0; client-high = is .1; sequence-low = lo; sequence-high = hi; body = f }
 
     stamp-formed : (s : Client) (a v : List ℕ) (j T : ℕ) → 1 ≤ s .writes → s .writes < 4294967296 → length v ≡ g .size → AllFormed g (C.onStamp H g me s a v j T .sends)
-    unfolding C.onStamp
+    unfolding C.onStamp C.sendBelow C.gatherBy
     stamp-formed s a v j T lo hi e = gather (C.quorate g (set (s .heard) j true)) (inPhase s F.Asking (set (s .heard) j true) (set (s .times) j T)) lo hi
       where
         send-by : (b : Bool) (s : Client) (M : ℕ) → ltb M lastTime ≡ b → 1 ≤ s .writes → s .writes < 4294967296 → AllFormed g (C.sendBelow H g me b s a v M .sends)
@@ -158,7 +159,7 @@ module _ (H : List ℕ → List ℕ) (g : Params) (me : ℕ) where
         gather false s lo hi = none-formed
 
     ack-formed : (s : Client) (a : List ℕ) (j : ℕ) → AllFormed g (C.onAck H g me s a j .sends)
-    unfolding C.onAck
+    unfolding C.onAck C.endBy
     ack-formed s a j = go (C.quorate g (set (s .heard) j true))
       where
         go : (b : Bool) → AllFormed g (C.endBy H g me b s a (set (s .heard) j true) .sends)
@@ -166,7 +167,7 @@ module _ (H : List ℕ → List ℕ) (g : Params) (me : ℕ) where
         go false = none-formed
 
     settle-formed : (s : Client) (a : List ℕ) → 1 ≤ s .reads → s .reads < 4294967296 → AllFormed g (C.settle H g me s a .sends)
-    unfolding C.settle
+    unfolding C.settle C.completeBy
     settle-formed s a lo hi = go (search g (rowView g s a))
       where
         go : (o : Option Found) → AllFormed g (C.completeBy H g me o s a .sends)
@@ -174,7 +175,7 @@ module _ (H : List ℕ → List ℕ) (g : Params) (me : ℕ) where
         go (some x) = formed-all g _ (λ i. said (s .reads) lo hi readComplete tt)
 
     value-formed : (s : Client) (a : List ℕ) (j : ℕ) (x : Stamp) (e : Entry) → 1 ≤ s .reads → s .reads < 4294967296 → AllFormed g (C.onValue H g me s a j x e .sends)
-    unfolding C.onValue
+    unfolding C.onValue C.keepBy
     value-formed s a j x e lo hi = go (placeFor (rowOf s j) x)
       where
         go : (o : Option ℕ) → AllFormed g (C.keepBy H g me o s a j x e .sends)
@@ -183,6 +184,7 @@ module _ (H : List ℕ → List ℕ) (g : Params) (me : ℕ) where
 
     body-formed : (s : Client) (a v : List ℕ) (j c q : ℕ) (b : Body) → Formed g (message c q b) → CT.orderTest H g me s j q b ≡ J.Fine → CT.valueTest g s (length v) ≡ J.Fine
         → AllFormed g (C.onBody H g me s a v j b .sends)
+    unfolding CT.orderTest C.onBody
     body-formed s a v j c q getStamp f o t = none-formed
     body-formed s a v j c q ack f o t = ack-formed s a j
     body-formed s a v j c q askRead f o t = none-formed
@@ -199,7 +201,7 @@ module _ (H : List ℕ → List ℕ) (g : Params) (me : ℕ) where
         value-formed s a j x e (omega (arith, z, f .sequence-low)) (omega (arith, z, f .sequence-high))
 
     pub delivered-formed : (s : Client) (a v : List ℕ) (from : Party) (f result out to : List ℕ) → Bytes f → AllFormed g (CD.delivered H g me s a v from f result out to .sends)
-    unfolding C.effect
+    unfolding C.effect C.onBody
     delivered-formed s a v from f result out to bs = go (delivered s a v from f result out to)
       where
         go : {r : C.Effect} → Delivered s a v from f r → AllFormed g (r .sends)
@@ -228,7 +230,7 @@ module _ (H : List ℕ → List ℕ) (g : Params) (me : ℕ) where
         fine-both (CB.idleTest s (s .writes)) _ p₃ .0
 
     pub read-formed : (s : Client) (out to : List ℕ) → AllFormed g (CB.readBegun g me s out to .sends)
-    unfolding CB.readBegun CB.openRead
+    unfolding CB.readBegun CB.openRead CB.beginBy
     read-formed s out to = go (CB.readTest g me s out to) refl
       where
         go : (y : Verdict) → CB.readTest g me s out to ≡ y → AllFormed g (CB.beginBy g me y s (CB.openRead g me s) .sends)
@@ -238,7 +240,7 @@ module _ (H : List ℕ → List ℕ) (g : Params) (me : ℕ) where
             formed-all g _ (λ i. said (s .reads + 1) (omega arith) (omega (arith, h)) askRead tt)
 
     pub write-formed : (s : Client) (v out to : List ℕ) → AllFormed g (CB.writeBegun g me s v out to .sends)
-    unfolding CB.writeBegun CB.openWrite
+    unfolding CB.writeBegun CB.openWrite CB.beginBy
     write-formed s v out to = go (CB.writeTest g me s v out to) refl
       where
         go : (y : Verdict) → CB.writeTest g me s v out to ≡ y → AllFormed g (CB.beginBy g me y s (CB.openWrite g me s) .sends)

@@ -77,11 +77,12 @@ module _ (H : List ℕ → List ℕ) (g : Params) (kk : 1 ≤ g .k) where
   like (some y) x = refl
 
   pub votes-are : (f : ℕ → Option Entry) (x : Entry) → votes (blockRules H g) (g .n) (g .t) f x ≡ count (λ j. hasList (f j) (x .digests)) (g .n)
+  unfolding votes
   votes-are f x i = count (λ j. like (f j) x i) (g .n)
 
   pub coded : (me : ℕ) (w : Part Entry) (x : Entry) → Sized g x → full (blockRules H g) (g .n) (g .t) w x ≡ true
       → Sized g (blockRules H g .own me (w .echoes) (w .readies) x)
-  unfolding full regained chosen pick
+  unfolding full regained chosen pick votes
   coded me w x Q e =
       let v = leb-true (quota g + g .t) (votes (blockRules H g) (g .n) (g .t) (w .readies) x) (and-split _ _ e .0) in
       let c = votes-are (w .readies) x in

@@ -66,6 +66,7 @@ module _ {P D : Type 0} (R : Rules P) (n t : ℕ) (π : P → D) (O : Sane R t �
       (ke : (j : ℕ) (p : P) → w .echoes j ≡ some p → (s .echoes j ≡ some p) ⊎ NE j p)
       (kr : (j : ℕ) (p : P) → w .readies j ≡ some p → (s .readies j ≡ some p) ⊎ NR j p) where
     by-readies : (m : ℕ) → m ≤ votes R n t (w .readies) x → (d : D) → π x ≡ d → AtLeast n m (Heard π (s .readies) NR d)
+    unfolding votes
     by-readies m h d e = record {
       member = λ j. isLike R n t (w .readies j) x;
       many = h;
@@ -73,6 +74,7 @@ module _ {P D : Type 0} (R : Rules P) (n t : ℕ) (π : P → D) (O : Sane R t �
     }
 
     by-echoes : (m : ℕ) → m ≤ votes R n t (w .echoes) x → (d : D) → π x ≡ d → AtLeast n m (Heard π (s .echoes) NE d)
+    unfolding votes
     by-echoes m h d e = record {
       member = λ j. isLike R n t (w .echoes j) x;
       many = h;
@@ -80,7 +82,7 @@ module _ {P D : Type 0} (R : Rules P) (n t : ℕ) (π : P → D) (O : Sane R t �
     }
 
     why-due : (d : D) → π x ≡ d → due R n t w x ≡ true → AtLeast n (n - t) (Heard π (s .echoes) NE d) ⊎ AtLeast n (suc t) (Heard π (s .readies) NR d)
-    unfolding due enough
+    unfolding due enough votes
     why-due d q e =
         let z = and-split _ _ (and-split (not (w .ready)) _ e .1) .0 in
         ⊎-elim
@@ -92,7 +94,7 @@ module _ {P D : Type 0} (R : Rules P) (n t : ℕ) (π : P → D) (O : Sane R t �
     own-eq e = sym (ap π e ∙ O .own-same i (w .echoes) (w .readies) x)
 
     full-votes : full R n t w x ≡ true → R .all ≤ votes R n t (w .readies) x
-    unfolding full
+    unfolding full votes
     full-votes f = leb-true (R .all) (votes R n t (w .readies) x) (and-split _ _ f .0)
 
     done-from : (o : Option P) (d : Bool) (p : P) → w .done ≡ o → full R n t w x ≡ d → firstOf o (kept d (R .own i (w .echoes) (w .readies) x)) ≡ some p

@@ -85,7 +85,7 @@ module _ (H : List ℕ → List ℕ) (g : Params) (M : Small g) (few : g .n ≤ 
 
   shape-body : (s : Server) (a initial : List ℕ) → ServerShape s a → (from : Party) (c q : ℕ) → Among 8 c → (b : Body) → ST.senderRight g from c b ≡ true
       → ServerShape (S.onBody H g me s a initial (numberIn from) c q b .server) (S.onBody H g me s a initial (numberIn from) c q b .area)
-  unfolding S.onRead S.onReadComplete
+  unfolding S.onRead S.onReadComplete ST.senderRight S.onBody S.onBlock S.onTime
   shape-body s a initial F from c q is getStamp p = F
   shape-body s a initial F from c q is ack p = F
   shape-body s a initial F from c q is askRead p = shape-same s _ a a F refl refl
@@ -121,7 +121,7 @@ module _ (H : List ℕ → List ℕ) (g : Params) (M : Small g) (few : g .n ≤ 
     taken : (m : Message) → Taken H g me s from f m → r ≡ S.effect H g me s a initial from m → Delivered s a initial from f r
 
   pub delivered : (s : Server) (a initial : List ℕ) (from : Party) (f out to : List ℕ) → Delivered s a initial from f (SD.delivered H g me s a initial from f out to)
-  unfolding SD.delivered
+  unfolding SD.delivered SD.effectBy
   delivered s a initial from f out to = go (ST.judge H g me s a initial from f out to) refl
     where
       go : (j : Judged) → ST.judge H g me s a initial from f out to ≡ j → Delivered s a initial from f (SD.effectBy H g me j s a initial from)
@@ -130,7 +130,7 @@ module _ (H : List ℕ → List ℕ) (g : Params) (M : Small g) (few : g .n ≤ 
 
   pub shape-effect : (s : Server) (a initial : List ℕ) → ServerShape s a → (from : Party) (f : List ℕ) (m : Message) → Taken H g me s from f m
       → ServerShape (S.effect H g me s a initial from m .server) (S.effect H g me s a initial from m .area)
-  unfolding S.effect
+  unfolding S.effect S.onBody S.onBlock S.onTime
   shape-effect s a initial F from f m T = shape-body s a initial F from (m .client) (m .sequence) (T .client) (m .body) (test-split H g me s from m (T .passes) .0)
 
   pub shape-delivered : (s : Server) (a initial : List ℕ) → ServerShape s a → (from : Party) (f : List ℕ) (r : S.Effect) → Delivered s a initial from f r → ServerShape (r .server) (r .area)
@@ -138,7 +138,7 @@ module _ (H : List ℕ → List ℕ) (g : Params) (M : Small g) (few : g .n ≤ 
   shape-delivered s a initial F from f r (taken m T e) = rw e (shape-effect s a initial F from f m T)
 
   pub shape-fresh : (v a initial : List ℕ) → areaBytes ≤ length a → ServerShape (SD.construction H g me v a initial .server) (SD.construction H g me v a initial .area)
-  unfolding SD.construction freshServer
+  unfolding SD.construction freshServer SD.constructBy
   shape-fresh v a initial R = go (SD.constructTest H g me v (length a) (length initial))
     where
       base : (a′ : List ℕ) → areaBytes ≤ length a′ → ServerShape freshServer a′

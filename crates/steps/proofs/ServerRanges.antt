@@ -215,7 +215,7 @@ module _ (H : List ℕ → List ℕ) (g : Params) (M : Small g) (me : ℕ) where
   module _ (kk : 1 ≤ g .k) (kn : g .k + 2 * g .t ≤ g .n) where
     -- a block that is due has its size
     due-sized : (w : Part Entry) (x : Entry) → Sized g x → due (blockRules H g) (g .n) (g .t) w x ≡ true → Sized g (blockRules H g .own me (w .echoes) (w .readies) x)
-    unfolding due enough regained chosen pick
+    unfolding due enough regained chosen pick votes
     due-sized w x Q e =
         let z = and-split _ _ (and-split (not (w .ready)) _ e .1) .0 in
         record {
@@ -255,7 +255,7 @@ module _ (H : List ℕ → List ℕ) (g : Params) (M : Small g) (me : ℕ) where
 
       body-good : (from : Party) (c q : ℕ) (b : Body) → Formed g (message c q b) → ST.orderTest H g me s (numberIn from) c q b ≡ J.Fine
           → Good g (S.onBody H g me s a initial (numberIn from) c q b)
-      unfolding S.onRead S.onReadComplete
+      unfolding S.onRead S.onReadComplete ST.orderTest S.onBody ST.counted S.onBlock S.onTime
       body-good from c q getStamp f o = one-good s B s B a _ (with-body g c q getStamp (stampIs (s .stamp .time)) f (B .stamp .time-high))
       body-good from c q ack f o = record { in-bounds = B; formed = λ x u. absurd (List·Memᴰ·not-nil u); write-in-bounds = λ k q. impossible (cc) }
       body-good from c q askRead f o = one-good s B _ (in-bounds-reader s B c (f .client-low, f .client-high) _ (B .stamp) (f .sequence-low, f .sequence-high)) a _
@@ -290,5 +290,5 @@ module _ (H : List ℕ → List ℕ) (g : Params) (M : Small g) (me : ℕ) where
 
       -- each frame that passes the tests
       pub effect-good : (from : Party) (m : Message) → Formed g m → ST.messageTest H g me s from m ≡ J.Fine → Good g (S.effect H g me s a initial from m)
-      unfolding S.effect
+      unfolding S.effect S.onBody S.onBlock S.onTime
       effect-good from m f e = body-good from (m .client) (m .sequence) (m .body) f (test-split H g me s from m e .1)

@@ -236,7 +236,7 @@ module _ (H : List ℕ → List ℕ) (g : Params) (M : Small g) (me : ℕ) where
 
     body-facts : (from : Party) (c q : ℕ) (b : Body) → Formed g (message c q b) → ST.senderRight g from c b ≡ true → ST.orderTest H g me s (numberIn from) c q b ≡ J.Fine
         → StampFacts s a initial from (message c q b) (S.onBody H g me s a initial (numberIn from) c q b)
-    unfolding S.onRead S.onReadComplete
+    unfolding S.onRead S.onReadComplete ST.senderRight ST.orderTest S.onBody ST.counted S.onBlock S.onTime
     body-facts from c q getStamp f p o = record {
       up = omega arith;
       ack-accepted = λ b d r u. impossible (cc (ap (λ z. z .says .body) (List·Memᴰ·eq-of-singleton u)));
@@ -304,7 +304,7 @@ module _ (H : List ℕ → List ℕ) (g : Params) (M : Small g) (me : ℕ) where
 
     -- each frame that passes the tests
     pub order-facts : (from : Party) (m : Message) → Formed g m → ST.messageTest H g me s from m ≡ J.Fine → StampFacts s a initial from m (S.effect H g me s a initial from m)
-    unfolding S.effect
+    unfolding S.effect S.onBody S.onBlock S.onTime
     order-facts from m f e =
         let w = test-split H g me s from m e in
         body-facts from (m .client) (m .sequence) (m .body) f (w .0) (w .1)

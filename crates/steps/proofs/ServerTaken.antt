@@ -99,7 +99,7 @@ pub record Taken (H : List ℕ → List ℕ) (g : Params) (me : ℕ) (s : Server
 module _ (H : List ℕ → List ℕ) (g : Params) (me : ℕ) where
   took-by : (o : Opened) (room : Verdict) (s : Server) (from : Party) (f : List ℕ) (m : Message) → opened g f ≡ o
       → ST.judgeOpened H g me o room s from f ≡ good m → Taken H g me s from f m
-  unfolding messageIn
+  unfolding messageIn ST.judgeOpened
   took-by (O.Refused r) room s from f m p q = impossible (cc)
   took-by (O.Frame h) room s from f m p q = go (andThen room (ST.messageTest H g me s from (messageIn g h f))) refl q
     where
@@ -118,7 +118,7 @@ module _ (H : List ℕ → List ℕ) (g : Params) (me : ℕ) where
           }
 
   pub took : (s : Server) (a initial : List ℕ) (from : Party) (f out to : List ℕ) (m : Message) → ST.judge H g me s a initial from f out to ≡ good m → Taken H g me s from f m
-  unfolding ST.judge
+  unfolding ST.judge ST.judgeOpened
   took s a initial from f out to m e = go (paramsTest g me (g .n)) e
     where
       go : (v : Verdict) → after v (ST.judgeOpened H g me (opened g f) (ST.roomTest g (length a) (length initial) (length out) (length to)) s from f) ≡ good m → Taken H g me s from f m

@@ -108,7 +108,7 @@ module _ (H : List ℕ → List ℕ) (g : Params) (M : Small g) (few : g .n ≤ 
 
     time-send : (q T : ℕ) → q ≡ slotOf s c .sequence → slotOf s c .times .sent ≡ false
         → TimeFacts s a (A.Client c) (message c q (timeIs send T)) (S.onTime H g me s a c (slotOf s c) c send T)
-    unfolding timeView toAll
+    unfolding timeView toAll S.onTime
     time-send q T eq n = facts-by (A.Client c) (message c q (timeIs send T)) (withSent (timeView (slotOf s c))) (λ z p. (z ≡ echo) × (T ≡ p)) _
         (record {
           others = other-slot s c (withTimes (slotOf s c) (timeSent (slotOf s c .times)));
@@ -124,6 +124,7 @@ module _ (H : List ℕ → List ℕ) (g : Params) (M : Small g) (few : g .n ≤ 
 
     time-echo : (q j T : ℕ) → Sane Rt (g .t) self → Among (g .n) j → q ≡ slotOf s c .sequence
         → TimeFacts s a (A.Server j) (message c q (timeIs echo T)) (S.onTime H g me s a c (slotOf s c) j echo T)
+    unfolding S.onTime
     time-echo q j T O ij eq =
         let x = slotOf s c in
         let i10 : Among 10 j = omega arith in
@@ -134,6 +135,7 @@ module _ (H : List ℕ → List ℕ) (g : Params) (M : Small g) (few : g .n ≤ 
 
     time-ready : (q j T : ℕ) → Sane Rt (g .t) self → Among (g .n) j → q ≡ slotOf s c .sequence
         → TimeFacts s a (A.Server j) (message c q (timeIs ready T)) (S.onTime H g me s a c (slotOf s c) j ready T)
+    unfolding S.onTime
     time-ready q j T O ij eq =
         let x = slotOf s c in
         let i10 : Among 10 j = omega arith in
@@ -154,7 +156,7 @@ module _ (H : List ℕ → List ℕ) (g : Params) (M : Small g) (few : g .n ≤ 
         (rest-facts self (g .n) (g .t) (timeView (slotOf s c)) _ _ _)
 
     time-by-block-send : (from : Party) (m : Message) (e : Entry) → TimeFacts s a from m (S.onBlock H g me s a c (slotOf s c) c send e)
-    unfolding timeView toAll
+    unfolding timeView toAll S.onBlock
     time-by-block-send from m e = facts-by from m (timeView (slotOf s c)) (λ z p. ⊥) _
         (record {
           others = other-slot s c (withBlocks (slotOf s c) (blockSent (slotOf s c .blocks)));
@@ -174,7 +176,7 @@ module _ (H : List ℕ → List ℕ) (g : Params) (M : Small g) (few : g .n ≤ 
   module _ (O : Sane Rt (g .t) self) (s : Server) (a initial : List ℕ) (F : ServerShape s a) where
     body-facts : (from : Party) (c q : ℕ) → Among 8 c → (b : Body) → ST.senderRight g from c b ≡ true → ST.orderTest H g me s (numberIn from) c q b ≡ J.Fine
         → TimeFacts s a from (message c q b) (S.onBody H g me s a initial (numberIn from) c q b)
-    unfolding S.onRead S.onReadComplete
+    unfolding S.onRead S.onReadComplete ST.senderRight ST.orderTest S.onBody ST.counted S.onBlock S.onTime
     body-facts from c q is getStamp p o = time-idle s a from _ _ refl refl (λ b d r z y u. impossible (cc (ap (λ m. m .says .body) (List·Memᴰ·eq-of-singleton u)))) refl
     body-facts from c q is ack p o = impossible (cc)
     body-facts from c q is askRead p o = time-idle s a from _ _ refl refl (λ b d r z y u. impossible (cc (ap (λ m. m .says .body) (List·Memᴰ·eq-of-singleton u)))) refl
@@ -199,7 +201,7 @@ module _ (H : List ℕ → List ℕ) (g : Params) (M : Small g) (few : g .n ≤ 
     -- the times' broadcast, at each frame that passes the tests
     pub time-facts : (from : Party) (m : Message) → Among 8 (m .client) → ST.messageTest H g me s from m ≡ J.Fine
         → TimeFacts s a from m (S.effect H g me s a initial from m)
-    unfolding S.effect
+    unfolding S.effect S.onBody S.onBlock S.onTime
     time-facts from m is e =
         let w = test-split H g me s from m e in
         body-facts from (m .client) (m .sequence) is (m .body) (w .0) (w .1)

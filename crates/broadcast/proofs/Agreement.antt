@@ -12,8 +12,8 @@ use mathlib.Core.List.{List, [], _∷_}
 use Rattle.quorum.specs.Quorum.{Among, Faults}
 use Rattle.quorum.proofs.Logic.{impossible}
 use Rattle.quorum.proofs.Quorums.{AtLeast, at-least-map, honest-member, quorums-meet, quorum-member}
-use Rattle.broadcast.proofs.Laws as L
-use Rattle.broadcast.proofs.Laws.{Views}
+use Rattle.broadcast.specs.Laws as L
+use Rattle.broadcast.specs.Laws.{Views}
 
 module _ {K P : Type 0} (W : Views K P) (n t : ℕ) (faultyServer faultyClient : ℕ → Bool) where
   open Views W using (sequence, echoed, KeptEcho, KeptReady, SentEcho, SentReady, Delivered, Accepted, ClientSent)

@@ -12,8 +12,8 @@ use mathlib.Core.List.{List, [], _∷_}
 use Rattle.quorum.specs.Quorum.{Among, Faults}
 use Rattle.quorum.proofs.Logic.{impossible}
 use Rattle.quorum.proofs.Quorums.{AtLeast, at-least-map, quorums-meet, quorum-member}
-use Rattle.precedence.proofs.Laws as L
-use Rattle.precedence.proofs.Laws.{Stamps, Views, Extends}
+use Rattle.precedence.specs.Laws as L
+use Rattle.precedence.specs.Laws.{Stamps, Views, Extends}
 
 module _ {K A S : Type 0} (Z : Stamps A S) (W : Views K A S) (n t : ℕ) (faultyServer faultyClient : ℕ → Bool) where
   open Stamps Z using (key, time, initial, sent, stamped, key-time, time-stamped)

@@ -10,7 +10,7 @@ use lib.ListN.{length, getD-replicate}
 use Rattle.quorum.specs.Quorum.{Among}
 use Rattle.quorum.proofs.Logic.{impossible}
 use Rattle.broadcast.proofs.Agreement as BA
-use Rattle.broadcast.proofs.Laws as BL
+use Rattle.broadcast.specs.Laws as BL
 use Rattle.frame.specs.declared.Party.{Party}
 use Rattle.frame.specs.declared.Verdict.{Verdict}
 use Rattle.frame.specs.declared.Party.the-variants as A

@@ -13,7 +13,7 @@ use borrow.Author.Tests.{leb-true, le-leb}
 use Rattle.quorum.specs.Quorum.{Among}
 use Rattle.quorum.proofs.Logic.{impossible, and-split, and-true, and-false}
 use Rattle.quorum.proofs.Quorums as B
-use Rattle.broadcast.proofs.Laws as BL
+use Rattle.broadcast.specs.Laws as BL
 use Rattle.frame.specs.declared.Stamp.{Stamp}
 use Rattle.frame.specs.declared.Party.{Party}
 use Rattle.frame.specs.declared.Party.the-variants as A

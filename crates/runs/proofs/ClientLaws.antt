@@ -11,7 +11,7 @@ use borrow.Author.Tests.{eqb-false}
 use Rattle.quorum.specs.Quorum.{Among}
 use Rattle.quorum.proofs.Logic.{impossible}
 use Rattle.quorum.proofs.Quorums.{AtLeast, at-least-map}
-use Rattle.precedence.proofs.Laws as PL
+use Rattle.precedence.specs.Laws as PL
 use Rattle.frame.specs.declared.Party.{Party}
 use Rattle.frame.specs.declared.Party.the-variants as A
 use Rattle.frame.specs.declared.Opened.the-variants as Op

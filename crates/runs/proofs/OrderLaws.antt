@@ -11,7 +11,7 @@ use lib.Dec.{leb}
 use borrow.Author.Tests.{le-ltb, eq-eqb}
 use Rattle.quorum.specs.Quorum.{Among}
 use Rattle.quorum.proofs.Logic.{impossible, and-false}
-use Rattle.precedence.proofs.Laws as PL
+use Rattle.precedence.specs.Laws as PL
 use Rattle.area.specs.Area.{pick, part}
 use Rattle.area.proofs.Sets.{part-sets-same}
 use Rattle.blocks.specs.declared.Params.{Params}

@@ -6,7 +6,7 @@ use mathlib.Core.Path.{_≡_, refl, sym}
 use mathlib.Core.Logic.{inl, inr, ⊎-elim}
 use mathlib.Core.List.{List, [], _∷_}
 use lib.ListN.{length}
-use Rattle.precedence.proofs.Laws as PL
+use Rattle.precedence.specs.Laws as PL
 use Rattle.runs.specs.World.{Setup, Call, toServer, toClient, beginRead, beginWrite, run}
 use Rattle.runs.specs.Admissible.{Admissible}
 use Rattle.runs.specs.Events.{Event, At, OpensRead, OpensWrite}

@@ -6,7 +6,7 @@ use mathlib.Core.Path.{_≡_, refl}
 use mathlib.Core.List.{List, List·Memᴰ}
 use mathlib.Core.Option.{some}
 use lib.Dec.{leb}
-use Rattle.precedence.proofs.Laws as PL
+use Rattle.precedence.specs.Laws as PL
 use Rattle.area.specs.Area.{pick}
 use Rattle.frame.specs.declared.Stamp.{Stamp}
 use Rattle.frame.specs.declared.Party.{Party}

@@ -42,9 +42,10 @@ use Rattle.steps.proofs.Coding.{value-bytes}
 use Rattle.steps.proofs.BlockFacts as BM
 use Rattle.runs.specs.Admissible.{Admissible}
 use Rattle.runs.specs.Events.{At, Accepts, Decodes}
-use Rattle.runs.specs.World.{Setup, Sound, Call, initialOf, start, run}
+use Rattle.runs.specs.World.{Setup, Call, initialOf, start, run}
 use Rattle.runs.proofs.Agreement.{small}
 use Rattle.runs.proofs.Broadcasts.{serverAt, Takes, effectOf, server-next, accepts-new, shape}
+use Rattle.runs.proofs.Assumed.{Assumed}
 
 in-pick : (b : Bool) (v : List ℕ) → b ≡ true → List·Memᴰ v (pick b (v ∷ []) [])
 unfolding pick
@@ -256,7 +257,7 @@ module _ (H : List ℕ → List ℕ) (g : Params) (M : Small g) (kk : 1 ≤ g .k
 
 -- ---- in a run
 
-module _ (Z : Setup) (G : Sound Z) where
+module _ (Z : Setup) (G : Assumed Z) where
   open Setup Z using (H, g, initialValue, stateAreas, initialAreas)
 
   abbrev M : Small g

@@ -9,8 +9,8 @@ use mathlib.Core.List.{List, []}
 use lib.ListN.{length, getD-replicate}
 use Rattle.quorum.specs.Quorum.{Among}
 use Rattle.quorum.proofs.Logic.{impossible}
-use Rattle.broadcast.proofs.Agreement as BA
 use Rattle.broadcast.specs.Laws as BL
+use Rattle.broadcast.proofs.Agreement as BA
 use Rattle.frame.specs.declared.Party.{Party}
 use Rattle.frame.specs.declared.Verdict.{Verdict}
 use Rattle.frame.specs.declared.Party.the-variants as A
@@ -30,13 +30,14 @@ use Rattle.steps.proofs.BlockFacts as BM
 use Rattle.steps.proofs.TimeFacts as TM
 use Rattle.runs.specs.Admissible.{Honest, Admissible}
 use Rattle.runs.specs.Events.{At, Accepts}
-use Rattle.runs.specs.World.{Setup, Sound, Call, initialOf, start, run}
+use Rattle.runs.specs.World.{Setup, Call, initialOf, start, run}
 use Rattle.runs.proofs.Broadcasts.{serverAt, SentMessage, Takes, effectOf, shape, views, lawful-run}
+use Rattle.runs.proofs.Assumed.{Assumed}
 
-pub small : (Z : Setup) → Sound Z → Small (Z .g)
+pub small : (Z : Setup) → Assumed Z → Small (Z .g)
 small Z G = Sizes.small (Z .g) (G .bounded)
 
-module _ (Z : Setup) (G : Sound Z)
+module _ (Z : Setup) (G : Assumed Z)
     (formed : (ks : List Call) → Admissible Z ks → (a b : Party) (m : Message) → Honest Z a → SentMessage Z G (small Z G) ks a b m → Formed (Z .g) m) where
   open Setup Z using (H, g, initialValue, faultyServer, faultyClient, stateAreas, initialAreas, rowsAreas)
 

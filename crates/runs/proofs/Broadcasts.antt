@@ -36,9 +36,10 @@ use Rattle.steps.proofs.ServerFits.{Delivered, refused, taken, delivered, shape
 use Rattle.steps.proofs.ServerTaken.{Taken}
 use Rattle.runs.specs.Admissible.{Sent, Honest, Proper, Admissible}
 use Rattle.runs.specs.Events.{At, Accepts}
-use Rattle.runs.specs.World.{Setup, Sound, Call, toServer, toClient, beginRead, beginWrite, caller, ServerSide, initialOf, start, serverEffect, serverLeft, step, run, sends, put}
+use Rattle.runs.specs.World.{Setup, Call, toServer, toClient, beginRead, beginWrite, caller, ServerSide, initialOf, start, serverEffect, serverLeft, step, run, sends, put}
+use Rattle.runs.proofs.Assumed.{Assumed}
 
-module _ (Z : Setup) (G : Sound Z) (M : Small (Z .g)) where
+module _ (Z : Setup) (G : Assumed Z) (M : Small (Z .g)) where
   open Setup Z using (H, g, initialValue, faultyServer, faultyClient, stateAreas, initialAreas, rowsAreas)
 
   abbrev pub serverAt : List Call → ℕ → ServerSide

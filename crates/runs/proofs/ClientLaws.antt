@@ -32,11 +32,12 @@ use Rattle.steps.proofs.BlockFacts.{is-server}
 use Rattle.steps.proofs.ClientFacts.{timeOf, ClientShape, client-shape-fresh, ClientFacts, KnowsV, Brought, Nought, quiet-facts, effect-facts, read-facts, write-facts}
 use Rattle.steps.proofs.ClientTaken.{Taken, Delivered, refused, taken, delivered, passed}
 use Rattle.runs.specs.Admissible.{Sent, Honest, Proper, Admissible}
-use Rattle.runs.specs.World.{Setup, Sound, Call, toServer, toClient, beginRead, beginWrite, caller, ClientSide, clientEffect, readEffect, writeEffect, start, step, run, sends, put}
+use Rattle.runs.specs.World.{Setup, Call, toServer, toClient, beginRead, beginWrite, caller, ClientSide, clientEffect, readEffect, writeEffect, start, step, run, sends, put}
 use Rattle.runs.specs.Events as Rn
 use Rattle.runs.proofs.Broadcasts.{SentMessage, sent-message}
 use Rattle.runs.proofs.Formation.{formed}
 use Rattle.runs.proofs.StampViews.{views, Stamped, Agreed}
+use Rattle.runs.proofs.Assumed.{Assumed}
 
 pub put-at : (h : ℕ → ClientSide) (i : ℕ) (v : ClientSide) → put h i v i ≡ v
 put-at h i v = go (eqb i i) refl
@@ -45,7 +46,7 @@ put-at h i v = go (eqb i i) refl
     go true e = refl
     go false e = absurd (eqb-false i i e refl)
 
-module _ (Z : Setup) (G : Sound Z) (M : Small (Z .g)) where
+module _ (Z : Setup) (G : Assumed Z) (M : Small (Z .g)) where
   open Setup Z using (H, g, initialValue, faultyServer, faultyClient, rowsAreas)
 
   abbrev Vw : PL.Views Call (Agreed Z G M) (Stamped Z G M)

@@ -23,11 +23,12 @@ use Rattle.steps.proofs.ClientTaken.{delivered-formed, read-formed, write-forme
 use Rattle.steps.proofs.ServerRanges.{WriteInBounds, InBounds, in-bounds-fresh, Good, effect-good}
 use Rattle.runs.specs.Admissible.{Honest, Proper, Admissible}
 use Rattle.runs.specs.Events.{At, Accepts}
-use Rattle.runs.specs.World.{Setup, Sound, Call, toServer, toClient, beginRead, beginWrite, caller, initialOf, start, run, sends}
+use Rattle.runs.specs.World.{Setup, Call, toServer, toClient, beginRead, beginWrite, caller, initialOf, start, run, sends}
 use Rattle.runs.proofs.Broadcasts.{accepts-new, serverAt, SentMessage, Takes, effectOf, server-next, shape, sent-new}
+use Rattle.runs.proofs.Assumed.{Assumed}
 use Rattle.runs.proofs.Agreement as Ag
 
-module _ (Z : Setup) (G : Sound Z) (M : Small (Z .g)) where
+module _ (Z : Setup) (G : Assumed Z) (M : Small (Z .g)) where
   open Setup Z using (H, g, initialValue, faultyServer, faultyClient, stateAreas, initialAreas, rowsAreas)
 
   pub initial-long : (i : ℕ) → width g ≤ length (initialOf Z i)
@@ -88,7 +89,7 @@ module _ (Z : Setup) (G : Sound Z) (M : Small (Z .g)) where
 
 -- ---- agreement and validity, with nothing asked for
 
-module _ (Z : Setup) (G : Sound Z) where
+module _ (Z : Setup) (G : Assumed Z) where
   pub agreement : (ks : List Call) → Admissible Z ks → (i j p q : ℕ) (x y : S.Write) → At (Accepts Z i x) ks p → At (Accepts Z j y) ks q
       → x .client ≡ y .client → x .sequence ≡ y .sequence → (S.stampOf x ≡ S.stampOf y) × (x .entry .digests ≡ y .entry .digests)
   agreement = Ag.agreement Z G (formed Z G (Ag.small Z G))

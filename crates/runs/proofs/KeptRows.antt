@@ -43,8 +43,9 @@ use Rattle.steps.proofs.ServerTaken.{message-sized}
 use Rattle.runs.specs.Admissible.{Admissible}
 use Rattle.runs.specs.Blocks.{InFrame}
 use Rattle.runs.specs.Events.{At, CompletesRead}
-use Rattle.runs.specs.World.{Setup, Sound, Call, toServer, toClient, beginRead, beginWrite, ClientSide, clientDone, clientLeft, lentBy, start, run, step, put, clientEffect, readEffect, writeEffect}
+use Rattle.runs.specs.World.{Setup, Call, toServer, toClient, beginRead, beginWrite, ClientSide, clientDone, clientLeft, lentBy, start, run, step, put, clientEffect, readEffect, writeEffect}
 use Rattle.runs.proofs.Agreement.{small}
+use Rattle.runs.proofs.Assumed.{Assumed}
 
 -- ---- rows of which each entry has a property
 
@@ -175,7 +176,7 @@ module _ (H : List ℕ → List ℕ) (g : Params) (me : ℕ) where
 
 -- ---- in a run
 
-module _ (Z : Setup) (G : Sound Z) where
+module _ (Z : Setup) (G : Assumed Z) where
   open Setup Z using (H, g)
 
   abbrev Came : List Call → ℕ → Entry → Type 0

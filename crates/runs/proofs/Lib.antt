@@ -1,3 +1,4 @@
+pub mod Assumed
 pub mod Places
 pub mod Broadcasts
 pub mod Agreement
@@ -19,3 +20,4 @@ pub mod Written
 pub mod KeptRows
 pub mod Values
 pub mod Theorem
+pub mod Answers

@@ -28,9 +28,10 @@ use Rattle.server.specs.Delivery as SD
 use Rattle.client.specs.State.{freshClient}
 use Rattle.steps.proofs.ClientTaken.{digests-size}
 use Rattle.runs.specs.Admissible.{Proper, Admissible}
-use Rattle.runs.specs.World.{Setup, Sound, Call, start, run}
+use Rattle.runs.specs.World.{Setup, Call, start, run}
 use Rattle.runs.proofs.Broadcasts.{serverAt}
 use Rattle.runs.proofs.StampViews.{views, Stamped, stamps, shown}
+use Rattle.runs.proofs.Assumed.{Assumed}
 use Rattle.runs.proofs.ClientLaws as CO
 use Rattle.runs.proofs.ServerLaws as SO
 
@@ -54,7 +55,7 @@ params-fine g B me most is = rw (
   ← length-yes (g .size) (B .size-low) (B .size-high),
 )
 
-module _ (Z : Setup) (G : Sound Z) (M : Small (Z .g)) where
+module _ (Z : Setup) (G : Assumed Z) (M : Small (Z .g)) where
   open Setup Z using (H, g, initialValue, faultyServer, faultyClient, stateAreas, initialAreas, rowsAreas)
 
   fresh-fine : (j : ℕ) → Among (g .n) j → SD.constructTest H g j initialValue (length (stateAreas j)) (length (initialAreas j)) ≡ J.Fine

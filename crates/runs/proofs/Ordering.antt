@@ -20,7 +20,7 @@ use Rattle.steps.proofs.Keys.{key, key-older, key-not-older}
 use Rattle.steps.proofs.ServerRanges.{StampInBounds, write-stamp-in-bounds, zero-in-bounds}
 use Rattle.runs.specs.Admissible.{Admissible}
 use Rattle.runs.specs.Events.{At, Accepts, CompletesRead, EndsWrite, OpensRead, OpensWrite}
-use Rattle.runs.specs.World.{Setup, Sound, Call, toServer, toClient, beginRead, beginWrite, run}
+use Rattle.runs.specs.World.{Setup, Call, toServer, toClient, beginRead, beginWrite, run}
 use Rattle.runs.proofs.Agreement.{small}
 use Rattle.runs.proofs.ReadOnce.{read-once}
 use Rattle.runs.proofs.StampViews.{views, Stamped, Agreed, stamps}
@@ -29,8 +29,9 @@ use Rattle.runs.proofs.Formation.{agreement, validity-time, accepted-in
 use Rattle.runs.proofs.OrderLaws.{fresh, lawful-run}
 use Rattle.runs.proofs.Places.{at-both, cut, opens-read, opens-write, reader-honest, writer-honest}
 use Rattle.runs.proofs.Known.{Known}
+use Rattle.runs.proofs.Assumed.{Assumed}
 
-module _ (Z : Setup) (G : Sound Z) where
+module _ (Z : Setup) (G : Assumed Z) where
   open Setup Z using (H, g, initialValue, faultyServer, faultyClient)
 
   abbrev M : Small g

@@ -27,10 +27,11 @@ use Rattle.steps.proofs.ServerStamps.{StampFacts, order-facts}
 use Rattle.steps.proofs.Keys.{key}
 use Rattle.runs.specs.Admissible.{Honest, Proper, Admissible}
 use Rattle.runs.specs.Events.{At, Accepts}
-use Rattle.runs.specs.World.{Setup, Sound, Call, toServer, initialOf}
+use Rattle.runs.specs.World.{Setup, Call, toServer, initialOf}
 use Rattle.runs.proofs.Broadcasts.{serverAt, SentMessage, Takes, effectOf, server-next, server-left, shape, sent-new, message-sent}
 use Rattle.runs.proofs.Formation.{heard, in-bounds, formed}
 use Rattle.runs.proofs.StampViews.{views, Stamped, Agreed, stamps, shown}
+use Rattle.runs.proofs.Assumed.{Assumed}
 
 pick-true : {A : Type 0} (b : Bool) (x y : A) → b ≡ true → pick b x y ≡ x
 unfolding pick
@@ -45,7 +46,7 @@ pick-false false x y e = refl
 key-of : (T c q : ℕ) (x : S.Write) → x .time ≡ T → x .client ≡ c → x .sequence ≡ q → key (record { time = suc T; writer = c; sequence = q }) ≡ key (S.stampOf x)
 key-of T c q x a b d = omega (arith, a, ap (λ y. y % 16) b, ap (λ y. y % 4294967296) d)
 
-module _ (Z : Setup) (G : Sound Z) (M : Small (Z .g)) where
+module _ (Z : Setup) (G : Assumed Z) (M : Small (Z .g)) where
   open Setup Z using (H, g, initialValue, faultyServer, faultyClient, stateAreas, initialAreas)
 
   abbrev Vw : PL.Views Call (Agreed Z G M) (Stamped Z G M)

@@ -23,10 +23,11 @@ use Rattle.client.specs.State.{heardOf}
 use Rattle.steps.proofs.ClientFacts.{timeOf}
 use Rattle.steps.proofs.Keys.{key, key-time}
 use Rattle.runs.specs.Events.{At, Accepts, CompletesRead, EndsWrite}
-use Rattle.runs.specs.World.{Setup, Sound, Call, ClientSide, initialOf, run}
+use Rattle.runs.specs.World.{Setup, Call, ClientSide, initialOf, run}
 use Rattle.runs.proofs.Broadcasts.{serverAt, SentMessage}
+use Rattle.runs.proofs.Assumed.{Assumed}
 
-module _ (Z : Setup) (G : Sound Z) (M : Small (Z .g)) where
+module _ (Z : Setup) (G : Assumed Z) (M : Small (Z .g)) where
   open Setup Z using (H, g, initialValue, faultyServer, faultyClient)
 
   -- a stamp with its digest list; what a write is accepted with

@@ -1,13 +1,20 @@
 -- The whole-run theorem. Assumes nothing.
-use Prim.Native.Nat.{ℕ}
+use Prim.Native.Nat.{ℕ, _+_}
+use native.Mathlib.Omega.{arith}
 use mathlib.Core.Logic.{inl, inr}
-use mathlib.Core.List.{List, [], _∷_}
+use mathlib.Core.List.{List, [], _∷_, _++_}
+use mathlib.Core.Path.{_≡_, ap, _∙_}
+use lib.ListN.{length, length-append}
+use Rattle.area.specs.Numbers.{bytes4}
+use Rattle.area.proofs.Numbers.{length-bytes4}
+use Rattle.sha256.specs.declared.State.{State}
+use Rattle.sha256.specs.Hash.{concatenated, hashOf, digestOf}
 use Rattle.client.specs.Rows.{Found, rowView}
 use Rattle.steps.proofs.Coding.{decoded}
-use Rattle.runs.specs.World.{Setup, Sound, Call, run}
+use Rattle.runs.specs.World.{Setup, Call, run, DigestSize}
 use Rattle.runs.specs.Admissible.{Admissible}
 use Rattle.runs.specs.Events.{At, CompletesRead}
-use Rattle.runs.specs.Demand.{Theorem}
+use Rattle.runs.specs.Demand.{Theorem, TheoremSha256}
 use Rattle.runs.proofs.Known.{KnownValues, Rows}
 use Rattle.runs.proofs.Ordering.{known}
 use Rattle.runs.proofs.ReadOnce.{read-found, written-sized}
@@ -17,8 +24,9 @@ use Rattle.runs.proofs.Written.{written-from}
 use Rattle.runs.proofs.KeptRows.{rows-fit, rows-carried}
 use Rattle.runs.proofs.Rows.{one-row}
 use Rattle.runs.proofs.Values.{values}
+use Rattle.runs.proofs.Assumed.{Assumed, assumed}
 
-module _ (Z : Setup) (G : Sound Z) where
+module _ (Z : Setup) (G : Assumed Z) where
   -- what a completed read decoded stays as it was
   later : (ks : List Call) (k : Call) (x : Found) → Rows Z ks x → Rows Z (k ∷ ks) x
   later ks k x R = record {
@@ -46,6 +54,27 @@ module _ (Z : Setup) (G : Sound Z) where
 
 pub theorem : Theorem
 unfolding Theorem
-theorem Z G ks a =
+theorem Z S D ks a =
+    let G = assumed Z S D in
     let K = known Z G ks a in
     one-row Z ks K (values Z G ks K (known-values Z G ks a) decoded)
+
+-- ---- at SHA-256
+
+word-more : (x : ℕ) (l : List ℕ) (n : ℕ) → length l ≡ n → length (bytes4 x ++ l) ≡ 4 + n
+word-more x l n e = length-append (bytes4 x) l ∙ (let w = length-bytes4 x in omega (arith, w, e))
+
+-- a digest is eight words of four bytes
+concatenated-size : (s : State) → length (concatenated s) ≡ 32
+unfolding concatenated
+concatenated-size s =
+    word-more (s .a) _ 28 (word-more (s .b) _ 24 (word-more (s .c) _ 20 (word-more (s .d) _ 16 (word-more (s .e) _ 12 (word-more (s .f) _ 8
+    (word-more (s .g) _ 4 (length-bytes4 (s .h))))))))
+
+pub sha256-size : DigestSize digestOf
+unfolding digestOf hashOf
+sha256-size m = concatenated-size _
+
+pub theorem-sha256 : TheoremSha256
+unfolding TheoremSha256 Theorem
+theorem-sha256 Z S e ks a = theorem Z S (λ b. ap (λ h. length (h b)) e ∙ sha256-size b) ks a

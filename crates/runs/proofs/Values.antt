@@ -27,9 +27,10 @@ use Rattle.steps.proofs.Decoding.{all-pieces}
 use Rattle.runs.specs.Blocks.{Origin, in-frame, of-initial, of-written, of-decoded, Collision}
 use Rattle.runs.specs.Demand.{Values}
 use Rattle.runs.specs.Events.{At, Accepts, CompletesRead, OpensWrite}
-use Rattle.runs.specs.World.{Setup, Sound, Call, toServer, toClient, beginRead, beginWrite, run, clientEffect}
+use Rattle.runs.specs.World.{Setup, Call, toServer, toClient, beginRead, beginWrite, run, clientEffect}
 use Rattle.runs.proofs.Known.{Known, KnownValues, Rows}
 use Rattle.runs.proofs.Pieces.{pieces-in, all-numbers, pieces-apart, mem-take, apart-take, list-equal?, digest-of, joined-blocks}
+use Rattle.runs.proofs.Assumed.{Assumed}
 
 -- k blocks of a value decode to it
 abbrev pub RoundTrip : Type 0
@@ -104,7 +105,7 @@ write-number Z (k ∷ ks) d r p v (inl u) = go k (u .1)
     go (beginRead d out to) w = absurd w
     go (beginWrite d v out to) w = omega (arith, w .1)
 
-module _ (Z : Setup) (G : Sound Z) (ks : List Call) (K : Known Z ks) (L : KnownValues Z ks) (back : RoundTrip) where
+module _ (Z : Setup) (G : Assumed Z) (ks : List Call) (K : Known Z ks) (L : KnownValues Z ks) (back : RoundTrip) where
   open Setup Z using (H, g, initialValue)
 
   -- a value of the run: its blocks are of it

@@ -33,11 +33,12 @@ use Rattle.client.specs.Tests as CT
 use Rattle.steps.proofs.ServerFacts.{mem-all}
 use Rattle.runs.specs.Admissible.{Admissible}
 use Rattle.runs.specs.Events.{At, Accepts, OpensWrite}
-use Rattle.runs.specs.World.{Setup, Sound, Call, toServer, toClient, beginRead, beginWrite, caller, ClientSide, clientLeft, lentBy, run, step, sends, put, clientEffect, readEffect, writeEffect}
+use Rattle.runs.specs.World.{Setup, Call, toServer, toClient, beginRead, beginWrite, caller, ClientSide, clientLeft, lentBy, run, step, sends, put, clientEffect, readEffect, writeEffect}
 use Rattle.runs.proofs.Agreement.{small}
 use Rattle.runs.proofs.Broadcasts.{SentMessage}
 use Rattle.runs.proofs.Formation.{validity-block}
 use Rattle.runs.proofs.Places.{writer-honest}
+use Rattle.runs.proofs.Assumed.{Assumed}
 
 -- ---- a client sends its lent value's blocks, under its own number
 
@@ -229,7 +230,7 @@ module _ (Z : Setup) where
       let h : d ≡ c = cc e in
       subst (λ y. SendsOwn H g y (wr ks y) (home ks y .value) (writeEffect Z (run Z ks) d v out to .sends)) h (write-own H g d (home ks d .client) (home ks d .value) v out to)
 
-module _ (Z : Setup) (G : Sound Z) where
+module _ (Z : Setup) (G : Assumed Z) where
   open Setup Z using (H, g, faultyClient)
 
   abbrev M : Small g

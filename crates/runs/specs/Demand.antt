@@ -4,11 +4,12 @@ use mathlib.Core.Bool.{Bool, true, false}
 use mathlib.Core.Path.{_≡_}
 use mathlib.Core.Logic.{_⊎_}
 use mathlib.Core.List.{List, [], _∷_, _++_, List·Memᴰ}
+use Rattle.sha256.specs.Hash.{digestOf}
 use Rattle.frame.specs.declared.Stamp.{Stamp}
 use Rattle.frame.specs.Stamps.{older, zeroStamp}
 use Rattle.server.specs.Steps.{Write, stampOf}
 use Rattle.client.specs.Rows.{Found}
-use Rattle.runs.specs.World.{Setup, Sound, Call}
+use Rattle.runs.specs.World.{Setup, Sound, DigestSize, Call}
 use Rattle.runs.specs.Admissible.{Admissible}
 use Rattle.runs.specs.Events.{At, Accepts, CompletesRead, EndsWrite, OpensRead, OpensWrite}
 use Rattle.runs.specs.Blocks.{Collision}
@@ -113,6 +114,10 @@ module _ (Z : Setup) (ks : List Call) where
     pub values : Values ⊎ Collision Z ks
 
 -- The whole-run theorem: "For every list of these calls .. from fresh states with one initial value, whatever the false ones send and whichever frames come
--- late, repeated, reordered or never".
+-- late, repeated, reordered or never". It holds for every digest function of 32 bytes,
 unfoldable pub Theorem : Type 0
-Theorem = (Z : Setup) → Sound Z → (ks : List Call) → Admissible Z ks → Demand3 Z ks
+Theorem = (Z : Setup) → Sound Z → DigestSize (Z .H) → (ks : List Call) → Admissible Z ks → Demand3 Z ks
+
+-- and so for SHA-256, with which the servers and clients of this register compute.
+unfoldable pub TheoremSha256 : Type 0
+TheoremSha256 = (Z : Setup) → Sound Z → Z .H ≡ digestOf → (ks : List Call) → Admissible Z ks → Demand3 Z ks

@@ -3,3 +3,4 @@ pub mod Admissible
 pub mod Events
 pub mod Blocks
 pub mod Demand
+pub mod Answers

@@ -39,17 +39,19 @@ pub record Setup : Type 0 where
   pub initialAreas : ℕ → List ℕ
   pub rowsAreas : ℕ → List ℕ
 
--- The parameters are within their bounds, "at most t false servers, any false clients"; areas are large enough for the constructor. Of the digest only its
--- length is assumed.
+-- The parameters are within their bounds, "at most t false servers, any false clients", and the lent areas are large enough for the constructor.
 pub record Sound (Z : Setup) : Type 0 where
   pub bounded : Bounded (Z .g)
   pub faults : Faults (Z .g .n) (Z .g .t) (Z .faultyServer)
   pub initial-size : length (Z .initialValue) ≡ Z .g .size
   pub initial-bytes : Bytes (Z .initialValue)
-  pub digest-size : (b : List ℕ) → length (Z .H b) ≡ 32
   pub state-room : (j : ℕ) → areaBytes ≤ length (Z .stateAreas j)
   pub initial-room : (j : ℕ) → width (Z .g) ≤ length (Z .initialAreas j)
   pub rows-room : (c : ℕ) → rowsBytes ≤ length (Z .rowsAreas c)
+
+-- a digest function: of it only its length is assumed
+abbrev pub DigestSize : (List ℕ → List ℕ) → Type 0
+DigestSize H = (b : List ℕ) → length (H b) ≡ 32
 
 -- ---- calls: "a client begins a read or a write of any bytes, or a frame with its sender is handed in"
 

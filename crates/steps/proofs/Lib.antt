@@ -12,3 +12,4 @@ pub mod Keys
 pub mod ServerStamps
 pub mod ClientTaken
 pub mod ClientFacts
+pub mod SendCount

@@ -1,0 +1,78 @@
+-- What an answer says that it sent, document 01: "the answer names each sent frame's receiver". Frames lie end to end in the out area, each with its
+-- length in front; the to area has two bytes for the receiver of each. These are definitions.
+use Prim.Native.Nat.{ℕ, zero, suc, _+_}
+use mathlib.Core.Path.{_≡_}
+use mathlib.Core.List.{List, [], _∷_, map}
+use lib.ListN.{getD, take, drop}
+use Rattle.area.specs.Numbers.{be2}
+use Rattle.blocks.specs.declared.Params.{Params}
+use Rattle.frame.specs.declared.Party.{Party}
+use Rattle.frame.specs.declared.Party.the-variants as P
+use Rattle.frame.specs.Frames.{build}
+use Rattle.server.specs.declared.Reply.{Reply}
+use Rattle.server.specs.declared.Reply.the-variants as R
+use Rattle.server.specs.Delivery as SD
+use Rattle.client.specs.declared.Answer.{Answer}
+use Rattle.client.specs.declared.Answer.the-variants as A
+use Rattle.client.specs.Delivery as CD
+use Rattle.client.specs.Beginning as CB
+use Rattle.runs.specs.World.{Setup, Sound, DigestSize, Call, toServer, toClient, beginRead, beginWrite, World, initialOf, run, sends}
+use Rattle.runs.specs.Admissible.{Admissible}
+
+-- m frames from the front of an out area
+unfoldable pub framesIn : ℕ → List ℕ → List (List ℕ)
+framesIn zero l = []
+framesIn (suc m) l = take (be2 l 0 + 2) l ∷ framesIn m (drop (be2 l 0 + 2) l)
+
+-- m receivers from the front of a to area: class (0 client, 1 server) and number
+abbrev pub partyIn : ℕ → ℕ → Party
+partyIn zero c = P.Client c
+partyIn (suc k) j = P.Server j
+
+unfoldable pub receiversIn : ℕ → List ℕ → List Party
+receiversIn zero l = []
+receiversIn (suc m) l = partyIn (getD l 0 0) (getD l 1 0) ∷ receiversIn m (drop 2 l)
+
+-- how many frames a reply, an answer says went out; a completed read sends read-complete to all
+abbrev pub replyCount : Reply → ℕ
+replyCount (R.Step m) = m
+replyCount (R.Refused r) = 0
+
+abbrev pub answerCount : Params → Answer → ℕ
+answerCount g (A.Sent m) = m
+answerCount g A.Written = 0
+answerCount g A.OutOfStamps = 0
+answerCount g (A.Value s) = g .n
+answerCount g (A.Refused r) = 0
+
+-- an answer: the count, and the out and to areas as the call leaves them
+pub record Said : Type 0 where
+  pub count : ℕ
+  pub out : List ℕ
+  pub to : List ℕ
+
+module _ (Z : Setup) where
+  open Setup Z using (H, g)
+
+  -- by the whole outcomes that the entry points promise
+  unfoldable pub said : World → Call → Said
+  said w (toServer i from f out to) =
+      let r = SD.delivery H g i (w .servers i .server) (w .servers i .area) (initialOf Z i) from f out to in
+      record { count = replyCount (r .reply); out = r .out; to = r .to }
+  said w (toClient c from f result out to) =
+      let r = CD.delivery H g c (w .clients c .client) (w .clients c .area) (w .clients c .value) from f result out to in
+      record { count = answerCount g (r .answer); out = r .out; to = r .to }
+  said w (beginRead c out to) =
+      let r = CB.readBeginning g c (w .clients c .client) out to in
+      record { count = answerCount g (r .answer); out = r .out; to = r .to }
+  said w (beginWrite c v out to) =
+      let r = CB.writeBeginning g c (w .clients c .client) v out to in
+      record { count = answerCount g (r .answer); out = r .out; to = r .to }
+
+-- what is read off an answer is what the run takes as sent
+pub record ReadsBack (Z : Setup) (ks : List Call) (k : Call) : Type 0 where
+  pub frames : framesIn (said Z (run Z ks) k .count) (said Z (run Z ks) k .out) ≡ map (λ x. build (x .says)) (sends Z (run Z ks) k)
+  pub receivers : receiversIn (said Z (run Z ks) k .count) (said Z (run Z ks) k .to) ≡ map (λ x. x .receiver) (sends Z (run Z ks) k)
+
+unfoldable pub AnswersReadBack : Type 0
+AnswersReadBack = (Z : Setup) → Sound Z → DigestSize (Z .H) → (k : Call) (ks : List Call) → Admissible Z (k ∷ ks) → ReadsBack Z ks k

@@ -38,7 +38,7 @@ use Rattle.server.proofs.Parts.{firstOf, noPart, settled}
 use Rattle.server.proofs.Views as SV
 use Rattle.steps.proofs.Decoding.{decoded-size, votes-are, coded, quota-blocks}
 use Rattle.steps.proofs.ServerFacts.{mem-all, mem-pick, ServerShape, this-slot, other-slot, settle-slot}
-use Rattle.steps.proofs.Coding.{value-bytes}
+use Rattle.blocks.proofs.RoundTrip.{Bytes-valueOf}
 use Rattle.steps.proofs.BlockFacts as BM
 use Rattle.runs.specs.Admissible.{Admissible}
 use Rattle.runs.specs.Events.{At, Accepts, Decodes}
@@ -57,7 +57,7 @@ module _ (H : List ℕ → List ℕ) (g : Params) where
   unfolding decoded
   decoded-bytes f d =
       let l = take (g .k) (pieces f d 1 (g .n)) in
-      value-bytes (numbers l) (g .size) (joinedBytes l)
+      Bytes-valueOf (numbers l) (g .size) (joinedBytes l)
 
   regained-bytes : (es rs : ℕ → Option Entry) (d : List ℕ) → Bytes (regained g es rs d)
   unfolding regained

@@ -10,7 +10,6 @@ use Rattle.area.proofs.Numbers.{length-bytes4}
 use Rattle.sha256.specs.declared.State.{State}
 use Rattle.sha256.specs.Hash.{concatenated, hashOf, digestOf}
 use Rattle.client.specs.Rows.{Found, rowView}
-use Rattle.steps.proofs.Coding.{decoded}
 use Rattle.runs.specs.World.{Setup, Call, run, DigestSize}
 use Rattle.runs.specs.Admissible.{Admissible}
 use Rattle.runs.specs.Events.{At, CompletesRead}
@@ -57,7 +56,7 @@ unfolding Theorem
 theorem Z S D ks a =
     let G = assumed Z S D in
     let K = known Z G ks a in
-    one-row Z ks K (values Z G ks K (known-values Z G ks a) decoded)
+    one-row Z ks K (values Z G ks K (known-values Z G ks a))
 
 -- ---- at SHA-256
 

@@ -11,8 +11,9 @@ use Rattle.quorum.specs.Quorum.{Among}
 use Rattle.quorum.proofs.Logic.{impossible}
 use Rattle.area.specs.Area.{Bytes, part}
 use Rattle.area.proofs.Same.{same-true}
-use Rattle.blocks.specs.Code.{valueOf, blocksOf}
-use Rattle.blocks.specs.Poly.{All, Distinct}
+use Rattle.blocks.specs.Code.{valueOf}
+use Rattle.blocks.specs.Poly.{All}
+use Rattle.blocks.proofs.RoundTrip.{decoded as any-blocks}
 use Rattle.frame.specs.declared.Stamp.{Stamp}
 use Rattle.frame.specs.declared.Verdict.{Verdict}
 use Rattle.frame.specs.declared.Verdict.the-variants as J
@@ -31,10 +32,6 @@ use Rattle.runs.specs.World.{Setup, Call, toServer, toClient, beginRead,
 use Rattle.runs.proofs.Known.{Known, KnownValues, Rows}
 use Rattle.runs.proofs.Pieces.{pieces-in, all-numbers, pieces-apart, mem-take, apart-take, list-equal?, digest-of, joined-blocks}
 use Rattle.runs.proofs.Assumed.{Assumed}
-
--- k blocks of a value decode to it
-abbrev pub RoundTrip : Type 0
-RoundTrip = (js v : List ℕ) → 0 < length js → Bytes js → Distinct js → Bytes v → valueOf js (length v) (blocksOf (length js) v js) ≡ v
 
 numbers-bytes : (l : List ℕ) → All (λ z. z < 256) l → Bytes l
 numbers-bytes [] h = tt
@@ -105,7 +102,7 @@ write-number Z (k ∷ ks) d r p v (inl u) = go k (u .1)
     go (beginRead d out to) w = absurd w
     go (beginWrite d v out to) w = omega (arith, w .1)
 
-module _ (Z : Setup) (G : Assumed Z) (ks : List Call) (K : Known Z ks) (L : KnownValues Z ks) (back : RoundTrip) where
+module _ (Z : Setup) (G : Assumed Z) (ks : List Call) (K : Known Z ks) (L : KnownValues Z ks) where
   open Setup Z using (H, g, initialValue)
 
   -- a value of the run: its blocks are of it
@@ -169,8 +166,7 @@ module _ (Z : Setup) (G : Assumed Z) (ks : List Call) (K : Known Z ks) (L : Know
         let js = numbers (take (g .k) held) in
         R .bytes
         ∙ ap (λ w. valueOf js (g .size) w) (joined-blocks H g (G .digest-size) v (take (g .k) held) f)
-        ∙ (λ z. valueOf js (sym (S .size) z) (blocksOf (sym enough z) v js))
-        ∙ back js v (omega (arith, enough, G .bounded .blocks-low))
+        ∙ any-blocks js v (g .k) (g .size) enough (S .size) (G .bounded .blocks-low)
         (numbers-bytes js (all-numbers (λ z. z < 256) (take (g .k) held) (λ p m. omega (arith, in-range p m .1, G .bounded .servers-high))))
         (apart-take (g .k) held (pieces-apart (R .at) (x .digests) 1 (g .n)))
         (S .bytes)

@@ -13,12 +13,13 @@ use Rattle.quorum.proofs.Logic.{and-split}
 use Rattle.area.specs.Area.{pick, same}
 use Rattle.blocks.specs.declared.Params.{Params}
 use Rattle.blocks.specs.Code.{blockOf, blockLength}
+use Rattle.blocks.proofs.Stripes.{length-blockOf}
+use Rattle.blocks.proofs.Values.{length-valueOf}
 use Rattle.frame.specs.Coded.{Piece, hasList, pieceOf, pieces, numbers, decoded}
 use Rattle.frame.specs.Messages.{Entry, Sized}
 use Rattle.frame.specs.Params.{width, quota}
 use Rattle.server.specs.Broadcast.{Part, isLike, votes, full}
 use Rattle.server.specs.Rules.{chosen, regained, blockRules}
-use Rattle.steps.proofs.Coding.{block-length, value-size}
 
 piece-size : (o : Option Entry) (d : List ℕ) (j : ℕ) (l : List Piece) → length (pieceOf o d j l) ≡ bit (hasList o d) + length l
 unfolding pick
@@ -61,7 +62,7 @@ quota-faults g = omega arith
 -- a block of a value of the right length
 pub block-width : (g : Params) (v : List ℕ) (j : ℕ) → length v ≡ g .size → length (blockOf (g .k) v j) ≡ width g
 unfolding width
-block-width g v j e = block-length (g .k) v j ∙ ap (λ l. blockLength l (g .k)) e
+block-width g v j e = length-blockOf (g .k) v j ∙ ap (λ l. blockLength l (g .k)) e
 
 module _ (H : List ℕ → List ℕ) (g : Params) (kk : 1 ≤ g .k) where
   pub decoded-size : (f : ℕ → Option Entry) (d : List ℕ) → g .k ≤ count (λ j. hasList (f j) d) (g .n) → length (decoded g f d) ≡ g .size
@@ -70,7 +71,7 @@ module _ (H : List ℕ → List ℕ) (g : Params) (kk : 1 ≤ g .k) where
       let p = all-pieces f d (g .n) in
       let t : length (take (g .k) (pieces f d 1 (g .n))) ≡ g .k = length-take-le (g .k) (pieces f d 1 (g .n)) (omega arith) in
       let m : length (numbers (take (g .k) (pieces f d 1 (g .n)))) ≡ length (take (g .k) (pieces f d 1 (g .n))) = length-map (take (g .k) (pieces f d 1 (g .n))) (λ p. p .number) in
-      value-size (numbers (take (g .k) (pieces f d 1 (g .n)))) (g .size) _ (omega arith)
+      length-valueOf (numbers (take (g .k) (pieces f d 1 (g .n)))) _ (g .size) (omega arith)
 
   like : (o : Option Entry) (x : Entry) → isLike (blockRules H g) (g .n) (g .t) o x ≡ hasList o (x .digests)
   like none x = refl

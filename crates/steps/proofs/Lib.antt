@@ -1,4 +1,3 @@
-pub mod Coding
 pub mod Acceptance
 pub mod PartFacts
 pub mod ServerFacts

@@ -11,3 +11,4 @@ pub mod Within
 pub mod Writing
 pub mod Cases
 pub mod Rooms
+pub mod DigestLaws

@@ -3,12 +3,11 @@ use Prim.Native.Nat.{ℕ, zero, suc, _+_, _*_, _-_, _≤_, _<_}
 use native.Mathlib.Omega.{arith}
 use native.Mathlib.Numerals.{add-one}
 use native.Mathlib.Nat.{suc-mul}
-use mathlib.Core.Bool.{Bool}
 use mathlib.Core.Path.{_≡_, refl, ap, sym, _∙_}
 use mathlib.Core.List.{List, [], _∷_, _++_, append-assoc, append-nil}
 use lib.ListN.{length, take, drop, length-append}
 use lib.Seq.{sets, length-sets}
-use Rattle.area.specs.Area.{part, same}
+use Rattle.area.specs.Area.{part}
 use Rattle.area.specs.Numbers.{bytes2, bytes4, bytes8}
 use Rattle.area.proofs.Sets.{sets-append, room}
 use Rattle.blocks.specs.declared.Params.{Params}
@@ -24,7 +23,6 @@ use Rattle.frame.specs.Messages.{Entry, entry, Stage, send, echo, ready,
 use Rattle.frame.specs.Frames.{kindOf, bodyBytes, entryBytes, stampBytes, headerBytes, frameOf, build, entryIn}
 use Rattle.frame.specs.Outbox.{partyBytes, Outbox, outbox, sent, wrote, wroteTo, Room, stageOf, askOf}
 use Rattle.frame.specs.Chunks.{storeEntry}
-use Rattle.frame.specs.Coded.{fits}
 use Rattle.frame.proofs.RoundTrip.{length-frame}
 use Rattle.frame.proofs.Outbox.{wrote-sent, all-sent}
 
@@ -202,10 +200,3 @@ sent-all g o t o₀ t₀ r q f m e w = w ∙ ap (λ x. wroteTo (outbox o₀ t₀
 
 pub room-of : (p : Place) (m size size′ out to : ℕ) → size ≡ size′ → Room p m size out to → Room p m size′ out to
 room-of p m size size′ out to e R = rw (← e) R
-
--- ---- digests
-
-pub fits-by : (H : List ℕ → List ℕ) (d b o : List ℕ) (j : ℕ) (r : Bool) → o ≡ H b
-    → r ≡ same o (take (32 * j - 32 + 32 - (32 * j - 32)) (drop (32 * j - 32) d)) → r ≡ fits H (entry d b) j
-unfolding fits
-fits-by H d b o j r e q = let p = part-at d (32 * j - 32) 32 32 refl in q ∙ (λ i. same (e i) (p i))

@@ -1,4 +1,4 @@
-// Blocks against the digests of a list.
+// Digest lists: the list of a value, and a block against its digest in a list.
 ghost use mathlib.Core.Path.{_≡_};
 ghost use Prim.Native.Nat.{_*_, _≤_};
 ghost use lib.ListN.{length};

@@ -1,4 +1,4 @@
-use Rattle.frame.proofs.Writing.{fits-by}
+use Rattle.frame.proofs.DigestLaws.{fits-by}
 use Rattle.sha256.specs.Hash.{digestOf}
 use native.Mathlib.Omega.{arith}
 use borrow.Author.Needs.{needs}

@@ -1,6 +1,5 @@
--- Honest servers that accept a write agree on its stamp and its digest list, and what they accept of an honest client's is what it sent.
--- One thing is asked for as a hypothesis: that what honest parties send can be said in a frame
--- (proved as `Formation.formed`, which gives these theorems outright).
+-- Honest servers that accept a write agree on its stamp and its digest list, and what they accept of an honest client's is what it sent. That what
+-- honest parties send can be said in a frame is a hypothesis here, proved in Formation. Assumes nothing else.
 use Prim.Native.Nat.{ℕ, _+_}
 use native.Mathlib.Omega.{arith}
 use mathlib.Core.Bool.{false}

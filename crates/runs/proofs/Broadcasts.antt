@@ -1,5 +1,5 @@
--- The runs of the register keep the laws of a broadcast, of the times and of the blocks. One thing is asked for as a hypothesis: that
--- what honest parties send can be said in a frame.
+-- The runs of the register keep the laws of a broadcast, for the times and for the blocks: each call is lawful by the facts of its step. That what honest
+-- parties send can be said in a frame is a hypothesis here, proved in Formation. Assumes nothing else.
 use Prim.Native.Nat.{ℕ, suc, _-_, _≤_}
 use native.Mathlib.Omega.{arith}
 use mathlib.Core.Bool.{Bool, true, false, _&&_}

@@ -1,4 +1,4 @@
--- The clients' half of the laws of the order, at each call of an admissible run. Assumes nothing.
+-- The laws of precedence that concern clients, at each call of an admissible run. Assumes nothing.
 use Prim.Native.Nat.{ℕ, _-_, _≤_}
 use native.Mathlib.Omega.{arith}
 use mathlib.Core.Bool.{Bool, true, false, cond}

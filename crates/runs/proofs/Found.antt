@@ -1,4 +1,4 @@
--- What the search of the rows finds was decoded from n - t of them. Assumes nothing.
+-- What the search of the rows finds is decoded from rows of n - t servers. Assumes nothing.
 use Prim.Native.Nat.{ℕ}
 use mathlib.Core.Bool.{Bool, true, false}
 use mathlib.Core.Path.{_≡_, refl, subst}

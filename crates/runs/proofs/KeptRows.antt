@@ -1,4 +1,4 @@
--- What a client's rows hold fits, and came in a frame. Assumes nothing.
+-- Each entry in a client's rows has the digest at its server's place, and its block came in a frame. Assumes nothing.
 use Prim.Native.Nat.{ℕ, _≤_}
 use native.Mathlib.Omega.{arith}
 use mathlib.Core.Bool.{Bool, true, false, not, _&&_}

@@ -1,4 +1,4 @@
--- The facts of `Known` from the laws of the order (`Ordering.Left`), and that what honest parties send can be said in a frame.
+-- The facts of Known.antt for every admissible run, from agreement, validity and precedence. Assumes nothing.
 use Prim.Native.Nat.{ℕ, suc, _+_, _≤_, _<_}
 use native.Mathlib.Omega.{arith}
 use mathlib.Core.Bool.{false}

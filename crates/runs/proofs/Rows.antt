@@ -1,4 +1,4 @@
--- The operations of a run stand in one row, where the facts of `Known` hold of it.
+-- The operations of a run stand in one row, by the facts of Known.antt. Assumes nothing.
 use Prim.Native.Nat.{ℕ, _<_}
 use native.Mathlib.Omega.{arith}
 use mathlib.Core.Bool.{Bool, true, false}

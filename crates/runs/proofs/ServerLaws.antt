@@ -1,4 +1,4 @@
--- The servers' half of the laws of the order, at each call of an admissible run. Assumes nothing.
+-- The laws of precedence that concern servers, at each call of an admissible run. Assumes nothing.
 use Prim.Native.Nat.{ℕ, suc, _%_, _≤_}
 use native.Mathlib.Omega.{arith}
 use native.Mathlib.Numerals.{add-one}

@@ -1,5 +1,5 @@
--- The views of a run that the theory of the order takes, and its stamps as keys. Their laws are proved in ServerOrder, ClientOrder
--- and Precedence. Assumes nothing.
+-- What the theory of precedence sees of a run, and stamps as its keys. Its laws are proved in ServerLaws and ClientLaws, and put together in OrderLaws.
+-- Assumes nothing.
 use Prim.Native.Nat.{ℕ, suc}
 use mathlib.Core.Bool.{true, _&&_}
 use mathlib.Core.Path.{_≡_, refl}

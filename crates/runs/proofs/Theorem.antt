@@ -1,4 +1,4 @@
--- The whole-run theorem. Assumes nothing.
+-- The whole-run theorem, for every digest function of 32 bytes and at SHA-256. Assumes nothing.
 use Prim.Native.Nat.{ℕ, _+_}
 use native.Mathlib.Omega.{arith}
 use mathlib.Core.Logic.{inl, inr}

@@ -1,5 +1,5 @@
--- What reads give: equal bytes where the stamps are equal, or two different blocks of the run with one digest.
--- Asks for the facts of `Known` and `KnownValues`, and that the blocks of a value decode to it.
+-- What reads give: equal bytes where the stamps are equal, or two different blocks of the run with one digest. By the facts of Known.antt, and since any k
+-- blocks of a value decode to it. Assumes nothing.
 use Prim.Native.Nat.{ℕ, zero, _+_, _*_, _-_, _≤_, _<_}
 use native.Mathlib.Omega.{arith}
 use mathlib.Core.Path.{_≡_, refl, ap, sym, _∙_}

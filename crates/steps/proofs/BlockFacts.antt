@@ -1,4 +1,4 @@
--- Each move of a server keeps the facts of both broadcasts. Assumes nothing.
+-- Frames of the blocks: what each kind does to a server, as the facts of ServerFacts; and what a passed test says. Assumes nothing.
 use Prim.Native.Nat.{ℕ, _≤_}
 use native.Mathlib.Omega.{arith}
 use mathlib.Core.Bool.{Bool, true, false, not, _&&_}

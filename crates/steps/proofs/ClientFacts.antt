@@ -1,4 +1,5 @@
--- What one call does to a client, as the facts that the order of runs needs. Assumes nothing.
+-- What one call does to a client: what it has counted, sent and ended, as the record ClientFacts, which is all that runs need of a call here.
+-- Assumes nothing.
 use Prim.Native.Nat.{ℕ, zero, suc, _+_, _-_, _≤_, _<_, max, min}
 use native.Mathlib.Omega.{arith}
 use native.Mathlib.Decide.{ℕ-discrete}

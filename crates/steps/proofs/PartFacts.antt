@@ -1,4 +1,5 @@
--- What a counted frame does to a server's part in a broadcast. Assumes nothing.
+-- What a counted frame does to a server's part in a broadcast, for any payload: an echo follows the client's own frame, a ready follows n - t echoes or more
+-- than t readies, and so does a delivery. Assumes nothing.
 use Prim.Native.Nat.{ℕ, suc, _+_, _-_, _≤_, _<_}
 use native.Mathlib.Omega.{arith}
 use mathlib.Core.Bool.{Bool, true, false, not}

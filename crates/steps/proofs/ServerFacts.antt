@@ -1,4 +1,5 @@
--- What one delivered frame does to a server's parts in the two broadcasts. Assumes nothing.
+-- What one delivered frame does to a server's parts in the two broadcasts: the record BroadcastFacts, which is all that runs need of a step here.
+-- It is proved once for any payload, given how a part is seen; BlockFacts and TimeFacts give the two instances. Assumes nothing.
 use Prim.Native.Nat.{ℕ, zero, suc, _+_, _*_, _-_, _≤_, _<_}
 use native.Mathlib.Omega.{arith}
 use native.Mathlib.Decide.{ℕ-discrete}

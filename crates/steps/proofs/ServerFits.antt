@@ -1,4 +1,4 @@
--- Every server of a run is in a state that its moves can start from. Assumes nothing.
+-- The shape of a server: arrays of their lengths, a large enough area. Every delivery keeps it. Assumes nothing.
 use Prim.Native.Nat.{ℕ, _+_, _≤_}
 use native.Mathlib.Omega.{arith}
 use native.Mathlib.Decide.{ℕ-discrete}

@@ -1,4 +1,4 @@
--- A server whose stamps are in range sends what can be said in a frame, and stays so. Assumes nothing.
+-- A server whose stamps are within their bounds sends messages that can be said in a frame, and stays so. Assumes nothing.
 use Prim.Native.Nat.{ℕ, zero, suc, _+_, _*_, _≤_, _<_}
 use native.Mathlib.Omega.{arith}
 use native.Mathlib.Decide.{ℕ-discrete}

@@ -1,4 +1,5 @@
--- What one delivered frame does to a server's stamp, to its listeners, and what it answers them. Assumes nothing.
+-- What one delivered frame does to a server's present stamp and to its listeners, and what it answers clients: the record StampFacts, which is all that runs
+-- need of a step here. Assumes nothing.
 use Prim.Native.Nat.{ℕ, zero, suc, _+_, _≤_, _<_}
 use native.Mathlib.Omega.{arith}
 use native.Mathlib.Decide.{ℕ-discrete}

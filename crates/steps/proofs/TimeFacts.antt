@@ -1,4 +1,4 @@
--- Each move of a server keeps the facts of the times' broadcast. Assumes nothing.
+-- Frames of the time: what each kind does to a server, as the facts of ServerFacts. Assumes nothing.
 use Prim.Native.Nat.{ℕ, _≤_}
 use native.Mathlib.Omega.{arith}
 use mathlib.Core.Bool.{Bool, true, false}

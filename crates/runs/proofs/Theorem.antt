@@ -1,14 +1,11 @@
 -- The whole-run theorem, for every digest function of 32 bytes and at SHA-256. Assumes nothing.
-use Prim.Native.Nat.{ℕ, _+_}
-use native.Mathlib.Omega.{arith}
+use Prim.Native.Nat.{ℕ}
 use mathlib.Core.Logic.{inl, inr}
-use mathlib.Core.List.{List, [], _∷_, _++_}
+use mathlib.Core.List.{List, [], _∷_}
 use mathlib.Core.Path.{_≡_, ap, _∙_}
-use lib.ListN.{length, length-append}
-use Rattle.area.specs.Numbers.{bytes4}
-use Rattle.area.proofs.Numbers.{length-bytes4}
-use Rattle.sha256.specs.declared.State.{State}
-use Rattle.sha256.specs.Hash.{concatenated, hashOf, digestOf}
+use lib.ListN.{length}
+use Rattle.sha256.specs.Hash.{digestOf}
+use Rattle.sha256.proofs.Bytes.{length-digest}
 use Rattle.client.specs.Rows.{Found, rowView}
 use Rattle.runs.specs.World.{Setup, Call, run, DigestSize}
 use Rattle.runs.specs.Admissible.{Admissible}
@@ -60,19 +57,8 @@ theorem Z S D ks a =
 
 -- ---- at SHA-256
 
-word-more : (x : ℕ) (l : List ℕ) (n : ℕ) → length l ≡ n → length (bytes4 x ++ l) ≡ 4 + n
-word-more x l n e = length-append (bytes4 x) l ∙ (let w = length-bytes4 x in omega (arith, w, e))
-
--- a digest is eight words of four bytes
-concatenated-size : (s : State) → length (concatenated s) ≡ 32
-unfolding concatenated
-concatenated-size s =
-    word-more (s .a) _ 28 (word-more (s .b) _ 24 (word-more (s .c) _ 20 (word-more (s .d) _ 16 (word-more (s .e) _ 12 (word-more (s .f) _ 8
-    (word-more (s .g) _ 4 (length-bytes4 (s .h))))))))
-
 pub sha256-size : DigestSize digestOf
-unfolding digestOf hashOf
-sha256-size m = concatenated-size _
+sha256-size m = length-digest m
 
 pub theorem-sha256 : TheoremSha256
 unfolding TheoremSha256 Theorem

@@ -8,35 +8,45 @@ use native.Mathlib.Omega.{arith}
 use lib.ListN.{length, getD, take, length-append}
 use lib.Seq.{sets, take-suc, length-take-le}
 use Rattle.area.proofs.Sets.{length-part, sets-next}
-use Rattle.frame.specs.Chunks.{blockPlace}
+use Rattle.blocks.specs.declared.Params.{Params}
+use Rattle.frame.specs.Params.{width, Bounded}
+use Rattle.frame.specs.Messages.{Entry}
+use Rattle.frame.specs.Chunks.{chunkAt, blockPlace, entryAt}
+use Rattle.frame.proofs.Sizes.{small}
 use Rattle.group.specs.Entries.{Within}
 use Rattle.group.specs.Choice.{blockIn, blocksIn}
 
-blocksIn-snoc : (b : ℕ) (at a js : List ℕ) (j : ℕ) → blocksIn b at a (js ++ (j ∷ [])) ≡ blocksIn b at a js ++ blockIn b at a j
+blocksIn-snoc : (g : Params) (at a js : List ℕ) (j : ℕ) → blocksIn g at a (js ++ (j ∷ [])) ≡ blocksIn g at a js ++ blockIn g at a j
 unfolding blocksIn
-blocksIn-snoc b at a [] j = append-nil (blockIn b at a j)
-blocksIn-snoc b at a (i ∷ js) j =
-    ap (λ t. blockIn b at a i ++ t) (blocksIn-snoc b at a js j) ∙ sym (append-assoc (blockIn b at a i) (blocksIn b at a js) (blockIn b at a j))
+blocksIn-snoc g at a [] j = append-nil (blockIn g at a j)
+blocksIn-snoc g at a (i ∷ js) j =
+    ap (λ t. blockIn g at a i ++ t) (blocksIn-snoc g at a js j) ∙ sym (append-assoc (blockIn g at a i) (blocksIn g at a js) (blockIn g at a j))
 
-module _ (b : ℕ) (at a : List ℕ) (w : Within at a) (narrow : b ≤ 256) where
-  pub length-blockIn : (j : ℕ) → length (blockIn b at a j) ≡ b
+-- the block of a chunk within the area
+pub length-block : (g : Params) (a : List ℕ) (p : ℕ) → Bounded g → chunkAt p + 576 ≤ length a → length (entryAt g a p .block) ≡ width g
+unfolding entryAt
+length-block g a p B h = length-part a (blockPlace p) (width g) (omega (arith, small g B .block-room))
+
+module _ (g : Params) (at a : List ℕ) (B : Bounded g) (w : Within at a) where
+  length-blockIn : (j : ℕ) → length (blockIn g at a j) ≡ width g
   unfolding Within
-  length-blockIn j = length-part a (blockPlace (getD at j 0)) b (omega (arith, w j))
+  length-blockIn j = length-block g a (getD at j 0) B (w j)
 
-  pub length-blocksIn : (js : List ℕ) → length (blocksIn b at a js) ≡ length js * b
+  pub length-blocksIn : (js : List ℕ) → length (blocksIn g at a js) ≡ length js * width g
   unfolding blocksIn
   length-blocksIn [] = sym (omega arith)
   length-blocksIn (j ∷ js) =
-      length-append (blockIn b at a j) (blocksIn b at a js) ∙ rw (length-blockIn j, length-blocksIn js, suc-mul) (omega arith)
+      length-append (blockIn g at a j) (blocksIn g at a js) ∙ rw (length-blockIn j, length-blocksIn js, suc-mul) (omega arith)
 
   -- the block of server js i was stored behind those before it
-  pub block-turn : (d out js : List ℕ) (i : ℕ) → out ≡ sets d 0 (blocksIn b at a (take i js)) → i < length js
-      → sets out (i * b) (blockIn b at a (getD js i 0)) ≡ sets d 0 (blocksIn b at a (take (i + 1) js))
-  block-turn d out js i o h =
+  pub block-turn : (b : ℕ) (d out js : List ℕ) (i : ℕ) → b ≡ width g → out ≡ sets d 0 (blocksIn g at a (take i js)) → i < length js
+      → sets out (i * b) (blockIn g at a (getD js i 0)) ≡ sets d 0 (blocksIn g at a (take (i + 1) js))
+  block-turn b d out js i q o h =
       let k : i ≤ length js = omega arith in
-      let e : length (blocksIn b at a (take i js)) ≡ i * b = length-blocksIn (take i js) ∙ ap (λ t. t * b) (length-take-le i js k) in
+      let e : length (blocksIn g at a (take i js)) ≡ i * b =
+      length-blocksIn (take i js) ∙ ap (λ t. t * width g) (length-take-le i js k) ∙ ap (λ t. i * t) (sym q) in
       let t : take (i + 1) js ≡ take i js ++ (getD js i 0 ∷ []) = ap (λ n. take n js) (add-one i) ∙ take-suc js i 0 h in
-      ap (λ l. sets l (i * b) (blockIn b at a (getD js i 0))) o
-      ∙ ap (λ s. sets (sets d 0 (blocksIn b at a (take i js))) s (blockIn b at a (getD js i 0))) (sym (zero-add (i * b)))
-      ∙ sets-next d 0 (blocksIn b at a (take i js)) (blockIn b at a (getD js i 0)) (i * b) e
-      ∙ ap (sets d 0) (sym (ap (blocksIn b at a) t ∙ blocksIn-snoc b at a (take i js) (getD js i 0)))
+      ap (λ l. sets l (i * b) (blockIn g at a (getD js i 0))) o
+      ∙ ap (λ s. sets (sets d 0 (blocksIn g at a (take i js))) s (blockIn g at a (getD js i 0))) (sym (zero-add (i * b)))
+      ∙ sets-next d 0 (blocksIn g at a (take i js)) (blockIn g at a (getD js i 0)) (i * b) e
+      ∙ ap (sets d 0) (sym (ap (blocksIn g at a) t ∙ blocksIn-snoc g at a (take i js) (getD js i 0)))

@@ -15,9 +15,8 @@ use Rattle.blocks.specs.Code.{blockLength, blockOf}
 use Rattle.blocks.proofs.Stripes.{length-blockOf}
 use Rattle.sha256.specs.Hash.{digestOf}
 use Rattle.sha256.proofs.Bytes.{length-digest}
-use Rattle.frame.specs.Messages.{entry}
 use Rattle.frame.specs.Params.{listed}
-use Rattle.frame.specs.Coded.{digestsOf, fits}
+use Rattle.frame.specs.Coded.{digestsOf}
 use Rattle.group.proofs.Lists.{take-front, same-comm, same-split}
 
 module _ (f : ℕ → List ℕ) (sized : (j : ℕ) → length (f j) ≡ 32) where
@@ -80,16 +79,6 @@ module _ (f : ℕ → List ℕ) (sized : (j : ℕ) → length (f j) ≡ 32) wher
         let e : n - j ≡ 0 = omega arith in
         let k : length list ≤ 32 * j = omega arith in
         i ∙ ap₂ (λ m l. same (joined f (j + 1) m) l) e (drop-of-length-le list k)
-
--- a block's digest at place j of a list
-pub fits-law : (list block x : List ℕ) (j : ℕ) (r : Bool) → 1 ≤ j → x ≡ digestOf block → r ≡ same (part list (32 * (j - 1)) (length x)) x
-    → r ≡ fits digestOf (entry list block) j
-unfolding fits
-fits-law list block x j r h e q =
-    let i : 32 * (j - 1) ≡ 32 * j - 32 = omega arith in
-    q ∙ ap (λ y. same (part list (32 * (j - 1)) (length y)) y) e
-    ∙ ap₂ (λ w s. same (part list s w) (digestOf block)) (length-digest block) i
-    ∙ same-comm (part list (32 * j - 32) 32) (digestOf block)
 
 -- ---- the digest of one block
 

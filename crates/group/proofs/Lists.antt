@@ -33,6 +33,13 @@ table-end f d r j n l a b e =
     let q : j ≡ n = omega arith in
     e ∙ ap (λ i. sets d 0 (table i f)) q ∙ sets-whole d (table n f) (length-table n f ∙ sym l)
 
+-- a list under another description
+pub stored-as : (a b d r : List ℕ) (i : ℕ) → a ≡ b → r ≡ sets d i a → r ≡ sets d i b
+stored-as a b d r i e q = q ∙ ap (sets d i) e
+
+pub compared-with : (a b l : List ℕ) (r : Bool) → a ≡ b → r ≡ same a l → r ≡ same b l
+compared-with a b l r e q = q ∙ ap (λ t. same t l) e
+
 -- the front that was stored
 pub take-front : (l vs : List ℕ) (k : ℕ) → length vs ≡ k → k ≤ length l → take k (sets l 0 vs) ≡ vs
 take-front l vs k e h =

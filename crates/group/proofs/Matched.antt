@@ -11,13 +11,12 @@ use native.Mathlib.Numerals.{add-one}
 use lib.ListN.{length, getD, take, List·getD-eq-default}
 use lib.Dec.{leb}
 use borrow.Author.Tests.{le-leb}
-use Rattle.area.specs.Area.{pick, part, same, table}
-use Rattle.area.proofs.Fills.{getD-table, length-table, table-agree}
+use Rattle.area.specs.Area.{pick, same, table}
+use Rattle.area.proofs.Fills.{getD-table, length-table}
 use Rattle.quorum.specs.Quorum.{bit, count}
 use Rattle.quorum.proofs.Counting.{count-suc}
 use Rattle.blocks.specs.declared.Params.{Params}
 use Rattle.blocks.specs.Code.{valueOf}
-use Rattle.frame.specs.Params.{width, listed}
 use Rattle.frame.specs.Messages.{Entry, entry}
 use Rattle.frame.specs.Chunks.{chunkAt, entryAt}
 use Rattle.frame.specs.Coded.{Piece, hasList, pieceOf, pieces, numbers, joinedBytes, decoded}
@@ -72,16 +71,6 @@ tally-turn on j r x e q =
 pub tally-end : (p : ℕ → Bool) (j n r : ℕ) → r ≡ count p j → n ≤ j → j ≤ n → r ≡ count p n
 tally-end p j n r e a b = let q : j ≡ n = omega arith in e ∙ ap (count p) q
 
--- what the loop stores for server j, but for the bounds of j
-unfoldable pub equalAt : List Bool → List ℕ → List ℕ → List ℕ → ℕ → Bool
-equalAt on at a d j = getD on j false && same (part a (chunkAt (getD at j 0)) (length d)) d
-
-pub flag-equalAt : (on : List Bool) (at a d : List ℕ) (n j : ℕ) (x : Bool)
-    → x ≡ leb 1 j && (leb j n && (getD on j false && same (part a (chunkAt (getD at j 0)) (length d)) d))
-    → x ≡ passing (equalAt on at a d) n j
-unfolding passing equalAt
-flag-equalAt on at a d n j x e = e
-
 -- ---- places
 
 pub place-law : (p j : ℕ) → j ≤ 10 → getD (placesFrom p) j 0 ≡ p + j
@@ -132,36 +121,30 @@ module _ (g : Params) (on : List Bool) (at a d : List ℕ) where
   unfolding entries marked
   entry-law j p e = ap (λ i. kept (getD on j false) (entryAt g a i)) e
 
-  -- what server j's flag and chunk say
-  pub sent-law : (j : ℕ) → length d ≡ listed g → sentList g on at a d j ≡ getD on j false && same (part a (chunkAt (getD at j 0)) (length d)) d
-  unfolding sentList entries marked entryAt
-  sent-law j e = go (getD on j false)
+  -- what is stored as its flag
+  pub flag-law : (j : ℕ) (x : Bool) → x ≡ leb 1 j && (leb j (g .n) && (getD on j false && same (entryAt g a (getD at j 0) .digests) d))
+      → x ≡ passing (sentList g on at a d) (g .n) j
+  unfolding passing sentList entries marked
+  flag-law j x e = e ∙ ap (λ s. leb 1 j && (leb j (g .n) && s)) (go (getD on j false))
     where
-      go : (b : Bool) → hasList (kept b (entryAt g a (getD at j 0))) d ≡ b && same (part a (chunkAt (getD at j 0)) (length d)) d
-      go true = rw e
+      go : (b : Bool) → b && same (entryAt g a (getD at j 0) .digests) d ≡ hasList (kept b (entryAt g a (getD at j 0))) d
+      go true = refl
       go false = refl
 
-  -- what the loop stores are the flags
-  pub matched-flags : length d ≡ listed g → table 11 (passing (equalAt on at a d) (g .n)) ≡ flags (sentList g on at a d) (g .n)
-  unfolding flags passing equalAt
-  matched-flags e =
-      table-agree 11 (passing (equalAt on at a d) (g .n)) (passing (sentList g on at a d) (g .n))
-      (λ j h. ap (λ s. leb 1 j && (leb j (g .n) && s)) (sym (sent-law j e)))
-
-  bytes-of : (b : Bool) (j : ℕ) (l : List Piece) (ns : List ℕ) → ((k : ℕ) → joinedBytes (take k l) ≡ blocksIn (width g) at a (take k ns))
+  bytes-of : (b : Bool) (j : ℕ) (l : List Piece) (ns : List ℕ) → ((k : ℕ) → joinedBytes (take k l) ≡ blocksIn g at a (take k ns))
       → (k : ℕ) → joinedBytes (take k (pieceOf (kept b (entryAt g a (getD at j 0))) d j l))
-      ≡ blocksIn (width g) at a (take k (pick (hasList (kept b (entryAt g a (getD at j 0))) d) (j ∷ ns) ns))
-  unfolding entryAt pick blocksIn
+      ≡ blocksIn g at a (take k (pick (hasList (kept b (entryAt g a (getD at j 0))) d) (j ∷ ns) ns))
+  unfolding pick blocksIn
   bytes-of false j l ns h k = h k
-  bytes-of true j l ns h k = go (same (part a (chunkAt (getD at j 0)) (listed g)) d) k
+  bytes-of true j l ns h k = go (same (entryAt g a (getD at j 0) .digests) d) k
     where
-      go : (s : Bool) (i : ℕ) → joinedBytes (take i (pick s (record { number = j; bytes = blockIn (width g) at a j } ∷ l) l))
-          ≡ blocksIn (width g) at a (take i (pick s (j ∷ ns) ns))
+      go : (s : Bool) (i : ℕ) → joinedBytes (take i (pick s (record { number = j; bytes = blockIn g at a j } ∷ l) l))
+          ≡ blocksIn g at a (take i (pick s (j ∷ ns) ns))
       go false i = h i
       go true zero = refl
-      go true (suc i) = ap (λ t. blockIn (width g) at a j ++ t) (h i)
+      go true (suc i) = ap (λ t. blockIn g at a j ++ t) (h i)
 
-  bytes-pieces : (j m k : ℕ) → joinedBytes (take k (pieces (entries g on at a) d j m)) ≡ blocksIn (width g) at a (take k (chosen (sentList g on at a d) j m))
+  bytes-pieces : (j m k : ℕ) → joinedBytes (take k (pieces (entries g on at a) d j m)) ≡ blocksIn g at a (take k (chosen (sentList g on at a d) j m))
   unfolding pieces chosen sentList entries blocksIn
   bytes-pieces j zero zero = refl
   bytes-pieces j zero (suc k) = refl
@@ -176,8 +159,8 @@ module _ (g : Params) (on : List Bool) (at a d : List ℕ) where
       let e : lowest (marked (flags (sentList g on at a d) (g .n))) (g .k) (g .n) ≡ L =
       lowest-agree (marked (flags (sentList g on at a d) (g .n))) (sentList g on at a d) (g .k) (g .n) (marked-flags (sentList g on at a d) (g .n) m) in
       let ns : numbers (take (g .k) P) ≡ L = numbers-take (g .k) P ∙ ap (take (g .k)) (numbers-pieces (entries g on at a) d 1 (g .n)) in
-      let bs : joinedBytes (take (g .k) P) ≡ blocksIn (width g) at a L = bytes-pieces 1 (g .n) (g .k) in
-      ap (λ l. valueOf l (g .size) (blocksIn (width g) at a l)) e ∙ sym (ap₂ (λ l w. valueOf l (g .size) w) ns bs)
+      let bs : joinedBytes (take (g .k) P) ≡ blocksIn g at a L = bytes-pieces 1 (g .n) (g .k) in
+      ap (λ l. valueOf l (g .size) (blocksIn g at a l)) e ∙ sym (ap₂ (λ l w. valueOf l (g .size) w) ns bs)
 
   -- ---- the two laws for the crates above
 

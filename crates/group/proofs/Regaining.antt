@@ -17,7 +17,6 @@ use Rattle.group.specs.Needs.{Collecting, Decoding}
 use Rattle.group.proofs.Lists.{take-front}
 use Rattle.group.proofs.Choosing.{length-lowest, lowest-below}
 use Rattle.group.proofs.Collecting.{length-blocksIn}
-use Rattle.group.proofs.Digests.{short-block}
 
 -- k blocks are little longer than the value
 pub all-blocks : (L k : ℕ) → k * blockLength L k ≤ L + (k - 1)
@@ -29,8 +28,9 @@ module _ (g : Params) (on : List Bool) (at a : List ℕ) (out : ℕ) (ps ls : Li
   pub few : g .k ≤ 8
   few = omega (arith, D .bounded .servers-high, D .bounded .faults-low, D .bounded .blocks-high)
 
-  pub narrow : (b : ℕ) → b ≡ blockLength (g .size) (g .k) → b ≤ 256
-  narrow b e = let h = short-block (g .size) (g .k) (D .bounded .blocks-low) (D .bounded .size-high) in omega arith
+  wide : (b : ℕ) → b ≡ blockLength (g .size) (g .k) → b ≡ width g
+  unfolding width
+  wide b e = e
 
   pub total : (b : ℕ) → b ≡ blockLength (g .size) (g .k) → g .k * b ≤ 264
   total b e =
@@ -43,7 +43,7 @@ module _ (g : Params) (on : List Bool) (at a : List ℕ) (out : ℕ) (ps ls : Li
   length-value =
       let n = length-lowest (marked on) (g .k) (g .n) (D .enough) in
       let h : 0 < length (lowest (marked on) (g .k) (g .n)) = omega (arith, D .bounded .blocks-low) in
-      length-valueOf (lowest (marked on) (g .k) (g .n)) (blocksIn (width g) at a (lowest (marked on) (g .k) (g .n))) (g .size) h
+      length-valueOf (lowest (marked on) (g .k) (g .n)) (blocksIn g at a (lowest (marked on) (g .k) (g .n))) (g .size) h
 
   pub value-front : (v r : List ℕ) → length v ≡ out → r ≡ sets v 0 (valueFrom g on at a) → take (g .size) r ≡ valueFrom g on at a
   value-front v r q e =
@@ -64,20 +64,21 @@ module _ (g : Params) (on : List Bool) (at a : List ℕ) (out : ℕ) (ps ls : Li
     pub front-length : g .k ≡ length (take (g .k) l)
     front-length = sym (length-take-le (g .k) l front-room)
 
-    pub collecting : (b : ℕ) → b ≡ blockLength (g .size) (g .k) → Collecting (take (g .k) l) at a b 264
+    pub collecting : (b : ℕ) → b ≡ blockLength (g .size) (g .k) → Collecting g (take (g .k) l) at a b 264
     collecting b e = record {
+      bounded = D .bounded;
       numbers = λ i. rw front (omega (arith, lowest-below (marked on) (g .k) (g .n) i, D .bounded .servers-high));
       within = D .within;
-      narrow = narrow b e;
+      width-is = wide b e;
       few = rw (← front-length) few;
       room = rw (← front-length) (total b e);
     }
 
-    module _ (b : ℕ) (x m : List ℕ) (width-is : b ≡ blockLength (g .size) (g .k)) (collected : m ≡ sets x 0 (blocksIn b at a (take (g .k) l))) (room : length x ≡ 264) where
+    module _ (b : ℕ) (x m : List ℕ) (width-is : b ≡ blockLength (g .size) (g .k)) (collected : m ≡ sets x 0 (blocksIn g at a (take (g .k) l))) (room : length x ≡ 264) where
       -- the front of the buffer of blocks
       pub back-room : g .k * b ≤ length m
       back-room =
-          let q = ap length collected ∙ length-sets x 0 (blocksIn b at a (take (g .k) l)) in
+          let q = ap length collected ∙ length-sets x 0 (blocksIn g at a (take (g .k) l)) in
           let t = total b width-is in
           omega arith
 
@@ -87,19 +88,18 @@ module _ (g : Params) (on : List Bool) (at a : List ℕ) (out : ℕ) (ps ls : Li
       pub back-is : length (take (g .k * b) m) ≡ length (take (g .k) l) * blockLength (g .size) (length (take (g .k) l))
       back-is = rw (← front-length, ← back-length, ← width-is)
 
-      back : take (g .k * b) m ≡ blocksIn b at a (lowest (marked on) (g .k) (g .n))
+      back : take (g .k * b) m ≡ blocksIn g at a (lowest (marked on) (g .k) (g .n))
       back =
-          let n : length (blocksIn b at a (lowest (marked on) (g .k) (g .n))) ≡ g .k * b =
-          length-blocksIn b at a (D .within) (narrow b width-is) (lowest (marked on) (g .k) (g .n))
-          ∙ ap (λ i. i * b) (length-lowest (marked on) (g .k) (g .n) (D .enough)) in
+          let n : length (blocksIn g at a (lowest (marked on) (g .k) (g .n))) ≡ g .k * b =
+          length-blocksIn g at a (D .bounded) (D .within) (lowest (marked on) (g .k) (g .n))
+          ∙ ap (λ i. i * width g) (length-lowest (marked on) (g .k) (g .n) (D .enough))
+          ∙ ap (λ i. g .k * i) (sym (wide b width-is)) in
           let t = total b width-is in
           let h : g .k * b ≤ length x = omega arith in
-          ap (take (g .k * b)) (collected ∙ ap (λ js. sets x 0 (blocksIn b at a js)) front)
-          ∙ take-front x (blocksIn b at a (lowest (marked on) (g .k) (g .n))) (g .k * b) n h
+          ap (take (g .k * b)) (collected ∙ ap (λ js. sets x 0 (blocksIn g at a js)) front)
+          ∙ take-front x (blocksIn g at a (lowest (marked on) (g .k) (g .n))) (g .k * b) n h
 
       -- what is decoded
       pub regained : (v r : List ℕ) → r ≡ sets v 0 (valueOf (take (g .k) l) (g .size) (take (g .k * b) m)) → r ≡ sets v 0 (valueFrom g on at a)
-      unfolding valueFrom width
-      regained v r e =
-          e ∙ ap₂ (λ js w. sets v 0 (valueOf js (g .size) w)) front back
-          ∙ ap (λ i. sets v 0 (valueOf (lowest (marked on) (g .k) (g .n)) (g .size) (blocksIn i at a (lowest (marked on) (g .k) (g .n))))) width-is
+      unfolding valueFrom
+      regained v r e = e ∙ ap₂ (λ js w. sets v 0 (valueOf js (g .size) w)) front back

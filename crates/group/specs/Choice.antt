@@ -3,11 +3,11 @@ use Prim.Native.Nat.{ℕ, zero, suc}
 use mathlib.Core.Bool.{Bool}
 use mathlib.Core.List.{List, [], _∷_, _++_}
 use lib.ListN.{getD, take}
-use Rattle.area.specs.Area.{pick, part}
+use Rattle.area.specs.Area.{pick}
 use Rattle.blocks.specs.declared.Params.{Params}
 use Rattle.blocks.specs.Code.{valueOf}
-use Rattle.frame.specs.Params.{width}
-use Rattle.frame.specs.Chunks.{blockPlace}
+use Rattle.frame.specs.Messages.{Entry}
+use Rattle.frame.specs.Chunks.{entryAt}
 use Rattle.group.specs.Entries.{marked}
 
 -- those of the m servers from j on that pass a test, by rising number
@@ -19,16 +19,16 @@ chosen p j (suc m) = pick (p j) (j ∷ chosen p (suc j) m) (chosen p (suc j) m)
 unfoldable pub lowest : (ℕ → Bool) → ℕ → ℕ → List ℕ
 lowest p k n = take k (chosen p 1 n)
 
--- the block of b bytes in server j's chunk
-abbrev pub blockIn : ℕ → List ℕ → List ℕ → ℕ → List ℕ
-blockIn b at a j = part a (blockPlace (getD at j 0)) b
+-- the block in server j's chunk
+abbrev pub blockIn : Params → List ℕ → List ℕ → ℕ → List ℕ
+blockIn g at a j = entryAt g a (getD at j 0) .block
 
 -- the blocks of servers js, end to end
-unfoldable pub blocksIn : ℕ → List ℕ → List ℕ → List ℕ → List ℕ
-blocksIn b at a [] = []
-blocksIn b at a (j ∷ js) = blockIn b at a j ++ blocksIn b at a js
+unfoldable pub blocksIn : Params → List ℕ → List ℕ → List ℕ → List ℕ
+blocksIn g at a [] = []
+blocksIn g at a (j ∷ js) = blockIn g at a j ++ blocksIn g at a js
 
 -- the value from the k lowest flagged servers
 unfoldable pub valueFrom : Params → List Bool → List ℕ → List ℕ → List ℕ
 valueFrom g on at a =
-    valueOf (lowest (marked on) (g .k) (g .n)) (g .size) (blocksIn (width g) at a (lowest (marked on) (g .k) (g .n)))
+    valueOf (lowest (marked on) (g .k) (g .n)) (g .size) (blocksIn g at a (lowest (marked on) (g .k) (g .n)))

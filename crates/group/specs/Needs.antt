@@ -7,20 +7,20 @@ use lib.ListN.{length, getD}
 use Rattle.field.specs.Field.{Tables}
 use Rattle.quorum.specs.Quorum.{count}
 use Rattle.blocks.specs.declared.Params.{Params}
-use Rattle.frame.specs.Params.{listed, Bounded}
+use Rattle.frame.specs.Params.{width, Bounded}
 use Rattle.group.specs.Entries.{marked, Within}
 
--- entries are compared with the list d
-pub record Comparing (g : Params) (at a d : List ℕ) : Type 0 where
+-- entries are compared with a list
+pub record Comparing (g : Params) (at a : List ℕ) : Type 0 where
   pub bounded : Bounded g
   pub within : Within at a
-  pub list-is : length d ≡ listed g
 
 -- servers 1 to 10, whose blocks of b bytes go to an area of out bytes
-pub record Collecting (js at a : List ℕ) (b out : ℕ) : Type 0 where
+pub record Collecting (g : Params) (js at a : List ℕ) (b out : ℕ) : Type 0 where
+  pub bounded : Bounded g
   pub numbers : (i : ℕ) → getD js i 0 ≤ 10
   pub within : Within at a
-  pub narrow : b ≤ 256
+  pub width-is : b ≡ width g
   pub few : length js ≤ 8
   pub room : length js * b ≤ out
 

@@ -2,14 +2,17 @@
 use blocks::Params;
 use blocks::bounds::block_length;
 use blocks::decoder::decode_into;
+use frame::entries::block_at;
 ghost use mathlib.Core.Path.{_≡_};
 ghost use mathlib.Core.Bool.{_&&_};
 ghost use Prim.Native.Nat.{_+_, _*_, _≤_, _<_};
 ghost use lib.ListN.{length, set};
 ghost use lib.Seq.{sets};
 ghost use lib.Dec.{ltb};
-ghost use Rattle.area.specs.Area.{pick, part};
-ghost use Rattle.frame.specs.Chunks.{chunkAt, blockPlace};
+ghost use Rattle.area.specs.Area.{pick};
+ghost use Rattle.frame.specs.Params.{width, Bounded};
+ghost use Rattle.frame.specs.Messages.{Entry};
+ghost use Rattle.frame.specs.Chunks.{chunkAt, entryAt};
 ghost use Rattle.group.specs.Entries.{marked};
 ghost use Rattle.group.specs.Choice.{lowest, blocksIn, valueFrom};
 ghost use Rattle.group.specs.Needs.{Collecting, Decoding};
@@ -41,25 +44,24 @@ fn choose(on: [bool; 11], n: usize, k: usize, numbers: &mut [u8; 8])
     }
 }
 
-// The block of b bytes in chunk p of the area, into out from index at on.
-fn put_block(area: &[u8], p: usize, b: usize, out: &mut [u8], at: usize)
-    requires { ⌜ (chunkAt p + 576 ≤ length (now area)) × (b ≤ 256) × (at + b ≤ length (now out)) ⌝ }
-    ensures { λ _. ⌜ now (out .exit) ≡ sets (now (out .entry)) at (part (now (area .entry)) (blockPlace p) b) ⌝ }
+// The block in chunk p of the area, into out from index at on.
+fn put_block(area: &[u8], p: usize, g: Params, out: &mut [u8], at: usize)
+    requires { ⌜ Bounded g × (chunkAt p + 576 ≤ length (now area)) × (at + width g ≤ length (now out)) ⌝ }
+    ensures { λ _. ⌜ now (out .exit) ≡ sets (now (out .entry)) at (entryAt g (now (area .entry)) p .block) ⌝ }
 {
-    let start = 576 * p + 320;
-    let end = start + b;
-    area::put(out, at, &area[start..end]);
+    let block = block_at(area, p, g);
+    area::put(out, at, block);
 }
 
 // The blocks of servers js, of b bytes each, end to end.
-fn collect(js: &[u8], at: [usize; 11], area: &[u8], b: usize, out: &mut [u8])
-    requires { ⌜ Collecting (now js) at (now area) b (length (now out)) ⌝ }
-    ensures { λ _. ⌜ now (out .exit) ≡ sets (now (out .entry)) 0 (blocksIn b at (now (area .entry)) (now (js .entry))) ⌝ }
+fn collect(js: &[u8], at: [usize; 11], area: &[u8], g: Params, b: usize, out: &mut [u8])
+    requires { ⌜ Collecting g (now js) at (now area) b (length (now out)) ⌝ }
+    ensures { λ _. ⌜ now (out .exit) ≡ sets (now (out .entry)) 0 (blocksIn g at (now (area .entry)) (now (js .entry))) ⌝ }
 {
     let mut i = 0;
     while i < js.len() {
         let j = js[i] as usize;
-        put_block(area, at[j], b, out, i * b);
+        put_block(area, at[j], g, out, i * b);
         i += 1;
     }
 }
@@ -85,6 +87,6 @@ pub fn regain(
     let mut js = [0u8; 8];
     let mut w = [0u8; 264];
     choose(on, n, k, &mut js);
-    collect(&js[..k], at, area, b, &mut w);
+    collect(&js[..k], at, area, g, b, &mut w);
     decode_into(&js[..k], &w[..end], size, value, 0, ps, ls);
 }

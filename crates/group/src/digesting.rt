@@ -1,4 +1,4 @@
-// Digests of a value's blocks, and of one block, against a digest list.
+// The digests of a value's blocks, stored, and compared with a digest list.
 use blocks::Params;
 use blocks::bounds::block_length;
 use blocks::encoder::encode_block;
@@ -11,8 +11,7 @@ ghost use Rattle.field.specs.Field.{Tables};
 ghost use Rattle.blocks.specs.Code.{blockOf};
 ghost use Rattle.sha256.specs.Hash.{digestOf};
 ghost use Rattle.frame.specs.Params.{listed};
-ghost use Rattle.frame.specs.Messages.{entry};
-ghost use Rattle.frame.specs.Coded.{digestsOf, fits as fitsIn};
+ghost use Rattle.frame.specs.Coded.{digestsOf};
 ghost use Rattle.group.specs.Needs.{Encoding};
 
 // The digest of block j of a value.
@@ -57,13 +56,4 @@ pub fn agrees(value: &[u8], list: &[u8], g: Params, ps: &[u8; 255], ls: &[u8; 25
         j += 1;
     }
     true
-}
-
-// Whether a block has the digest at place j of a list.
-pub fn fits(block: &[u8], list: &[u8], j: usize) -> bool
-    requires { ⌜ (length (now block) ≤ 256) × (1 ≤ j) × (32 * j ≤ length (now list)) ⌝ }
-    ensures { λ r. ⌜ r ≡ fitsIn digestOf (entry (now (list .entry)) (now (block .entry))) j ⌝ }
-{
-    let d = sha256::digest(block);
-    area::equal_at(list, 32 * (j - 1), &d)
 }

@@ -1,13 +1,16 @@
 // Which servers sent a digest list, and how many.
 use blocks::Params;
+use frame::entries::digests_at;
 ghost use mathlib.Core.Path.{_≡_};
 ghost use mathlib.Core.Bool.{_&&_};
 ghost use Prim.Native.Nat.{_+_, _*_, _≤_};
 ghost use lib.ListN.{length};
 ghost use lib.Dec.{leb};
-ghost use Rattle.area.specs.Area.{part, same};
+ghost use Rattle.area.specs.Area.{same};
 ghost use Rattle.quorum.specs.Quorum.{bit, count};
-ghost use Rattle.frame.specs.Chunks.{chunkAt};
+ghost use Rattle.frame.specs.Params.{Bounded};
+ghost use Rattle.frame.specs.Messages.{Entry};
+ghost use Rattle.frame.specs.Chunks.{chunkAt, entryAt};
 ghost use Rattle.group.specs.Entries.{marked, sentList, flags, placesFrom};
 ghost use Rattle.group.specs.Needs.{Comparing};
 
@@ -50,10 +53,11 @@ pub fn places(first: usize) -> [usize; 11]
 }
 
 // Whether server j is one of 1 to n, is flagged, and the digest list in chunk p of the area is the list.
-fn has_list(j: usize, n: usize, mark: bool, p: usize, area: &[u8], list: &[u8]) -> bool
-    requires { ⌜ (chunkAt p + 576 ≤ length (now area)) × (length (now list) ≤ 320) ⌝ }
-    ensures { λ r. ⌜ r ≡ leb 1 j && (leb j n && (mark && same (part (now (area .entry)) (chunkAt p) (length (now (list .entry)))) (now (list .entry)))) ⌝ }
+fn has_list(j: usize, mark: bool, p: usize, area: &[u8], list: &[u8], g: Params) -> bool
+    requires { ⌜ Bounded g × (chunkAt p + 576 ≤ length (now area)) ⌝ }
+    ensures { λ r. ⌜ r ≡ leb 1 j && (leb j (g .n) && (mark && same (entryAt g (now (area .entry)) p .digests) (now (list .entry)))) ⌝ }
 {
+    let n = g.n;
     if j < 1 {
         return false;
     }
@@ -61,21 +65,21 @@ fn has_list(j: usize, n: usize, mark: bool, p: usize, area: &[u8], list: &[u8]) 
         return false;
     }
     if mark {
-        return area::equal_at(area, 576 * p, list);
+        let d = digests_at(area, p, g);
+        return area::equal(d, list);
     }
     false
 }
 
 // The flags of the servers that sent the list.
 pub fn matching(on: [bool; 11], at: [usize; 11], area: &[u8], list: &[u8], g: Params) -> [bool; 11]
-    requires { ⌜ Comparing g at (now area) (now list) ⌝ }
+    requires { ⌜ Comparing g at (now area) ⌝ }
     ensures { λ r. ⌜ r ≡ flags (sentList g on at (now (area .entry)) (now (list .entry))) (g .n) ⌝ }
 {
-    let n = g.n;
     let mut r = [false; 11];
     let mut j = 0;
     while j < 11 {
-        r[j] = has_list(j, n, on[j], at[j], area, list);
+        r[j] = has_list(j, on[j], at[j], area, list, g);
         j += 1;
     }
     r

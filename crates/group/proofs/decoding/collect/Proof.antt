@@ -13,10 +13,10 @@ use Rattle.group.proofs.decoding.collect.Statement.{statement}
 use Rattle.group.proofs.decoding.collect.Tie as tie
 
 abbrev Inv-loop : tie.InvT-loop
-Inv-loop js area b out₀ at i₀ out i = (out ≡ sets out₀ 0 (blocksIn b at area (take i js))) × (i ≤ length js) × (length out ≡ length out₀)
+Inv-loop js area g b out₀ at i₀ out i = (out ≡ sets out₀ 0 (blocksIn g at area (take i js))) × (i ≤ length js) × (length out ≡ length out₀)
 
 abbrev μ-loop : tie.MeasureT-loop
-μ-loop js area b out₀ at i₀ out i = length js - i
+μ-loop js area g b out₀ at i₀ out i = length js - i
 
 loop-holds : tie.Need-loop-holds Inv-loop μ-loop
 unfolding blocksIn
@@ -45,7 +45,7 @@ unfolding Within
 put-block-requires c κs =
     let a = c .before .before .before .before .before .before .before in
     let h = room (c .before .before .before .loop .i) (length (a .args .js .now)) (a .args .b) (c .before .before .loop-test .taken) in
-    (a .pre .within _, a .pre .narrow, omega (arith, h, a .pre .room))
+    (a .pre .bounded, a .pre .within _, omega (arith, h, a .pre .room, a .pre .width-is))
 
 add-i : tie.Need-add-i Inv-loop μ-loop
 add-i c = search needs
@@ -58,7 +58,7 @@ loop-again c =
     let a = c .before .before .before .before .before .before .before .before .before .before in
     let inv = c .before .before .before .before .before .before .loop .inv in
     let p = c .before .before .put-block in
-    (p .ensures ∙ block-turn _ _ _ (a .pre .within) (a .pre .narrow) _ _ _ _ (inv .0) (c .before .before .before .before .before .loop-test .taken), omega arith, omega arith)
+    (p .ensures ∙ block-turn _ _ _ (a .pre .bounded) (a .pre .within) _ _ _ _ _ (a .pre .width-is) (inv .0) (c .before .before .before .before .before .loop-test .taken), omega arith, omega arith)
 
 same-length : tie.Need-same-length Inv-loop μ-loop
 same-length c = search needs

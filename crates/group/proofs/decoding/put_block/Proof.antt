@@ -1,52 +1,29 @@
 -- The part of the area that is stored is the block. Assumes nothing.
-use Prim.Native.Nat.{_+_, _-_, _*_, _≤_, _<_}
-use mathlib.Core.Path.{_≡_, refl, sym, ap, _∙_}
+use mathlib.Core.Path.{_≡_, ap, _∙_}
+use lib.ListN.{length}
 use native.Mathlib.Omega.{arith}
 use borrow.Author.Needs.{needs}
+use Rattle.frame.specs.Params.{width}
+use Rattle.group.proofs.Lists.{stored-as}
+use Rattle.group.proofs.Collecting.{length-block}
 use Rattle.group.proofs.decoding.put_block.Statement.{statement}
 use Rattle.group.proofs.decoding.put_block.Tie as tie
 
-mul-start : tie.Need-mul-start
-mul-start c = search needs
-
-add-start : tie.Need-add-start
-add-start c = search needs
-
-add-end : tie.Need-add-end
-add-end c = search needs
-
-sub-put : tie.Need-sub-put
-sub-put c = search needs
-
-part-put-start : tie.Need-part-put-start
-part-put-start c = search needs
-
-part-put-end : tie.Need-part-put-end
-part-put-end c = search needs
+block-at-requires : tie.Need-block-at-requires
+block-at-requires c κs = search needs
 
 put-requires : tie.Need-put-requires
-put-requires c κs = search needs
+put-requires c κs =
+    let a = c .before .before .before .before in
+    let n : length (c .before .block-at .result .now) ≡ width (a .args .g) =
+    ap length (c .before .block-at .ensures) ∙ length-block _ _ _ (a .pre .0) (a .pre .1) in
+    omega (arith, n, a .pre .2)
 
 same-length : tie.Need-same-length
 same-length c = search needs
 
 returns : tie.Need-returns
-returns c =
-    let b = c .before .before .before .before .before .before .before .args .b in
-    let s = 576 * c .before .before .before .before .before .before .before .args .p + 320 in
-    let e : s + b - s ≡ b = omega arith in
-    c .before .before .put .ensures ∙ rw e
+returns c = stored-as _ _ _ _ _ (c .before .before .before .before .block-at .ensures) (c .before .before .put .ensures)
 
 pub put-block-spec : {M : Type 1} → statement M
-put-block-spec =
-    tie.close
-    (tie.spec
-    mul-start
-    add-start
-    add-end
-    sub-put
-    part-put-start
-    part-put-end
-    put-requires
-    same-length
-    returns)
+put-block-spec = tie.close (tie.spec block-at-requires put-requires same-length returns)

@@ -5,19 +5,19 @@ use mathlib.Core.Bool.{false}
 use lib.ListN.{replicate}
 use lib.Seq.{sets}
 use Rattle.area.specs.Area.{table, tableFrom}
-use Rattle.group.specs.Entries.{passing, Within}
+use Rattle.group.specs.Entries.{sentList, passing, flags, Within}
 use Rattle.group.proofs.Lists.{table-turn, table-end}
-use Rattle.group.proofs.Matched.{equalAt, flag-equalAt, matched-flags}
+use Rattle.group.proofs.Matched.{flag-law}
 use native.Mathlib.Omega.{arith}
 use borrow.Author.Needs.{needs}
 use Rattle.group.proofs.matching.matching.Statement.{statement}
 use Rattle.group.proofs.matching.matching.Tie as tie
 
 abbrev Inv-loop : tie.InvT-loop
-Inv-loop area list on at n r₀ j₀ r j = (r ≡ sets (replicate 11 false) 0 (table j (passing (equalAt on at area list) n))) × (j ≤ 11)
+Inv-loop area list g on at r₀ j₀ r j = (r ≡ sets (replicate 11 false) 0 (table j (passing (sentList g on at area list) (g .n)))) × (j ≤ 11)
 
 abbrev μ-loop : tie.MeasureT-loop
-μ-loop area list on at n r₀ j₀ r j = 11 - j
+μ-loop area list g on at r₀ j₀ r j = 11 - j
 
 loop-holds : tie.Need-loop-holds Inv-loop μ-loop
 unfolding table tableFrom
@@ -36,7 +36,7 @@ has-list-requires : tie.Need-has-list-requires Inv-loop μ-loop
 unfolding Within
 has-list-requires c κs =
     let p = c .before .before .before .before .pre in
-    (p .within (c .before .loop .j), omega (arith, p .list-is, p .bounded .servers-high))
+    (p .bounded, p .within (c .before .loop .j))
 
 array-write-r : tie.Need-array-write-r Inv-loop μ-loop
 array-write-r c = search needs
@@ -48,10 +48,11 @@ loop-less : tie.Need-loop-less Inv-loop μ-loop
 loop-less c = search needs
 
 loop-again : tie.Need-loop-again Inv-loop μ-loop
-loop-again c = (table-turn _ _ _ _ _ (c .before .before .loop .inv .0) (flag-equalAt _ _ _ _ _ _ _ (c .has-list .ensures)), omega arith)
+loop-again c = (table-turn _ _ _ _ _ (c .before .before .loop .inv .0) (flag-law _ _ _ _ _ _ _ (c .has-list .ensures)), omega arith)
 
 returns : tie.Need-returns Inv-loop μ-loop
-returns c = table-end _ _ _ _ _ refl (c .loop-test .left) (c .before .loop .inv .1) (c .before .loop .inv .0) ∙ matched-flags _ _ _ _ _ (c .before .before .before .before .pre .list-is)
+unfolding flags
+returns c = table-end _ _ _ _ _ refl (c .loop-test .left) (c .before .loop .inv .1) (c .before .loop .inv .0)
 
 pub matching-spec : {M : Type 1} → statement M
 matching-spec =

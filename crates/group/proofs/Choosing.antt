@@ -3,7 +3,7 @@ use mathlib.Core.Path.{_≡_, refl, sym, ap, ap₂, _∙_}
 use mathlib.Core.Bool.{Bool, true, false, _&&_}
 use mathlib.Core.List.{List, [], _∷_, _++_, append-nil}
 use Prim.Native.Nat.{ℕ, zero, suc, _+_, _≤_, _<_}
-use native.Mathlib.Nat.{add-zero, zero-add, add-suc, suc-add}
+use native.Mathlib.Nat.{add-zero, zero-add}
 use native.Mathlib.Numerals.{add-one}
 use native.Mathlib.Omega.{arith}
 use lib.ListN.{length, getD, take, set, length-append, length-take}
@@ -12,7 +12,6 @@ use lib.Dec.{ltb}
 use Rattle.area.specs.Area.{pick}
 use Rattle.area.proofs.Sets.{sets-snoc}
 use Rattle.quorum.specs.Quorum.{bit, count}
-use Rattle.quorum.proofs.Counting.{count-suc}
 use Rattle.group.specs.Choice.{chosen, lowest}
 use Rattle.group.proofs.Lists.{below-take, take-snoc}
 

@@ -10,7 +10,7 @@ use lib.ListN.{length, getD, take, drop, set, length-append, drop-of-length-le}
 use lib.Seq.{sets, sets-eq, take-all, take-append-le, length-take-le}
 use lib.Dec.{eqb, ltb}
 use borrow.Author.Tests.{eqb-true, eqb-false, eq-eqb, ne-eqb, lt-ltb, le-ltb}
-use Rattle.area.specs.Area.{pick, part, same, table}
+use Rattle.area.specs.Area.{pick, same, table}
 use Rattle.area.proofs.Sets.{part-sets-same}
 use Rattle.area.proofs.Fills.{length-table, sets-table}
 

@@ -1,6 +1,6 @@
 -- The entries that servers sent, kept in the chunks of a lent area: for server j of 1 to 10 a flag at place j of one array and a chunk's number at
 -- place j of another, both of 11 places. Assumes nothing: these are definitions.
-use Prim.Native.Nat.{ℕ, _+_, _*_, _≤_}
+use Prim.Native.Nat.{ℕ, _+_, _≤_}
 use mathlib.Core.Bool.{Bool, true, false, _&&_}
 use mathlib.Core.Option.{Option, none, some}
 use mathlib.Core.List.{List}

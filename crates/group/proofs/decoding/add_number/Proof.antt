@@ -1,7 +1,6 @@
 -- By the two tests. Assumes nothing.
 use borrow.Author.Tests.{lt-ltb, le-ltb}
 use Rattle.area.specs.Area.{pick}
-use native.Mathlib.Omega.{arith}
 use borrow.Author.Needs.{needs}
 use Rattle.group.proofs.decoding.add_number.Statement.{statement}
 use Rattle.group.proofs.decoding.add_number.Tie as tie

@@ -1,6 +1,6 @@
 -- After j turns the k lowest flagged servers of 1 to j are stored, c of them. Assumes nothing.
-use Prim.Native.Nat.{_+_, _-_, _*_, _≤_, _<_}
-use mathlib.Core.Path.{_≡_, refl, sym, ap, _∙_}
+use Prim.Native.Nat.{_-_, _≤_}
+use mathlib.Core.Path.{_≡_, refl}
 use lib.ListN.{length}
 use lib.Seq.{sets}
 use Rattle.group.specs.Entries.{marked}

@@ -1,6 +1,6 @@
 -- After i turns the blocks of the first i servers are stored. Assumes nothing.
-use Prim.Native.Nat.{_+_, _-_, _*_, _≤_, _<_}
-use mathlib.Core.Path.{_≡_, refl, sym, ap, _∙_}
+use Prim.Native.Nat.{_-_, _≤_}
+use mathlib.Core.Path.{_≡_, refl, _∙_}
 use lib.ListN.{length, take}
 use lib.Seq.{sets, take-all}
 use Rattle.area.proofs.Sets.{room}

@@ -1,6 +1,6 @@
 -- The first bytes of the buffer are the block. Assumes nothing.
-use Prim.Native.Nat.{_+_, _-_, _*_, _≤_, _<_}
-use mathlib.Core.Path.{_≡_, refl, sym, ap, _∙_}
+use Prim.Native.Nat.{_-_, _≤_}
+use mathlib.Core.Path.{sym}
 use lib.ListN.{length, length-take}
 use lib.Seq.{length-take-le}
 use Rattle.group.proofs.Digests.{short-block, digest-law}

@@ -1,7 +1,6 @@
 -- By the tests in their order. Assumes nothing.
 use borrow.Author.Tests.{le-leb, lt-leb}
 use Rattle.group.proofs.Lists.{compared-with}
-use native.Mathlib.Omega.{arith}
 use borrow.Author.Needs.{needs}
 use Rattle.group.proofs.matching.has_list.Statement.{statement}
 use Rattle.group.proofs.matching.has_list.Tie as tie

@@ -1,6 +1,6 @@
 -- After j turns r counts the flagged servers of 1 to j. Assumes nothing.
-use Prim.Native.Nat.{_+_, _-_, _*_, _≤_, _<_}
-use mathlib.Core.Path.{_≡_, refl, sym, ap, _∙_}
+use Prim.Native.Nat.{_-_, _≤_}
+use mathlib.Core.Path.{_≡_, refl}
 use Rattle.quorum.specs.Quorum.{count}
 use Rattle.group.specs.Entries.{marked}
 use Rattle.group.proofs.Matched.{tally-turn, tally-end}

@@ -1,2 +1,4 @@
 pub mod Parts
 pub mod Views
+pub mod TimeVotes
+pub mod Senders

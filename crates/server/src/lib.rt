@@ -2,6 +2,10 @@
 use frame::Refusal;
 use frame::Stamp;
 
+mod state;
+mod tests;
+mod times;
+
 // What was counted of the blocks of one write. The entries themselves lie in the state area.
 pub struct BlockPart {
     pub sent: bool,

@@ -1,0 +1,32 @@
+use Rattle.server.specs.Tests.{doneTest}
+use Rattle.area.proofs.Tests.{tests}
+use Rattle.area.specs.Area.{pick}
+use native.Mathlib.Omega.{arith}
+use borrow.Author.Needs.{needs}
+use Rattle.server.proofs.tests.done_test.Statement.{statement}
+use Rattle.server.proofs.tests.done_test.Tie as tie
+use Rattle.server.proofs.tests.done_test.Reads as reads
+use Rattle.server.proofs.tests.done_test.Lts as lts
+
+-- src/tests.rt:116:9
+returns : tie.Need-returns
+unfolding doneTest pick
+returns c = search tests
+
+-- src/tests.rt:119:9
+returns-2 : tie.Need-returns-2
+unfolding doneTest pick
+returns-2 c = search tests
+
+-- src/tests.rt:122:9
+returns-3 : tie.Need-returns-3
+unfolding doneTest pick
+returns-3 c = rw (c .if3 .taken) (search tests)
+
+-- src/tests.rt:112:1
+returns-4 : tie.Need-returns-4
+unfolding doneTest pick
+returns-4 c = rw (c .if3 .left) (search tests)
+
+pub done-test-spec : {M : Type 1} → statement M
+done-test-spec = tie.close (tie.spec returns returns-2 returns-3 returns-4)

@@ -1,0 +1,219 @@
+// The parts of a server's state: as they begin, and with one thing counted.
+use crate::BlockPart;
+use crate::Reader;
+use crate::Server;
+use crate::Slot;
+use crate::TimePart;
+use frame::Stamp;
+use frame::stamps::zero_stamp;
+ghost use mathlib.Core.Path.{_≡_};
+ghost use Prim.Native.Nat.{_<_};
+ghost use mathlib.Core.Bool.{not, _&&_, _||_};
+ghost use Rattle.area.specs.Area.{pick};
+ghost use Rattle.server.specs.State.{freshBlocks, freshTimes, freshSlot, freshReader, freshServer, withSlot, withReader, withBlocks, withTimes, blockSent, blockEcho, blockReady, blockMarks, timeSent, timeEcho, timeReady, timeMarks};
+
+// ---- fresh
+
+fn fresh_blocks() -> BlockPart
+    ensures { λ r. ⌜ r ≡ freshBlocks ⌝ }
+{
+    BlockPart {
+        sent: false,
+        ready: false,
+        complete: false,
+        echoes: [false; 11],
+        readies: [false; 11],
+    }
+}
+
+fn fresh_times() -> TimePart
+    ensures { λ r. ⌜ r ≡ freshTimes ⌝ }
+{
+    TimePart {
+        sent: false,
+        ready: false,
+        delivered: false,
+        time: 0,
+        echoes: [false; 11],
+        readies: [false; 11],
+        echoed: [0; 11],
+        readied: [0; 11],
+    }
+}
+
+// The write q is open, and nothing of it has come.
+pub fn fresh_slot(q: u64) -> Slot
+    ensures { λ r. ⌜ r ≡ freshSlot q ⌝ }
+{
+    let blocks = fresh_blocks();
+    let times = fresh_times();
+    Slot {
+        sequence: q,
+        blocks,
+        times,
+    }
+}
+
+fn fresh_reader() -> Reader
+    ensures { λ r. ⌜ r ≡ freshReader ⌝ }
+{
+    let noted = zero_stamp();
+    Reader {
+        sequence: 0,
+        listening: false,
+        noted,
+    }
+}
+
+// Stamp 0, client 0 and sequence 0; every client's write 1 is open.
+pub fn fresh_server() -> Server
+    ensures { λ r. ⌜ r ≡ freshServer ⌝ }
+{
+    let stamp = zero_stamp();
+    let slot = fresh_slot(1);
+    let reader = fresh_reader();
+    let slots = [slot; 9];
+    let readers = [reader; 9];
+    Server {
+        stamp,
+        slots,
+        readers,
+    }
+}
+
+// ---- one place of an array changed
+
+pub fn with_slot(s: Server, c: usize, x: Slot) -> Server
+    requires { ⌜ c < 9 ⌝ }
+    ensures { λ r. ⌜ r ≡ withSlot s c x ⌝ }
+{
+    let mut y = s;
+    y.slots[c] = x;
+    y
+}
+
+pub fn with_reader(s: Server, c: usize, x: Reader) -> Server
+    requires { ⌜ c < 9 ⌝ }
+    ensures { λ r. ⌜ r ≡ withReader s c x ⌝ }
+{
+    let mut y = s;
+    y.readers[c] = x;
+    y
+}
+
+// ---- a frame is counted: of the blocks
+
+pub fn block_sent(x: Slot) -> Slot
+    ensures { λ r. ⌜ r ≡ withBlocks x (blockSent (x .blocks)) ⌝ }
+{
+    let mut b = x.blocks;
+    b.sent = true;
+    let mut y = x;
+    y.blocks = b;
+    y
+}
+
+pub fn block_echo(x: Slot, j: usize) -> Slot
+    requires { ⌜ j < 11 ⌝ }
+    ensures { λ r. ⌜ r ≡ withBlocks x (blockEcho (x .blocks) j) ⌝ }
+{
+    let mut b = x.blocks;
+    b.echoes[j] = true;
+    let mut y = x;
+    y.blocks = b;
+    y
+}
+
+pub fn block_ready(x: Slot, j: usize) -> Slot
+    requires { ⌜ j < 11 ⌝ }
+    ensures { λ r. ⌜ r ≡ withBlocks x (blockReady (x .blocks) j) ⌝ }
+{
+    let mut b = x.blocks;
+    b.readies[j] = true;
+    let mut y = x;
+    y.blocks = b;
+    y
+}
+
+// ---- of the time
+
+pub fn time_sent(x: Slot) -> Slot
+    ensures { λ r. ⌜ r ≡ withTimes x (timeSent (x .times)) ⌝ }
+{
+    let mut b = x.times;
+    b.sent = true;
+    let mut y = x;
+    y.times = b;
+    y
+}
+
+pub fn time_echo(x: Slot, j: usize, time: u64) -> Slot
+    requires { ⌜ j < 11 ⌝ }
+    ensures { λ r. ⌜ r ≡ withTimes x (timeEcho (x .times) j time) ⌝ }
+{
+    let mut b = x.times;
+    b.echoes[j] = true;
+    b.echoed[j] = time;
+    let mut y = x;
+    y.times = b;
+    y
+}
+
+pub fn time_ready(x: Slot, j: usize, time: u64) -> Slot
+    requires { ⌜ j < 11 ⌝ }
+    ensures { λ r. ⌜ r ≡ withTimes x (timeReady (x .times) j time) ⌝ }
+{
+    let mut b = x.times;
+    b.readies[j] = true;
+    b.readied[j] = time;
+    let mut y = x;
+    y.times = b;
+    y
+}
+
+// ---- a ready goes out, a part is done
+
+fn either(a: bool, b: bool) -> bool
+    ensures { λ r. ⌜ r ≡ (a || b) ⌝ }
+{
+    if a {
+        return true;
+    }
+    b
+}
+
+// The first delivered time stands.
+fn first_time(delivered: bool, full: bool, time: u64, kept: u64) -> u64
+    ensures { λ r. ⌜ r ≡ pick (not delivered && full) time kept ⌝ }
+{
+    if delivered {
+        return kept;
+    }
+    if full {
+        return time;
+    }
+    kept
+}
+
+pub fn block_marks(x: Slot, due: bool, full: bool) -> Slot
+    ensures { λ r. ⌜ r ≡ withBlocks x (blockMarks (x .blocks) due full) ⌝ }
+{
+    let mut b = x.blocks;
+    b.ready = either(b.ready, due);
+    b.complete = either(b.complete, full);
+    let mut y = x;
+    y.blocks = b;
+    y
+}
+
+pub fn time_marks(x: Slot, due: bool, full: bool, time: u64) -> Slot
+    ensures { λ r. ⌜ r ≡ withTimes x (timeMarks (x .times) due full time) ⌝ }
+{
+    let mut b = x.times;
+    b.time = first_time(b.delivered, full, time, b.time);
+    b.ready = either(b.ready, due);
+    b.delivered = either(b.delivered, full);
+    let mut y = x;
+    y.times = b;
+    y
+}

@@ -1,0 +1,137 @@
+// What turns a frame down: refusals 10 to 13, one function for each of document 01's tests.
+use crate::Reader;
+use crate::Slot;
+use blocks::Params;
+use frame::Party;
+use frame::Refusal;
+use frame::Verdict;
+use frame::bounds::out_room;
+use frame::bounds::width;
+ghost use mathlib.Core.Path.{_≡_};
+ghost use mathlib.Core.Bool.{false};
+ghost use lib.ListN.{getD};
+ghost use Rattle.area.specs.Area.{pick};
+ghost use Rattle.frame.specs.Params.{Bounded};
+ghost use Rattle.frame.specs.Messages.{numberIn, fromServer};
+ghost use Rattle.frame.specs.declared.Verdict.the-variants as J;
+ghost use Rattle.frame.specs.declared.Refusal.the-variants as R;
+ghost use Rattle.server.specs.Tests.{roomTest, fromOwner, openTest, readTest, doneTest};
+
+// 10: whether the lent areas are long enough, of which only the lengths count.
+pub fn room_test(g: Params, area: usize, initial: usize, out: usize, to: usize) -> Verdict
+    requires { ⌜ Bounded g ⌝ }
+    ensures { λ r. ⌜ r ≡ roomTest g area initial out to ⌝ }
+{
+    if area < 97344 {
+        return Verdict::Bad(Refusal::Room);
+    }
+    if initial < width(g) {
+        return Verdict::Bad(Refusal::Room);
+    }
+    if out < out_room(g, g.n + 9) {
+        return Verdict::Bad(Refusal::Room);
+    }
+    if to < 2 * (g.n + 9) {
+        return Verdict::Bad(Refusal::Room);
+    }
+    Verdict::Fine
+}
+
+// The number of a party.
+pub fn number_in(p: Party) -> u8
+    ensures { λ r. ⌜ r ≡ numberIn p ⌝ }
+{
+    match p {
+        Party::Client(c) => c,
+        Party::Server(j) => j,
+    }
+}
+
+// Whether the sender is client c.
+pub fn from_owner(from: Party, c: u8) -> bool
+    ensures { λ r. ⌜ r ≡ fromOwner from c ⌝ }
+{
+    match from {
+        Party::Client(d) => d == c,
+        Party::Server(_) => false,
+    }
+}
+
+// Whether the sender is one of servers 1 to n.
+pub fn from_server(g: Params, from: Party) -> bool
+    ensures { λ r. ⌜ r ≡ fromServer g from ⌝ }
+{
+    let Party::Server(j) = from else {
+        return false;
+    };
+    let i = j as usize;
+    if i < 1 {
+        return false;
+    }
+    i <= g.n
+}
+
+// 12 and 13 of a frame of the write q, of which one was counted already where again holds.
+pub fn open_test(x: Slot, q: u32, again: bool) -> Verdict
+    ensures { λ r. ⌜ r ≡ openTest x q again ⌝ }
+{
+    let w = q as u64;
+    if w < x.sequence {
+        return Verdict::Bad(Refusal::Stale);
+    }
+    if x.sequence < w {
+        return Verdict::Bad(Refusal::Ahead);
+    }
+    if again {
+        return Verdict::Bad(Refusal::Stale);
+    }
+    Verdict::Fine
+}
+
+// 12 of a read.
+pub fn read_test(r: Reader, q: u32) -> Verdict
+    ensures { λ v. ⌜ v ≡ readTest r q ⌝ }
+{
+    if q <= r.sequence {
+        return Verdict::Bad(Refusal::Stale);
+    }
+    Verdict::Fine
+}
+
+// 12 of a read-complete.
+pub fn done_test(r: Reader, q: u32) -> Verdict
+    ensures { λ v. ⌜ v ≡ doneTest r q ⌝ }
+{
+    if q < r.sequence {
+        return Verdict::Bad(Refusal::Stale);
+    }
+    if q != r.sequence {
+        return Verdict::Fine;
+    }
+    if r.listening {
+        return Verdict::Fine;
+    }
+    Verdict::Bad(Refusal::Stale)
+}
+
+// 11 to 13 of a frame of the write q that only its owner c sends.
+pub fn owner_test(from: Party, c: u8, x: Slot, q: u32, again: bool) -> Verdict
+    ensures { λ r. ⌜ r ≡ pick (fromOwner from c) (openTest x q again) (J.Bad R.Sender) ⌝ }
+{
+    if !from_owner(from, c) {
+        return Verdict::Bad(Refusal::Sender);
+    }
+    open_test(x, q, again)
+}
+
+// 11 to 13 of a frame of the write q that only servers send; on says of which one was counted already.
+pub fn server_test(g: Params, from: Party, x: Slot, q: u32, on: [bool; 11]) -> Verdict
+    requires { ⌜ Bounded g ⌝ }
+    ensures { λ r. ⌜ r ≡ pick (fromServer g from) (openTest x q (getD on (numberIn from) false)) (J.Bad R.Sender) ⌝ }
+{
+    if !from_server(g, from) {
+        return Verdict::Bad(Refusal::Sender);
+    }
+    let j = number_in(from) as usize;
+    open_test(x, q, on[j])
+}

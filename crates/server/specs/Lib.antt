@@ -4,3 +4,4 @@ pub mod Rules
 pub mod Tests
 pub mod Steps
 pub mod Delivery
+pub mod Stages

@@ -1,7 +1,9 @@
 // A server: its state by value. Place j of an array belongs to server or client j; place 0 stays empty.
+use frame::Place;
 use frame::Refusal;
 use frame::Stamp;
 
+mod accept;
 mod state;
 mod tests;
 mod times;
@@ -62,4 +64,10 @@ pub enum Reply {
 pub struct Served {
     pub reply: Reply,
     pub server: Server,
+}
+
+// What a stage of a step leaves: the server, and where the next frame goes.
+pub struct Moved {
+    pub server: Server,
+    pub place: Place,
 }

@@ -1,0 +1,115 @@
+use Rattle.frame.specs.Chunks.{entryAt, completeAt}
+use Prim.Native.Nat.{_*_, _-_}
+use Rattle.server.proofs.Sending.{value-size, tell-room, ack-room}
+use Rattle.server.proofs.Acceptance.{accepted-parts}
+use native.Mathlib.Omega.{arith}
+use borrow.Author.Needs.{needs}
+use Rattle.server.proofs.accept.accept.Statement.{statement}
+use Rattle.server.proofs.accept.accept.Tie as tie
+use Rattle.server.proofs.accept.accept.Reads as reads
+use Rattle.server.proofs.accept.accept.Lts as lts
+use Rattle.frame.proofs.stamps.is_older.Reads as is-older-reads
+use Rattle.server.proofs.accept.opens_next.Reads as opens-next-reads
+use Rattle.server.proofs.accept.replace.Reads as replace-reads
+use Rattle.server.proofs.accept.tell.Reads as tell-reads
+use Rattle.frame.proofs.entries.block_at.Reads as block-at-reads
+use Rattle.frame.proofs.entries.digests_at.Reads as digests-at-reads
+use Rattle.frame.proofs.send.send_ack.Reads as send-ack-reads
+
+-- src/accept.rt:113:16
+mul-from : tie.Need-mul-from
+mul-from c = search needs
+
+-- src/accept.rt:113:16
+sub-from : tie.Need-sub-from
+sub-from c = search needs
+
+-- src/accept.rt:115:15
+add-t20 : tie.Need-add-t20
+add-t20 c = search needs
+
+-- src/accept.rt:119:9
+is-older-requires : tie.Need-is-older-requires
+is-older-requires c κs = search needs
+
+-- src/accept.rt:120:9
+digests-at-requires : tie.Need-digests-at-requires
+digests-at-requires c κs = search needs
+
+-- src/accept.rt:121:9
+block-at-requires : tie.Need-block-at-requires
+block-at-requires c κs = search needs
+
+-- src/accept.rt:122:9
+tell-requires : tie.Need-tell-requires
+tell-requires c κs =
+    let z = c .before .before .before .before .before .before .before .before .before in
+    let P = z .pre .0 in
+    tell-room (z .args .p) _ _ _ _
+    (value-size (z .args .g) (z .args .area .now) (21 * z .args .c - 20) _ _ (P .bounded) (omega (arith, P .client-low, P .client-high, P .whole)) (c .before .before .before .digests-at .ensures) (c .before .before .block-at .ensures))
+    (P .room)
+
+-- src/accept.rt:123:9
+send-ack-requires : tie.Need-send-ack-requires
+send-ack-requires c κs =
+    let z = c .before .before .before .before .before .before .before .before .before .before .before .before .before .before .before .before in
+    let P = z .pre .0 in
+    ack-room _ _ _ _ (z .args .p) _ _ _ _ _ _
+    (value-size (z .args .g) (z .args .area .now) (21 * z .args .c - 20) _ _ (P .bounded) (omega (arith, P .client-low, P .client-high, P .whole)) (c .before .before .before .before .before .before .before .before .before .before .digests-at .ensures) (c .before .before .before .before .before .before .before .before .before .block-at .ensures))
+    (c .before .before .before .before .before .before .tell .ensures)
+    (P .room)
+
+-- src/accept.rt:124:5
+replace-requires : tie.Need-replace-requires
+replace-requires c κs =
+    let P = c .before .before .before .before .before .before .before .before .before .before .before .before .before .before .before .before .before .before .before .before .before .before .pre .0 in
+    (P .bounded, omega (arith, P .client-low, P .client-high), omega (arith, P .client-high, P .whole))
+
+-- src/accept.rt:125:9
+opens-next-requires : tie.Need-opens-next-requires
+opens-next-requires c κs = let P = c .before .before .before .before .before .before .before .before .before .before .before .before .before .before .before .before .before .before .before .before .before .before .before .before .before .pre .0 in omega (arith, P .client-high)
+
+-- src/accept.rt:108:1
+same-length : tie.Need-same-length
+same-length c = search needs
+
+-- src/accept.rt:108:1
+same-length-2 : tie.Need-same-length-2
+same-length-2 c = search needs
+
+-- src/accept.rt:108:1
+same-length-3 : tie.Need-same-length-3
+same-length-3 c = search needs
+
+-- src/accept.rt:108:1
+returns : tie.Need-returns
+returns c =
+    let z = c .before .before .before .before .before .before .before .before .before .before .before .before .before .before .before .before .before .before .before .before .before .before .before .before .before .before in
+    let a = z .args in
+    accepted-parts (a .s) (a .area .now) _ (record { client = a .c; sequence = a .q; time = a .time; entry = entryAt (a .g) (a .area .now) (completeAt (a .c)) }) _ _ _ _ _ _ _
+    (c .before .before .before .before .before .before .before .before .before .before .before .before .before .before .before .before .before .before .before .before .digests-at .ensures)
+    (c .before .before .before .before .before .before .before .before .before .before .before .before .before .before .before .before .before .before .before .block-at .ensures)
+    (c .before .before .before .before .before .before .before .before .before .before .before .before .before .before .before .before .before .before .before .before .before .before .is-older .ensures)
+    (c .before .before .before .before .before .before .before .before .before .before .before .before .before .before .before .before .tell .ensures)
+    (c .before .before .before .before .before .before .before .before .before .send-ack .ensures)
+    (c .before .before .before .replace .ensures)
+    (c .opens-next .ensures)
+
+pub accept-spec : {M : Type 1} → statement M
+accept-spec =
+    tie.close
+    (tie.spec
+    mul-from
+    sub-from
+    add-t20
+    is-older-requires
+    digests-at-requires
+    block-at-requires
+    tell-requires
+    send-ack-requires
+    replace-requires
+    opens-next-requires
+    same-length
+    same-length-2
+    same-length-3
+    returns)

@@ -167,23 +167,28 @@ module _ (g : Params) (s : Server) (a : List ℕ) (c : ℕ) (x : Slot) (q : Outb
   by-last : (w : Progress) (l : Bool) → x .times .delivered ≡ true → x .blocks .complete ≡ true → ltb (x .times .time) lastTime ≡ l
       → w ≡ moved (acceptBelow l s a c x (x .times .time) (entryAt g a (completeAt c)) [] []) q
       → w ≡ moved (settle g s a c x [] []) q
+  unfolding acceptDone
   by-last w l h k m e =
       by-blocks w true h k (e ∙ ap (λ (t : Bool). moved (acceptBelow t s a c x (x .times .time) (entryAt g a (completeAt c)) [] []) q) (sym m))
 
   pub wait-time : (s′ : Server) → s′ ≡ withSlot s c x → x .times .delivered ≡ false → progress s′ a q ≡ moved (settle g s a c x [] []) q
+  unfolding acceptDone
   wait-time s′ e h = by-time (progress s′ a q) false h (waited s′ e)
 
   pub wait-blocks : (s′ : Server) → s′ ≡ withSlot s c x → x .times .delivered ≡ true → x .blocks .complete ≡ false
       → progress s′ a q ≡ moved (settle g s a c x [] []) q
+  unfolding acceptDone
   wait-blocks s′ e h k = by-blocks (progress s′ a q) false h k (waited s′ e)
 
   pub wait-last : (s′ : Server) → s′ ≡ withSlot s c x → x .times .delivered ≡ true → x .blocks .complete ≡ true → lastTime ≤ x .times .time
       → progress s′ a q ≡ moved (settle g s a c x [] []) q
+  unfolding acceptBelow
   wait-last s′ e h k l = by-last (progress s′ a q) false h k (le-ltb (x .times .time) lastTime l) (waited s′ e)
 
   pub settled : (w : Progress) (i : ℕ) → x .sequence ≡ i → x .times .delivered ≡ true → x .blocks .complete ≡ true → x .times .time < lastTime
       → w ≡ moved (accept s a (record { client = c; sequence = i; time = x .times .time; entry = entryAt g a (completeAt c) }) [] []) q
       → w ≡ moved (settle g s a c x [] []) q
+  unfolding acceptBelow
   settled w i o h k l e =
       by-last w true h k (lt-ltb (x .times .time) lastTime l)
       (e ∙ ap (λ (j : ℕ). moved (accept s a (record { client = c; sequence = j; time = x .times .time; entry = entryAt g a (completeAt c) }) [] []) q) (sym o))

@@ -41,6 +41,7 @@ module _ (H : List ℕ → List ℕ) (g : Params) where
 
   votes-time : (on : List Bool) (ts : List ℕ) (T : ℕ)
       → votes (timeRules H g) (g .n) (g .t) (λ j. kept (getD on j false) (getD ts j 0)) T ≡ count (saidTime on ts T) (g .n)
+  unfolding votes
   votes-time on ts T =
       count-alike (λ j. isLike (timeRules H g) (g .n) (g .t) (kept (getD on j false) (getD ts j 0)) T) (saidTime on ts T) (g .n)
       (λ j. like-time (getD on j false) (getD ts j 0) T)

@@ -164,6 +164,95 @@ for n, t, k, length, room, numbers, these in (
     decode(n, t, k, length, room, numbers, these)
 
 
+# ---- frames
+
+def body_length(n, k, length, kind):
+    entry = 32 * n + block_length(k, length)
+    return {2: 8, 3: entry, 4: entry, 5: entry, 6: 8, 7: 8, 8: 8, 11: 13 + entry}.get(kind, 0)
+
+
+def opened(n, t, k, length, frame):
+    number = parameters(n, t, k, length)
+    if number:
+        return f'{number:02x}'
+    if len(frame) < 9 or int.from_bytes(frame[:2], 'big') != len(frame) - 2:
+        return '04'
+    version, kind, client, sequence = frame[2], frame[3], frame[4], int.from_bytes(frame[5:9], 'big')
+    if version != 1:
+        return '05'
+    if not 1 <= kind <= 12:
+        return '06'
+    if not 1 <= client <= 8 or sequence == 0:
+        return '07'
+    if len(frame) - 9 != body_length(n, k, length, kind):
+        return '08'
+    if kind == 11:
+        parts = [int.from_bytes(frame[9:17], 'big'), frame[17], int.from_bytes(frame[18:22], 'big')]
+        if len({part == 0 for part in parts}) != 1 or parts[1] > 8:
+            return '09'
+    return '00' + frame[3:9].hex()
+
+
+def opening(n, t, k, length, frame, expected=None):
+    result = opened(n, t, k, length, frame)
+    assert expected is None or result == expected
+    case('open', [str(x) for x in (n, t, k, length)] + [text(frame)], result)
+
+
+def frame(kind, client, sequence, body=b'', version=1):
+    return (7 + len(body)).to_bytes(2, 'big') + bytes([version, kind, client]) + sequence.to_bytes(4, 'big') + body
+
+
+def filled(size):
+    return bytes((i * 7 + 3) % 256 for i in range(size))
+
+
+def value_body(time, writer, sequence):
+    return time.to_bytes(8, 'big') + bytes([writer]) + sequence.to_bytes(4, 'big') + filled(130)
+
+
+small = (4, 1, 2, 3)
+comment("Document 01's examples of refusals 1 to 9 at opening a frame, and its get-stamp frame")
+good = bytes.fromhex('000701010200000005')
+opening(*small, good, '00010200000005')
+opening(6, 2, 1, 3, good, '01')
+opening(7, 2, 1, 3, good, '00010200000005')
+opening(4, 1, 3, 3, good, '02')
+opening(4, 1, 2, 257, good, '03')
+for hexadecimal, number in (('000701', '04'), ('000702010200000005', '05'), ('0007010d0200000005', '06'), ('000701010000000005', '07'), ('00080101020000000500', '08')):
+    opening(*small, bytes.fromhex(hexadecimal), number)
+opening(*small, frame(11, 2, 5, value_body(3, 0, 1)), '09')
+
+comment('Frames of 0 to 12 bytes: cut from a longer one, and with a right length field')
+for size in range(13):
+    opening(*small, (good + bytes(3))[:size])
+    if size >= 2:
+        opening(*small, (size - 2).to_bytes(2, 'big') + (good[2:] + bytes(3))[:size - 2])
+
+comment('Every kind with the right body, and one byte shorter and longer; a length field one off; kinds 0, 13 and 255')
+for kind in range(1, 13):
+    right = body_length(4, 2, 3, kind)
+    body = value_body(1, 1, 1) if kind == 11 else filled(right)
+    assert len(body) == right
+    opening(*small, frame(kind, 8, 4294967295, body))
+    if right:
+        opening(*small, frame(kind, 8, 1, body[:-1]), '08')
+    opening(*small, frame(kind, 8, 1, body + bytes(1)), '08')
+for change in (-1, 1, 2, 256):
+    opening(*small, (7 + change).to_bytes(2, 'big') + good[2:], '04')
+for kind in (0, 13, 255):
+    opening(*small, frame(kind, 2, 5), '06')
+
+comment('The order of the numbers, and stamps in values')
+opening(*small, frame(0, 0, 0, bytes(1), 2), '05')
+opening(*small, frame(0, 0, 0, bytes(1)), '06')
+opening(*small, frame(2, 9, 5), '07')
+opening(*small, frame(2, 2, 0), '07')
+opening(*small, frame(11, 2, 5, value_body(3, 0, 1)[:-1]), '08')
+for stamp in ((0, 0, 0), (1, 8, 1), (1, 9, 1), (0, 1, 1), (1, 0, 0), (0, 0, 1), (1, 1, 0), (0, 1, 0), (2**64 - 1, 8, 2**32 - 1)):
+    opening(*small, frame(11, 2, 5, value_body(*stamp)))
+
+
 # ---- the comparison itself
 
 comment('Wrong expectations are seen: the next five must differ')

@@ -5,6 +5,7 @@ use text::word_at;
 
 mod coding;
 mod digests;
+mod frames;
 mod products;
 mod report;
 mod text;
@@ -33,6 +34,10 @@ fn case(line: &[u8]) {
     }
     if area::equal(kind, b"decode") {
         coding::decode(line, next);
+        return;
+    }
+    if area::equal(kind, b"open") {
+        frames::opening(line, next);
         return;
     }
     report::echo(line);

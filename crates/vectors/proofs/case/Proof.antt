@@ -71,11 +71,23 @@ decode-requires c κs = search needs
 returns-5 : tie.Need-returns-5
 returns-5 c = search needs
 
-echo-requires : tie.Need-echo-requires
-echo-requires c κs = search needs
+slice-aggregate-equal-6 : tie.Need-slice-aggregate-equal-6
+slice-aggregate-equal-6 c = search needs
+
+equal-requires-6 : tie.Need-equal-requires-6
+equal-requires-6 c κs = search needs
+
+opening-requires : tie.Need-opening-requires
+opening-requires c κs = search needs
 
 returns-6 : tie.Need-returns-6
 returns-6 c = search needs
+
+echo-requires : tie.Need-echo-requires
+echo-requires c κs = search needs
+
+returns-7 : tie.Need-returns-7
+returns-7 c = search needs
 
 pub case-spec : {M : Type 1} → statement M
 case-spec =
@@ -103,5 +115,9 @@ case-spec =
     equal-requires-5
     decode-requires
     returns-5
+    slice-aggregate-equal-6
+    equal-requires-6
+    opening-requires
+    returns-6
     echo-requires
-    returns-6)
+    returns-7)

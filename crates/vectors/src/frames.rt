@@ -1,0 +1,83 @@
+// Frames: what opening one finds, as document 01's number or, after 00, the frame's kind, client and sequence.
+use crate::report::result;
+use crate::text::bytes;
+use crate::text::number;
+use crate::text::put_bytes;
+use crate::text::word_at;
+use blocks::Params;
+use frame::Header;
+use frame::Opened;
+use frame::Refusal;
+ghost use Prim.Native.Nat.{_≤_};
+ghost use lib.ListN.{length};
+
+// Document 01's number of a refusal that opening a frame can meet; 0 stands for the others.
+fn refusal_number(r: Refusal) -> u8 {
+    match r {
+        Refusal::Parties => 1,
+        Refusal::Threshold => 2,
+        Refusal::Length => 3,
+        Refusal::Framing => 4,
+        Refusal::Version => 5,
+        Refusal::Kind => 6,
+        Refusal::Owner => 7,
+        Refusal::Body => 8,
+        Refusal::Content => 9,
+        _ => 0,
+    }
+}
+
+fn opened_number(o: Opened) -> u8 {
+    match o {
+        Opened::Refused(r) => refusal_number(r),
+        Opened::Frame(_) => 0,
+    }
+}
+
+fn header_bytes(h: Header) -> [u8; 7] {
+    [
+        0,
+        h.kind,
+        h.client,
+        (h.sequence / 16777216 % 256) as u8,
+        (h.sequence / 65536 % 256) as u8,
+        (h.sequence / 256 % 256) as u8,
+        (h.sequence % 256) as u8,
+    ]
+}
+
+fn shown(line: &[u8], expected: usize, o: Opened)
+    requires { ⌜ expected ≤ length (now line) ⌝ }
+{
+    let mut text = [0u8; 8192];
+    let Opened::Frame(h) = o else {
+        let answer = opened_number(o);
+        let end = put_bytes(&mut text, 0, &[answer]);
+        result(b"open ", line, expected, &text[..end]);
+        return;
+    };
+    let header = header_bytes(h);
+    let end = put_bytes(&mut text, 0, &header);
+    result(b"open ", line, expected, &text[..end]);
+}
+
+// open N T K L FRAME ANSWER
+pub fn opening(line: &[u8], at: usize)
+    requires { ⌜ at ≤ length (now line) ⌝ }
+{
+    let n = word_at(line, at);
+    let t = word_at(line, n.next);
+    let k = word_at(line, t.next);
+    let l = word_at(line, k.next);
+    let f = word_at(line, l.next);
+    let params = Params {
+        n: number(line, n.start, n.end),
+        t: number(line, t.start, t.end),
+        k: number(line, k.start, k.end),
+        size: number(line, l.start, l.end),
+    };
+    let mut buffer = [0u8; 1024];
+    let len = bytes(line, f.start, f.end, &mut buffer);
+    let o = frame::opener::opened(params, &buffer[..len]);
+    shown(line, f.next, o);
+}

@@ -41,11 +41,11 @@ added-full : (h : History) (a : Operation) → 64 ≤ h .count → added h a ≡
 unfolding added pick
 added-full h a l = simp (le-leb 64 (h .count) l)
 
-verdict-large : (h : History) → 64 < h .count → verdictOf h ≡ refused 18
+pub verdict-large : (h : History) → 64 < h .count → verdictOf h ≡ refused 18
 unfolding verdictOf pick
 verdict-large h l = simp (lt-ltb 64 (h .count) l)
 
-verdict-small : (h : History) → h .count ≤ 64 → verdictOf h ≡ judged (take (h .count) (h .rows))
+pub verdict-small : (h : History) → h .count ≤ 64 → verdictOf h ≡ judged (take (h .count) (h .rows))
 unfolding verdictOf pick
 verdict-small h l = simp (le-ltb 64 (h .count) l)
 

@@ -1,0 +1,185 @@
+-- The returns of the functions that read lines, and the turns of the loop over a text. Assumes nothing.
+use mathlib.Core.Path.{_≡_, refl, sym, ap, _∙_}
+use mathlib.Core.Bool.{Bool, true, false}
+use mathlib.Core.List.{List, [], _∷_}
+use Prim.Native.Nat.{ℕ, zero, suc, _+_, _-_, _<_, _≤_}
+use native.Mathlib.Omega.{arith}
+use lib.Dec.{eqb, ltb}
+use lib.ListN.{length, getD, drop, length-drop, drop-of-length-le, take}
+use lib.Seq.{drop-cons, drop-drop, getD-drop}
+use borrow.Author.Tests.{lt-ltb, le-ltb, eq-eqb, ne-eqb}
+use Rattle.area.specs.Area.{pick}
+use Rattle.order.proofs.Picks.{pick-yes, pick-no}
+use Rattle.order.specs.Histories.{refused, judged}
+use Rattle.order.specs.declared.operation.Operation.{Operation}
+use Rattle.order.specs.declared.judge.Verdict.{Verdict}
+use Rattle.history_row.specs.Rows.{none, added, addedAll, verdictOf}
+use Rattle.history_row.specs.declared.History.{History}
+use Rattle.history_row.proofs.Laws.{verdict-row, verdict-large, verdict-small}
+use Rattle.history_text.specs.Lines.{kindAt, intervalOf, stampOf, thenInterval, thenStamp, operationOf, Lines, Records, Malformed, recordThen, thenLine, linesOf, answerOf, answerTo}
+use Rattle.history_text.specs.declared.line.Interval.{Interval}
+use Rattle.history_text.specs.declared.line.Interval.the-variants as I
+use Rattle.history_text.specs.declared.line.Stamp.{Stamp}
+use Rattle.history_text.specs.declared.line.Stamp.the-variants as S
+use Rattle.history_text.specs.declared.line.Line.{Line}
+use Rattle.history_text.specs.declared.line.Line.the-variants as L
+
+-- ---- what follows a part that was read
+
+pub then-interval : {A : Type 0} (f : Interval) (bad : A) (g : ℕ → ℕ → ℕ → A) {r : Interval} {z : A} (x y u : ℕ) → r ≡ f → r ≡ I.Times x y u → z ≡ g x y u
+    → z ≡ thenInterval f bad g
+unfolding thenInterval
+then-interval f bad g x y u e t q = q ∙ ap (λ k. thenInterval k bad g) (sym t ∙ e)
+
+pub no-interval : {A : Type 0} (f : Interval) (bad : A) (g : ℕ → ℕ → ℕ → A) {r : Interval} → r ≡ f → r ≡ I.Bad → bad ≡ thenInterval f bad g
+unfolding thenInterval
+no-interval f bad g e t = ap (λ k. thenInterval k bad g) (sym t ∙ e)
+
+pub then-stamp : {A : Type 0} (f : Stamp) (bad : A) (g : ℕ → ℕ → ℕ → ℕ → A) {r : Stamp} {z : A} (x y w u : ℕ) → r ≡ f → r ≡ S.Parts x y w u → z ≡ g x y w u
+    → z ≡ thenStamp f bad g
+unfolding thenStamp
+then-stamp f bad g x y w u e t q = q ∙ ap (λ k. thenStamp k bad g) (sym t ∙ e)
+
+pub no-stamp : {A : Type 0} (f : Stamp) (bad : A) (g : ℕ → ℕ → ℕ → ℕ → A) {r : Stamp} → r ≡ f → r ≡ S.Bad → bad ≡ thenStamp f bad g
+unfolding thenStamp
+no-stamp f bad g e t = ap (λ k. thenStamp k bad g) (sym t ∙ e)
+
+-- ---- a line from index at on
+
+module _ (s : List ℕ) (at : ℕ) where
+  first : getD (drop at s) 0 0 ≡ getD s at 0
+  first = getD-drop at s 0 0 ∙ ap (λ i. getD s i 0) (let e : at + 0 ≡ at = omega arith in e)
+
+  room : length (drop at s) ≡ length s - at
+  room = length-drop at s
+
+  enough : 2 ≤ length s - at → 2 ≤ length (drop at s)
+  enough h = let r = room in omega arith
+
+  pub line-short : length s - at < 2 → L.Bad ≡ operationOf (drop at s)
+  unfolding operationOf
+  line-short h = let k : length (drop at s) < 2 = (let r = room in omega arith) in pick-yes _ _ _ refl (lt-ltb (length (drop at s)) 2 k) refl
+
+  pub line-kind : {k : ℕ} → 2 ≤ length s - at → k ≡ kindAt (getD s at 0) → 1 < k → L.Bad ≡ operationOf (drop at s)
+  unfolding operationOf
+  line-kind h e g =
+      pick-no _ _ _ refl (le-ltb (length (drop at s)) 2 (enough h))
+      (pick-yes _ _ _ refl (ap (λ c. ltb 1 (kindAt c)) first ∙ ap (ltb 1) (sym e) ∙ lt-ltb 1 _ g) refl)
+
+  pub line-space : {k : ℕ} → 2 ≤ length s - at → k ≡ kindAt (getD s at 0) → k ≤ 1 → (getD s (at + 1) 0 ≡ 32 → ⊥) → L.Bad ≡ operationOf (drop at s)
+  unfolding operationOf
+  line-space h e g n =
+      pick-no _ _ _ refl (le-ltb (length (drop at s)) 2 (enough h))
+      (pick-no _ _ _ refl (ap (λ c. ltb 1 (kindAt c)) first ∙ ap (ltb 1) (sym e) ∙ le-ltb 1 _ g)
+      (pick-no _ _ _ refl (ne-eqb _ _ (λ z. n (sym (getD-drop at s 1 0) ∙ z))) refl))
+
+  -- the interval and the stamp that are read
+  at-interval : {r : Interval} → r ≡ intervalOf (drop (at + 2) s) → r ≡ intervalOf (drop 2 (drop at s))
+  at-interval e = e ∙ ap intervalOf (sym (drop-drop 2 at s))
+
+  at-stamp : (a : ℕ) {r : Stamp} → r ≡ stampOf (drop (at + 2 + a) s) → r ≡ stampOf (drop (2 + a) (drop at s))
+  at-stamp a e =
+      e ∙ ap (λ i. stampOf (drop i s)) (let n : at + 2 + a ≡ at + (2 + a) = omega arith in n) ∙ ap stampOf (sym (drop-drop (2 + a) at s))
+
+  module _ {k : ℕ} (h : 2 ≤ length s - at) (e : k ≡ kindAt (getD s at 0)) (g : k ≤ 1) (p : getD s (at + 1) 0 ≡ 32) where
+    pub line-interval : {r : Interval} → r ≡ intervalOf (drop (at + 2) s) → r ≡ I.Bad → L.Bad ≡ operationOf (drop at s)
+    unfolding operationOf
+    line-interval q t =
+        pick-no _ _ _ refl (le-ltb (length (drop at s)) 2 (enough h))
+        (pick-no _ _ _ refl (ap (λ c. ltb 1 (kindAt c)) first ∙ ap (ltb 1) (sym e) ∙ le-ltb 1 _ g)
+        (pick-yes _ _ _ refl (eq-eqb _ _ (getD-drop at s 1 0 ∙ p)) (no-interval _ _ _ (at-interval q) t)))
+
+    pub line-stamp : {r : Interval} {v : Stamp} (x y a : ℕ) → r ≡ intervalOf (drop (at + 2) s) → r ≡ I.Times x y a
+        → v ≡ stampOf (drop (at + 2 + a) s) → v ≡ S.Bad → L.Bad ≡ operationOf (drop at s)
+    unfolding operationOf
+    line-stamp x y a q t q₂ t₂ =
+        pick-no _ _ _ refl (le-ltb (length (drop at s)) 2 (enough h))
+        (pick-no _ _ _ refl (ap (λ c. ltb 1 (kindAt c)) first ∙ ap (ltb 1) (sym e) ∙ le-ltb 1 _ g)
+        (pick-yes _ _ _ refl (eq-eqb _ _ (getD-drop at s 1 0 ∙ p)) (then-interval _ _ _ x y a (at-interval q) t (no-stamp _ _ _ (at-stamp a q₂) t₂))))
+
+    pub line-whole : {r : Interval} {v : Stamp} (x y a m w n b : ℕ) → r ≡ intervalOf (drop (at + 2) s) → r ≡ I.Times x y a
+        → v ≡ stampOf (drop (at + 2 + a) s) → v ≡ S.Parts m w n b
+        → L.Record (record { write = eqb k 1; start = x; end = y; time = m; writer = w; sequence = n }) (2 + a + b) ≡ operationOf (drop at s)
+    unfolding operationOf
+    line-whole x y a m w n b q t q₂ t₂ =
+        pick-no _ _ _ refl (le-ltb (length (drop at s)) 2 (enough h))
+        (pick-no _ _ _ refl (ap (λ c. ltb 1 (kindAt c)) first ∙ ap (ltb 1) (sym e) ∙ le-ltb 1 _ g)
+        (pick-yes _ _ _ refl (eq-eqb _ _ (getD-drop at s 1 0 ∙ p)) (then-interval _ _ _ x y a (at-interval q) t (then-stamp _ _ _ m w n b (at-stamp a q₂) t₂
+        (ap (λ c. L.Record (record { write = eqb c 1; start = x; end = y; time = m; writer = w; sequence = n }) (2 + a + b)) (e ∙ ap kindAt (sym first)))))))
+
+-- ---- the whole text
+
+-- the answer for a history so far and the lines that are left
+unfoldable pub final : History → Lines → Verdict
+final h (Records ops) = verdictOf (addedAll h ops)
+final h Malformed = refused 18
+
+final-none : (l : Lines) → final none l ≡ answerOf l
+unfolding final answerOf
+final-none (Records ops) = verdict-row ops
+final-none Malformed = refl
+
+pub final-start : (h : History) (s : List ℕ) → h ≡ none → final h (linesOf (length s) (drop 0 s)) ≡ answerTo s
+unfolding answerTo
+final-start h s e = ap (λ k. final k (linesOf (length s) s)) e ∙ final-none (linesOf (length s) s)
+
+final-record : (h : History) (a : Operation) (l : Lines) → final h (recordThen a l) ≡ final (added h a) l
+unfolding final recordThen addedAll
+final-record h a (Records ops) = refl
+final-record h a Malformed = refl
+
+then-record : (x : Line) (bad : Lines) (f : Operation → ℕ → Lines) (a : Operation) (u : ℕ) → x ≡ L.Record a u → thenLine x bad f ≡ f a u
+unfolding thenLine
+then-record x bad f a u e = ap (λ k. thenLine k bad f) e
+
+then-none : (x : Line) (bad : Lines) (f : Operation → ℕ → Lines) → x ≡ L.Bad → thenLine x bad f ≡ bad
+unfolding thenLine
+then-none x bad f e = ap (λ k. thenLine k bad f) e
+
+lines-cons : (n c : ℕ) (text : List ℕ) → linesOf (suc n) (c ∷ text) ≡ thenLine (operationOf (c ∷ text)) Malformed (λ a used. recordThen a (linesOf n (drop used (c ∷ text))))
+unfolding linesOf
+lines-cons n c text = refl
+
+lines-at : (n at : ℕ) (s : List ℕ) → at < length s
+    → linesOf (suc n) (drop at s) ≡ thenLine (operationOf (drop at s)) Malformed (λ a used. recordThen a (linesOf n (drop used (drop at s))))
+lines-at n at s h =
+    ap (linesOf (suc n)) (drop-cons s at 0 h) ∙ lines-cons n (getD s at 0) (drop (suc at) s)
+    ∙ ap (λ t. thenLine (operationOf t) Malformed (λ a used. recordThen a (linesOf n (drop used t)))) (sym (drop-cons s at 0 h))
+
+-- a malformed line
+pub final-bad : (h : History) (n at : ℕ) (s : List ℕ) {r : Line} → at < length s → length s - at ≤ n → r ≡ operationOf (drop at s) → r ≡ L.Bad
+    → final h (linesOf n (drop at s)) ≡ refused 18
+unfolding final
+final-bad h zero at s l g e t = absurd (omega arith)
+final-bad h (suc n) at s l g e t = ap (final h) (lines-at n at s l ∙ then-none _ _ _ (sym e ∙ t))
+
+-- one line more
+pub final-more : (h : History) (n at u : ℕ) (s : List ℕ) (a : Operation) {r : Line} {k : History} → at < length s → length s - at ≤ suc n → r ≡ operationOf (drop at s)
+    → r ≡ L.Record a u → k ≡ added h a → final k (linesOf n (drop (at + u) s)) ≡ final h (linesOf (suc n) (drop at s))
+final-more h n at u s a l g e t q =
+    ap (λ x. final x (linesOf n (drop (at + u) s))) q
+    ∙ ap (λ x. final (added h a) (linesOf n x)) (sym (drop-drop u at s))
+    ∙ sym (ap (final h) (lines-at n at s l ∙ then-record _ _ _ a u (sym e ∙ t)) ∙ final-record h a (linesOf n (drop u (drop at s))))
+
+-- the end
+lines-none : (n : ℕ) → linesOf n [] ≡ Records []
+unfolding linesOf
+lines-none zero = refl
+lines-none (suc n) = refl
+
+pub final-end : (h : History) (n at : ℕ) (s : List ℕ) → length s ≤ at → final h (linesOf n (drop at s)) ≡ verdictOf h
+unfolding final addedAll
+final-end h n at s l = ap (λ t. final h (linesOf n t)) (drop-of-length-le s l) ∙ ap (final h) (lines-none n)
+
+pub final-large : (h : History) {v : Verdict} → 64 < h .count → v ≡ refused 18 → v ≡ verdictOf h
+final-large h l q = q ∙ sym (verdict-large h l)
+
+pub final-small : (h : History) {v : Verdict} → h .count ≤ 64 → v ≡ judged (take (h .count) (h .rows)) → v ≡ verdictOf h
+final-small h l q = q ∙ sym (verdict-small h l)
+
+-- a turn of the loop: some number of lines is enough for what is left
+pub final-next : (h : History) (n at u : ℕ) (s : List ℕ) (a : Operation) {r : Line} {k : History} {v : Verdict} → at < length s → length s - at ≤ n
+    → 1 ≤ u → u ≤ length s - at → r ≡ operationOf (drop at s) → r ≡ L.Record a u → k ≡ added h a → final h (linesOf n (drop at s)) ≡ v
+    → (m : ℕ) × (length s - (at + u) ≤ m) × (final k (linesOf m (drop (at + u) s)) ≡ v)
+final-next h zero at u s a l g p b e t q i = absurd (omega arith)
+final-next h (suc n) at u s a l g p b e t q i = (n, omega arith, final-more h n at u s a l g e t q ∙ i)

@@ -1,0 +1,192 @@
+use mathlib.Core.Path.{_≡_, refl, sym, ap, subst, _∙_}
+use Prim.Native.Nat.{ℕ, _+_, _-_, _<_, _≤_}
+use lib.ListN.{length}
+use Rattle.history_text.specs.Lines.{WithinInterval, WithinStamp}
+use Rattle.history_text.proofs.Lines.{line-short, line-kind, line-space, line-interval, line-stamp, line-whole}
+use native.Mathlib.Omega.{arith}
+use borrow.Author.Needs.{needs}
+use Rattle.history_text.proofs.line.read_line.Statement.{statement}
+use Rattle.history_text.proofs.line.read_line.Tie as tie
+use Rattle.history_text.proofs.line.read_line.Reads as reads
+use Rattle.history_text.proofs.line.read_line.Lts as lts
+use Rattle.history_text.proofs.line.kind.Reads as kind-reads
+use Rattle.history_text.proofs.line.read_interval.Reads as read-interval-reads
+use Rattle.history_text.proofs.line.read_stamp.Reads as read-stamp-reads
+
+-- src/line.rt:82:8
+sub-if1 : tie.Need-sub-if1
+sub-if1 c = search needs
+
+-- src/line.rt:83:9
+returns : tie.Need-returns
+returns c = let a = c .before .before .args in (line-short (a .s .now) (a .at) (c .if1 .taken), tt)
+
+-- src/line.rt:85:18
+shared-slice-read-kind : tie.Need-shared-slice-read-kind
+shared-slice-read-kind c = search needs
+
+-- src/line.rt:85:9
+kind-requires : tie.Need-kind-requires
+kind-requires c κs = search needs
+
+-- src/line.rt:87:9
+returns-2 : tie.Need-returns-2
+returns-2 c =
+    let a = c .before .before .before .before .before .args in
+    let s = a .s .now in
+    let h : 2 ≤ length s - a .at = omega arith in
+    (line-kind s (a .at) h (c .before .kind .ensures) (c .if2 .taken), tt)
+
+-- src/line.rt:89:10
+add-if3 : tie.Need-add-if3
+add-if3 c = search needs
+
+-- src/line.rt:89:8
+shared-slice-read-if3 : tie.Need-shared-slice-read-if3
+shared-slice-read-if3 c = search needs
+
+-- src/line.rt:90:9
+returns-3 : tie.Need-returns-3
+returns-3 c =
+    let a = c .before .before .before .before .before .before .before .args in
+    let s = a .s .now in
+    let h : 2 ≤ length s - a .at = omega arith in
+    let g : c .before .before .before .kind .result ≤ 1 = omega arith in
+    (line-space s (a .at) h (c .before .before .before .kind .ensures) g (c .if3 .taken), tt)
+
+-- src/line.rt:92:30
+add-read-interval : tie.Need-add-read-interval
+add-read-interval c = search needs
+
+-- src/line.rt:92:9
+read-interval-requires : tie.Need-read-interval-requires
+read-interval-requires c κs = search needs
+
+-- src/line.rt:93:25
+enum-known-i : tie.Need-enum-known-i
+enum-known-i c = search needs
+
+-- src/line.rt:94:9
+enum-told : tie.Need-enum-told
+enum-told c = search needs
+
+-- src/line.rt:94:9
+returns-4 : tie.Need-returns-4
+returns-4 c =
+    let a = c .before .before .before .before .before .before .before .before .before .before .args in
+    let s = a .s .now in
+    let h : 2 ≤ length s - a .at = omega arith in
+    let g : c .before .before .before .before .before .before .kind .result ≤ 1 = omega arith in
+    (line-interval s (a .at) h (c .before .before .before .before .before .before .kind .ensures) g (c .before .before .before .if3 .left) (c .before .before .read-interval .ensures .0) (c .enum-told .given .1), tt)
+
+-- src/line.rt:96:27
+add-read-stamp : tie.Need-add-read-stamp
+add-read-stamp c = search needs
+
+-- src/line.rt:96:27
+add-read-stamp-2 : tie.Need-add-read-stamp-2
+add-read-stamp-2 c =
+    let a = c .before .before .before .before .before .before .before .before .before .before .before .args in
+    let s = a .s .now in
+    let r = c .before .before .before .read-interval in
+    let i = c .before .i .given in
+    let w = subst (WithinInterval (length s - (a .at + 2))) (i .1) (r .ensures .1) in
+    record { fits = omega arith }
+
+-- src/line.rt:96:9
+read-stamp-requires : tie.Need-read-stamp-requires
+read-stamp-requires c κs =
+    let a = c .before .before .before .before .before .before .before .before .before .before .before .args in
+    let s = a .s .now in
+    let r = c .before .before .before .read-interval in
+    let i = c .before .i .given in
+    let w = subst (WithinInterval (length s - (a .at + 2))) (i .1) (r .ensures .1) in
+    omega arith
+
+-- src/line.rt:97:22
+enum-known-p : tie.Need-enum-known-p
+enum-known-p c = search needs
+
+-- src/line.rt:98:9
+enum-told-2 : tie.Need-enum-told-2
+enum-told-2 c = search needs
+
+-- src/line.rt:98:9
+returns-5 : tie.Need-returns-5
+returns-5 c =
+    let a = c .before .before .before .before .before .before .before .before .before .before .before .before .before .before .args in
+    let s = a .s .now in
+    let h : 2 ≤ length s - a .at = omega arith in
+    let g : c .before .before .before .before .before .before .before .before .before .before .kind .result ≤ 1 = omega arith in
+    let r = c .before .before .before .before .before .before .read-interval in
+    let i = c .before .before .before .before .i .given in
+    let w = subst (WithinInterval (length s - (a .at + 2))) (i .1) (r .ensures .1) in
+    (line-stamp s (a .at) h (c .before .before .before .before .before .before .before .before .before .before .kind .ensures) g (c .before .before .before .before .before .before .before .if3 .left) (i .0 .0) (i .0 .1 .0) (i .0 .1 .1 .0) (r .ensures .0) (i .1) (c .before .before .read-stamp .ensures .0) (c .enum-told2 .given .1), tt)
+
+-- src/line.rt:108:29
+add-t15 : tie.Need-add-t15
+add-t15 c =
+    let a = c .before .before .before .before .before .before .before .before .before .before .before .before .before .before .before .args in
+    let s = a .s .now in
+    let r = c .before .before .before .before .before .before .before .read-interval in
+    let i = c .before .before .before .before .before .i .given in
+    let w = subst (WithinInterval (length s - (a .at + 2))) (i .1) (r .ensures .1) in
+    let v = c .before .before .before .read-stamp in
+    let p = c .before .p .given in
+    let w₂ = subst (WithinStamp (length s - (a .at + 2 + i .0 .1 .1 .0))) (p .1) (v .ensures .1) in
+    record { fits = omega arith }
+
+-- src/line.rt:108:29
+add-t14 : tie.Need-add-t14
+add-t14 c =
+    let a = c .before .before .before .before .before .before .before .before .before .before .before .before .before .before .before .args in
+    let s = a .s .now in
+    let r = c .before .before .before .before .before .before .before .read-interval in
+    let i = c .before .before .before .before .before .i .given in
+    let w = subst (WithinInterval (length s - (a .at + 2))) (i .1) (r .ensures .1) in
+    let v = c .before .before .before .read-stamp in
+    let p = c .before .p .given in
+    let w₂ = subst (WithinStamp (length s - (a .at + 2 + i .0 .1 .1 .0))) (p .1) (v .ensures .1) in
+    record { fits = omega arith }
+
+-- src/line.rt:78:1
+returns-6 : tie.Need-returns-6
+returns-6 c =
+    let a = c .before .before .before .before .before .before .before .before .before .before .before .before .before .before .before .args in
+    let s = a .s .now in
+    let h : 2 ≤ length s - a .at = omega arith in
+    let g : c .before .before .before .before .before .before .before .before .before .before .before .kind .result ≤ 1 = omega arith in
+    let r = c .before .before .before .before .before .before .before .read-interval in
+    let i = c .before .before .before .before .before .i .given in
+    let w = subst (WithinInterval (length s - (a .at + 2))) (i .1) (r .ensures .1) in
+    let v = c .before .before .before .read-stamp in
+    let p = c .before .p .given in
+    let w₂ = subst (WithinStamp (length s - (a .at + 2 + i .0 .1 .1 .0))) (p .1) (v .ensures .1) in
+    (line-whole s (a .at) h (c .before .before .before .before .before .before .before .before .before .before .before .kind .ensures) g (c .before .before .before .before .before .before .before .before .if3 .left) (i .0 .0) (i .0 .1 .0) (i .0 .1 .1 .0) (p .0 .0) (p .0 .1 .0) (p .0 .1 .1 .0) (p .0 .1 .1 .1 .0) (r .ensures .0) (i .1) (v .ensures .0) (p .1), (omega arith, omega arith))
+
+pub read-line-spec : {M : Type 1} → statement M
+read-line-spec =
+    tie.close
+    (tie.spec
+    sub-if1
+    returns
+    shared-slice-read-kind
+    kind-requires
+    returns-2
+    add-if3
+    shared-slice-read-if3
+    returns-3
+    add-read-interval
+    read-interval-requires
+    enum-known-i
+    enum-told
+    returns-4
+    add-read-stamp
+    add-read-stamp-2
+    read-stamp-requires
+    enum-known-p
+    enum-told-2
+    returns-5
+    add-t15
+    add-t14
+    returns-6)

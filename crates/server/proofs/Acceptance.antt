@@ -192,3 +192,27 @@ module _ (g : Params) (s : Server) (a : List ℕ) (c : ℕ) (x : Slot) (q : Outb
   settled w i o h k l e =
       by-last w true h k (lt-ltb (x .times .time) lastTime l)
       (e ∙ ap (λ (j : ℕ). moved (accept s a (record { client = c; sequence = j; time = x .times .time; entry = entryAt g a (completeAt c) }) [] []) q) (sym o))
+
+-- ---- frames that a step sent before
+
+module _ (s : Server) (a : List ℕ) (c : ℕ) (x : Slot) (l : List Sending) (vs : List (List ℕ)) (q : Outbox) where
+  after-wait : moved (wait s a c x l vs) q ≡ moved (wait s a c x [] []) (sent q l)
+  unfolding moved
+  after-wait = ap (progress (withSlot s c x) a) (sym (sent-none (sent q l)))
+
+  after-accept : (w : Write) → moved (accept s a w l vs) q ≡ moved (accept s a w [] []) (sent q l)
+  unfolding moved accept
+  after-accept w = ap (progress (accept s a w l vs .server) (accept s a w l vs .area)) (sym (sent-append q l _))
+
+  after-below : (b : Bool) (T : ℕ) (e : Entry) → moved (acceptBelow b s a c x T e l vs) q ≡ moved (acceptBelow b s a c x T e [] []) (sent q l)
+  after-below true T e = after-accept (record { client = c; sequence = x .sequence; time = T; entry = e })
+  after-below false T e = after-wait
+
+  after-done : (o : Option ℕ) (p : Option Entry) → moved (acceptDone o p s a c x l vs) q ≡ moved (acceptDone o p s a c x [] []) (sent q l)
+  after-done none p = after-wait
+  after-done (some T) none = after-wait
+  after-done (some T) (some e) = after-below (ltb T lastTime) T e
+
+  pub settle-after : (g : Params) → moved (settle g s a c x l vs) q ≡ moved (settle g s a c x [] []) (sent q l)
+  unfolding settle
+  settle-after g = after-done (timeView x .done) (blockView g a c x .done)

@@ -4,3 +4,6 @@ pub mod TimeVotes
 pub mod Senders
 pub mod Sending
 pub mod Acceptance
+pub mod TimeStage
+pub mod Present
+pub mod Answers

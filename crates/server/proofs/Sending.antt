@@ -1,13 +1,14 @@
 -- How much room the frames of a step take. Assumes nothing.
 use Prim.Native.Nat.{ℕ, zero, suc, _+_, _*_, _-_, _≤_, _<_}
 use native.Mathlib.Omega.{arith}
-use native.Mathlib.Nat.{add-mul, suc-mul, mul-le-mul-right}
+use native.Mathlib.Nat.{add-mul, suc-mul, mul-le-mul-left, mul-le-mul-right}
 use mathlib.Core.Path.{_≡_, refl, ap, sym, _∙_}
 use mathlib.Core.Bool.{Bool, true, false, _&&_}
 use mathlib.Core.List.{List, [], _∷_, _++_}
 use lib.ListN.{length, length-append}
 use lib.Seq.{sets, length-sets}
 use Rattle.area.specs.Area.{pick}
+use Rattle.area.specs.Numbers.{bytes2, bytes4, bytes8}
 use Rattle.area.proofs.Sets.{length-part}
 use Rattle.blocks.specs.declared.Params.{Params}
 use Rattle.frame.specs.Params.{width, listed, largestFrame, Bounded}
@@ -17,7 +18,7 @@ use Rattle.frame.specs.declared.Party.{Party}
 use Rattle.frame.specs.declared.Stamp.{Stamp}
 use Rattle.frame.specs.declared.Place.{Place}
 use Rattle.frame.specs.Stamps.{older}
-use Rattle.frame.specs.Messages.{Entry, entry, message, Message, Sending, sending, valueIs}
+use Rattle.frame.specs.Messages.{Entry, entry, message, Message, Sending, sending, Stage, valueIs, timeIs, toFrom, toAll}
 use Rattle.frame.specs.Frames.{kindOf, entryBytes, stampBytes, bodyBytes, frameOf, build}
 use Rattle.frame.specs.Outbox.{frames, receivers, Outbox, outbox, sent, Room}
 use Rattle.frame.proofs.RoundTrip.{length-frame, length-stamp}
@@ -130,3 +131,43 @@ ack-room s x d b p r o t o₀ t₀ size e f R =
     let F = tell-few s x (entry d b) 1 8 in
     let A = room-after p r o t o₀ t₀ (tellFrom s x (entry d b) 1 8) 8 1 (22 + (length d + length b)) f (F .bytes) (F .number) (rw e R) in
     room-smaller r 1 9 (22 + (length d + length b)) (length o) (length t) (omega arith) A
+
+-- ---- one message to all servers
+
+from-few : (m : Message) (j n size : ℕ) → length (build m) ≤ size → Few (toFrom (λ i. m) j n) n size
+unfolding toFrom frames
+from-few m j zero size h = few-none size
+from-few m j (suc n) size h =
+    let F = from-few m (suc j) n size h in
+    record {
+      bytes = omega (arith, length-append (build m) (frames (toFrom (λ i. m) (suc j) n)), F .bytes, suc-mul n size);
+      number = omega (arith, F .number);
+    }
+
+due-few : (d : Bool) (l : List Sending) (n size : ℕ) → Few l n size → Few (pick d l []) n size
+unfolding pick frames
+due-few true l n size F = F
+due-few false l n size F = record { bytes = omega arith; number = omega arith }
+
+-- after one message to all, if it is due, there is room for k frames more
+pub all-room : (g : Params) (d : Bool) (m : Message) (p r : Place) (o t o₀ t₀ : List ℕ) (k size : ℕ) → length (build m) ≤ size
+    → outbox o t r ≡ sent (outbox o₀ t₀ p) (pick d (toAll g (λ j. m)) []) → Room p (g .n + k) size (length o₀) (length t₀) → Room r k size (length o) (length t)
+unfolding toAll
+all-room g d m p r o t o₀ t₀ k size h f R =
+    let F = due-few d (toFrom (λ j. m) 1 (g .n)) (g .n) size (from-few m 1 (g .n) size h) in
+    room-after p r o t o₀ t₀ (pick d (toFrom (λ j. m) 1 (g .n)) []) (g .n) k size f (F .bytes) (F .number) R
+
+pub length-time : (z : Stage) (c q T : ℕ) → length (build (message c q (timeIs z T))) ≡ 17
+unfolding build bodyBytes bytes8 bytes4 bytes2
+length-time z c q T = length-frame (kindOf (timeIs z T)) c q (bytes8 T)
+
+-- room for readies of a time
+pub time-room : (g : Params) (p : Place) (k out to : ℕ) → Room p (g .n + k) (largestFrame g) out to → Room p (g .n) 17 out to
+unfolding largestFrame
+time-room g p k out to R =
+    let h : 17 ≤ largestFrame g = omega arith in
+    room-smaller p (g .n) 17 (largestFrame g) out to (mul-le-mul-left (g .n) h) (room-fewer p (g .n + k) (g .n) (largestFrame g) out to (omega arith) R)
+
+pub time-small : (z : Stage) (g : Params) (c q T : ℕ) → length (build (message c q (timeIs z T))) ≤ largestFrame g
+unfolding largestFrame
+time-small z g c q T = omega (arith, length-time z c q T)

@@ -10,21 +10,20 @@ use Rattle.area.specs.Area.{pick}
 use Rattle.blocks.specs.declared.Params.{Params}
 use Rattle.frame.specs.declared.Stamp.{Stamp}
 use Rattle.frame.specs.declared.Place.{Place}
-use Rattle.frame.specs.declared.Party.{Party}
 use Rattle.frame.specs.declared.Party.the-variants as P
 use Rattle.frame.specs.declared.Verdict.{Verdict}
+use Rattle.frame.specs.declared.Verdict.the-variants as J
 use Rattle.frame.specs.Params.{Bounded, largestFrame}
 use Rattle.frame.specs.Stamps.{older}
-use Rattle.frame.specs.Messages.{Entry, Message, message, Sending, sending, valueIs, Judged, judgedBy}
+use Rattle.frame.specs.Messages.{Entry, message, Sending, sending, valueIs}
 use Rattle.frame.specs.Outbox.{frames, receivers, Outbox, sent, Room}
 use Rattle.frame.specs.Chunks.{areaBytes}
 use Rattle.server.specs.declared.Reader.{Reader}
 use Rattle.server.specs.declared.Server.{Server}
 use Rattle.server.specs.declared.Reply.the-variants as Y
 use Rattle.server.specs.State.{freshSlot}
-use Rattle.server.specs.Tests.{messageTest}
 use Rattle.server.specs.Steps.{Effect}
-use Rattle.server.specs.Delivery.{Outcome, outcomeOf, effectBy}
+use Rattle.server.specs.Delivery.{Outcome}
 
 -- what a stage leaves
 pub record Progress : Type 0 where
@@ -60,7 +59,7 @@ pub record Lent (g : Params) (c area : ℕ) (p : Place) (m out to : ℕ) : Type 
   pub whole : areaBytes ≤ area
   pub room : Room p m (largestFrame g) out to
 
--- ---- a frame that opened, the lent areas being long enough: m is what it says
+-- ---- a frame that opened, the lent areas being long enough
 
 -- the outcome of a step
 unfoldable pub stepped : Effect → List ℕ → List ℕ → Outcome
@@ -72,8 +71,7 @@ stepped x out to = record {
   to = sets to 0 (receivers (x .sends));
 }
 
-module _ (H : List ℕ → List ℕ) (g : Params) (me : ℕ) where
-  unfoldable pub handled : Server → List ℕ → List ℕ → Party → Message → List ℕ → List ℕ → Outcome
-  handled s a initial from m out to =
-      let j = judgedBy (messageTest H g me s from m) m in
-      outcomeOf H g me j (effectBy H g me j s a initial from) out to
+-- turned down by one of the tests 11 to 14, or a step
+unfoldable pub answered : Verdict → Server → List ℕ → Effect → List ℕ → List ℕ → Outcome
+answered (J.Bad r) s a x out to = record { reply = Y.Refused r; server = s; area = a; out = out; to = to }
+answered J.Fine s a x out to = stepped x out to

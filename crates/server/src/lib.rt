@@ -4,6 +4,7 @@ use frame::Refusal;
 use frame::Stamp;
 
 mod accept;
+mod reads;
 mod state;
 mod tests;
 mod times;

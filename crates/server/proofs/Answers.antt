@@ -1,0 +1,74 @@
+-- From a test's verdict and a step's stages to the outcome of a frame. Assumes nothing.
+use Prim.Native.Nat.{ℕ, _+_, _≤_}
+use native.Mathlib.Omega.{arith}
+use native.Mathlib.Nat.{zero-add}
+use borrow.Author.Tests.{ltb-false}
+use mathlib.Core.Path.{_≡_, refl, ap, sym, _∙_}
+use mathlib.Core.Bool.{Bool, true, false}
+use mathlib.Core.List.{List}
+use lib.ListN.{length}
+use lib.Dec.{ltb}
+use Rattle.area.specs.Area.{pick}
+use Rattle.blocks.specs.declared.Params.{Params}
+use Rattle.frame.specs.declared.Party.{Party}
+use Rattle.frame.specs.declared.Refusal.{Refusal}
+use Rattle.frame.specs.declared.Refusal.the-variants as R
+use Rattle.frame.specs.declared.Verdict.{Verdict}
+use Rattle.frame.specs.declared.Verdict.the-variants as J
+use Rattle.frame.specs.Messages.{fromServer, numberIn}
+use Rattle.frame.specs.Outbox.{outbox, sent, firstPlace}
+use Rattle.frame.proofs.Verdicts.{fine-is, fine-not}
+use Rattle.server.specs.declared.Slot.{Slot}
+use Rattle.server.specs.declared.Server.{Server}
+use Rattle.server.specs.declared.Served.{Served}
+use Rattle.server.specs.declared.Moved.{Moved}
+use Rattle.server.specs.declared.Reply.{Reply}
+use Rattle.server.specs.declared.Reply.the-variants as Y
+use Rattle.server.specs.Tests.{openTest}
+use Rattle.server.specs.Steps.{Effect}
+use Rattle.server.specs.Delivery.{Outcome, outcome}
+use Rattle.server.specs.Stages.{Progress, progress, moved, stepped, answered}
+use Rattle.server.proofs.Senders.{server-number}
+
+-- turned down
+pub refused-is : (v u : Verdict) (r : Refusal) (s : Server) (a : List ℕ) (x : Effect) (out to : List ℕ) → v ≡ u → v ≡ J.Bad r
+    → outcome (record { reply = Y.Refused r; server = s }) a out to ≡ answered u s a x out to
+unfolding answered
+refused-is v u r s a x out to e f = ap (λ (z : Verdict). answered z s a x out to) (sym f ∙ e)
+
+-- a step
+pub step-is : (v u : Verdict) (s : Server) (a a′ : List ℕ) (x : Effect) (out to out′ to′ : List ℕ) (m : Moved) (r : Served) → v ≡ u → v ≡ J.Fine
+    → progress (m .server) a′ (outbox out′ to′ (m .place)) ≡ moved x (outbox out to firstPlace)
+    → r .reply ≡ Y.Step (m .place .count) → r .server ≡ m .server
+    → outcome r a′ out′ to′ ≡ answered u s a x out to
+unfolding answered stepped moved sent
+step-is v u s a a′ x out to out′ to′ m r e f h i j =
+    let k : m .place .count ≡ length (x .sends) = ap (λ (w : Progress). w .box .place .count) h ∙ zero-add (length (x .sends)) in
+    let p : r .reply ≡ Y.Step (length (x .sends)) = i ∙ ap Y.Step k in
+    let q : r .server ≡ x .server = j ∙ ap (λ (w : Progress). w .server) h in
+    let b = ap (λ (w : Progress). w .area) h in
+    let o = ap (λ (w : Progress). w .box .out) h in
+    let t = ap (λ (w : Progress). w .box .to) h in
+    let z : outcome r a′ out′ to′ ≡ stepped x out to = λ l. record { reply = p l; server = q l; area = b l; out = o l; to = t l } in
+    z ∙ ap (λ (w : Verdict). answered w s a x out to) (sym f ∙ e)
+
+-- the open write
+open-fine : (x : Slot) (q : ℕ) (again : Bool) → openTest x q again ≡ J.Fine → x .sequence ≡ q
+unfolding openTest
+open-fine x q again e =
+    let a = fine-not (ltb q (x .sequence)) R.Stale _ e in
+    let b = fine-not (ltb (x .sequence) q) R.Ahead _ (a .1) in
+    omega (arith, ltb-false q (x .sequence) (a .0), ltb-false (x .sequence) q (b .0))
+
+pub record Voted (g : Params) (from : Party) (x : Slot) (q : ℕ) : Type 0 where
+  pub low : 1 ≤ numberIn from
+  pub high : numberIn from ≤ g .n
+  pub at-open : x .sequence ≡ q
+
+-- a server's frame of the open write
+pub voted : (g : Params) (from : Party) (x : Slot) (q : ℕ) (again : Bool) (v : Verdict)
+    → v ≡ pick (fromServer g from) (openTest x q again) (J.Bad R.Sender) → v ≡ J.Fine → Voted g from x q
+voted g from x q again v e f =
+    let a = fine-is (fromServer g from) R.Sender (openTest x q again) (sym e ∙ f) in
+    let n = server-number g from (a .0) in
+    record { low = n .0; high = n .1; at-open = open-fine x q again (a .1) }

@@ -1,0 +1,52 @@
+// Reads: what a server answers from, and the reader that it notes.
+use crate::Reader;
+use crate::Server;
+use crate::state::with_reader;
+use blocks::Params;
+use frame::Place;
+use frame::bounds::width;
+use frame::entries::digests_at;
+use frame::send::send_value;
+ghost use mathlib.Core.Path.{_≡_};
+ghost use mathlib.Core.List.{_∷_, []};
+ghost use Prim.Native.Nat.{_+_, _≤_};
+ghost use lib.ListN.{length};
+ghost use Rattle.frame.specs.declared.Party.the-variants as P;
+ghost use Rattle.frame.specs.Params.{width, largestFrame, Bounded};
+ghost use Rattle.frame.specs.Messages.{message, sending, valueIs};
+ghost use Rattle.frame.specs.Outbox.{outbox, sent, Room};
+ghost use Rattle.frame.specs.Chunks.{areaBytes};
+ghost use Rattle.server.specs.State.{presentBlock, presentEntry};
+
+// The present block: a part of the initial area that the host lends until the first accepted write, then of the state area.
+pub fn present_block<'a>(g: Params, s: Server, area: &'a [u8], initial: &'a [u8]) -> &'a [u8]
+    requires { ⌜ Bounded g × (areaBytes ≤ length (now area)) × (width g ≤ length (now initial)) ⌝ }
+    ensures { λ r. ⌜ (now r ≡ presentBlock g s (now (area .entry)) (now (initial .entry))) × (length (now r) ≡ width g) ⌝ }
+{
+    let w = width(g);
+    if s.stamp.time == 0 {
+        return &initial[..w];
+    }
+    let end = 320 + w;
+    &area[320..end]
+}
+
+// Answers client c's read q with the present value.
+pub fn send_present<'a>(
+    g: Params,
+    s: Server,
+    c: u8,
+    q: u32,
+    area: &'a [u8],
+    initial: &'a [u8],
+    out: &mut [u8],
+    to: &mut [u8],
+    p: Place,
+) -> Place
+    requires { ⌜ Bounded g × (areaBytes ≤ length (now area)) × (width g ≤ length (now initial)) × Room p 1 (largestFrame g) (length (now out)) (length (now to)) ⌝ }
+    ensures { λ r. ⌜ outbox (now (out .exit)) (now (to .exit)) r ≡ sent (outbox (now (out .entry)) (now (to .entry)) p) (sending (P.Client c) (message c q (valueIs (s .stamp) (presentEntry g s (now (area .entry)) (now (initial .entry))))) ∷ []) ⌝ }
+{
+    let block = present_block(g, s, area, initial);
+    let digests = digests_at(area, 0, g);
+    send_value(out, to, p, c, q, s.stamp, digests, block)
+}

@@ -1,0 +1,66 @@
+use Rattle.server.proofs.Answers.{refused-is, step-is, only-sent}
+use Rattle.server.proofs.Sending.{stamp-room}
+use Rattle.server.specs.Tests.{messageTest}
+use Rattle.frame.proofs.Within.{stop-not, go-on}
+use Rattle.frame.specs.declared.Verdict.the-variants as J
+use Rattle.frame.specs.declared.Refusal.the-variants as R
+use mathlib.Core.Path.{_≡_, refl, ap, sym, _∙_}
+use native.Mathlib.Omega.{arith}
+use borrow.Author.Needs.{needs}
+use Rattle.server.proofs.asking.on_get_stamp.Statement.{statement}
+use Rattle.server.proofs.asking.on_get_stamp.Tie as tie
+use Rattle.server.proofs.asking.on_get_stamp.Reads as reads
+use Rattle.server.proofs.asking.on_get_stamp.Lts as lts
+use Rattle.frame.proofs.send.send_stamp.Reads as send-stamp-reads
+use Rattle.server.proofs.tests.from_owner.Reads as from-owner-reads
+use Rattle.server.proofs.timing.served.Reads as served-reads
+
+-- src/asking.rt:64:9
+from-owner-requires : tie.Need-from-owner-requires
+from-owner-requires c κs = search needs
+
+-- src/asking.rt:65:9
+returns : tie.Need-returns
+unfolding messageTest
+returns c =
+    let a = c .before .before .before .before .args in
+    λ z. refused-is (J.Bad R.Sender) _ R.Sender (a .s) z _ _ _ (stop-not _ _ R.Sender J.Fine (c .before .from-owner .ensures) (c .if1 .taken)) refl
+
+-- src/asking.rt:72:9
+send-stamp-requires : tie.Need-send-stamp-requires
+send-stamp-requires c κs =
+    let z = c .before .before .before .before .before .before .before in
+    stamp-room (z .args .g) _ 9 _ _ (omega arith) (z .pre .1)
+
+-- src/asking.rt:73:5
+served-requires : tie.Need-served-requires
+served-requires c κs = search needs
+
+-- src/asking.rt:60:1
+same-length : tie.Need-same-length
+same-length c = search needs
+
+-- src/asking.rt:60:1
+same-length-2 : tie.Need-same-length-2
+same-length-2 c = search needs
+
+-- src/asking.rt:60:1
+returns-2 : tie.Need-returns-2
+unfolding messageTest
+returns-2 c =
+    let a = c .before .before .before .before .before .before .before .before .before .before .before .before .before .args in
+    λ z. step-is J.Fine _ (a .s) z z _ _ _ _ _ (record { server = a .s; place = c .before .before .before .before .before .send-stamp .result }) _
+    (go-on _ _ R.Sender J.Fine J.Fine (c .before .before .before .before .before .before .before .before .before .before .from-owner .ensures) (c .before .before .before .before .before .before .before .before .before .if1 .left) refl) refl
+    (only-sent (a .s) (a .s) z _ _ _ refl (c .before .before .before .before .before .send-stamp .ensures)) (c .served .ensures .0) (c .served .ensures .1)
+
+pub on-get-stamp-spec : {M : Type 1} → statement M
+on-get-stamp-spec =
+    tie.close
+    (tie.spec
+    from-owner-requires
+    returns
+    send-stamp-requires
+    served-requires
+    same-length
+    same-length-2
+    returns-2)

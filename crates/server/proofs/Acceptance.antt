@@ -205,10 +205,12 @@ module _ (s : Server) (a : List ℕ) (c : ℕ) (x : Slot) (l : List Sending) (vs
   after-accept w = ap (progress (accept s a w l vs .server) (accept s a w l vs .area)) (sym (sent-append q l _))
 
   after-below : (b : Bool) (T : ℕ) (e : Entry) → moved (acceptBelow b s a c x T e l vs) q ≡ moved (acceptBelow b s a c x T e [] []) (sent q l)
+  unfolding acceptBelow
   after-below true T e = after-accept (record { client = c; sequence = x .sequence; time = T; entry = e })
   after-below false T e = after-wait
 
   after-done : (o : Option ℕ) (p : Option Entry) → moved (acceptDone o p s a c x l vs) q ≡ moved (acceptDone o p s a c x [] []) (sent q l)
+  unfolding acceptDone
   after-done none p = after-wait
   after-done (some T) none = after-wait
   after-done (some T) (some e) = after-below (ltb T lastTime) T e

@@ -1,4 +1,10 @@
 // A client: its small record of its open operation, by value. Place j of an array belongs to server j; place 0 stays empty.
+pub mod begin;
+mod counts;
+mod phases;
+mod rows;
+mod tests;
+
 use frame::Refusal;
 use frame::Stamp;
 
@@ -26,6 +32,12 @@ pub struct Client {
     pub heard: [bool; 11],
     pub times: [u64; 11],
     pub rows: [Row; 11],
+}
+
+// Where a new stamp goes in a row.
+pub enum Spot {
+    At(usize),
+    Nowhere,
 }
 
 // So many frames were sent; the write has ended; it closed as out of stamps; the read has ended with this stamp, its value is in the result area,

@@ -1,0 +1,137 @@
+-- The beginning of an operation: what its tests tell, what it sends, and its whole outcome. Assumes nothing.
+use Prim.Native.Nat.{ℕ, _+_, _*_, _≤_, _<_}
+use native.Mathlib.Omega.{arith}
+use native.Mathlib.Nat.{mul-le-mul-left, mul-le-mul-right}
+use mathlib.Core.Bool.{Bool, false}
+use mathlib.Core.Path.{_≡_, refl, ap, sym, _∙_}
+use mathlib.Core.List.{List, []}
+use lib.ListN.{length, replicate}
+use lib.Seq.{sets}
+use lib.Dec.{leb, ltb}
+use borrow.Author.Tests.{ltb-false, leb-false}
+use Rattle.area.specs.Area.{pick}
+use Rattle.blocks.specs.declared.Params.{Params}
+use Rattle.frame.specs.declared.Place.{Place}
+use Rattle.frame.specs.declared.Refusal.{Refusal}
+use Rattle.frame.specs.declared.Verdict.{Verdict}
+use Rattle.frame.specs.declared.Refusal.the-variants as R
+use Rattle.frame.specs.declared.Verdict.the-variants as J
+use Rattle.frame.specs.Refusals.{andThen}
+use Rattle.frame.specs.Params.{Bounded, outRoom, toRoom, largestFrame, paramsTest}
+use Rattle.frame.specs.Stamps.{lastSequence, lastClient}
+use Rattle.frame.specs.Messages.{getStamp, askRead, message, toAll}
+use Rattle.frame.specs.Outbox.{frames, receivers, Outbox, outbox, firstPlace, sent, Room}
+use Rattle.frame.proofs.Verdicts.{fine-not, fine-both}
+use Rattle.frame.proofs.Within.{admitted-of}
+use Rattle.client.specs.declared.Row.{Row}
+use Rattle.client.specs.declared.Client.{Client}
+use Rattle.client.specs.declared.Answer.the-variants as Y
+use Rattle.client.specs.declared.Phase.the-variants as F
+use Rattle.client.specs.State.{freshRow}
+use Rattle.client.specs.Tests.{sendRoom}
+use Rattle.client.specs.Steps.{Effect, quiet}
+use Rattle.client.specs.Beginning.{Begun, lengthTest, openRead, openWrite, beginBy, beginAnswer, begunOf}
+use Rattle.client.specs.Stages.{closedBy, Opening}
+
+-- ---- what the tests tell where nothing spoke against it
+
+room-first : (g : Params) (out to : ℕ) → sendRoom g out to ≡ J.Fine → Room firstPlace (g .n) 9 out to
+unfolding sendRoom outRoom toRoom largestFrame
+room-first g out to e =
+    let a = fine-not (ltb out (outRoom g (2 * g .n))) R.Room _ e in
+    let b = fine-not (ltb to (toRoom (2 * g .n))) R.Room _ (a .1) in
+    let o : 2 * g .n * largestFrame g ≤ out = ltb-false _ _ (a .0) in
+    let t : 2 * (2 * g .n) ≤ to = ltb-false _ _ (b .0) in
+    let n : g .n ≤ 2 * g .n = omega arith in
+    let l : 9 ≤ largestFrame g = omega arith in
+    let x : g .n * 9 ≤ g .n * largestFrame g = mul-le-mul-left (g .n) l in
+    let y : g .n * largestFrame g ≤ 2 * g .n * largestFrame g = mul-le-mul-right (largestFrame g) n in
+    record { out-room = omega arith; to-room = omega arith }
+
+-- 15 and 16, b saying whether an operation is open
+abbrev usable : Bool → ℕ → Verdict
+usable b last = pick b (J.Bad R.Busy) (pick (leb lastSequence last) (J.Bad R.Exhausted) J.Fine)
+
+left-of : (b : Bool) (last : ℕ) → usable b last ≡ J.Fine → last < lastSequence
+left-of b last e =
+    let x = fine-not b R.Busy _ e in
+    let y = fine-not (leb lastSequence last) R.Exhausted _ (x .1) in
+    leb-false _ _ (y .0)
+
+module _ (g : Params) (me last out to : ℕ) (b : Bool) (v : Verdict) (f : v ≡ J.Fine) where
+  pub read-facts : v ≡ andThen (paramsTest g me lastClient) (andThen (sendRoom g out to) (usable b last)) → Opening g last out to
+  read-facts e =
+      let x = fine-both (paramsTest g me lastClient) _ (sym e ∙ f) in
+      let y = fine-both (sendRoom g out to) _ (x .1) in
+      record { bounded = admitted-of g me lastClient (x .0) .bounded; left = left-of b last (y .1); room = room-first g out to (y .0) }
+
+  pub write-facts : (c : Bool) (size : ℕ)
+      → v ≡ andThen (paramsTest g me lastClient) (andThen (lengthTest g size) (andThen (sendRoom g out to) (andThen (usable b last) (closedBy c))))
+      → Opening g last out to
+  write-facts c size e =
+      let x = fine-both (paramsTest g me lastClient) _ (sym e ∙ f) in
+      let l = fine-both (lengthTest g size) _ (x .1) in
+      let y = fine-both (sendRoom g out to) _ (l .1) in
+      let d = fine-both (usable b last) _ (y .1) in
+      record { bounded = admitted-of g me lastClient (x .0) .bounded; left = left-of b last (d .0); room = room-first g out to (y .0) }
+
+pub bounded-of-params : (g : Params) (me : ℕ) (v : Verdict) → v ≡ paramsTest g me lastClient → v ≡ J.Fine → Bounded g
+bounded-of-params g me v e f = admitted-of g me lastClient (sym e ∙ f) .bounded
+
+-- ---- the outcome
+
+module _ (g : Params) (me : ℕ) where
+  -- frames sent, and the client
+  pub begun-law : (x : Effect) (y : Client) (out to o t : List ℕ) (q : Place)
+      → y ≡ x .client → outbox o t q ≡ sent (outbox out to firstPlace) (x .sends)
+      → _≡_ {A = Begun} (record { answer = Y.Sent (q .count); client = y; out = o; to = t }) (begunOf g me J.Fine x out to)
+  unfolding begunOf beginAnswer sent
+  begun-law x y out to o t q p e =
+      let z : 0 + length (x .sends) ≡ length (x .sends) = omega arith in
+      let n : q .count ≡ length (x .sends) = ap (λ (b : Outbox). b .place .count) e ∙ z in
+      let u : o ≡ sets out 0 (frames (x .sends)) = ap (λ (b : Outbox). b .out) e in
+      let w : t ≡ sets to 0 (receivers (x .sends)) = ap (λ (b : Outbox). b .to) e in
+      λ i. record { answer = Y.Sent (n i); client = p i; out = u i; to = w i }
+
+  module _ (s : Client) (out to o t : List ℕ) (q : Place) where
+    pub read-law : (rows : List Row) → rows ≡ replicate 11 freshRow
+        → outbox o t q ≡ sent (outbox out to firstPlace) (toAll g (λ j. message me (s .reads + 1) askRead))
+        → _≡_ {A = Begun}
+        (record {
+          answer = Y.Sent (q .count);
+          client = record { writes = s .writes; reads = s .reads + 1; closed = s .closed; phase = F.Reading; heard = s .heard; times = s .times; rows = rows };
+          out = o;
+          to = t;
+        })
+        (begunOf g me J.Fine (openRead g me s) out to)
+    unfolding openRead
+    read-law rows r e =
+        begun-law (openRead g me s) _ out to o t q
+        (λ i. record { writes = s .writes; reads = s .reads + 1; closed = s .closed; phase = F.Reading; heard = s .heard; times = s .times; rows = r i })
+        e
+
+    pub write-law : outbox o t q ≡ sent (outbox out to firstPlace) (toAll g (λ j. message me (s .writes + 1) getStamp))
+        → _≡_ {A = Begun}
+        (record {
+          answer = Y.Sent (q .count);
+          client = record { writes = s .writes + 1; reads = s .reads; closed = s .closed; phase = F.Asking; heard = replicate 11 false; times = replicate 11 0; rows = s .rows };
+          out = o;
+          to = t;
+        })
+        (begunOf g me J.Fine (openWrite g me s) out to)
+    unfolding openWrite
+    write-law e = begun-law (openWrite g me s) _ out to o t q refl e
+
+  module _ (s : Client) (t : Verdict) (x : Effect) (out to : List ℕ) (v : Verdict) (p : v ≡ t) where
+    pub begin-refused : (r : Refusal) → v ≡ J.Bad r
+        → _≡_ {A = Begun} (record { answer = Y.Refused r; client = s; out = out; to = to }) (begunOf g me t (beginBy g me t s x) out to)
+    unfolding begunOf beginAnswer beginBy frames receivers
+    begin-refused r q =
+        let d : t ≡ J.Bad r = sym p ∙ q in
+        sym (ap (λ w. begunOf g me w (beginBy g me w s x) out to) d)
+
+    pub begin-opened : (b : Begun) → v ≡ J.Fine → b ≡ begunOf g me J.Fine x out to → b ≡ begunOf g me t (beginBy g me t s x) out to
+    unfolding beginBy
+    begin-opened b q e =
+        let d : t ≡ J.Fine = sym p ∙ q in
+        e ∙ sym (ap (λ w. begunOf g me w (beginBy g me w s x) out to) d)

@@ -1,0 +1,146 @@
+// What turns a call or a frame down: one function for each of document 01's tests.
+use crate::Phase;
+use crate::phases::is_idle;
+use crate::phases::is_writing;
+use blocks::Params;
+use frame::Party;
+use frame::Refusal;
+use frame::Verdict;
+use frame::bounds::out_room;
+ghost use mathlib.Core.Path.{_≡_};
+ghost use mathlib.Core.Bool.{not, _&&_};
+ghost use lib.Dec.{eqb, leb};
+ghost use Rattle.area.specs.Area.{pick};
+ghost use Rattle.frame.specs.Params.{Bounded};
+ghost use Rattle.frame.specs.Messages.{numberIn, fromServer};
+ghost use Rattle.frame.specs.Refusals.{andThen};
+ghost use Rattle.frame.specs.Stamps.{lastSequence};
+ghost use Rattle.frame.specs.declared.Verdict.the-variants as J;
+ghost use Rattle.frame.specs.declared.Refusal.the-variants as R;
+ghost use Rattle.client.specs.State.{idle, writing};
+ghost use Rattle.client.specs.Tests.{sendRoom, roomTest, awaited};
+ghost use Rattle.client.specs.Beginning.{lengthTest};
+
+// The second test, unless the first spoke against it.
+pub fn and_then(a: Verdict, b: Verdict) -> Verdict
+    ensures { λ r. ⌜ r ≡ andThen a b ⌝ }
+{
+    let Verdict::Bad(r) = a else {
+        return b;
+    };
+    Verdict::Bad(r)
+}
+
+// 10: whether the out and to areas are long enough, of which only the lengths count.
+pub fn send_room(g: Params, out: usize, to: usize) -> Verdict
+    requires { ⌜ Bounded g ⌝ }
+    ensures { λ r. ⌜ r ≡ sendRoom g out to ⌝ }
+{
+    if out < out_room(g, 2 * g.n) {
+        return Verdict::Bad(Refusal::Room);
+    }
+    if to < 2 * (2 * g.n) {
+        return Verdict::Bad(Refusal::Room);
+    }
+    Verdict::Fine
+}
+
+// 10: whether all lent areas are.
+pub fn room_test(g: Params, area: usize, result: usize, out: usize, to: usize) -> Verdict
+    requires { ⌜ Bounded g ⌝ }
+    ensures { λ r. ⌜ r ≡ roomTest g area result out to ⌝ }
+{
+    if area < 23040 {
+        return Verdict::Bad(Refusal::Room);
+    }
+    if result < g.size {
+        return Verdict::Bad(Refusal::Room);
+    }
+    send_room(g, out, to)
+}
+
+// 3: whether a value of this length is L long.
+pub fn length_test(g: Params, length: usize) -> Verdict
+    ensures { λ r. ⌜ r ≡ lengthTest g length ⌝ }
+{
+    if length != g.size {
+        return Verdict::Bad(Refusal::Length);
+    }
+    Verdict::Fine
+}
+
+// 3: whether the lent value of an open write is.
+pub fn value_test(g: Params, p: Phase, length: usize) -> Verdict
+    ensures { λ r. ⌜ r ≡ pick (writing p && not (eqb length (g .size))) (J.Bad R.Length) J.Fine ⌝ }
+{
+    if !is_writing(p) {
+        return Verdict::Fine;
+    }
+    if length != g.size {
+        return Verdict::Bad(Refusal::Length);
+    }
+    Verdict::Fine
+}
+
+// 15 and 16, where last is the last number used.
+pub fn idle_test(p: Phase, last: u32) -> Verdict
+    ensures { λ r. ⌜ r ≡ pick (not (idle p)) (J.Bad R.Busy) (pick (leb lastSequence last) (J.Bad R.Exhausted) J.Fine) ⌝ }
+{
+    if !is_idle(p) {
+        return Verdict::Bad(Refusal::Busy);
+    }
+    if 4294967295 <= last {
+        return Verdict::Bad(Refusal::Exhausted);
+    }
+    Verdict::Fine
+}
+
+// 17: whether an earlier write closed as out of stamps.
+pub fn closed_test(closed: bool) -> Verdict
+    ensures { λ r. ⌜ r ≡ pick closed (J.Bad R.Closed) J.Fine ⌝ }
+{
+    if closed {
+        return Verdict::Bad(Refusal::Closed);
+    }
+    Verdict::Fine
+}
+
+// 12 of a frame of operation q, where last is the number of the open one, whose phase is right where fit holds; again: one was counted already.
+pub fn awaited_test(fit: bool, q: u32, last: u32, again: bool) -> Verdict
+    ensures { λ r. ⌜ r ≡ awaited (fit && (eqb q last && not again)) ⌝ }
+{
+    if !fit {
+        return Verdict::Bad(Refusal::Stale);
+    }
+    if q != last {
+        return Verdict::Bad(Refusal::Stale);
+    }
+    if again {
+        return Verdict::Bad(Refusal::Stale);
+    }
+    Verdict::Fine
+}
+
+// The number of a party.
+pub fn number_in(p: Party) -> u8
+    ensures { λ r. ⌜ r ≡ numberIn p ⌝ }
+{
+    match p {
+        Party::Client(c) => c,
+        Party::Server(j) => j,
+    }
+}
+
+// Whether the sender is one of servers 1 to n.
+pub fn from_server(g: Params, from: Party) -> bool
+    ensures { λ r. ⌜ r ≡ fromServer g from ⌝ }
+{
+    let Party::Server(j) = from else {
+        return false;
+    };
+    let i = j as usize;
+    if i < 1 {
+        return false;
+    }
+    i <= g.n
+}

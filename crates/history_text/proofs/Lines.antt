@@ -1,6 +1,5 @@
 -- The returns of the functions that read lines, and the turns of the loop over a text. Assumes nothing.
 use mathlib.Core.Path.{_≡_, refl, sym, ap, _∙_}
-use mathlib.Core.Bool.{Bool, true, false}
 use mathlib.Core.List.{List, [], _∷_}
 use Prim.Native.Nat.{ℕ, zero, suc, _+_, _-_, _<_, _≤_}
 use native.Mathlib.Omega.{arith}
@@ -8,7 +7,6 @@ use lib.Dec.{eqb, ltb}
 use lib.ListN.{length, getD, drop, length-drop, drop-of-length-le, take}
 use lib.Seq.{drop-cons, drop-drop, getD-drop}
 use borrow.Author.Tests.{lt-ltb, le-ltb, eq-eqb, ne-eqb}
-use Rattle.area.specs.Area.{pick}
 use Rattle.order.proofs.Picks.{pick-yes, pick-no}
 use Rattle.order.specs.Histories.{refused, judged}
 use Rattle.order.specs.declared.operation.Operation.{Operation}
@@ -128,7 +126,7 @@ unfolding final recordThen addedAll
 final-record h a (Records ops) = refl
 final-record h a Malformed = refl
 
-then-record : (x : Line) (bad : Lines) (f : Operation → ℕ → Lines) (a : Operation) (u : ℕ) → x ≡ L.Record a u → thenLine x bad f ≡ f a u
+pub then-record : (x : Line) (bad : Lines) (f : Operation → ℕ → Lines) (a : Operation) (u : ℕ) → x ≡ L.Record a u → thenLine x bad f ≡ f a u
 unfolding thenLine
 then-record x bad f a u e = ap (λ k. thenLine k bad f) e
 
@@ -140,7 +138,7 @@ lines-cons : (n c : ℕ) (text : List ℕ) → linesOf (suc n) (c ∷ text) ≡ 
 unfolding linesOf
 lines-cons n c text = refl
 
-lines-at : (n at : ℕ) (s : List ℕ) → at < length s
+pub lines-at : (n at : ℕ) (s : List ℕ) → at < length s
     → linesOf (suc n) (drop at s) ≡ thenLine (operationOf (drop at s)) Malformed (λ a used. recordThen a (linesOf n (drop used (drop at s))))
 lines-at n at s h =
     ap (linesOf (suc n)) (drop-cons s at 0 h) ∙ lines-cons n (getD s at 0) (drop (suc at) s)
@@ -162,7 +160,7 @@ final-more h n at u s a l g e t q =
     ∙ sym (ap (final h) (lines-at n at s l ∙ then-record _ _ _ a u (sym e ∙ t)) ∙ final-record h a (linesOf n (drop u (drop at s))))
 
 -- the end
-lines-none : (n : ℕ) → linesOf n [] ≡ Records []
+pub lines-none : (n : ℕ) → linesOf n [] ≡ Records []
 unfolding linesOf
 lines-none zero = refl
 lines-none (suc n) = refl

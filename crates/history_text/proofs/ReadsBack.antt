@@ -1,14 +1,13 @@
 -- What is printed for operations reads back to them (`line-reads-back`, `text-reads-back`). Assumes nothing.
 use mathlib.Core.Path.{_≡_, refl, sym, ap, ap₂, _∙_}
-use mathlib.Core.Bool.{Bool, true, false}
-use mathlib.Core.List.{List, [], _∷_, _++_, append-assoc, append-nil}
+use mathlib.Core.List.{List, [], _∷_, _++_, append-assoc}
 use Prim.Native.Nat.{ℕ, zero, suc, _+_, _-_, _*_, _/_, _%_, _^_, _<_, _≤_}
-use native.Mathlib.Nat.{pow-suc, div-add-mod'}
+use native.Mathlib.Nat.{pow-suc}
 use native.Mathlib.Omega.{arith}
-use lib.Dec.{eqb, ltb, leb, lit<}
+use lib.Dec.{eqb, ltb, lit<}
 use lib.ListN.{length, getD, drop, length-append}
 use lib.Seq.{getD-append-seam, drop-append-seam, drop-drop}
-use borrow.Author.Tests.{ltb-true, ltb-false, lt-ltb, le-ltb, le-leb, eq-eqb, ne-eqb}
+use borrow.Author.Tests.{ltb-true, ltb-false, lt-ltb, le-ltb, le-leb}
 use Rattle.area.specs.Area.{pick}
 use Rattle.order.proofs.Picks.{pick-yes, pick-no}
 use Rattle.order.proofs.Lists.{by-test}
@@ -17,7 +16,7 @@ use Rattle.history_text.specs.Numbers.{digitOf, digitsOf, numberOf, fiel
 use Rattle.history_text.specs.Printed.{decimalOf, decimal, shown, printed, printedAll, InWidth, AllInWidth}
 use Rattle.order.specs.Histories.{judged}
 use Rattle.history_text.specs.Lines.{kindAt, intervalOf, stampOf, operationOf, Records, recordThen, linesOf, answerOf, answerTo}
-use Rattle.history_text.specs.declared.number.Field.the-variants.{Number, Bad}
+use Rattle.history_text.specs.declared.number.Field.the-variants.{Number}
 use Rattle.history_text.specs.declared.line.Interval.the-variants as I
 use Rattle.history_text.specs.declared.line.Stamp.the-variants as S
 use Rattle.history_text.specs.declared.line.Line.the-variants as L
@@ -34,25 +33,29 @@ digit-of n h =
     let e : n + 48 - 48 ≡ n = omega arith in
     sym (pick-no _ _ _ refl (le-ltb (n + 48) 48 a) (pick-no _ _ _ refl (le-ltb 57 (n + 48) b) (sym e)))
 
-decimal-small : (k n : ℕ) → n < 10 → decimalOf (suc k) n ≡ n + 48 ∷ []
+decimal-small : (k n : ℕ) → n < 10 → decimalOf (suc k) n ≡ (n + 48) ∷ []
 unfolding decimalOf
 decimal-small k n h = sym (pick-yes _ _ _ refl (lt-ltb n 10 h) refl)
 
-decimal-large : (k n : ℕ) → 10 ≤ n → decimalOf (suc k) n ≡ decimalOf k (n / 10) ++ (n % 10 + 48 ∷ [])
+decimal-large : (k n : ℕ) → 10 ≤ n → decimalOf (suc k) n ≡ decimalOf k (n / 10) ++ ((n % 10 + 48) ∷ [])
 unfolding decimalOf
 decimal-large k n h = sym (pick-no _ _ _ refl (le-ltb n 10 h) refl)
 
 -- one digit read
-digit-read : (limit v u d : ℕ) (t : List ℕ) → d < 10 → v * 10 + d ≤ limit → digitsOf limit v u (d + 48 ∷ t) ≡ digitsOf limit (v * 10 + d) (u + 1) t
+digit-read : (limit v u d : ℕ) (t : List ℕ) → d < 10 → v * 10 + d ≤ limit → digitsOf limit v u ((d + 48) ∷ t) ≡ digitsOf limit (v * 10 + d) (u + 1) t
 digit-read limit v u d t h l =
-    digits-more limit v u 0 (d + 48 ∷ t) (omega arith) (sym (digit-of d h)) (omega arith) (sym (le-leb (v * 10 + d) limit l)) refl
+    digits-more limit v u 0 ((d + 48) ∷ t) (omega arith) (sym (digit-of d h)) (omega arith) (sym (le-leb (v * 10 + d) limit l)) refl
+
+digits-none : (n limit u : ℕ) (t : List ℕ) → n < 1 → digitsOf limit 0 u (decimalOf 0 n ++ t) ≡ digitsOf limit n (u + length (decimalOf 0 n)) t
+unfolding decimalOf
+digits-none n limit u t h =
+    let e : 0 ≡ n = omega arith in
+    let f : u ≡ u + 0 = omega arith in
+    ap₂ (λ x y. digitsOf limit x y t) e f
 
 -- all digits of n read
 digits-read : (k n limit u : ℕ) (t : List ℕ) → n < 10 ^ k → n ≤ limit → digitsOf limit 0 u (decimalOf k n ++ t) ≡ digitsOf limit n (u + length (decimalOf k n)) t
-digits-read zero n limit u t h l =
-    let e : 0 ≡ n = (let g : n < 1 = h in omega arith) in
-    let f : u ≡ u + 0 = omega arith in
-    ap₂ (λ x y. digitsOf limit x y t) e f
+digits-read zero n limit u t h l = digits-none n limit u t h
 digits-read (suc k) n limit u t h l =
     by-test (ltb n 10)
     (λ b.
@@ -71,10 +74,10 @@ digits-read (suc k) n limit u t h l =
     let v : n / 10 * 10 + n % 10 ≡ n = omega arith in
     let m : n / 10 * 10 + n % 10 ≤ limit = omega arith in
     let o : u + length (decimalOf k (n / 10)) + 1 ≡ u + length (decimalOf (suc k) n) =
-        (let a = ap length e in let c = length-append (decimalOf k (n / 10)) (n % 10 + 48 ∷ []) in omega arith) in
+    (let a = ap length e in let c = length-append (decimalOf k (n / 10)) ((n % 10 + 48) ∷ []) in omega arith) in
     ap (λ x. digitsOf limit 0 u (x ++ t)) e
-    ∙ ap (digitsOf limit 0 u) (append-assoc (decimalOf k (n / 10)) (n % 10 + 48 ∷ []) t)
-    ∙ digits-read k (n / 10) limit u (n % 10 + 48 ∷ t) q w
+    ∙ ap (digitsOf limit 0 u) (append-assoc (decimalOf k (n / 10)) ((n % 10 + 48) ∷ []) t)
+    ∙ digits-read k (n / 10) limit u ((n % 10 + 48) ∷ t) q w
     ∙ digit-read limit (n / 10) (u + length (decimalOf k (n / 10))) (n % 10) t r m
     ∙ ap₂ (λ x y. digitsOf limit x y t) v o)
 
@@ -96,7 +99,7 @@ head (suc k) n g h =
     let p : n < 10 ^ k * 10 = rw pow-suc at h in
     let q : n / 10 < 10 ^ k = omega arith in
     let d = head k (n / 10) (omega arith) q in
-    record { byte = d .byte; rest = d .rest ++ (n % 10 + 48 ∷ []); is = decimal-large k n l ∙ ap (λ x. x ++ (n % 10 + 48 ∷ [])) (d .is); low = d .low; high = d .high })
+    record { byte = d .byte; rest = d .rest ++ ((n % 10 + 48) ∷ []); is = decimal-large k n l ∙ ap (λ x. x ++ ((n % 10 + 48) ∷ [])) (d .is); low = d .low; high = d .high })
 
 -- ---- a number, and a number with the byte behind it
 
@@ -117,7 +120,7 @@ number-read n limit c t h g d =
     let y : x - 48 < 10 = omega arith in
     let z : x - 48 + 48 ≡ x = omega arith in
     let e : x - 48 ≡ digitOf x = sym (digit-of (x - 48) y) ∙ ap digitOf z in
-    sym (ap (λ l. numberOf limit (l ++ c ∷ t)) (sym (w .is)) )
+    sym (ap (λ l. numberOf limit (l ++ c ∷ t)) (sym (w .is)))
     ∙ sym (number-digits limit 0 (x ∷ (w .rest ++ c ∷ t)) (omega arith) (λ q. omega arith) e (omega arith) refl)
     ∙ ap (λ l. digitsOf limit 0 0 (l ++ c ∷ t)) (sym (w .is))
     ∙ digits-read 20 n limit 0 (c ∷ t) (below-all n limit h g) h
@@ -166,7 +169,7 @@ stamp-read m w n t h g k =
     let s = shown m 32 ++ u in
     let e : drop (length (shown m 32)) s ≡ u = drop-append-seam (shown m 32) u in
     let f : drop (length (shown m 32) + length (shown w 32)) s ≡ shown n 10 ++ t =
-        sym (drop-drop (length (shown w 32)) (length (shown m 32)) s) ∙ ap (drop (length (shown w 32))) e ∙ drop-append-seam (shown w 32) (shown n 10 ++ t) in
+    sym (drop-drop (length (shown w 32)) (length (shown m 32)) s) ∙ ap (drop (length (shown w 32))) e ∙ drop-append-seam (shown w 32) (shown n 10 ++ t) in
     sym (then-number _ _ _ m (length (shown m 32)) (sym (field-read m 18446744073709551615 32 u h (omega arith) space)) refl
     (then-number _ _ _ w (length (shown w 32)) (sym (ap (fieldOf 8 32) e ∙ field-read w 8 32 (shown n 10 ++ t) g (omega arith) space)) refl
     (then-number _ _ _ n (length (shown n 10)) (sym (ap (fieldOf 4294967295 10) f ∙ field-read n 4294967295 10 t k (omega arith) newline)) refl refl)))
@@ -180,7 +183,7 @@ kind-of a = by-test (a .write) (λ t. rw t (omega arith, refl)) (λ t. rw t (ome
 pub line-reads-back : (a : Operation) (t : List ℕ) → InWidth a → operationOf (printed a ++ t) ≡ L.Record a (length (printed a))
 unfolding printed
 line-reads-back a t h =
-    let k = pick (a .write) 87 82 in
+    let k = pick {A = ℕ} (a .write) 87 82 in
     let tail = shown (a .time) 32 ++ (shown (a .writer) 32 ++ (shown (a .sequence) 10 ++ t)) in
     let u = shown (a .start) 32 ++ (shown (a .end) 32 ++ tail) in
     let all : (shown (a .start) 32 ++ (shown (a .end) 32 ++ (shown (a .time) 32 ++ (shown (a .writer) 32 ++ shown (a .sequence) 10)))) ++ t ≡ u = simp append-assoc in
@@ -188,16 +191,16 @@ line-reads-back a t h =
     let i = interval-read (a .start) (a .end) tail (h .start) (h .end) in
     let n = length (shown (a .start) 32) + length (shown (a .end) 32) in
     let d : drop (0 + 2 + n) s ≡ tail =
-        sym (drop-drop n 2 s) ∙ sym (drop-drop (length (shown (a .end) 32)) (length (shown (a .start) 32)) u)
-        ∙ ap (drop (length (shown (a .end) 32))) (drop-append-seam (shown (a .start) 32) (shown (a .end) 32 ++ tail)) ∙ drop-append-seam (shown (a .end) 32) tail in
+    sym (drop-drop n 2 s) ∙ sym (drop-drop (length (shown (a .end) 32)) (length (shown (a .start) 32)) u)
+    ∙ ap (drop (length (shown (a .end) 32))) (drop-append-seam (shown (a .start) 32) (shown (a .end) 32 ++ tail)) ∙ drop-append-seam (shown (a .end) 32) tail in
     let p = ap stampOf d ∙ stamp-read (a .time) (a .writer) (a .sequence) t (h .time) (h .writer) (h .sequence) in
     let m = length (shown (a .time) 32) + length (shown (a .writer) 32) + length (shown (a .sequence) 10) in
     let size : 2 + n + m ≡ length (printed a) =
-        (let x₁ = length-append (shown (a .start) 32) (shown (a .end) 32 ++ (shown (a .time) 32 ++ (shown (a .writer) 32 ++ shown (a .sequence) 10))) in
-        let x₂ = length-append (shown (a .end) 32) (shown (a .time) 32 ++ (shown (a .writer) 32 ++ shown (a .sequence) 10)) in
-        let x₃ = length-append (shown (a .time) 32) (shown (a .writer) 32 ++ shown (a .sequence) 10) in
-        let x₄ = length-append (shown (a .writer) 32) (shown (a .sequence) 10) in
-        omega arith) in
+    (let x₁ = length-append (shown (a .start) 32) (shown (a .end) 32 ++ (shown (a .time) 32 ++ (shown (a .writer) 32 ++ shown (a .sequence) 10))) in
+    let x₂ = length-append (shown (a .end) 32) (shown (a .time) 32 ++ (shown (a .writer) 32 ++ shown (a .sequence) 10)) in
+    let x₃ = length-append (shown (a .time) 32) (shown (a .writer) 32 ++ shown (a .sequence) 10) in
+    let x₄ = length-append (shown (a .writer) 32) (shown (a .sequence) 10) in
+    omega arith) in
     ap (λ x. operationOf (k ∷ 32 ∷ x)) all
     ∙ sym (line-whole s 0 (omega arith) refl (kind-of a .0) refl (a .start) (a .end) n (a .time) (a .writer) (a .sequence) m (sym i) refl (sym p) refl)
     ∙ ap₂ (λ w x. L.Record (record { write = w; start = a .start; end = a .end; time = a .time; writer = a .writer; sequence = a .sequence }) x) (kind-of a .1) size

@@ -9,7 +9,7 @@ use Rattle.order.specs.declared.operation.Operation.{Operation}
 -- the decimal digits of a number of at most k digits
 unfoldable pub decimalOf : ℕ → ℕ → List ℕ
 decimalOf zero n = []
-decimalOf (suc k) n = pick (ltb n 10) (n + 48 ∷ []) (decimalOf k (n / 10) ++ (n % 10 + 48 ∷ []))
+decimalOf (suc k) n = pick (ltb n 10) ((n + 48) ∷ []) (decimalOf k (n / 10) ++ ((n % 10 + 48) ∷ []))
 
 -- numbers of 64 bits have at most 20 digits
 unfoldable pub decimal : ℕ → List ℕ

@@ -5,7 +5,7 @@ use native.Mathlib.Nat.{zero-add}
 use borrow.Author.Tests.{ltb-false}
 use mathlib.Core.Path.{_≡_, refl, ap, sym, _∙_}
 use mathlib.Core.Bool.{Bool, true, false}
-use mathlib.Core.List.{List}
+use mathlib.Core.List.{List, []}
 use lib.ListN.{length}
 use lib.Dec.{ltb}
 use Rattle.area.specs.Area.{pick}
@@ -15,8 +15,9 @@ use Rattle.frame.specs.declared.Refusal.{Refusal}
 use Rattle.frame.specs.declared.Refusal.the-variants as R
 use Rattle.frame.specs.declared.Verdict.{Verdict}
 use Rattle.frame.specs.declared.Verdict.the-variants as J
-use Rattle.frame.specs.Messages.{fromServer, numberIn}
-use Rattle.frame.specs.Outbox.{outbox, sent, firstPlace}
+use Rattle.frame.specs.Messages.{fromServer, numberIn, message, timeIs, echo, toAll, Sending}
+use Rattle.frame.specs.Outbox.{Outbox, outbox, sent, firstPlace}
+use Rattle.frame.proofs.Outbox.{sent-none}
 use Rattle.frame.proofs.Verdicts.{fine-is, fine-not}
 use Rattle.server.specs.declared.Slot.{Slot}
 use Rattle.server.specs.declared.Server.{Server}
@@ -24,8 +25,9 @@ use Rattle.server.specs.declared.Served.{Served}
 use Rattle.server.specs.declared.Moved.{Moved}
 use Rattle.server.specs.declared.Reply.{Reply}
 use Rattle.server.specs.declared.Reply.the-variants as Y
-use Rattle.server.specs.Tests.{openTest}
-use Rattle.server.specs.Steps.{Effect}
+use Rattle.server.specs.State.{withSlot, withTimes, timeSent}
+use Rattle.server.specs.Tests.{fromOwner, openTest}
+use Rattle.server.specs.Steps.{Effect, sendOnly}
 use Rattle.server.specs.Delivery.{Outcome, outcome}
 use Rattle.server.specs.Stages.{Progress, progress, moved, stepped, answered}
 use Rattle.server.proofs.Senders.{server-number}
@@ -72,3 +74,28 @@ voted g from x q again v e f =
     let a = fine-is (fromServer g from) R.Sender (openTest x q again) (sym e ∙ f) in
     let n = server-number g from (a .0) in
     record { low = n .0; high = n .1; at-open = open-fine x q again (a .1) }
+
+-- the owner's frame of the open write
+pub owned : (from : Party) (c : ℕ) (x : Slot) (q : ℕ) (again : Bool) (v : Verdict)
+    → v ≡ pick (fromOwner from c) (openTest x q again) (J.Bad R.Sender) → v ≡ J.Fine → x .sequence ≡ q
+owned from c x q again v e f = open-fine x q again (fine-is (fromOwner from c) R.Sender (openTest x q again) (sym e ∙ f) .1)
+
+-- a step that changes the server and sends
+pub only-sent : (s s′ : Server) (a : List ℕ) (l : List Sending) (q q′ : Outbox) → s′ ≡ s → q′ ≡ sent q l → progress s′ a q′ ≡ moved (sendOnly s a l) q
+unfolding moved
+only-sent s s′ a l q q′ e f = λ i. progress (e i) a (f i)
+
+pub none-sent : (s s′ : Server) (a : List ℕ) (q : Outbox) → s′ ≡ s → progress s′ a q ≡ moved (sendOnly s a []) q
+none-sent s s′ a q e = only-sent s s′ a [] q q e (sym (sent-none q))
+
+-- the owner's time is echoed
+pub time-echoed : (g : Params) (s s′ : Server) (a : List ℕ) (c i T U : ℕ) (x y : Slot) (q q′ : Outbox)
+    → x .sequence ≡ i
+    → T ≡ U
+    → y ≡ withTimes x (timeSent (x .times))
+    → s′ ≡ withSlot s c y
+    → q′ ≡ sent q (toAll g (λ j. message c i (timeIs echo T)))
+    → progress s′ a q′ ≡ moved (sendOnly (withSlot s c (withTimes x (timeSent (x .times)))) a (toAll g (λ j. message c (x .sequence) (timeIs echo U)))) q
+time-echoed g s s′ a c i T U x y q q′ h k m n e =
+    only-sent (withSlot s c (withTimes x (timeSent (x .times)))) s′ a _ q q′ (n ∙ ap (withSlot s c) m)
+    (e ∙ ap (λ (z : ℕ). sent q (toAll g (λ j. message c i (timeIs echo z)))) k ∙ ap (λ (z : ℕ). sent q (toAll g (λ j. message c z (timeIs echo U)))) (sym h))

@@ -171,3 +171,11 @@ time-room g p k out to R =
 pub time-small : (z : Stage) (g : Params) (c q T : ℕ) → length (build (message c q (timeIs z T))) ≤ largestFrame g
 unfolding largestFrame
 time-small z g c q T = omega (arith, length-time z c q T)
+
+pub stamp-room : (g : Params) (p : Place) (k out to : ℕ) → 1 ≤ k → Room p (g .n + k) (largestFrame g) out to → Room p 1 17 out to
+unfolding largestFrame
+stamp-room g p k out to l R =
+    room-smaller p 1 17 (largestFrame g) out to (omega arith) (room-fewer p (g .n + k) 1 (largestFrame g) out to (omega arith) R)
+
+pub value-room : (g : Params) (p : Place) (k out to : ℕ) → 1 ≤ k → Room p (g .n + k) (largestFrame g) out to → Room p 1 (largestFrame g) out to
+value-room g p k out to l R = room-fewer p (g .n + k) 1 (largestFrame g) out to (omega arith) R

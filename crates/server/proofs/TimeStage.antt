@@ -49,3 +49,14 @@ times-settled H g s a c i T x y d f q q′ w o h k m n e =
     ∙ ap (λ (b : Bool). moved (settle g s a c (withTimes x (timeMarks (x .times) b f T)) (pick b (toAll g (λ j. message c i (timeIs ready T))) []) []) q) h
     ∙ ap (λ (b : Bool). moved (settle g s a c (withTimes x (timeMarks (x .times) D b T)) (pick D (toAll g (λ j. message c i (timeIs ready T))) []) []) q) k
     ∙ ap (λ (b : ℕ). moved (settle g s a c (withTimes x (timeMarks (x .times) D F T)) (pick D (toAll g (λ j. message c b (timeIs ready T))) []) []) q) (sym o)
+
+-- the time and its sender as they were read
+pub times-voted : (H : List ℕ → List ℕ) (g : Params) (s : Server) (a : List ℕ) (c : ℕ) (mark : ℕ → ℕ → Slot) (y : Slot) (j i T U : ℕ) (q : Outbox) (w : Progress)
+    → j ≡ i
+    → T ≡ U
+    → y ≡ mark j T
+    → w ≡ moved (settleTimes H g 0 s a c y T) q
+    → w ≡ moved (settleTimes H g 0 s a c (mark i U) U) q
+times-voted H g s a c mark y j i T U q w h k m e =
+    e ∙ ap (λ (z : Slot). moved (settleTimes H g 0 s a c z T) q) m ∙ ap (λ (l : ℕ). moved (settleTimes H g 0 s a c (mark l T) T) q) h
+    ∙ ap (λ (l : ℕ). moved (settleTimes H g 0 s a c (mark i l) l) q) k

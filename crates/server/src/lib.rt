@@ -4,10 +4,12 @@ use frame::Refusal;
 use frame::Stamp;
 
 mod accept;
+mod asking;
 mod reads;
 mod state;
 mod tests;
 mod times;
+mod timing;
 
 // What was counted of the blocks of one write. The entries themselves lie in the state area.
 pub struct BlockPart {

@@ -1,44 +1,31 @@
+-- The step of one kind: refused as the tests say, or its whole outcome. Assumes nothing.
+use Rattle.server.specs.Steps.{onTime}
 use Rattle.server.proofs.Answers.{refused-is, step-is, owned, time-echoed}
 use Rattle.server.proofs.Sending.{time-room}
-use Rattle.server.specs.Tests.{messageTest}
+use Rattle.server.specs.Tests.{messageTest, senderRight, orderTest, counted}
 use Rattle.server.specs.State.{slotOf}
-use mathlib.Core.Path.{_≡_, refl, ap, sym, _∙_}
 use native.Mathlib.Omega.{arith}
 use borrow.Author.Needs.{needs}
 use Rattle.server.proofs.timing.on_time_send.Statement.{statement}
 use Rattle.server.proofs.timing.on_time_send.Tie as tie
-use Rattle.server.proofs.timing.on_time_send.Reads as reads
-use Rattle.server.proofs.timing.on_time_send.Lts as lts
-use Rattle.area.proofs.read8.Reads as read8-reads
-use Rattle.frame.proofs.send.time_all.Reads as time-all-reads
-use Rattle.server.proofs.state.time_sent.Reads as time-sent-reads
-use Rattle.server.proofs.state.with_slot.Reads as with-slot-reads
-use Rattle.server.proofs.tests.owner_test.Reads as owner-test-reads
-use Rattle.server.proofs.timing.served.Reads as served-reads
 
--- src/timing.rt:54:13
 cast-c : tie.Need-cast-c
 cast-c c = search needs
 
--- src/timing.rt:55:13
 mul-x : tie.Need-mul-x
 mul-x c = search needs
 
--- src/timing.rt:55:13
 element-copy-out-x : tie.Need-element-copy-out-x
 element-copy-out-x c = search needs
 
--- src/timing.rt:57:9
 owner-test-requires : tie.Need-owner-test-requires
 owner-test-requires c κs = search needs
 
--- src/timing.rt:58:25
 enum-known-v : tie.Need-enum-known-v
 enum-known-v c = search needs
 
--- src/timing.rt:59:9
 returns : tie.Need-returns
-unfolding messageTest
+unfolding messageTest senderRight orderTest counted onTime
 returns c =
     let a = c .before .before .before .before .before .before .before .before .before .before .args in
     λ z. refused-is _ _ _ (a .t1) z _ _ _ (c .before .before .before .owner-test .ensures) (c .before .v .given .1)
@@ -46,39 +33,31 @@ returns c =
 enum-told : tie.Need-enum-told
 enum-told c = search needs
 
--- src/timing.rt:64:9
 read8-requires : tie.Need-read8-requires
 read8-requires c κs = search needs
 
--- src/timing.rt:66:9
 time-all-requires : tie.Need-time-all-requires
 time-all-requires c κs =
     let z = c .before .before .before .before .before .before .before .before .before .before .before .before in
     (z .pre .0, time-room (z .args .g) _ 9 _ _ (z .pre .3))
 
--- src/timing.rt:67:34
 time-sent-requires : tie.Need-time-sent-requires
 time-sent-requires c κs = search needs
 
--- src/timing.rt:67:9
 with-slot-requires : tie.Need-with-slot-requires
 with-slot-requires c κs = omega (arith, c .before .before .before .before .before .before .before .before .before .before .before .before .before .before .before .before .before .before .pre .2)
 
--- src/timing.rt:68:5
 served-requires : tie.Need-served-requires
 served-requires c κs = search needs
 
--- src/timing.rt:50:1
 same-length : tie.Need-same-length
 same-length c = search needs
 
--- src/timing.rt:50:1
 same-length-2 : tie.Need-same-length-2
 same-length-2 c = search needs
 
--- src/timing.rt:50:1
 returns-2 : tie.Need-returns-2
-unfolding messageTest
+unfolding messageTest senderRight orderTest counted onTime
 returns-2 c =
     let a = c .before .before .before .before .before .before .before .before .before .before .before .before .before .before .before .before .before .before .before .before .args in
     let x = slotOf (a .t1) (a .h .client) in

@@ -1,29 +1,21 @@
+-- Assumes nothing.
 use borrow.Author.Tests.{not-true, not-false}
-use mathlib.Core.Path.{_≡_, refl, sym, _∙_}
+use mathlib.Core.Path.{sym, _∙_}
 use Rattle.area.specs.Area.{pick}
-use native.Mathlib.Omega.{arith}
 use borrow.Author.Needs.{needs}
 use Rattle.server.proofs.asking.ask_test.Statement.{statement}
 use Rattle.server.proofs.asking.ask_test.Tie as tie
-use Rattle.server.proofs.asking.ask_test.Reads as reads
-use Rattle.server.proofs.asking.ask_test.Lts as lts
-use Rattle.server.proofs.tests.from_owner.Reads as from-owner-reads
-use Rattle.server.proofs.tests.read_test.Reads as read-test-reads
 
--- src/asking.rt:43:9
 from-owner-requires : tie.Need-from-owner-requires
 from-owner-requires c κs = search needs
 
--- src/asking.rt:44:9
 returns : tie.Need-returns
 unfolding pick
 returns c = rw (sym (c .before .from-owner .ensures) ∙ not-true _ (c .if1 .taken))
 
--- src/asking.rt:46:5
 read-test-requires : tie.Need-read-test-requires
 read-test-requires c κs = search needs
 
--- src/asking.rt:40:1
 returns-2 : tie.Need-returns-2
 unfolding pick
 returns-2 c = rw (sym (c .before .before .from-owner .ensures) ∙ not-false _ (c .before .if1 .left)) (c .read-test .ensures)

@@ -1,52 +1,41 @@
+-- The step of one kind: refused as the tests say, or its whole outcome. Assumes nothing.
 use Rattle.server.proofs.Answers.{refused-is, step-is, only-sent}
 use Rattle.server.proofs.Sending.{stamp-room}
-use Rattle.server.specs.Tests.{messageTest}
+use Rattle.server.specs.Tests.{messageTest, senderRight, orderTest}
 use Rattle.frame.proofs.Within.{stop-not, go-on}
 use Rattle.frame.specs.declared.Verdict.the-variants as J
 use Rattle.frame.specs.declared.Refusal.the-variants as R
-use mathlib.Core.Path.{_≡_, refl, ap, sym, _∙_}
+use mathlib.Core.Path.{refl}
 use native.Mathlib.Omega.{arith}
 use borrow.Author.Needs.{needs}
 use Rattle.server.proofs.asking.on_get_stamp.Statement.{statement}
 use Rattle.server.proofs.asking.on_get_stamp.Tie as tie
-use Rattle.server.proofs.asking.on_get_stamp.Reads as reads
-use Rattle.server.proofs.asking.on_get_stamp.Lts as lts
-use Rattle.frame.proofs.send.send_stamp.Reads as send-stamp-reads
-use Rattle.server.proofs.tests.from_owner.Reads as from-owner-reads
-use Rattle.server.proofs.timing.served.Reads as served-reads
 
--- src/asking.rt:64:9
 from-owner-requires : tie.Need-from-owner-requires
 from-owner-requires c κs = search needs
 
--- src/asking.rt:65:9
 returns : tie.Need-returns
-unfolding messageTest
+unfolding messageTest senderRight orderTest
 returns c =
     let a = c .before .before .before .before .args in
     λ z. refused-is (J.Bad R.Sender) _ R.Sender (a .s) z _ _ _ (stop-not _ _ R.Sender J.Fine (c .before .from-owner .ensures) (c .if1 .taken)) refl
 
--- src/asking.rt:72:9
 send-stamp-requires : tie.Need-send-stamp-requires
 send-stamp-requires c κs =
     let z = c .before .before .before .before .before .before .before in
     stamp-room (z .args .g) _ 9 _ _ (omega arith) (z .pre .1)
 
--- src/asking.rt:73:5
 served-requires : tie.Need-served-requires
 served-requires c κs = search needs
 
--- src/asking.rt:60:1
 same-length : tie.Need-same-length
 same-length c = search needs
 
--- src/asking.rt:60:1
 same-length-2 : tie.Need-same-length-2
 same-length-2 c = search needs
 
--- src/asking.rt:60:1
 returns-2 : tie.Need-returns-2
-unfolding messageTest
+unfolding messageTest senderRight orderTest
 returns-2 c =
     let a = c .before .before .before .before .before .before .before .before .before .before .before .before .before .args in
     λ z. step-is J.Fine _ (a .s) z z _ _ _ _ _ (record { server = a .s; place = c .before .before .before .before .before .send-stamp .result }) _

@@ -1,41 +1,29 @@
+-- The step of one kind: refused as the tests say, or its whole outcome. Assumes nothing.
 use Rattle.server.proofs.Answers.{refused-is, step-is, none-sent}
 use Rattle.server.specs.Steps.{onReadComplete}
-use Rattle.server.specs.Tests.{messageTest}
+use Rattle.server.specs.Tests.{messageTest, senderRight, orderTest}
 use Rattle.frame.specs.Outbox.{outbox, firstPlace}
-use mathlib.Core.Path.{_≡_, refl, ap, sym, _∙_}
-use native.Mathlib.Omega.{arith}
 use borrow.Author.Needs.{needs}
 use Rattle.server.proofs.asking.on_read_complete.Statement.{statement}
 use Rattle.server.proofs.asking.on_read_complete.Tie as tie
-use Rattle.server.proofs.asking.on_read_complete.Reads as reads
-use Rattle.server.proofs.asking.on_read_complete.Lts as lts
-use Rattle.server.proofs.asking.end_test.Reads as end-test-reads
-use Rattle.server.proofs.state.with_reader.Reads as with-reader-reads
-use Rattle.server.proofs.timing.served.Reads as served-reads
 
--- src/asking.rt:116:13
 cast-c : tie.Need-cast-c
 cast-c c = search needs
 
--- src/asking.rt:117:15
 mul-old : tie.Need-mul-old
 mul-old c = search needs
 
--- src/asking.rt:117:15
 element-copy-out-old : tie.Need-element-copy-out-old
 element-copy-out-old c = search needs
 
--- src/asking.rt:118:9
 end-test-requires : tie.Need-end-test-requires
 end-test-requires c κs = search needs
 
--- src/asking.rt:119:25
 enum-known-v : tie.Need-enum-known-v
 enum-known-v c = search needs
 
--- src/asking.rt:120:9
 returns : tie.Need-returns
-unfolding messageTest
+unfolding messageTest senderRight orderTest
 returns c =
     let a = c .before .before .before .before .before .before .args in
     λ z out to. refused-is _ _ _ (a .t1) z _ out to (c .before .before .before .end-test .ensures) (c .before .v .given .1)
@@ -43,17 +31,14 @@ returns c =
 enum-told : tie.Need-enum-told
 enum-told c = search needs
 
--- src/asking.rt:131:9
 with-reader-requires : tie.Need-with-reader-requires
 with-reader-requires c κs = search needs
 
--- src/asking.rt:133:5
 served-requires : tie.Need-served-requires
 served-requires c κs = search needs
 
--- src/asking.rt:112:1
 returns-2 : tie.Need-returns-2
-unfolding messageTest onReadComplete
+unfolding messageTest senderRight orderTest onReadComplete
 returns-2 c =
     let a = c .before .before .before .before .before .before .before .before .args in
     λ z out to. step-is _ _ (a .t1) z z _ out to out to (record { server = c .before .with-reader .result; place = firstPlace }) _

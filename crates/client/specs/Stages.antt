@@ -1,20 +1,28 @@
 -- What inner functions of the code ask and promise. The entry points' promises (Delivery.antt, Beginning.antt) do not speak of these. These are definitions.
-use Prim.Native.Nat.{ℕ, _<_}
+use Prim.Native.Nat.{ℕ, _*_, _≤_, _<_}
 use mathlib.Core.Bool.{Bool, not}
 use mathlib.Core.Option.{Option, none, some}
+use mathlib.Core.List.{List}
+use lib.ListN.{length}
+use lib.Seq.{sets}
 use lib.Dec.{leb}
 use Rattle.area.specs.Area.{pick}
 use Rattle.blocks.specs.declared.Params.{Params}
 use Rattle.frame.specs.declared.Verdict.{Verdict}
 use Rattle.frame.specs.declared.Refusal.the-variants as R
 use Rattle.frame.specs.declared.Verdict.the-variants as J
-use Rattle.frame.specs.Params.{Bounded}
+use Rattle.frame.specs.Params.{Bounded, largestFrame}
 use Rattle.frame.specs.Stamps.{lastSequence}
-use Rattle.frame.specs.Outbox.{Room, firstPlace}
+use Rattle.frame.specs.Outbox.{frames, receivers, Room, firstPlace}
+use Rattle.frame.specs.Chunks.{rowsBytes}
 use Rattle.client.specs.declared.Phase.{Phase}
+use Rattle.client.specs.declared.Client.{Client}
 use Rattle.client.specs.declared.Spot.{Spot}
 use Rattle.client.specs.declared.Spot.the-variants.{At, Nowhere}
+use Rattle.client.specs.declared.Answer.the-variants as Y
 use Rattle.client.specs.State.{idle}
+use Rattle.client.specs.Steps.{Effect}
+use Rattle.client.specs.Delivery.{Outcome, eventAnswer, resultOf}
 
 -- the code's name of a place in a row, or of none
 abbrev pub spotOf : Option ℕ → Spot
@@ -33,3 +41,28 @@ pub record Opening (g : Params) (last out to : ℕ) : Type 0 where
   pub bounded : Bounded g
   pub left : last < lastSequence
   pub room : Room firstPlace (g .n) 9 out to
+
+-- ---- a frame that opened, the lent areas being long enough
+
+-- what the stages ask: the rows area is whole, the value and 2n largest frames have room
+pub record Lent (g : Params) (area result out to : ℕ) : Type 0 where
+  pub bounded : Bounded g
+  pub whole : rowsBytes ≤ area
+  pub value-room : g .size ≤ result
+  pub room : Room firstPlace (2 * g .n) (largestFrame g) out to
+
+-- the outcome of a step
+unfoldable pub stepped : Effect → List ℕ → List ℕ → List ℕ → Outcome
+stepped x result out to = record {
+  answer = eventAnswer (x .event) (length (x .sends));
+  client = x .client;
+  area = x .area;
+  result = resultOf (x .event) result;
+  out = sets out 0 (frames (x .sends));
+  to = sets to 0 (receivers (x .sends));
+}
+
+-- turned down by one of the tests 11 to 14, or a step
+unfoldable pub answered : Verdict → Client → List ℕ → Effect → List ℕ → List ℕ → List ℕ → Outcome
+answered (J.Bad r) s a x result out to = record { answer = Y.Refused r; client = s; area = a; result = result; out = out; to = to }
+answered J.Fine s a x result out to = stepped x result out to

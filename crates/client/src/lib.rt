@@ -1,9 +1,9 @@
 // A client: its small record of its open operation, by value. Place j of an array belongs to server j; place 0 stays empty.
 pub mod begin;
-mod counts;
-mod phases;
-mod rows;
-mod tests;
+pub mod counts;
+pub mod phases;
+pub mod rows;
+pub mod tests;
 
 use frame::Refusal;
 use frame::Stamp;

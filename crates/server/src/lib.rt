@@ -3,13 +3,13 @@ use frame::Place;
 use frame::Refusal;
 use frame::Stamp;
 
-mod accept;
-mod asking;
-mod reads;
-mod state;
-mod tests;
-mod times;
-mod timing;
+pub mod accept;
+pub mod asking;
+pub mod reads;
+pub mod state;
+pub mod tests;
+pub mod times;
+pub mod timing;
 
 // What was counted of the blocks of one write. The entries themselves lie in the state area.
 pub struct BlockPart {

@@ -3,33 +3,22 @@ use crate::Phase;
 use crate::phases::is_idle;
 use crate::phases::is_writing;
 use blocks::Params;
-use frame::Party;
 use frame::Refusal;
 use frame::Verdict;
 use frame::bounds::out_room;
+use frame::bounds::to_room;
+use frame::layout::ROWS_BYTES;
 ghost use mathlib.Core.Path.{_≡_};
 ghost use mathlib.Core.Bool.{not, _&&_};
 ghost use lib.Dec.{eqb, leb};
 ghost use Rattle.area.specs.Area.{pick};
 ghost use Rattle.frame.specs.Params.{Bounded};
-ghost use Rattle.frame.specs.Messages.{numberIn, fromServer};
-ghost use Rattle.frame.specs.Refusals.{andThen};
 ghost use Rattle.frame.specs.Stamps.{lastSequence};
 ghost use Rattle.frame.specs.declared.Verdict.the-variants as J;
 ghost use Rattle.frame.specs.declared.Refusal.the-variants as R;
 ghost use Rattle.client.specs.State.{idle, writing};
 ghost use Rattle.client.specs.Tests.{sendRoom, roomTest, awaited};
 ghost use Rattle.client.specs.Beginning.{lengthTest};
-
-// The second test, unless the first spoke against it.
-pub fn and_then(a: Verdict, b: Verdict) -> Verdict
-    ensures { λ r. ⌜ r ≡ andThen a b ⌝ }
-{
-    let Verdict::Bad(r) = a else {
-        return b;
-    };
-    Verdict::Bad(r)
-}
 
 // 10: whether the out and to areas are long enough, of which only the lengths count.
 pub fn send_room(g: Params, out: usize, to: usize) -> Verdict
@@ -39,7 +28,7 @@ pub fn send_room(g: Params, out: usize, to: usize) -> Verdict
     if out < out_room(g, 2 * g.n) {
         return Verdict::Bad(Refusal::Room);
     }
-    if to < 2 * (2 * g.n) {
+    if to < to_room(2 * g.n) {
         return Verdict::Bad(Refusal::Room);
     }
     Verdict::Fine
@@ -50,7 +39,7 @@ pub fn room_test(g: Params, area: usize, result: usize, out: usize, to: usize) -
     requires { ⌜ Bounded g ⌝ }
     ensures { λ r. ⌜ r ≡ roomTest g area result out to ⌝ }
 {
-    if area < 23040 {
+    if area < ROWS_BYTES {
         return Verdict::Bad(Refusal::Room);
     }
     if result < g.size {
@@ -119,28 +108,4 @@ pub fn awaited_test(fit: bool, q: u32, last: u32, again: bool) -> Verdict
         return Verdict::Bad(Refusal::Stale);
     }
     Verdict::Fine
-}
-
-// The number of a party.
-pub fn number_in(p: Party) -> u8
-    ensures { λ r. ⌜ r ≡ numberIn p ⌝ }
-{
-    match p {
-        Party::Client(c) => c,
-        Party::Server(j) => j,
-    }
-}
-
-// Whether the sender is one of servers 1 to n.
-pub fn from_server(g: Params, from: Party) -> bool
-    ensures { λ r. ⌜ r ≡ fromServer g from ⌝ }
-{
-    let Party::Server(j) = from else {
-        return false;
-    };
-    let i = j as usize;
-    if i < 1 {
-        return false;
-    }
-    i <= g.n
 }

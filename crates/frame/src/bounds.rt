@@ -1,13 +1,14 @@
 // The parameters' bounds, and the sizes that follow from them.
 use crate::Refusal;
 use crate::Verdict;
+use crate::layout::VALUE_AT;
 use blocks::Params;
 use blocks::bounds::length_fits;
 use blocks::bounds::parties_fit;
 use blocks::bounds::threshold_fits;
 ghost use mathlib.Core.Path.{_≡_};
 ghost use Prim.Native.Nat.{_≤_};
-ghost use Rattle.frame.specs.Params.{Bounded, width, ownTest, codeTest, boundsTest, paramsTest, largestFrame, outRoom, quota};
+ghost use Rattle.frame.specs.Params.{Bounded, width, ownTest, codeTest, boundsTest, paramsTest, largestFrame, outRoom, toRoom, quota};
 
 // 1, the own number: party me of parties 1 to most.
 pub fn own_test(me: usize, most: usize) -> Verdict
@@ -80,7 +81,7 @@ pub fn largest_frame(g: Params) -> usize
     requires { ⌜ Bounded g ⌝ }
     ensures { λ r. ⌜ (r ≡ largestFrame g) × (r ≤ 598) ⌝ }
 {
-    22 + (32 * g.n + width(g))
+    VALUE_AT + (32 * g.n + width(g))
 }
 
 // The bytes that m frames may take in the out area.
@@ -89,6 +90,14 @@ pub fn out_room(g: Params, m: usize) -> usize
     ensures { λ r. ⌜ r ≡ outRoom g m ⌝ }
 {
     m * largest_frame(g)
+}
+
+// The bytes that the receivers of m frames take in the to area.
+pub fn to_room(m: usize) -> usize
+    requires { ⌜ m ≤ 20 ⌝ }
+    ensures { λ r. ⌜ r ≡ toRoom m ⌝ }
+{
+    2 * m
 }
 
 // q: the larger of k and t + 1.

@@ -1,5 +1,7 @@
 // Entries, a digest list and a block each, in the chunks of a lent area.
 use crate::bounds::width;
+use crate::layout::BLOCK_AT;
+use crate::layout::CHUNK_BYTES;
 use blocks::Params;
 ghost use mathlib.Core.Path.{_≡_};
 ghost use Prim.Native.Nat.{_+_, _*_, _≤_};
@@ -14,8 +16,8 @@ pub fn put_entry(area: &mut [u8], p: usize, digests: &[u8], block: &[u8])
     requires { ⌜ (576 * p + 576 ≤ length (now area)) × (length (now digests) ≤ 320) × (length (now block) ≤ 256) ⌝ }
     ensures { λ _. ⌜ now (area .exit) ≡ storeEntry (now (area .entry)) p (entry (now (digests .entry)) (now (block .entry))) ⌝ }
 {
-    area::put(area, 576 * p, digests);
-    area::put(area, 576 * p + 320, block);
+    area::put(area, CHUNK_BYTES * p, digests);
+    area::put(area, CHUNK_BYTES * p + BLOCK_AT, block);
 }
 
 // Stores the entry that stands in a frame from index i on in chunk p.
@@ -33,7 +35,7 @@ pub fn digests_at(area: &[u8], p: usize, g: Params) -> &[u8]
     requires { ⌜ Bounded g × (576 * p + 576 ≤ length (now area)) ⌝ }
     ensures { λ r. ⌜ now r ≡ entryAt g (now (area .entry)) p .digests ⌝ }
 {
-    let from = 576 * p;
+    let from = CHUNK_BYTES * p;
     let end = from + 32 * g.n;
     &area[from..end]
 }
@@ -43,7 +45,7 @@ pub fn block_at(area: &[u8], p: usize, g: Params) -> &[u8]
     requires { ⌜ Bounded g × (576 * p + 576 ≤ length (now area)) ⌝ }
     ensures { λ r. ⌜ now r ≡ entryAt g (now (area .entry)) p .block ⌝ }
 {
-    let from = 576 * p + 320;
+    let from = CHUNK_BYTES * p + BLOCK_AT;
     let end = from + width(g);
     &area[from..end]
 }

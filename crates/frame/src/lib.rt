@@ -2,7 +2,10 @@
 pub mod bounds;
 pub mod digests;
 pub mod entries;
+pub mod layout;
 pub mod opener;
+pub mod parties;
+pub mod refusals;
 pub mod send;
 pub mod stamps;
 

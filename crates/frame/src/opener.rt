@@ -6,6 +6,15 @@ use crate::Stamp;
 use crate::Verdict;
 use crate::bounds::bounds_test;
 use crate::bounds::width;
+use crate::layout::BODY_AT;
+use crate::layout::CLIENT_AT;
+use crate::layout::KIND_AT;
+use crate::layout::LENGTH_AT;
+use crate::layout::SEQUENCE_AT;
+use crate::layout::VERSION;
+use crate::layout::VERSION_AT;
+use crate::layout::WRITE_AT;
+use crate::layout::WRITER_AT;
 use crate::stamps::parts_agree;
 use blocks::Params;
 ghost use mathlib.Core.Path.{_≡_};
@@ -18,10 +27,10 @@ ghost use Rattle.frame.specs.Frames.{lengthOf, bodyLength, framingTest, 
 pub fn framing_test(f: &[u8]) -> Verdict
     ensures { λ r. ⌜ r ≡ framingTest (now (f .entry)) ⌝ }
 {
-    if f.len() < 9 {
+    if f.len() < BODY_AT {
         return Verdict::Bad(Refusal::Framing);
     }
-    if area::read2(f, 0) as usize + 2 != f.len() {
+    if area::read2(f, LENGTH_AT) as usize + 2 != f.len() {
         return Verdict::Bad(Refusal::Framing);
     }
     Verdict::Fine
@@ -32,10 +41,10 @@ pub fn header_in(f: &[u8]) -> Header
     requires { ⌜ 9 ≤ length (now f) ⌝ }
     ensures { λ r. ⌜ r ≡ headerIn (now (f .entry)) ⌝ }
 {
-    let sequence = area::read4(f, 5);
+    let sequence = area::read4(f, SEQUENCE_AT);
     Header {
-        kind: f[3],
-        client: f[4],
+        kind: f[KIND_AT],
+        client: f[CLIENT_AT],
         sequence,
     }
 }
@@ -44,7 +53,7 @@ pub fn header_in(f: &[u8]) -> Header
 pub fn header_test(version: u8, h: Header) -> Verdict
     ensures { λ r. ⌜ r ≡ headerTest version h ⌝ }
 {
-    if version != 1 {
+    if version != VERSION {
         return Verdict::Bad(Refusal::Version);
     }
     if h.kind < 1 {
@@ -104,7 +113,7 @@ pub fn body_test(g: Params, kind: u8, length: usize) -> Verdict
     requires { ⌜ Bounded g ⌝ }
     ensures { λ r. ⌜ r ≡ bodyTest g kind length ⌝ }
 {
-    if length != 9 + body_length(g, kind) {
+    if length != BODY_AT + body_length(g, kind) {
         return Verdict::Bad(Refusal::Body);
     }
     Verdict::Fine
@@ -115,11 +124,11 @@ pub fn stamp_in(f: &[u8]) -> Stamp
     requires { ⌜ 22 ≤ length (now f) ⌝ }
     ensures { λ r. ⌜ r ≡ stampIn (now (f .entry)) ⌝ }
 {
-    let time = area::read8(f, 9);
-    let sequence = area::read4(f, 18);
+    let time = area::read8(f, BODY_AT);
+    let sequence = area::read4(f, WRITE_AT);
     Stamp {
         time,
-        writer: f[17],
+        writer: f[WRITER_AT],
         sequence,
     }
 }
@@ -158,7 +167,7 @@ pub fn open_frame(g: Params, f: &[u8]) -> Opened
         return Opened::Refused(r);
     }
     let h = header_in(f);
-    let fields = header_test(f[2], h);
+    let fields = header_test(f[VERSION_AT], h);
     if let Verdict::Bad(r) = fields {
         return Opened::Refused(r);
     }

@@ -4,6 +4,8 @@ use crate::Broadcast;
 use crate::Party;
 use crate::Place;
 use crate::Stamp;
+use crate::layout::BODY_AT;
+use crate::layout::VERSION;
 use blocks::Params;
 ghost use mathlib.Core.Path.{_≡_};
 ghost use mathlib.Core.List.{_∷_, [], _++_};
@@ -23,7 +25,7 @@ fn header_bytes(size: usize, kind: u8, client: u8, sequence: u32) -> [u8; 9]
     [
         (size / 256 % 256) as u8,
         (size % 256) as u8,
-        1,
+        VERSION,
         kind,
         client,
         (sequence / 65536 / 256 % 256) as u8,
@@ -77,7 +79,7 @@ fn put_frame(
     requires { ⌜ at + (9 + (length (now lead) + (length (now digests) + length (now block)))) ≤ length (now out) ⌝ }
     ensures { λ _. ⌜ now (out .exit) ≡ sets (now (out .entry)) at (frameOf kind client sequence (now (lead .entry) ++ (now (digests .entry) ++ now (block .entry)))) ⌝ }
 {
-    let body = at + 9;
+    let body = at + BODY_AT;
     let list = body + lead.len();
     let header = header_bytes(
         7 + (lead.len() + (digests.len() + block.len())),
@@ -111,7 +113,7 @@ fn deposit(
     area::put(to, 2 * p.count, &bytes);
     put_frame(out, p.at, kind, client, sequence, lead, digests, block);
     Place {
-        at: p.at + (9 + (lead.len() + (digests.len() + block.len()))),
+        at: p.at + (BODY_AT + (lead.len() + (digests.len() + block.len()))),
         count: p.count + 1,
     }
 }

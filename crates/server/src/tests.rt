@@ -6,7 +6,11 @@ use frame::Party;
 use frame::Refusal;
 use frame::Verdict;
 use frame::bounds::out_room;
+use frame::bounds::to_room;
 use frame::bounds::width;
+use frame::layout::AREA_BYTES;
+use frame::parties::from_server;
+use frame::parties::number_in;
 ghost use mathlib.Core.Path.{_≡_};
 ghost use mathlib.Core.Bool.{false};
 ghost use lib.ListN.{getD};
@@ -22,7 +26,7 @@ pub fn room_test(g: Params, area: usize, initial: usize, out: usize, to: usize) 
     requires { ⌜ Bounded g ⌝ }
     ensures { λ r. ⌜ r ≡ roomTest g area initial out to ⌝ }
 {
-    if area < 97344 {
+    if area < AREA_BYTES {
         return Verdict::Bad(Refusal::Room);
     }
     if initial < width(g) {
@@ -31,20 +35,10 @@ pub fn room_test(g: Params, area: usize, initial: usize, out: usize, to: usize) 
     if out < out_room(g, g.n + 9) {
         return Verdict::Bad(Refusal::Room);
     }
-    if to < 2 * (g.n + 9) {
+    if to < to_room(g.n + 9) {
         return Verdict::Bad(Refusal::Room);
     }
     Verdict::Fine
-}
-
-// The number of a party.
-pub fn number_in(p: Party) -> u8
-    ensures { λ r. ⌜ r ≡ numberIn p ⌝ }
-{
-    match p {
-        Party::Client(c) => c,
-        Party::Server(j) => j,
-    }
 }
 
 // Whether the sender is client c.
@@ -55,20 +49,6 @@ pub fn from_owner(from: Party, c: u8) -> bool
         Party::Client(d) => d == c,
         Party::Server(_) => false,
     }
-}
-
-// Whether the sender is one of servers 1 to n.
-pub fn from_server(g: Params, from: Party) -> bool
-    ensures { λ r. ⌜ r ≡ fromServer g from ⌝ }
-{
-    let Party::Server(j) = from else {
-        return false;
-    };
-    let i = j as usize;
-    if i < 1 {
-        return false;
-    }
-    i <= g.n
 }
 
 // 12 and 13 of a frame of the write q, of which one was counted already where again holds.

@@ -10,50 +10,44 @@ use Rattle.client.proofs.tests.send_room.Tie as tie
 use Rattle.client.proofs.tests.send_room.Reads as reads
 use Rattle.client.proofs.tests.send_room.Lts as lts
 use Rattle.frame.proofs.bounds.out_room.Reads as out-room-reads
+use Rattle.frame.proofs.bounds.to_room.Reads as to-room-reads
 
--- src/tests.rt:39:26
 mul-out-room : tie.Need-mul-out-room
 mul-out-room c = search needs
 
--- src/tests.rt:39:14
 out-room-requires : tie.Need-out-room-requires
 out-room-requires c κs = search needs
 
--- src/tests.rt:40:9
 returns : tie.Need-returns
-unfolding sendRoom pick toRoom
+unfolding sendRoom pick
 returns c =
     let a = c .before .before .before .args in
     let o : a .out < outRoom (a .g) (2 * a .g .n) = omega arith in
     search tests
 
--- src/tests.rt:42:18
-mul-if2 : tie.Need-mul-if2
-mul-if2 c = search needs
+mul-to-room : tie.Need-mul-to-room
+mul-to-room c = search needs
 
--- src/tests.rt:42:13
-mul-if2-2 : tie.Need-mul-if2-2
-mul-if2-2 c = search needs
+to-room-requires : tie.Need-to-room-requires
+to-room-requires c κs = search needs
 
--- src/tests.rt:43:9
 returns-2 : tie.Need-returns-2
-unfolding sendRoom pick toRoom
+unfolding sendRoom pick
 returns-2 c =
-    let a = c .before .before .before .before .before .args in
+    let a = c .before .before .before .before .before .before .args in
     let o : outRoom (a .g) (2 * a .g .n) ≤ a .out = omega arith in
-    let t : a .to < 2 * (2 * a .g .n) = omega arith in
+    let t : a .to < toRoom (2 * a .g .n) = omega arith in
     search tests
 
--- src/tests.rt:35:1
 returns-3 : tie.Need-returns-3
-unfolding sendRoom pick toRoom
+unfolding sendRoom pick
 returns-3 c =
-    let a = c .before .before .before .before .before .args in
+    let a = c .before .before .before .before .before .before .args in
     let o : outRoom (a .g) (2 * a .g .n) ≤ a .out = omega arith in
-    let t : 2 * (2 * a .g .n) ≤ a .to = omega arith in
+    let t : toRoom (2 * a .g .n) ≤ a .to = omega arith in
     search tests
 
 pub send-room-spec : {M : Type 1} → statement M
 send-room-spec =
     tie.close
-    (tie.spec mul-out-room out-room-requires returns mul-if2 mul-if2-2 returns-2 returns-3)
+    (tie.spec mul-out-room out-room-requires returns mul-to-room to-room-requires returns-2 returns-3)

@@ -12,37 +12,32 @@ use Rattle.server.proofs.tests.room_test.Tie as tie
 use Rattle.server.proofs.tests.room_test.Reads as reads
 use Rattle.server.proofs.tests.room_test.Lts as lts
 use Rattle.frame.proofs.bounds.out_room.Reads as out-room-reads
+use Rattle.frame.proofs.bounds.to_room.Reads as to-room-reads
 use Rattle.frame.proofs.bounds.width.Reads as width-reads
 
--- src/tests.rt:25:9
 returns : tie.Need-returns
-unfolding roomTest pick toRoom
+unfolding roomTest pick
 returns c = search tests
 
--- src/tests.rt:27:18
 width-requires : tie.Need-width-requires
 width-requires c κs = search needs
 
--- src/tests.rt:28:9
 returns-2 : tie.Need-returns-2
-unfolding roomTest pick toRoom
+unfolding roomTest pick
 returns-2 c =
     let a = c .before .before .before .args in
     let h : 97344 ≤ a .area = omega arith in
     let i : a .initial < width (a .g) = omega arith in
     search tests
 
--- src/tests.rt:30:26
 add-out-room : tie.Need-add-out-room
 add-out-room c = search needs
 
--- src/tests.rt:30:14
 out-room-requires : tie.Need-out-room-requires
 out-room-requires c κs = search needs
 
--- src/tests.rt:31:9
 returns-3 : tie.Need-returns-3
-unfolding roomTest pick toRoom
+unfolding roomTest pick
 returns-3 c =
     let a = c .before .before .before .before .before .before .args in
     let h : 97344 ≤ a .area = omega arith in
@@ -50,34 +45,30 @@ returns-3 c =
     let o : a .out < outRoom (a .g) (a .g .n + 9) = omega arith in
     search tests
 
--- src/tests.rt:33:18
-add-if4 : tie.Need-add-if4
-add-if4 c = search needs
+add-to-room : tie.Need-add-to-room
+add-to-room c = search needs
 
--- src/tests.rt:33:13
-mul-if4 : tie.Need-mul-if4
-mul-if4 c = search needs
+to-room-requires : tie.Need-to-room-requires
+to-room-requires c κs = search needs
 
--- src/tests.rt:34:9
 returns-4 : tie.Need-returns-4
-unfolding roomTest pick toRoom
+unfolding roomTest pick
 returns-4 c =
-    let a = c .before .before .before .before .before .before .before .before .args in
+    let a = c .before .before .before .before .before .before .before .before .before .args in
     let h : 97344 ≤ a .area = omega arith in
     let i : width (a .g) ≤ a .initial = omega arith in
     let o : outRoom (a .g) (a .g .n + 9) ≤ a .out = omega arith in
-    let t : a .to < 2 * (a .g .n + 9) = omega arith in
+    let t : a .to < toRoom (a .g .n + 9) = omega arith in
     search tests
 
--- src/tests.rt:20:1
 returns-5 : tie.Need-returns-5
-unfolding roomTest pick toRoom
+unfolding roomTest pick
 returns-5 c =
-    let a = c .before .before .before .before .before .before .before .before .args in
+    let a = c .before .before .before .before .before .before .before .before .before .args in
     let h : 97344 ≤ a .area = omega arith in
     let i : width (a .g) ≤ a .initial = omega arith in
     let o : outRoom (a .g) (a .g .n + 9) ≤ a .out = omega arith in
-    let t : 2 * (a .g .n + 9) ≤ a .to = omega arith in
+    let t : toRoom (a .g .n + 9) ≤ a .to = omega arith in
     search tests
 
 pub room-test-spec : {M : Type 1} → statement M
@@ -90,7 +81,7 @@ room-test-spec =
     add-out-room
     out-room-requires
     returns-3
-    add-if4
-    mul-if4
+    add-to-room
+    to-room-requires
     returns-4
     returns-5)

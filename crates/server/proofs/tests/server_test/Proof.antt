@@ -8,8 +8,8 @@ use Rattle.server.proofs.tests.server_test.Statement.{statement}
 use Rattle.server.proofs.tests.server_test.Tie as tie
 use Rattle.server.proofs.tests.server_test.Reads as reads
 use Rattle.server.proofs.tests.server_test.Lts as lts
-use Rattle.server.proofs.tests.from_server.Reads as from-server-reads
-use Rattle.server.proofs.tests.number_in.Reads as number-in-reads
+use Rattle.frame.proofs.parties.from_server.Reads as from-server-reads
+use Rattle.frame.proofs.parties.number_in.Reads as number-in-reads
 use Rattle.server.proofs.tests.open_test.Reads as open-test-reads
 
 -- src/tests.rt:132:9

@@ -1,12 +1,11 @@
 use borrow.Author.Tests.{lt-leb, le-leb}
-use Rattle.area.proofs.Tests.{tests}
 use mathlib.Core.Path.{_≡_, refl}
 use native.Mathlib.Omega.{arith}
 use borrow.Author.Needs.{needs}
-use Rattle.client.proofs.tests.from_server.Statement.{statement}
-use Rattle.client.proofs.tests.from_server.Tie as tie
-use Rattle.client.proofs.tests.from_server.Reads as reads
-use Rattle.client.proofs.tests.from_server.Lts as lts
+use Rattle.frame.proofs.parties.from_server.Statement.{statement}
+use Rattle.frame.proofs.parties.from_server.Tie as tie
+use Rattle.frame.proofs.parties.from_server.Reads as reads
+use Rattle.frame.proofs.parties.from_server.Lts as lts
 
 enum-known-from : tie.Need-enum-known-from
 enum-known-from c = search needs

@@ -1,24 +1,20 @@
 use mathlib.Core.Path.{refl}
 use native.Mathlib.Omega.{arith}
 use borrow.Author.Needs.{needs}
-use Rattle.client.proofs.tests.and_then.Statement.{statement}
-use Rattle.client.proofs.tests.and_then.Tie as tie
-use Rattle.client.proofs.tests.and_then.Reads as reads
-use Rattle.client.proofs.tests.and_then.Lts as lts
+use Rattle.frame.proofs.refusals.and_then.Statement.{statement}
+use Rattle.frame.proofs.refusals.and_then.Tie as tie
+use Rattle.frame.proofs.refusals.and_then.Reads as reads
+use Rattle.frame.proofs.refusals.and_then.Lts as lts
 
--- src/tests.rt:28:22
 enum-known-a : tie.Need-enum-known-a
 enum-known-a c = search needs
 
--- src/tests.rt:29:9
 enum-told : tie.Need-enum-told
 enum-told c = search needs
 
--- src/tests.rt:29:9
 returns : tie.Need-returns
 returns c = rw (c .enum-told .given .1) refl
 
--- src/tests.rt:25:1
 returns-2 : tie.Need-returns-2
 returns-2 c = rw (c .before .a .given .1) refl
 

@@ -1,0 +1,32 @@
+// The bytes of a frame and of the lent areas: the version, and where each part lies.
+pub const VERSION: u8 = 1;
+
+// The fields of a header, and the body behind it.
+pub const LENGTH_AT: usize = 0;
+
+pub const VERSION_AT: usize = 2;
+
+pub const KIND_AT: usize = 3;
+
+pub const CLIENT_AT: usize = 4;
+
+pub const SEQUENCE_AT: usize = 5;
+
+pub const BODY_AT: usize = 9;
+
+// The parts of a value's body behind its time.
+pub const WRITER_AT: usize = 17;
+
+pub const WRITE_AT: usize = 18;
+
+pub const VALUE_AT: usize = 22;
+
+// An entry's chunk, and its block therein.
+pub const CHUNK_BYTES: usize = 576;
+
+pub const BLOCK_AT: usize = 320;
+
+// The state area of a server, 169 chunks, and the rows area of a client, 40 chunks.
+pub const AREA_BYTES: usize = 97344;
+
+pub const ROWS_BYTES: usize = 23040;

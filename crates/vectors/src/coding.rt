@@ -111,7 +111,7 @@ fn decode_into(
 }
 
 // encode N T K L ROOM VALUE ANSWER AREA
-pub fn encode(line: &[u8], at: usize)
+pub fn encode_case(line: &[u8], at: usize)
     requires { ⌜ at ≤ length (now line) ⌝ }
 {
     let f = front_at(line, at);
@@ -125,7 +125,7 @@ pub fn encode(line: &[u8], at: usize)
 }
 
 // decode N T K L ROOM NUMBERS BLOCKS ANSWER AREA
-pub fn decode(line: &[u8], at: usize)
+pub fn decode_case(line: &[u8], at: usize)
     requires { ⌜ at ≤ length (now line) ⌝ }
 {
     let f = front_at(line, at);

@@ -7,29 +7,14 @@ use crate::text::word_at;
 use blocks::Params;
 use frame::Header;
 use frame::Opened;
-use frame::Refusal;
+use frame::refusals::number_of;
 ghost use Prim.Native.Nat.{_≤_};
 ghost use lib.ListN.{length};
 
-// Document 01's number of a refusal that opening a frame can meet; 0 stands for the others.
-fn refusal_number(r: Refusal) -> u8 {
-    match r {
-        Refusal::Parties => 1,
-        Refusal::Threshold => 2,
-        Refusal::Length => 3,
-        Refusal::Framing => 4,
-        Refusal::Version => 5,
-        Refusal::Kind => 6,
-        Refusal::Owner => 7,
-        Refusal::Body => 8,
-        Refusal::Content => 9,
-        _ => 0,
-    }
-}
-
+// Document 01's number, or 0 of a frame that opens.
 fn opened_number(o: Opened) -> u8 {
     match o {
-        Opened::Refused(r) => refusal_number(r),
+        Opened::Refused(r) => number_of(r),
         Opened::Frame(_) => 0,
     }
 }

@@ -29,11 +29,11 @@ fn case(line: &[u8]) {
         return;
     }
     if area::equal(kind, b"encode") {
-        coding::encode(line, next);
+        coding::encode_case(line, next);
         return;
     }
     if area::equal(kind, b"decode") {
-        coding::decode(line, next);
+        coding::decode_case(line, next);
         return;
     }
     if area::equal(kind, b"open") {

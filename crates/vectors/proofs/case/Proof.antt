@@ -53,8 +53,8 @@ slice-aggregate-equal-4 c = search needs
 equal-requires-4 : tie.Need-equal-requires-4
 equal-requires-4 c κs = search needs
 
-encode-requires : tie.Need-encode-requires
-encode-requires c κs = search needs
+encode-case-requires : tie.Need-encode-case-requires
+encode-case-requires c κs = search needs
 
 returns-4 : tie.Need-returns-4
 returns-4 c = search needs
@@ -65,8 +65,8 @@ slice-aggregate-equal-5 c = search needs
 equal-requires-5 : tie.Need-equal-requires-5
 equal-requires-5 c κs = search needs
 
-decode-requires : tie.Need-decode-requires
-decode-requires c κs = search needs
+decode-case-requires : tie.Need-decode-case-requires
+decode-case-requires c κs = search needs
 
 returns-5 : tie.Need-returns-5
 returns-5 c = search needs
@@ -109,11 +109,11 @@ case-spec =
     returns-3
     slice-aggregate-equal-4
     equal-requires-4
-    encode-requires
+    encode-case-requires
     returns-4
     slice-aggregate-equal-5
     equal-requires-5
-    decode-requires
+    decode-case-requires
     returns-5
     slice-aggregate-equal-6
     equal-requires-6

@@ -2,8 +2,8 @@
 use lib.ListN.{length-take}
 use native.Mathlib.Omega.{arith}
 use borrow.Author.Needs.{needs}
-use Rattle.vectors.proofs.coding.decode.Statement.{statement}
-use Rattle.vectors.proofs.coding.decode.Tie as tie
+use Rattle.vectors.proofs.coding.decode_case.Statement.{statement}
+use Rattle.vectors.proofs.coding.decode_case.Tie as tie
 
 -- src/coding.rt:131:9
 front-at-requires : tie.Need-front-at-requires
@@ -69,8 +69,8 @@ decode-into-requires c κs = (omega arith, simp length-take (omega arith))
 returns : tie.Need-returns
 returns c = search needs
 
-pub decode-spec : {M : Type 1} → statement M
-decode-spec =
+pub decode-case-spec : {M : Type 1} → statement M
+decode-case-spec =
     tie.close
     (tie.spec
     front-at-requires

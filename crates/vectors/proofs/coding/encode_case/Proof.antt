@@ -2,8 +2,8 @@
 use lib.ListN.{length-take}
 use native.Mathlib.Omega.{arith}
 use borrow.Author.Needs.{needs}
-use Rattle.vectors.proofs.coding.encode.Statement.{statement}
-use Rattle.vectors.proofs.coding.encode.Tie as tie
+use Rattle.vectors.proofs.coding.encode_case.Statement.{statement}
+use Rattle.vectors.proofs.coding.encode_case.Tie as tie
 
 -- src/coding.rt:117:9
 front-at-requires : tie.Need-front-at-requires
@@ -49,8 +49,8 @@ encode-into-requires c κs = (omega arith, simp length-take (omega arith))
 returns : tie.Need-returns
 returns c = search needs
 
-pub encode-spec : {M : Type 1} → statement M
-encode-spec =
+pub encode-case-spec : {M : Type 1} → statement M
+encode-case-spec =
     tie.close
     (tie.spec
     front-at-requires

@@ -1,0 +1,4 @@
+pub mod Counts
+pub mod Comparison
+pub mod Rooms
+pub mod Settling

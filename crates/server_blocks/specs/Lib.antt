@@ -1,0 +1,3 @@
+pub mod Votes
+pub mod Group
+pub mod Stage

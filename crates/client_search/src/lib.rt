@@ -1,0 +1,14 @@
+// The search of a client's rows, and the end of a read.
+pub mod at_stamp;
+
+// What a server's row has at a stamp: whether there is an entry, and the chunk of the rows area in which it lies.
+pub struct Hit {
+    pub found: bool,
+    pub chunk: usize,
+}
+
+// The same of all servers, place j for server j; place 0 stays empty.
+pub struct Hits {
+    pub on: [bool; 11],
+    pub at: [usize; 11],
+}

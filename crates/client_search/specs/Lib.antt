@@ -1,1 +1,2 @@
 pub mod AtStamp
+pub mod Search

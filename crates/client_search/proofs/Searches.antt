@@ -1,0 +1,117 @@
+-- The search of the rows: what a candidate's count says, one turn of each loop, and the ends. Assumes nothing.
+use Prim.Native.Nat.{ℕ, zero, suc, _+_, _-_, _≤_, _<_}
+use native.Mathlib.Omega.{arith}
+use native.Mathlib.Numerals.{add-one}
+use mathlib.Core.Bool.{Bool, true, false}
+use mathlib.Core.Path.{_≡_, refl, ap, ap₂, sym, _∙_}
+use mathlib.Core.Option.{Option, none, some}
+use mathlib.Core.List.{List, [], _∷_, _++_}
+use lib.ListN.{length, getD}
+use lib.Dec.{leb}
+use Rattle.quorum.specs.Quorum.{count}
+use Rattle.blocks.specs.declared.Params.{Params}
+use Rattle.frame.specs.declared.Stamp.{Stamp}
+use Rattle.frame.specs.Params.{Bounded}
+use Rattle.frame.specs.Messages.{Entry}
+use Rattle.frame.specs.Chunks.{entryAt, placeAt, rowsBytes}
+use Rattle.frame.specs.Coded.{hasList, decoded}
+use Rattle.group.specs.Entries.{marked, entries, sentList, flags}
+use Rattle.group.specs.Choice.{valueFrom}
+use Rattle.group.specs.Needs.{Comparing}
+use Rattle.group.proofs.Matched.{matched-count, matched-value}
+use Rattle.client.specs.declared.Row.{Row}
+use Rattle.client.specs.State.{noStamp, noRow}
+use Rattle.client.specs.Rows.{Kept, used, placesFrom, atStamp, rowsFrom, agreed, firstBy, firstAgreed}
+use Rattle.client_search.specs.declared.Hits.{Hits}
+use Rattle.client_search.specs.AtStamp.{hitsOf}
+use Rattle.client_search.specs.declared.Stop.{Stop}
+use Rattle.client_search.specs.declared.Stop.the-variants.{At, Nowhere}
+use Rattle.client_search.specs.Search.{view, holdersOf, keptAt, standing, Inside, Searching}
+use Rattle.client_search.proofs.Firsts.{hits-within, hits-entry}
+
+-- ---- a candidate: stamp x, and the digest list in chunk p
+
+pub comparing : (g : Params) (rows : List Row) (a : List ℕ) (x : Stamp) → Searching g (length a) → (h : Hits) → h ≡ hitsOf rows x → Comparing g (h .at) a
+comparing g rows a x q h e = record { bounded = q .bounded; within = rw e (hits-within rows x a (q .whole)) }
+
+module _ (g : Params) (rows : List Row) (a : List ℕ) (x : Stamp) (p : ℕ) where
+  pub holders-law : (h : Hits) (list : List ℕ) (on : List Bool) → h ≡ hitsOf rows x → list ≡ entryAt g a p .digests
+      → on ≡ flags (sentList g (h .on) (h .at) a list) (g .n) → _≡_ {A = Hits} (record { on = on; at = h .at }) (holdersOf g rows a x p)
+  unfolding holdersOf
+  holders-law h list on e d q =
+      let w = q ∙ ap₂ (λ (k : Hits) l. flags (sentList g (k .on) (k .at) a l) (g .n)) e d in
+      λ i. record { on = w i; at = e i .at }
+
+  module _ (q : Searching g (length a)) where
+    agree : (j : ℕ) → 1 ≤ j → j ≤ g .n → entries g (hitsOf rows x .on) (hitsOf rows x .at) a j ≡ atStamp (view g rows a j) x
+    agree j low high = hits-entry rows x g a j low (omega (arith, high, q .bounded .servers-high))
+
+    pub holders-count : count (marked (holdersOf g rows a x p .on)) (g .n) ≡ count (λ j. hasList (atStamp (view g rows a j) x) (entryAt g a p .digests)) (g .n)
+    unfolding holdersOf
+    holders-count =
+        matched-count g (hitsOf rows x .on) (hitsOf rows x .at) a (entryAt g a p .digests) (λ j. atStamp (view g rows a j) x) agree (q .bounded .servers-high)
+
+    -- "the value is decoded from the k lowest of those servers"
+    pub holders-value : valueFrom g (holdersOf g rows a x p .on) (holdersOf g rows a x p .at) a ≡ decoded g (λ j. atStamp (view g rows a j) x) (entryAt g a p .digests)
+    unfolding holdersOf
+    holders-value =
+        matched-value g (hitsOf rows x .on) (hitsOf rows x .at) a (entryAt g a p .digests) (λ j. atStamp (view g rows a j) x) agree (q .bounded .servers-high)
+
+    pub agreed-law : (h : Hits) (c : ℕ) → h ≡ holdersOf g rows a x p → c ≡ count (marked (h .on)) (g .n)
+        → leb (g .n) (c + g .t) ≡ agreed g (view g rows a) (record { stamp = x; entry = entryAt g a p })
+    unfolding agreed
+    agreed-law h c e d =
+        let w : c ≡ count (λ j. hasList (atStamp (view g rows a j) x) (entryAt g a p .digests)) (g .n) =
+        d ∙ ap (λ (k : Hits). count (marked (k .on)) (g .n)) e ∙ holders-count in
+        ap (λ k. leb (g .n) (k + g .t)) w
+
+-- ---- the loops
+
+module _ (g : Params) (rows : List Row) (a : List ℕ) where
+  abbrev first : List Kept → Option Kept
+  first l = firstAgreed g (view g rows a) l
+
+  -- the places from i on of the first m of server j's row, and then l
+  abbrev places : ℕ → ℕ → ℕ → List Kept → List Kept
+  places j i m l = placesFrom g a j (getD rows j noRow) i (m - i) ++ l
+
+  -- the rows from server j on
+  abbrev pub rest : ℕ → List Kept
+  rest j = rowsFrom (view g rows a) j (g .n + 1 - j)
+
+  pub rows-start : first (rowsFrom (view g rows a) 1 (g .n)) ≡ first (rest 1)
+  rows-start = let e : g .n ≡ g .n + 1 - 1 = omega arith in ap (λ m. first (rowsFrom (view g rows a) 1 m)) e
+
+  pub rows-end : (j : ℕ) → g .n + 1 ≤ j → first (rest j) ≡ none
+  unfolding rowsFrom firstAgreed
+  rows-end j h = let e : g .n + 1 - j ≡ 0 = omega arith in rw e
+
+  pub row-start : (j m : ℕ) → j < g .n + 1 → m ≡ used (getD rows j noRow) → first (rest j) ≡ first (places j 0 m (rest (j + 1)))
+  unfolding rowsFrom
+  row-start j m h e =
+      let d : g .n + 1 - j ≡ suc (g .n + 1 - (j + 1)) = omega arith in
+      let z : m - 0 ≡ used (getD rows j noRow) = omega arith in
+      rw d (rw (z, add-one j))
+
+  pub row-end : (j i m : ℕ) (l : List Kept) → m ≤ i → first (places j i m l) ≡ first l
+  unfolding placesFrom
+  row-end j i m l h = let e : m - i ≡ 0 = omega arith in rw e
+
+  module _ (j i m : ℕ) (l : List Kept) (b : Bool) (h : i < m) (p : b ≡ agreed g (view g rows a) (keptAt g rows a j i)) where
+    open-place : first (places j i m l) ≡ firstBy g (view g rows a) b (keptAt g rows a j i) (first (places j (i + 1) m l))
+    unfolding placesFrom firstAgreed
+    open-place =
+        let e : m - i ≡ suc (m - (i + 1)) = omega arith in
+        rw e (rw (p, add-one i))
+
+    pub place-next : b ≡ false → first (places j i m l) ≡ first (places j (i + 1) m l)
+    unfolding firstBy
+    place-next q = open-place ∙ rw q
+
+    pub place-found : b ≡ true → first (places j i m l) ≡ some (keptAt g rows a j i)
+    unfolding firstBy
+    place-found q = open-place ∙ rw q
+
+  -- the ends, where the search stopped
+  pub stop-nowhere : (s : Stop) (o : Option Kept) → s ≡ Nowhere → o ≡ none → (standing g rows a s ≡ o) × Inside s
+  stop-nowhere s o e q = (ap (standing g rows a) e ∙ sym q, rw e tt)

@@ -1,0 +1,48 @@
+-- The search of the rows, in the code's terms: a place, and what stands there. What is found is `firstAgreed` of the client's specification. These are definitions.
+use Prim.Native.Nat.{ℕ, _≤_, _<_}
+use mathlib.Core.Option.{Option, none, some}
+use mathlib.Core.List.{List}
+use lib.ListN.{getD}
+use Rattle.blocks.specs.declared.Params.{Params}
+use Rattle.frame.specs.declared.Stamp.{Stamp}
+use Rattle.frame.specs.Params.{Bounded}
+use Rattle.frame.specs.Messages.{Entry}
+use Rattle.frame.specs.Chunks.{entryAt, placeAt, rowsBytes}
+use Rattle.group.specs.Entries.{sentList, flags}
+use Rattle.client.specs.declared.Row.{Row}
+use Rattle.client.specs.State.{noStamp, noRow}
+use Rattle.client.specs.Rows.{Kept, used, placesFrom}
+use Rattle.client_search.specs.declared.Hits.{Hits}
+use Rattle.client_search.specs.declared.Stop.{Stop}
+use Rattle.client_search.specs.declared.Stop.the-variants.{At, Nowhere}
+use Rattle.client_search.specs.AtStamp.{hitsOf}
+
+-- server j's row, in the order of its places
+abbrev pub view : Params → List Row → List ℕ → ℕ → List Kept
+view g rows a j = placesFrom g a j (getD rows j noRow) 0 (used (getD rows j noRow))
+
+-- the servers whose rows have stamp x with the digest list in chunk p, and the chunks of what the rows have at x
+unfoldable pub holdersOf : Params → List Row → List ℕ → Stamp → ℕ → Hits
+holdersOf g rows a x p = record {
+  on = flags (sentList g (hitsOf rows x .on) (hitsOf rows x .at) a (entryAt g a p .digests)) (g .n);
+  at = hitsOf rows x .at;
+}
+
+-- what stands at place i of server j's row
+abbrev pub keptAt : Params → List Row → List ℕ → ℕ → ℕ → Kept
+keptAt g rows a j i = record { stamp = getD (getD rows j noRow .stamps) i noStamp; entry = entryAt g a (placeAt j i) }
+
+-- what stands where the search stopped
+abbrev pub standing : Params → List Row → List ℕ → Stop → Option Kept
+standing g rows a Nowhere = none
+standing g rows a (At j i) = some (keptAt g rows a j i)
+
+-- that place is one of the four of a server's row
+abbrev pub Inside : Stop → Type 0
+Inside Nowhere = Unit {0}
+Inside (At j i) = (1 ≤ j) × (j ≤ 10) × (i < 4)
+
+-- what the search asks: the rows area is whole
+pub record Searching (g : Params) (area : ℕ) : Type 0 where
+  pub bounded : Bounded g
+  pub whole : rowsBytes ≤ area

@@ -1,17 +1,20 @@
 -- The search of the rows, in the code's terms: a place, and what stands there. What is found is `firstAgreed` of the client's specification. These are definitions.
 use Prim.Native.Nat.{ℕ, _≤_, _<_}
+use mathlib.Core.Path.{_≡_}
+use mathlib.Core.Bool.{true}
 use mathlib.Core.Option.{Option, none, some}
 use mathlib.Core.List.{List}
-use lib.ListN.{getD}
+use lib.ListN.{length, getD}
 use Rattle.blocks.specs.declared.Params.{Params}
 use Rattle.frame.specs.declared.Stamp.{Stamp}
 use Rattle.frame.specs.Params.{Bounded}
 use Rattle.frame.specs.Messages.{Entry}
 use Rattle.frame.specs.Chunks.{entryAt, placeAt, rowsBytes}
+use Rattle.frame.specs.Outbox.{Room, firstPlace}
 use Rattle.group.specs.Entries.{sentList, flags}
 use Rattle.client.specs.declared.Row.{Row}
 use Rattle.client.specs.State.{noStamp, noRow}
-use Rattle.client.specs.Rows.{Kept, used, placesFrom}
+use Rattle.client.specs.Rows.{Kept, used, placesFrom, agreed}
 use Rattle.client_search.specs.declared.Hits.{Hits}
 use Rattle.client_search.specs.declared.Stop.{Stop}
 use Rattle.client_search.specs.declared.Stop.the-variants.{At, Nowhere}
@@ -46,3 +49,20 @@ Inside (At j i) = (1 ≤ j) × (j ≤ 10) × (i < 4)
 pub record Searching (g : Params) (area : ℕ) : Type 0 where
   pub bounded : Bounded g
   pub whole : rowsBytes ≤ area
+
+-- what decoding asks: stamp x and the digest list in chunk p are in n - t rows, and the value has room
+pub record Regaining (g : Params) (rows : List Row) (a : List ℕ) (x : Stamp) (p result : ℕ) : Type 0 where
+  pub searching : Searching g (length a)
+  pub chunk : p ≤ 39
+  pub held : agreed g (view g rows a) (record { stamp = x; entry = entryAt g a p }) ≡ true
+  pub value-room : g .size ≤ result
+
+-- what the end asks: what stands at place i of server j's row is in n - t rows, the value has room, and a frame to each server
+pub record Finishing (g : Params) (rows : List Row) (a : List ℕ) (j i result out to : ℕ) : Type 0 where
+  pub searching : Searching g (length a)
+  pub server-low : 1 ≤ j
+  pub server-high : j ≤ 10
+  pub place : i < 4
+  pub held : agreed g (view g rows a) (keptAt g rows a j i) ≡ true
+  pub value-room : g .size ≤ result
+  pub room : Room firstPlace (g .n) 9 out to

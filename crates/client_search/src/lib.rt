@@ -1,5 +1,6 @@
 // The search of a client's rows, and the end of a read.
 pub mod at_stamp;
+pub mod ending;
 pub mod searching;
 
 // What a server's row has at a stamp: whether there is an entry, and the chunk of the rows area in which it lies.

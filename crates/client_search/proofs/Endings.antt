@@ -1,0 +1,162 @@
+-- The end of a read: the decoding's needs, what the search tells, and the whole outcome. Assumes nothing.
+use Prim.Native.Nat.{ℕ, _+_, _*_, _≤_, _<_}
+use native.Mathlib.Omega.{arith}
+use native.Mathlib.Nat.{mul-le-mul-left, mul-le-mul-right}
+use mathlib.Core.Bool.{Bool, true, false}
+use mathlib.Core.Path.{_≡_, refl, ap, sym, _∙_}
+use mathlib.Core.Option.{Option, none, some}
+use mathlib.Core.List.{List, [], _∷_}
+use lib.ListN.{length, getD}
+use lib.Seq.{sets}
+use lib.Dec.{leb}
+use borrow.Author.Tests.{leb-true}
+use Rattle.quorum.specs.Quorum.{count}
+use Rattle.quorum.proofs.Logic.{impossible}
+use Rattle.field.specs.Field.{Tables, Powers, Logs}
+use Rattle.blocks.specs.declared.Params.{Params}
+use Rattle.sha256.specs.Hash.{digestOf}
+use Rattle.frame.specs.declared.Stamp.{Stamp}
+use Rattle.frame.specs.declared.Place.{Place}
+use Rattle.frame.specs.Params.{Bounded, largestFrame}
+use Rattle.frame.specs.Messages.{Entry, message, readComplete, toAll}
+use Rattle.frame.specs.Chunks.{entryAt, placeAt}
+use Rattle.frame.specs.Coded.{hasList, decoded}
+use Rattle.frame.specs.Outbox.{frames, receivers, Outbox, outbox, firstPlace, sent, Room}
+use Rattle.group.specs.Entries.{marked}
+use Rattle.group.specs.Choice.{valueFrom}
+use Rattle.group.specs.Needs.{Decoding}
+use Rattle.client.specs.declared.Row.{Row}
+use Rattle.client.specs.declared.Client.{Client}
+use Rattle.client.specs.declared.Answer.the-variants as Y
+use Rattle.client.specs.declared.Phase.the-variants as F
+use Rattle.client.specs.Rows.{Kept, Found, atStamp, rowView, rowsFrom, agreed, firstBy, firstAgreed, foundOf, foundBy, search}
+use Rattle.client.specs.Steps.{completeBy, settle, quiet}
+use Rattle.client.specs.Stages.{Lent, stepped}
+use Rattle.client.specs.Delivery.{Outcome, eventAnswer, resultOf}
+use Rattle.client_search.specs.declared.Hits.{Hits}
+use Rattle.client_search.specs.declared.Stop.{Stop}
+use Rattle.client_search.specs.declared.Stop.the-variants.{At, Nowhere}
+use Rattle.client_search.specs.AtStamp.{hitsOf}
+use Rattle.client_search.specs.Search.{view, holdersOf, keptAt, standing, Inside, Searching, Regaining, Finishing}
+use Rattle.client_search.proofs.Firsts.{hits-within}
+use Rattle.client_search.proofs.Searches.{holders-count, holders-value}
+
+-- ---- decoding
+
+module _ (g : Params) (rows : List Row) (a : List ℕ) (x : Stamp) (p result : ℕ) (q : Regaining g rows a x p result) (h : Hits) (e : h ≡ holdersOf g rows a x p) where
+  -- n - t rows have the value, and k is at most that
+  enough : g .k ≤ count (marked (h .on)) (g .n)
+  unfolding agreed
+  enough =
+      let c : count (marked (h .on)) (g .n) ≡ count (λ j. hasList (atStamp (view g rows a j) x) (entryAt g a p .digests)) (g .n) =
+      ap (λ (k : Hits). count (marked (k .on)) (g .n)) e ∙ holders-count g rows a x p (q .searching) in
+      let l : g .n ≤ count (λ j. hasList (atStamp (view g rows a j) x) (entryAt g a p .digests)) (g .n) + g .t = leb-true _ _ (q .held) in
+      omega (arith, c, l, q .searching .bounded .blocks-high)
+
+  pub regaining : (ps ls : List ℕ) → Powers ps → Logs ls → Decoding g (h .on) (h .at) a result ps ls
+  unfolding holdersOf
+  regaining ps ls u v = record {
+    bounded = q .searching .bounded;
+    within = rw e (hits-within rows x a (q .searching .whole));
+    enough = enough;
+    room = q .value-room;
+    tables = record { powers = u; logs = v };
+  }
+
+  pub regained : (l r : List ℕ) → r ≡ sets l 0 (valueFrom g (h .on) (h .at) a)
+      → r ≡ sets l 0 (decoded g (λ j. atStamp (view g rows a j) x) (entryAt g a p .digests))
+  regained l r d = d ∙ ap (sets l 0) (ap (λ (k : Hits). valueFrom g (k .on) (k .at) a) e ∙ holders-value g rows a x p (q .searching))
+
+-- ---- what the search tells
+
+module _ (g : Params) (f : ℕ → List Kept) where
+  agreed-of : (k w : Kept) (b : Bool) (o : Option Kept) → agreed g f w ≡ b → some k ≡ firstBy g f b w o → (some k ≡ o → agreed g f k ≡ true) → agreed g f k ≡ true
+  unfolding firstBy
+  agreed-of k w true o e q h = let z : k ≡ w = cc in ap (agreed g f) z ∙ e
+  agreed-of k w false o e q h = h q
+
+  -- the first that is agreed is agreed
+  pub first-agreed : (l : List Kept) (k : Kept) → some k ≡ firstAgreed g f l → agreed g f k ≡ true
+  unfolding firstAgreed
+  first-agreed [] k e = impossible cc
+  first-agreed (w ∷ l) k e = agreed-of k w (agreed g f w) (firstAgreed g f l) refl e (first-agreed l k)
+
+module _ (g : Params) (rows : List Row) (a : List ℕ) (result out to : ℕ) (lent : Lent g (length a) result out to) where
+  pub searching : Searching g (length a)
+  searching = record { bounded = lent .bounded; whole = lent .whole }
+
+  ask-room : Room firstPlace (g .n) 9 out to
+  unfolding largestFrame
+  ask-room =
+      let o = lent .room .out-room in
+      let t = lent .room .to-room in
+      let n : g .n ≤ 2 * g .n = omega arith in
+      let l : 9 ≤ largestFrame g = omega arith in
+      let x : g .n * 9 ≤ g .n * largestFrame g = mul-le-mul-left (g .n) l in
+      let y : g .n * largestFrame g ≤ 2 * g .n * largestFrame g = mul-le-mul-right (largestFrame g) n in
+      record { out-room = omega arith; to-room = omega arith }
+
+  pub finishing : (s : Stop) (j i : ℕ) → s ≡ At j i
+      → (standing g rows a s ≡ firstAgreed g (view g rows a) (rowsFrom (view g rows a) 1 (g .n))) × Inside s
+      → Finishing g rows a j i result out to
+  finishing s j i e q =
+      let w = rw e at q in
+      record {
+        searching = searching;
+        server-low = w .1 .0;
+        server-high = w .1 .1;
+        place = w .1 .2;
+        held = first-agreed g (view g rows a) (rowsFrom (view g rows a) 1 (g .n)) (keptAt g rows a j i) (w .0);
+        value-room = lent .value-room;
+        room = ask-room;
+      }
+
+-- ---- the outcome
+
+module _ (g : Params) (me : ℕ) (s : Client) (a result out to : List ℕ) where
+  pub finish-law : (j i : ℕ) (r o t : List ℕ) (q : Place)
+      → r ≡ sets result 0 (decoded g (λ m. atStamp (view g (s .rows) a m) (keptAt g (s .rows) a j i .stamp)) (entryAt g a (placeAt j i) .digests))
+      → outbox o t q ≡ sent (outbox out to firstPlace) (toAll g (λ m. message me (s .reads) readComplete))
+      → _≡_ {A = Outcome}
+      (record {
+        answer = Y.Value (keptAt g (s .rows) a j i .stamp);
+        client = record { writes = s .writes; reads = s .reads; closed = s .closed; phase = F.Idle; heard = s .heard; times = s .times; rows = s .rows };
+        area = a;
+        result = r;
+        out = o;
+        to = t;
+      })
+      (stepped (completeBy digestOf g me (some (foundOf g (view g (s .rows) a) (keptAt g (s .rows) a j i))) s a) result out to)
+  unfolding stepped completeBy foundOf eventAnswer resultOf sent
+  finish-law j i r o t q d e =
+      let u : o ≡ sets out 0 (frames (toAll g (λ m. message me (s .reads) readComplete))) = ap (λ (b : Outbox). b .out) e in
+      let w : t ≡ sets to 0 (receivers (toAll g (λ m. message me (s .reads) readComplete))) = ap (λ (b : Outbox). b .to) e in
+      λ z. record {
+        answer = Y.Value (keptAt g (s .rows) a j i .stamp);
+        client = record { writes = s .writes; reads = s .reads; closed = s .closed; phase = F.Idle; heard = s .heard; times = s .times; rows = s .rows };
+        area = a;
+        result = d z;
+        out = u z;
+        to = w z;
+      }
+
+  module _ (p : Stop) (q : (standing g (s .rows) a p ≡ firstAgreed g (view g (s .rows) a) (rowsFrom (view g (s .rows) a) 1 (g .n))) × Inside p) where
+    stopped : settle digestOf g me s a ≡ completeBy digestOf g me (foundBy g (view g (s .rows) a) (standing g (s .rows) a p)) s a
+    unfolding settle search rowView
+    stopped = ap (λ o. completeBy digestOf g me (foundBy g (view g (s .rows) a) o) s a) (sym (q .0))
+
+    -- nothing is found
+    pub settle-none : p ≡ Nowhere
+        → _≡_ {A = Outcome}
+        (record { answer = Y.Sent 0; client = s; area = a; result = result; out = out; to = to })
+        (stepped (settle digestOf g me s a) result out to)
+    unfolding stepped completeBy foundBy eventAnswer resultOf frames receivers
+    settle-none e = sym (ap (λ x. stepped x result out to) (stopped ∙ ap (λ y. completeBy digestOf g me (foundBy g (view g (s .rows) a) (standing g (s .rows) a y)) s a) e))
+
+    -- the read ends
+    pub settle-some : (j i : ℕ) (b : Outcome) → p ≡ At j i
+        → b ≡ stepped (completeBy digestOf g me (some (foundOf g (view g (s .rows) a) (keptAt g (s .rows) a j i))) s a) result out to
+        → b ≡ stepped (settle digestOf g me s a) result out to
+    unfolding foundBy
+    settle-some j i b e d =
+        d ∙ sym (ap (λ x. stepped x result out to) (stopped ∙ ap (λ y. completeBy digestOf g me (foundBy g (view g (s .rows) a) (standing g (s .rows) a y)) s a) e))

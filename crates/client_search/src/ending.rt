@@ -1,0 +1,103 @@
+// The end of a read: "Then read-complete goes to all and the value is decoded from the k lowest of those servers."
+use crate::Stop;
+use crate::searching::holders;
+use crate::searching::search;
+use blocks::Params;
+use client::Answer;
+use client::Answered;
+use client::Client;
+use client::Phase;
+use client::Row;
+use frame::Ask;
+use frame::Place;
+use frame::Stamp;
+use frame::send::ask_all;
+use group::decoding::regain;
+ghost use mathlib.Core.Path.{_≡_};
+ghost use mathlib.Core.Option.{some};
+ghost use lib.ListN.{length};
+ghost use lib.Seq.{sets};
+ghost use Rattle.sha256.specs.Hash.{digestOf};
+ghost use Rattle.frame.specs.Chunks.{entryAt};
+ghost use Rattle.frame.specs.Coded.{decoded};
+ghost use Rattle.client.specs.Rows.{atStamp, foundOf};
+ghost use Rattle.client.specs.Steps.{completeBy, settle};
+ghost use Rattle.client.specs.Stages.{Lent, stepped};
+ghost use Rattle.client.specs.Delivery.{outcome};
+ghost use Rattle.client_search.specs.Search.{view, keptAt, Regaining, Finishing};
+
+// The value of stamp x and the digest list in chunk p, which are in n - t rows, at the start of the result area.
+fn regain_value(rows: [Row; 11], x: Stamp, p: usize, area: &[u8], g: Params, result: &mut [u8])
+    requires { ⌜ Regaining g rows (now area) x p (length (now result)) ⌝ }
+    ensures { λ _. ⌜ now (result .exit) ≡ sets (now (result .entry)) 0 (decoded g (λ j. atStamp (view g rows (now (area .entry)) j) x) (entryAt g (now (area .entry)) p .digests)) ⌝ }
+{
+    let h = holders(rows, x, p, area, g);
+    let on = h.on;
+    let at = h.at;
+    let ps = field::powers();
+    let ls = field::logs();
+    regain(on, at, area, g, result, &ps, &ls);
+}
+
+// The read ends with what stands at place i of server j's row.
+fn finish(
+    s: Client,
+    g: Params,
+    me: u8,
+    j: usize,
+    i: usize,
+    area: &[u8],
+    result: &mut [u8],
+    out: &mut [u8],
+    to: &mut [u8],
+) -> Answered
+    requires { ⌜ Finishing g (s .rows) (now area) j i (length (now result)) (length (now out)) (length (now to)) ⌝ }
+    ensures { λ r. ⌜ outcome r (now (area .entry)) (now (result .exit)) (now (out .exit)) (now (to .exit)) ≡ stepped (completeBy digestOf g me (some (foundOf g (view g (s .rows) (now (area .entry))) (keptAt g (s .rows) (now (area .entry)) j i))) s (now (area .entry))) (now (result .entry)) (now (out .entry)) (now (to .entry)) ⌝ }
+{
+    let heard = s.heard;
+    let times = s.times;
+    let rows = s.rows;
+    let r = rows[j];
+    let stamps = r.stamps;
+    let x = stamps[i];
+    regain_value(rows, x, 4 * j - 4 + i, area, g, result);
+    let start = Place { at: 0, count: 0 };
+    ask_all(out, to, start, g, Ask::ReadComplete, me, s.reads);
+    let client = Client {
+        writes: s.writes,
+        reads: s.reads,
+        closed: s.closed,
+        phase: Phase::Idle,
+        heard,
+        times,
+        rows,
+    };
+    Answered {
+        answer: Answer::Value(x),
+        client,
+    }
+}
+
+// After a value was kept or dropped: the rows are searched, and the read ends if n - t of them agree.
+pub fn settle(
+    s: Client,
+    g: Params,
+    me: u8,
+    area: &[u8],
+    result: &mut [u8],
+    out: &mut [u8],
+    to: &mut [u8],
+) -> Answered
+    requires { ⌜ Lent g (length (now area)) (length (now result)) (length (now out)) (length (now to)) ⌝ }
+    ensures { λ r. ⌜ outcome r (now (area .entry)) (now (result .exit)) (now (out .exit)) (now (to .exit)) ≡ stepped (settle digestOf g me s (now (area .entry))) (now (result .entry)) (now (out .entry)) (now (to .entry)) ⌝ }
+{
+    let rows = s.rows;
+    let stop = search(rows, area, g);
+    let Stop::At(j, i) = stop else {
+        return Answered {
+            answer: Answer::Sent(0),
+            client: s,
+        };
+    };
+    finish(s, g, me, j, i, area, result, out, to)
+}

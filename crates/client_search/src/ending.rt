@@ -1,7 +1,5 @@
 // The end of a read: "Then read-complete goes to all and the value is decoded from the k lowest of those servers."
-use crate::Stop;
 use crate::searching::holders;
-use crate::searching::search;
 use blocks::Params;
 use client::Answer;
 use client::Answered;
@@ -21,8 +19,8 @@ ghost use Rattle.sha256.specs.Hash.{digestOf};
 ghost use Rattle.frame.specs.Chunks.{entryAt};
 ghost use Rattle.frame.specs.Coded.{decoded};
 ghost use Rattle.client.specs.Rows.{atStamp, foundOf};
-ghost use Rattle.client.specs.Steps.{completeBy, settle};
-ghost use Rattle.client.specs.Stages.{Lent, stepped};
+ghost use Rattle.client.specs.Steps.{completeBy};
+ghost use Rattle.client.specs.Stages.{stepped};
 ghost use Rattle.client.specs.Delivery.{outcome};
 ghost use Rattle.client_search.specs.Search.{view, keptAt, Regaining, Finishing};
 
@@ -40,7 +38,7 @@ fn regain_value(rows: [Row; 11], x: Stamp, p: usize, area: &[u8], g: Params, res
 }
 
 // The read ends with what stands at place i of server j's row.
-fn finish(
+pub fn finish(
     s: Client,
     g: Params,
     me: u8,
@@ -76,28 +74,4 @@ fn finish(
         answer: Answer::Value(x),
         client,
     }
-}
-
-// After a value was kept or dropped: the rows are searched, and the read ends if n - t of them agree.
-pub fn settle(
-    s: Client,
-    g: Params,
-    me: u8,
-    area: &[u8],
-    result: &mut [u8],
-    out: &mut [u8],
-    to: &mut [u8],
-) -> Answered
-    requires { ⌜ Lent g (length (now area)) (length (now result)) (length (now out)) (length (now to)) ⌝ }
-    ensures { λ r. ⌜ outcome r (now (area .entry)) (now (result .exit)) (now (out .exit)) (now (to .exit)) ≡ stepped (settle digestOf g me s (now (area .entry))) (now (result .entry)) (now (out .entry)) (now (to .entry)) ⌝ }
-{
-    let rows = s.rows;
-    let stop = search(rows, area, g);
-    let Stop::At(j, i) = stop else {
-        return Answered {
-            answer: Answer::Sent(0),
-            client: s,
-        };
-    };
-    finish(s, g, me, j, i, area, result, out, to)
 }

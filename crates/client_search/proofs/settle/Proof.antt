@@ -1,10 +1,10 @@
 use Rattle.client_search.proofs.Endings.{finishing, settle-none, settle-some}
 use native.Mathlib.Omega.{arith}
 use borrow.Author.Needs.{needs}
-use Rattle.client_search.proofs.ending.settle.Statement.{statement}
-use Rattle.client_search.proofs.ending.settle.Tie as tie
-use Rattle.client_search.proofs.ending.settle.Reads as reads
-use Rattle.client_search.proofs.ending.settle.Lts as lts
+use Rattle.client_search.proofs.settle.Statement.{statement}
+use Rattle.client_search.proofs.settle.Tie as tie
+use Rattle.client_search.proofs.settle.Reads as reads
+use Rattle.client_search.proofs.settle.Lts as lts
 use Rattle.client_search.proofs.ending.finish.Reads as finish-reads
 use Rattle.client_search.proofs.searching.search.Reads as search-reads
 

@@ -1,0 +1,6 @@
+pub mod Places
+pub mod Lengths
+pub mod Puts
+pub mod Reading
+pub mod ClientBack
+pub mod ServerBack

@@ -1,0 +1,145 @@
+-- A server's record reads back from its bytes, wherever they stand. Assumes nothing.
+use Prim.Native.Nat.{ℕ, _+_, _≤_}
+use native.Mathlib.Omega.{arith}
+use mathlib.Core.Path.{_≡_, refl}
+use mathlib.Core.Bool.{Bool}
+use mathlib.Core.List.{List, [], _∷_, _++_}
+use lib.ListN.{length}
+use lib.Seq.{sets}
+use Rattle.area.specs.Numbers.{bytes4, bytes8}
+use Rattle.area.proofs.Numbers.{length-bytes4, length-bytes8}
+use Rattle.frame.specs.Frames.{stampBytes}
+use Rattle.frame.proofs.RoundTrip.{length-stamp}
+use Rattle.server.specs.declared.BlockPart.{BlockPart}
+use Rattle.server.specs.declared.TimePart.{TimePart}
+use Rattle.server.specs.declared.Slot.{Slot}
+use Rattle.server.specs.declared.Reader.{Reader}
+use Rattle.server.specs.declared.Server.{Server}
+use Rattle.server.specs.State.{noSlot, noReader}
+use Rattle.layout.specs.Fields.{flagByte, flagAt, flagsBytes, flagsAt, numbersBytes}
+use Rattle.layout.specs.Servers.{serverSize, marksBytes, votesBytes, blocksBytes, blocksAt, timesBytes, timesAt, slotBytes, slotAt, slotsBytes, slotsAt, readerBytes, readerAt, readersBytes, readersAt, serverBytes, serverAt, serverIn}
+use Rattle.layout.specs.Typed.{Array, TypedBlocks, TypedTimes, TypedSlot, TypedReader, TypedServer}
+use Rattle.layout.proofs.Lengths.{length-flags, length-numbers, length-marks, length-votes, length-blocks, length-slot, length-slots, length-reader, length-server}
+use Rattle.layout.proofs.Reading.{Stands, front, back, alone, stored, flag-at, word-at, long-at, stamp-at, row-at, flags-at, numbers-at}
+
+record Marks (l : List ℕ) (i : ℕ) (a b c : Bool) : Type 0 where
+  pub first : flagAt l i ≡ a
+  pub second : flagAt l (i + 1) ≡ b
+  pub third : flagAt l (i + 2) ≡ c
+
+marks-at : (l : List ℕ) (i : ℕ) (a b c : Bool) → Stands l i (marksBytes a b c) → Marks l i a b c
+unfolding marksBytes
+marks-at l i a b c s =
+    let s₁ = back (flagByte a ∷ []) (flagByte b ∷ flagByte c ∷ []) 1 (i + 1) refl refl s in
+    let s₂ = back (flagByte b ∷ []) (flagByte c ∷ []) 1 (i + 2) refl (omega arith) s₁ in
+    record {
+      first = flag-at l i a (front (flagByte a ∷ []) (flagByte b ∷ flagByte c ∷ []) s);
+      second = flag-at l (i + 1) b (front (flagByte b ∷ []) (flagByte c ∷ []) s₁);
+      third = flag-at l (i + 2) c s₂;
+    }
+
+record Votes (l : List ℕ) (i j : ℕ) (e r : List Bool) : Type 0 where
+  pub echoes : flagsAt l i ≡ e
+  pub readies : flagsAt l j ≡ r
+
+votes-at : (l : List ℕ) (i j : ℕ) (e r : List Bool) → length e ≡ 11 → length r ≡ 11 → j ≡ i + 11 → Stands l i (votesBytes e r) → Votes l i j e r
+unfolding votesBytes
+votes-at l i j e r he hr h s = record {
+  echoes = flags-at l i e he (front (flagsBytes e) (flagsBytes r) s);
+  readies = flags-at l j r hr (back (flagsBytes e) (flagsBytes r) 11 j (length-flags e) h s);
+}
+
+blocks-at : (l : List ℕ) (i : ℕ) (b : BlockPart) → TypedBlocks b → Stands l i (blocksBytes b) → blocksAt l i ≡ b
+unfolding blocksAt blocksBytes
+blocks-at l i b t p =
+    let x = marksBytes (b .sent) (b .ready) (b .complete) in
+    let y = votesBytes (b .echoes) (b .readies) in
+    let m = marks-at l i (b .sent) (b .ready) (b .complete) (front x y p) in
+    let q = back x y 3 (i + 3) (length-marks (b .sent) (b .ready) (b .complete)) refl p in
+    let v = votes-at l (i + 3) (i + 14) (b .echoes) (b .readies) (t .echoes) (t .readies) (omega arith) q in
+    λ k. record { sent = m .first k; ready = m .second k; complete = m .third k; echoes = v .echoes k; readies = v .readies k }
+
+times-at : (l : List ℕ) (i : ℕ) (b : TimePart) → TypedTimes b → Stands l i (timesBytes b) → timesAt l i ≡ b
+unfolding timesAt timesBytes
+times-at l i b t p =
+    let x = marksBytes (b .sent) (b .ready) (b .delivered) in
+    let u = bytes8 (b .time) in
+    let y = votesBytes (b .echoes) (b .readies) in
+    let e = numbersBytes (b .echoed) in
+    let r = numbersBytes (b .readied) in
+    let p₁ = back x (u ++ (y ++ (e ++ r))) 3 (i + 3) (length-marks (b .sent) (b .ready) (b .delivered)) refl p in
+    let p₂ = back u (y ++ (e ++ r)) 8 (i + 11) (length-bytes8 (b .time)) (omega arith) p₁ in
+    let p₃ = back y (e ++ r) 22 (i + 33) (length-votes (b .echoes) (b .readies)) (omega arith) p₂ in
+    let p₄ = back e r 88 (i + 121) (length-numbers (b .echoed)) (omega arith) p₃ in
+    let m = marks-at l i (b .sent) (b .ready) (b .delivered) (front x (u ++ (y ++ (e ++ r))) p) in
+    let a = long-at l (i + 3) (b .time) (t .time) (front u (y ++ (e ++ r)) p₁) in
+    let v = votes-at l (i + 11) (i + 22) (b .echoes) (b .readies) (t .echoes) (t .readies) (omega arith) (front y (e ++ r) p₂) in
+    let f = numbers-at l (i + 33) (b .echoed) (t .echoed) (front e r p₃) in
+    let g = numbers-at l (i + 121) (b .readied) (t .readied) p₄ in
+    λ k. record {
+      sent = m .first k;
+      ready = m .second k;
+      delivered = m .third k;
+      time = a k;
+      echoes = v .echoes k;
+      readies = v .readies k;
+      echoed = f k;
+      readied = g k;
+    }
+
+slot-at : (l : List ℕ) (i : ℕ) (x : Slot) → TypedSlot x → Stands l i (slotBytes x) → slotAt l i ≡ x
+unfolding slotAt slotBytes
+slot-at l i x t p =
+    let u = bytes8 (x .sequence) in
+    let y = blocksBytes (x .blocks) in
+    let z = timesBytes (x .times) in
+    let p₁ = back u (y ++ z) 8 (i + 8) (length-bytes8 (x .sequence)) refl p in
+    let p₂ = back y z 25 (i + 33) (length-blocks (x .blocks)) (omega arith) p₁ in
+    let a = long-at l i (x .sequence) (t .sequence) (front u (y ++ z) p) in
+    let b = blocks-at l (i + 8) (x .blocks) (t .blocks) (front y z p₁) in
+    let c = times-at l (i + 33) (x .times) (t .times) p₂ in
+    λ k. record { sequence = a k; blocks = b k; times = c k }
+
+reader-at : (l : List ℕ) (i : ℕ) (x : Reader) → TypedReader x → Stands l i (readerBytes x) → readerAt l i ≡ x
+unfolding readerAt readerBytes
+reader-at l i x t p =
+    let u = bytes4 (x .sequence) in
+    let z = stampBytes (x .noted) in
+    let p₁ = back u (flagByte (x .listening) ∷ z) 4 (i + 4) (length-bytes4 (x .sequence)) refl p in
+    let p₂ = back (flagByte (x .listening) ∷ []) z 1 (i + 5) refl (omega arith) p₁ in
+    let a = word-at l i (x .sequence) (t .sequence) (front u (flagByte (x .listening) ∷ z) p) in
+    let b = flag-at l (i + 4) (x .listening) (front (flagByte (x .listening) ∷ []) z p₁) in
+    let c = stamp-at l (i + 5) (x .noted) (t .noted) p₂ in
+    λ k. record { sequence = a k; listening = b k; noted = c k }
+
+slots-at : (l : List ℕ) (i : ℕ) (xs : List Slot) → Array 9 TypedSlot xs → Stands l i (slotsBytes xs) → slotsAt l i ≡ xs
+unfolding slotsBytes slotsAt
+slots-at l i xs t p = row-at slotBytes slotAt 9 242 noSlot TypedSlot length-slot slot-at l i xs t p
+
+readers-at : (l : List ℕ) (i : ℕ) (xs : List Reader) → Array 9 TypedReader xs → Stands l i (readersBytes xs) → readersAt l i ≡ xs
+unfolding readersBytes readersAt
+readers-at l i xs t p = row-at readerBytes readerAt 9 18 noReader TypedReader length-reader reader-at l i xs t p
+
+pub server-at : (l : List ℕ) (i : ℕ) (s : Server) → TypedServer s → Stands l i (serverBytes s) → serverAt l i ≡ s
+unfolding serverAt serverBytes
+server-at l i s t p =
+    let u = stampBytes (s .stamp) in
+    let y = slotsBytes (s .slots) in
+    let z = readersBytes (s .readers) in
+    let p₁ = back u (y ++ z) 13 (i + 13) (length-stamp (s .stamp)) refl p in
+    let p₂ = back y z 2178 (i + 2191) (length-slots (s .slots)) (omega arith) p₁ in
+    let a = stamp-at l i (s .stamp) (t .stamp) (front u (y ++ z) p) in
+    let b = slots-at l (i + 13) (s .slots) (t .slots) (front y z p₁) in
+    let c = readers-at l (i + 2191) (s .readers) (t .readers) p₂ in
+    λ k. record { stamp = a k; slots = b k; readers = c k }
+
+-- the record that its bytes say is the record
+pub server-back : (s : Server) → TypedServer s → serverIn (serverBytes s) ≡ s
+unfolding serverIn
+server-back s t = server-at (serverBytes s) 0 s t (alone (serverBytes s))
+
+-- and so in an area in which it was stored
+pub server-stored : (l : List ℕ) (i : ℕ) (s : Server) → TypedServer s → i + serverSize ≤ length l → serverAt (sets l i (serverBytes s)) i ≡ s
+server-stored l i s t h =
+    let k : i + length (serverBytes s) ≤ length l = rw length-server h in
+    server-at (sets l i (serverBytes s)) i s t (stored l i (serverBytes s) k)

@@ -1,0 +1,93 @@
+-- After j turns the first j numbers are stored. Assumes nothing.
+use Prim.Native.Nat.{ℕ, _+_, _*_, _-_, _≤_}
+use native.Mathlib.Omega.{arith}
+use mathlib.Core.Path.{_≡_, refl}
+use lib.Seq.{sets}
+use lib.ListN.{length, getD}
+use borrow.Author.Needs.{needs}
+use Rattle.area.proofs.Numbers.{length-bytes8}
+use Rattle.area.specs.Numbers.{bytes8}
+use Rattle.area.specs.Area.{joined}
+use Rattle.layout.proofs.Places.{put-turn, put-end}
+use Rattle.layout.specs.Fields.{numbersBytes, rowBytes}
+use Rattle.layout.proofs.fields.put_numbers.Statement.{statement}
+use Rattle.layout.proofs.fields.put_numbers.Tie as tie
+
+abbrev Inv-loop : tie.InvT-loop
+Inv-loop out₀ at x j₀ out j = (out ≡ sets out₀ at (joined (λ (k : ℕ). bytes8 (getD x k 0)) 0 j)) × (j ≤ 11) × (length out ≡ length out₀)
+
+abbrev μ-loop : tie.MeasureT-loop
+μ-loop out₀ at x j₀ out j = 11 - j
+
+-- src/fields.rt:82:5
+loop-holds : tie.Need-loop-holds Inv-loop μ-loop
+unfolding joined
+loop-holds c = (refl, omega arith, refl)
+
+-- src/fields.rt:83:32
+mul-write8 : tie.Need-mul-write8 Inv-loop μ-loop
+mul-write8 c = search needs
+
+-- src/fields.rt:83:27
+add-write8 : tie.Need-add-write8 Inv-loop μ-loop
+add-write8 c = search needs
+
+-- src/fields.rt:83:39
+mul-write8-2 : tie.Need-mul-write8-2 Inv-loop μ-loop
+mul-write8-2 c = search needs
+
+-- src/fields.rt:83:39
+array-read-write8 : tie.Need-array-read-write8 Inv-loop μ-loop
+array-read-write8 c = search needs
+
+-- src/fields.rt:83:9
+write8-requires : tie.Need-write8-requires Inv-loop μ-loop
+write8-requires c κs = omega arith
+
+-- src/fields.rt:84:9
+add-j : tie.Need-add-j Inv-loop μ-loop
+add-j c = search needs
+
+-- src/fields.rt:82:5
+loop-less : tie.Need-loop-less Inv-loop μ-loop
+loop-less c = omega arith
+
+-- src/fields.rt:82:5
+loop-again : tie.Need-loop-again Inv-loop μ-loop
+loop-again c =
+    let l = c .before .before .before .before .before .loop in
+    let a = c .before .before .before .before .before .before .before .args in
+    let h : a .at + l .j * 8 ≡ a .at + l .j * 8 = refl in
+    let p = put-turn (λ (k : ℕ). bytes8 (getD (a .t1) k 0)) 8 (a .out .now) (l .out) _ (a .at) (l .j) _ (λ k. length-bytes8 (getD (a .t1) k 0)) h (l .inv .0) (c .before .before .write8 .ensures) in
+    (p, omega arith, search needs)
+
+-- src/fields.rt:77:1
+same-length : tie.Need-same-length Inv-loop μ-loop
+same-length c = search needs
+
+-- src/fields.rt:77:1
+returns : tie.Need-returns Inv-loop μ-loop
+unfolding numbersBytes rowBytes
+returns c =
+    let l = c .before .loop in
+    let a = c .before .before .before .args in
+    let e : l .j ≡ 11 = omega arith in
+    put-end (λ (k : ℕ). bytes8 (getD (a .t1) k 0)) (a .out .now) (l .out) (a .at) (l .j) 11 e (l .inv .0)
+
+pub put-numbers-spec : {M : Type 1} → statement M
+put-numbers-spec =
+    tie.close
+    (tie.spec
+    Inv-loop
+    μ-loop
+    loop-holds
+    mul-write8
+    add-write8
+    mul-write8-2
+    array-read-write8
+    write8-requires
+    add-j
+    loop-less
+    loop-again
+    same-length
+    returns)

@@ -1,0 +1,4 @@
+pub mod Fields
+pub mod Clients
+pub mod Servers
+pub mod Typed

@@ -1,0 +1,93 @@
+-- A server's record as bytes: its stamp (13), 9 slots of 242 and 9 readers of 18. A slot is its sequence (8), what was counted of its blocks (25) and of its
+-- time (209). These are definitions.
+use Prim.Native.Nat.{ℕ, _+_}
+use mathlib.Core.Bool.{Bool}
+use mathlib.Core.List.{List, [], _∷_, _++_}
+use Rattle.area.specs.Numbers.{be4, be8, bytes4, bytes8}
+use Rattle.frame.specs.Frames.{stampBytes}
+use Rattle.server.specs.declared.BlockPart.{BlockPart}
+use Rattle.server.specs.declared.TimePart.{TimePart}
+use Rattle.server.specs.declared.Slot.{Slot}
+use Rattle.server.specs.declared.Reader.{Reader}
+use Rattle.server.specs.declared.Server.{Server}
+use Rattle.server.specs.State.{noSlot, noReader}
+use Rattle.layout.specs.Fields.{flagByte, flagAt, stampAt, rowBytes, rowAt, flagsBytes, flagsAt, numbersBytes, numbersAt}
+
+abbrev pub serverSize : ℕ
+serverSize = 2353
+
+-- ---- slots
+
+-- three flags, and the flags of echoes and readies
+unfoldable pub marksBytes : Bool → Bool → Bool → List ℕ
+marksBytes a b c = flagByte a ∷ flagByte b ∷ flagByte c ∷ []
+
+unfoldable pub votesBytes : List Bool → List Bool → List ℕ
+votesBytes e r = flagsBytes e ++ flagsBytes r
+
+unfoldable pub blocksBytes : BlockPart → List ℕ
+blocksBytes b = marksBytes (b .sent) (b .ready) (b .complete) ++ votesBytes (b .echoes) (b .readies)
+
+unfoldable pub blocksAt : List ℕ → ℕ → BlockPart
+blocksAt l i = record {
+  sent = flagAt l i;
+  ready = flagAt l (i + 1);
+  complete = flagAt l (i + 2);
+  echoes = flagsAt l (i + 3);
+  readies = flagsAt l (i + 14);
+}
+
+unfoldable pub timesBytes : TimePart → List ℕ
+timesBytes b =
+    marksBytes (b .sent) (b .ready) (b .delivered)
+    ++ (bytes8 (b .time) ++ (votesBytes (b .echoes) (b .readies) ++ (numbersBytes (b .echoed) ++ numbersBytes (b .readied))))
+
+unfoldable pub timesAt : List ℕ → ℕ → TimePart
+timesAt l i = record {
+  sent = flagAt l i;
+  ready = flagAt l (i + 1);
+  delivered = flagAt l (i + 2);
+  time = be8 l (i + 3);
+  echoes = flagsAt l (i + 11);
+  readies = flagsAt l (i + 22);
+  echoed = numbersAt l (i + 33);
+  readied = numbersAt l (i + 121);
+}
+
+unfoldable pub slotBytes : Slot → List ℕ
+slotBytes x = bytes8 (x .sequence) ++ (blocksBytes (x .blocks) ++ timesBytes (x .times))
+
+unfoldable pub slotAt : List ℕ → ℕ → Slot
+slotAt l i = record { sequence = be8 l i; blocks = blocksAt l (i + 8); times = timesAt l (i + 33) }
+
+unfoldable pub slotsBytes : List Slot → List ℕ
+slotsBytes xs = rowBytes slotBytes 9 noSlot xs
+
+unfoldable pub slotsAt : List ℕ → ℕ → List Slot
+slotsAt l i = rowAt slotAt 9 242 l i
+
+-- ---- readers
+
+unfoldable pub readerBytes : Reader → List ℕ
+readerBytes x = bytes4 (x .sequence) ++ (flagByte (x .listening) ∷ stampBytes (x .noted))
+
+unfoldable pub readerAt : List ℕ → ℕ → Reader
+readerAt l i = record { sequence = be4 l i; listening = flagAt l (i + 4); noted = stampAt l (i + 5) }
+
+unfoldable pub readersBytes : List Reader → List ℕ
+readersBytes xs = rowBytes readerBytes 9 noReader xs
+
+unfoldable pub readersAt : List ℕ → ℕ → List Reader
+readersAt l i = rowAt readerAt 9 18 l i
+
+-- ---- the record
+
+unfoldable pub serverBytes : Server → List ℕ
+serverBytes s = stampBytes (s .stamp) ++ (slotsBytes (s .slots) ++ readersBytes (s .readers))
+
+unfoldable pub serverAt : List ℕ → ℕ → Server
+serverAt l i = record { stamp = stampAt l i; slots = slotsAt l (i + 13); readers = readersAt l (i + 2191) }
+
+-- the record that bytes say
+unfoldable pub serverIn : List ℕ → Server
+serverIn l = serverAt l 0

@@ -1,0 +1,239 @@
+// A server's record as bytes.
+use crate::fields::flag_byte;
+use crate::fields::flag_in;
+use crate::fields::flags_at;
+use crate::fields::numbers_at;
+use crate::fields::put_byte;
+use crate::fields::put_flags;
+use crate::fields::put_numbers;
+use crate::fields::put_stamp;
+use crate::fields::stamp_at;
+use server::BlockPart;
+use server::Reader;
+use server::Server;
+use server::Slot;
+use server::TimePart;
+ghost use mathlib.Core.Path.{_≡_};
+ghost use Prim.Native.Nat.{_+_, _≤_};
+ghost use lib.ListN.{length};
+ghost use lib.Seq.{sets};
+ghost use Rattle.layout.specs.Servers.{serverSize, marksBytes, votesBytes, blocksBytes, blocksAt, timesBytes, timesAt, slotBytes, slotAt, slotsBytes, slotsAt, readerBytes, readerAt, readersBytes, readersAt, serverBytes, serverAt};
+
+// ---- the parts of a slot
+
+fn put_marks(a: bool, b: bool, c: bool, out: &mut [u8], at: usize)
+    requires { ⌜ at + 3 ≤ length (now out) ⌝ }
+    ensures { λ _. ⌜ now (out .exit) ≡ sets (now (out .entry)) at (marksBytes a b c) ⌝ }
+{
+    put_byte(flag_byte(a), out, at);
+    put_byte(flag_byte(b), out, at + 1);
+    put_byte(flag_byte(c), out, at + 2);
+}
+
+fn put_votes(echoes: [bool; 11], readies: [bool; 11], out: &mut [u8], at: usize)
+    requires { ⌜ at + 22 ≤ length (now out) ⌝ }
+    ensures { λ _. ⌜ now (out .exit) ≡ sets (now (out .entry)) at (votesBytes echoes readies) ⌝ }
+{
+    put_flags(echoes, out, at);
+    put_flags(readies, out, at + 11);
+}
+
+fn put_blocks(b: BlockPart, out: &mut [u8], at: usize)
+    requires { ⌜ at + 25 ≤ length (now out) ⌝ }
+    ensures { λ _. ⌜ now (out .exit) ≡ sets (now (out .entry)) at (blocksBytes b) ⌝ }
+{
+    let echoes = b.echoes;
+    let readies = b.readies;
+    put_marks(b.sent, b.ready, b.complete, out, at);
+    put_votes(echoes, readies, out, at + 3);
+}
+
+fn blocks_at(bytes: &[u8], at: usize) -> BlockPart
+    requires { ⌜ at + 25 ≤ length (now bytes) ⌝ }
+    ensures { λ r. ⌜ r ≡ blocksAt (now (bytes .entry)) at ⌝ }
+{
+    let sent = flag_in(bytes[at]);
+    let ready = flag_in(bytes[at + 1]);
+    let complete = flag_in(bytes[at + 2]);
+    let echoes = flags_at(bytes, at + 3);
+    let readies = flags_at(bytes, at + 14);
+    BlockPart {
+        sent,
+        ready,
+        complete,
+        echoes,
+        readies,
+    }
+}
+
+fn put_times(b: TimePart, out: &mut [u8], at: usize)
+    requires { ⌜ at + 209 ≤ length (now out) ⌝ }
+    ensures { λ _. ⌜ now (out .exit) ≡ sets (now (out .entry)) at (timesBytes b) ⌝ }
+{
+    let echoes = b.echoes;
+    let readies = b.readies;
+    let echoed = b.echoed;
+    let readied = b.readied;
+    put_marks(b.sent, b.ready, b.delivered, out, at);
+    area::write8(out, at + 3, b.time);
+    put_votes(echoes, readies, out, at + 11);
+    put_numbers(echoed, out, at + 33);
+    put_numbers(readied, out, at + 121);
+}
+
+fn times_at(bytes: &[u8], at: usize) -> TimePart
+    requires { ⌜ at + 209 ≤ length (now bytes) ⌝ }
+    ensures { λ r. ⌜ r ≡ timesAt (now (bytes .entry)) at ⌝ }
+{
+    let sent = flag_in(bytes[at]);
+    let ready = flag_in(bytes[at + 1]);
+    let delivered = flag_in(bytes[at + 2]);
+    let time = area::read8(bytes, at + 3);
+    let echoes = flags_at(bytes, at + 11);
+    let readies = flags_at(bytes, at + 22);
+    let echoed = numbers_at(bytes, at + 33);
+    let readied = numbers_at(bytes, at + 121);
+    TimePart {
+        sent,
+        ready,
+        delivered,
+        time,
+        echoes,
+        readies,
+        echoed,
+        readied,
+    }
+}
+
+// ---- slots
+
+fn put_slot(x: Slot, out: &mut [u8], at: usize)
+    requires { ⌜ at + 242 ≤ length (now out) ⌝ }
+    ensures { λ _. ⌜ now (out .exit) ≡ sets (now (out .entry)) at (slotBytes x) ⌝ }
+{
+    let blocks = x.blocks;
+    let times = x.times;
+    area::write8(out, at, x.sequence);
+    put_blocks(blocks, out, at + 8);
+    put_times(times, out, at + 33);
+}
+
+fn slot_at(bytes: &[u8], at: usize) -> Slot
+    requires { ⌜ at + 242 ≤ length (now bytes) ⌝ }
+    ensures { λ r. ⌜ r ≡ slotAt (now (bytes .entry)) at ⌝ }
+{
+    let sequence = area::read8(bytes, at);
+    let blocks = blocks_at(bytes, at + 8);
+    let times = times_at(bytes, at + 33);
+    Slot {
+        sequence,
+        blocks,
+        times,
+    }
+}
+
+fn put_slots(x: [Slot; 9], out: &mut [u8], at: usize)
+    requires { ⌜ at + 2178 ≤ length (now out) ⌝ }
+    ensures { λ _. ⌜ now (out .exit) ≡ sets (now (out .entry)) at (slotsBytes x) ⌝ }
+{
+    let mut j = 0;
+    while j < 9 {
+        put_slot(x[j], out, at + j * 242);
+        j += 1;
+    }
+}
+
+fn slots_at(bytes: &[u8], at: usize) -> [Slot; 9]
+    requires { ⌜ at + 2178 ≤ length (now bytes) ⌝ }
+    ensures { λ r. ⌜ r ≡ slotsAt (now (bytes .entry)) at ⌝ }
+{
+    let first = slot_at(bytes, at);
+    let mut x = [first; 9];
+    let mut j = 0;
+    while j < 9 {
+        x[j] = slot_at(bytes, at + j * 242);
+        j += 1;
+    }
+    x
+}
+
+// ---- readers
+
+fn put_reader(x: Reader, out: &mut [u8], at: usize)
+    requires { ⌜ at + 18 ≤ length (now out) ⌝ }
+    ensures { λ _. ⌜ now (out .exit) ≡ sets (now (out .entry)) at (readerBytes x) ⌝ }
+{
+    let noted = x.noted;
+    area::write4(out, at, x.sequence);
+    put_byte(flag_byte(x.listening), out, at + 4);
+    put_stamp(noted, out, at + 5);
+}
+
+fn reader_at(bytes: &[u8], at: usize) -> Reader
+    requires { ⌜ at + 18 ≤ length (now bytes) ⌝ }
+    ensures { λ r. ⌜ r ≡ readerAt (now (bytes .entry)) at ⌝ }
+{
+    let sequence = area::read4(bytes, at);
+    let listening = flag_in(bytes[at + 4]);
+    let noted = stamp_at(bytes, at + 5);
+    Reader {
+        sequence,
+        listening,
+        noted,
+    }
+}
+
+fn put_readers(x: [Reader; 9], out: &mut [u8], at: usize)
+    requires { ⌜ at + 162 ≤ length (now out) ⌝ }
+    ensures { λ _. ⌜ now (out .exit) ≡ sets (now (out .entry)) at (readersBytes x) ⌝ }
+{
+    let mut j = 0;
+    while j < 9 {
+        put_reader(x[j], out, at + j * 18);
+        j += 1;
+    }
+}
+
+fn readers_at(bytes: &[u8], at: usize) -> [Reader; 9]
+    requires { ⌜ at + 162 ≤ length (now bytes) ⌝ }
+    ensures { λ r. ⌜ r ≡ readersAt (now (bytes .entry)) at ⌝ }
+{
+    let first = reader_at(bytes, at);
+    let mut x = [first; 9];
+    let mut j = 0;
+    while j < 9 {
+        x[j] = reader_at(bytes, at + j * 18);
+        j += 1;
+    }
+    x
+}
+
+// ---- the record
+
+// Writes the record of a server from index at on.
+pub fn put_server(s: Server, out: &mut [u8], at: usize)
+    requires { ⌜ at + serverSize ≤ length (now out) ⌝ }
+    ensures { λ _. ⌜ now (out .exit) ≡ sets (now (out .entry)) at (serverBytes s) ⌝ }
+{
+    let stamp = s.stamp;
+    let slots = s.slots;
+    let readers = s.readers;
+    put_stamp(stamp, out, at);
+    put_slots(slots, out, at + 13);
+    put_readers(readers, out, at + 2191);
+}
+
+// The record of a server that the bytes from index at on say.
+pub fn server_at(bytes: &[u8], at: usize) -> Server
+    requires { ⌜ at + serverSize ≤ length (now bytes) ⌝ }
+    ensures { λ r. ⌜ r ≡ serverAt (now (bytes .entry)) at ⌝ }
+{
+    let stamp = stamp_at(bytes, at);
+    let slots = slots_at(bytes, at + 13);
+    let readers = readers_at(bytes, at + 2191);
+    Server {
+        stamp,
+        slots,
+        readers,
+    }
+}

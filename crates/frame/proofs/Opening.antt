@@ -60,7 +60,7 @@ pub record HeaderFine (v : ℕ) (h : Header) : Type 0 where
   pub client-high : h .client ≤ 8
   pub sequence-low : 1 ≤ h .sequence
 
-header-facts : (v : ℕ) (h : Header) → headerTest v h ≡ J.Fine → HeaderFine v h
+pub header-facts : (v : ℕ) (h : Header) → headerTest v h ≡ J.Fine → HeaderFine v h
 unfolding headerTest
 header-facts v h e =
     let a = fine-is (eqb v version) R.Version _ e in
@@ -85,7 +85,7 @@ stamp-facts s e =
     let b = fine-not (ltb 8 (s .writer)) R.Content _ (a .1) in
     record { parts = a .0; writer = ltb-false _ _ (b .0) }
 
-content-facts : (kind : ℕ) (f : List ℕ) → contentTest kind f ≡ J.Fine → kind ≡ 11 → StampFine (stampIn f)
+pub content-facts : (kind : ℕ) (f : List ℕ) → contentTest kind f ≡ J.Fine → kind ≡ 11 → StampFine (stampIn f)
 unfolding contentTest pick
 content-facts kind f e k = stamp-facts (stampIn f) (rw (eq-eqb kind 11 k) at e)
 

@@ -27,18 +27,18 @@ module _ (kind client sequence : ℕ) (body : List ℕ) where
   unfolding frameOf headerBytes bytes2 bytes4
   length-frame = omega arith
 
-  length-field : length body < 65529 → be2 (frameOf kind client sequence body) 0 + 2 ≡ length (frameOf kind client sequence body)
+  pub length-field : length body < 65529 → be2 (frameOf kind client sequence body) 0 + 2 ≡ length (frameOf kind client sequence body)
   unfolding frameOf headerBytes bytes4 bytes2
   length-field h =
       let z : 7 + length body < 65536 = omega arith in
       let e : be2 (frameOf kind client sequence body) 0 ≡ 7 + length body = be2-bytes2 (7 + length body) _ z in
       omega (arith, e)
 
-  header-back : sequence < 4294967296 → headerIn (frameOf kind client sequence body) ≡ record { kind = kind; client = client; sequence = sequence }
+  pub header-back : sequence < 4294967296 → headerIn (frameOf kind client sequence body) ≡ record { kind = kind; client = client; sequence = sequence }
   unfolding headerIn frameOf headerBytes be4 be2 bytes4 bytes2
   header-back h = let e = be4-bytes4 sequence body h in λ i. record { kind = kind; client = client; sequence = e i }
 
-  version-back : getD (frameOf kind client sequence body) versionAt 0 ≡ version
+  pub version-back : getD (frameOf kind client sequence body) versionAt 0 ≡ version
   unfolding frameOf headerBytes bytes2
   version-back = refl
 

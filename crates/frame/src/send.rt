@@ -94,7 +94,7 @@ fn put_frame(
 }
 
 // Sends one frame, behind those before it.
-fn deposit(
+pub fn deposit(
     out: &mut [u8],
     to: &mut [u8],
     p: Place,
@@ -119,7 +119,7 @@ fn deposit(
 }
 
 // Sends one frame to each of servers 1 to n.
-fn deposit_all(
+pub fn deposit_all(
     out: &mut [u8],
     to: &mut [u8],
     p: Place,

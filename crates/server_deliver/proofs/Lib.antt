@@ -1,0 +1,3 @@
+pub mod BlockSteps
+pub mod KindSteps
+pub mod Openings

@@ -7,3 +7,4 @@ pub mod Acceptance
 pub mod TimeStage
 pub mod Present
 pub mod Answers
+pub mod Constructing

@@ -1,11 +1,21 @@
 // A server: its state by value. Place j of an array belongs to server or client j; place 0 stays empty.
+use crate::setup::construct_test;
+use crate::setup::store_initial;
+use crate::state::fresh_server;
+use blocks::Params;
 use frame::Place;
 use frame::Refusal;
 use frame::Stamp;
+use frame::Verdict;
+ghost use mathlib.Core.Path.{_≡_};
+ghost use Rattle.sha256.specs.Hash.{digestOf};
+ghost use Rattle.server.specs.Delivery.{constructed, construction};
 
 pub mod accept;
 pub mod asking;
 pub mod reads;
+pub mod replies;
+pub mod setup;
 pub mod state;
 pub mod tests;
 pub mod times;
@@ -56,6 +66,25 @@ impl Server {
     pub const CLIENTS: usize = 8;
 
     pub const LAST_TIME: u64 = 18446744073709551615;
+
+    // A fresh server with the digests of the initial value; its own block of it goes to the initial area.
+    pub fn fresh(g: Params, me: u8, value: &[u8], area: &mut [u8], initial: &mut [u8]) -> Served
+        ensures { λ r. ⌜ constructed r (now (area .exit)) (now (initial .exit)) ≡ construction digestOf g me (now (value .entry)) (now (area .entry)) (now (initial .entry)) ⌝ }
+    {
+        let server = fresh_server();
+        let v = construct_test(g, me, value, area.len(), initial.len());
+        if let Verdict::Bad(r) = v {
+            return Served {
+                reply: Reply::Refused(r),
+                server,
+            };
+        }
+        store_initial(g, me, value, area, initial);
+        Served {
+            reply: Reply::Step(0),
+            server,
+        }
+    }
 }
 
 // A step that sent so many frames, or the reason why there is none.

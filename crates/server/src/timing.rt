@@ -3,6 +3,7 @@ use crate::Moved;
 use crate::Reply;
 use crate::Served;
 use crate::Server;
+use crate::replies::served;
 use crate::state::time_echo;
 use crate::state::time_ready;
 use crate::state::time_sent;
@@ -27,24 +28,11 @@ ghost use Rattle.frame.specs.Messages.{message, timeIs, send, echo, ready, numb
 ghost use Rattle.frame.specs.Outbox.{firstPlace, Room};
 ghost use Rattle.frame.specs.Params.{largestFrame, Bounded};
 ghost use Rattle.sha256.specs.Hash.{digestOf};
-ghost use Rattle.server.specs.declared.Reply.the-variants as Y;
 ghost use Rattle.server.specs.State.{slotOf};
 ghost use Rattle.server.specs.Tests.{messageTest};
 ghost use Rattle.server.specs.Steps.{onTime};
 ghost use Rattle.server.specs.Delivery.{outcome};
 ghost use Rattle.server.specs.Stages.{answered, Lent};
-
-// The reply of a step.
-pub fn served(m: Moved) -> Served
-    ensures { λ r. ⌜ (r .reply ≡ Y.Step (m .place .count)) × (r .server ≡ m .server) ⌝ }
-{
-    let p = m.place;
-    let server = m.server;
-    Served {
-        reply: Reply::Step(p.count),
-        server,
-    }
-}
 
 // 6: the owner's time, echoed to all.
 pub fn on_time_send(

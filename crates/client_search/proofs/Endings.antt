@@ -1,24 +1,23 @@
 -- The end of a read: the decoding's needs, what the search tells, and the whole outcome. Assumes nothing.
-use Prim.Native.Nat.{ℕ, _+_, _*_, _≤_, _<_}
+use Prim.Native.Nat.{ℕ, _+_, _*_, _≤_}
 use native.Mathlib.Omega.{arith}
 use native.Mathlib.Nat.{mul-le-mul-left, mul-le-mul-right}
 use mathlib.Core.Bool.{Bool, true, false}
 use mathlib.Core.Path.{_≡_, refl, ap, sym, _∙_}
-use mathlib.Core.Option.{Option, none, some}
+use mathlib.Core.Option.{Option, some}
 use mathlib.Core.List.{List, [], _∷_}
-use lib.ListN.{length, getD}
+use lib.ListN.{length}
 use lib.Seq.{sets}
-use lib.Dec.{leb}
 use borrow.Author.Tests.{leb-true}
 use Rattle.quorum.specs.Quorum.{count}
 use Rattle.quorum.proofs.Logic.{impossible}
-use Rattle.field.specs.Field.{Tables, Powers, Logs}
+use Rattle.field.specs.Field.{Powers, Logs}
 use Rattle.blocks.specs.declared.Params.{Params}
 use Rattle.sha256.specs.Hash.{digestOf}
 use Rattle.frame.specs.declared.Stamp.{Stamp}
 use Rattle.frame.specs.declared.Place.{Place}
-use Rattle.frame.specs.Params.{Bounded, largestFrame}
-use Rattle.frame.specs.Messages.{Entry, message, readComplete, toAll}
+use Rattle.frame.specs.Params.{largestFrame}
+use Rattle.frame.specs.Messages.{message, readComplete, toAll}
 use Rattle.frame.specs.Chunks.{entryAt, placeAt}
 use Rattle.frame.specs.Coded.{hasList, decoded}
 use Rattle.frame.specs.Outbox.{frames, receivers, Outbox, outbox, firstPlace, sent, Room}
@@ -29,8 +28,8 @@ use Rattle.client.specs.declared.Row.{Row}
 use Rattle.client.specs.declared.Client.{Client}
 use Rattle.client.specs.declared.Answer.the-variants as Y
 use Rattle.client.specs.declared.Phase.the-variants as F
-use Rattle.client.specs.Rows.{Kept, Found, atStamp, rowView, rowsFrom, agreed, firstBy, firstAgreed, foundOf, foundBy, search}
-use Rattle.client.specs.Steps.{completeBy, settle, quiet}
+use Rattle.client.specs.Rows.{Kept, atStamp, rowView, rowsFrom, agreed, firstBy, firstAgreed, foundOf, foundBy, search}
+use Rattle.client.specs.Steps.{completeBy, settle}
 use Rattle.client.specs.Stages.{Lent, stepped}
 use Rattle.client.specs.Delivery.{Outcome, eventAnswer, resultOf}
 use Rattle.client_search.specs.declared.Hits.{Hits}
@@ -43,29 +42,32 @@ use Rattle.client_search.proofs.Searches.{holders-count, holders-value}
 
 -- ---- decoding
 
-module _ (g : Params) (rows : List Row) (a : List ℕ) (x : Stamp) (p result : ℕ) (q : Regaining g rows a x p result) (h : Hits) (e : h ≡ holdersOf g rows a x p) where
+module _ (g : Params) (rows : List Row) (a : List ℕ) (x : Stamp) (p result : ℕ) (q : Regaining g rows a x p result) (h k : Hits) (e : h ≡ hitsOf rows x) (u : k ≡ holdersOf g a h p) where
+  all : k ≡ holdersOf g a (hitsOf rows x) p
+  all = u ∙ ap (λ z. holdersOf g a z p) e
+
   -- n - t rows have the value, and k is at most that
-  enough : g .k ≤ count (marked (h .on)) (g .n)
+  enough : g .k ≤ count (marked (k .on)) (g .n)
   unfolding agreed
   enough =
-      let c : count (marked (h .on)) (g .n) ≡ count (λ j. hasList (atStamp (view g rows a j) x) (entryAt g a p .digests)) (g .n) =
-      ap (λ (k : Hits). count (marked (k .on)) (g .n)) e ∙ holders-count g rows a x p (q .searching) in
+      let c : count (marked (k .on)) (g .n) ≡ count (λ j. hasList (atStamp (view g rows a j) x) (entryAt g a p .digests)) (g .n) =
+      ap (λ (z : Hits). count (marked (z .on)) (g .n)) all ∙ holders-count g rows a x p (q .searching) in
       let l : g .n ≤ count (λ j. hasList (atStamp (view g rows a j) x) (entryAt g a p .digests)) (g .n) + g .t = leb-true _ _ (q .held) in
       omega (arith, c, l, q .searching .bounded .blocks-high)
 
-  pub regaining : (ps ls : List ℕ) → Powers ps → Logs ls → Decoding g (h .on) (h .at) a result ps ls
+  pub regaining : (ps ls : List ℕ) → Powers ps → Logs ls → Decoding g (k .on) (k .at) a result ps ls
   unfolding holdersOf
   regaining ps ls u v = record {
     bounded = q .searching .bounded;
-    within = rw e (hits-within rows x a (q .searching .whole));
+    within = rw all (hits-within rows x a (q .searching .whole));
     enough = enough;
     room = q .value-room;
     tables = record { powers = u; logs = v };
   }
 
-  pub regained : (l r : List ℕ) → r ≡ sets l 0 (valueFrom g (h .on) (h .at) a)
+  pub regained : (l r : List ℕ) → r ≡ sets l 0 (valueFrom g (k .on) (k .at) a)
       → r ≡ sets l 0 (decoded g (λ j. atStamp (view g rows a j) x) (entryAt g a p .digests))
-  regained l r d = d ∙ ap (sets l 0) (ap (λ (k : Hits). valueFrom g (k .on) (k .at) a) e ∙ holders-value g rows a x p (q .searching))
+  regained l r d = d ∙ ap (sets l 0) (ap (λ (z : Hits). valueFrom g (z .on) (z .at) a) all ∙ holders-value g rows a x p (q .searching))
 
 -- ---- what the search tells
 

@@ -6,7 +6,7 @@ use native.Mathlib.Numerals.{add-one}
 use native.Mathlib.Decide.{decLe}
 use mathlib.Core.Bool.{Bool, true, false, _&&_}
 use mathlib.Core.Path.{_≡_, refl, ap, sym, _∙_}
-use mathlib.Core.Option.{Option, none, some}
+use mathlib.Core.Option.{some}
 use mathlib.Core.List.{List}
 use lib.ListN.{length, getD, List·getD-eq-default}
 use lib.Dec.{leb, ltb}
@@ -16,7 +16,6 @@ use Rattle.area.proofs.Tests.{and-right}
 use Rattle.area.proofs.Fills.{getD-table, length-table}
 use Rattle.blocks.specs.declared.Params.{Params}
 use Rattle.frame.specs.declared.Stamp.{Stamp}
-use Rattle.frame.specs.Messages.{Entry}
 use Rattle.frame.specs.Stamps.{sameStamp}
 use Rattle.frame.specs.Chunks.{entryAt, placeAt, chunkAt, rowsBytes}
 use Rattle.group.specs.Entries.{kept, marked, entries, Within}

@@ -2,68 +2,115 @@
 use Prim.Native.Nat.{ℕ, zero, suc, _+_, _-_, _≤_, _<_}
 use native.Mathlib.Omega.{arith}
 use native.Mathlib.Numerals.{add-one}
-use mathlib.Core.Bool.{Bool, true, false}
-use mathlib.Core.Path.{_≡_, refl, ap, ap₂, sym, _∙_}
+use mathlib.Core.Bool.{Bool, true, false, not}
+use mathlib.Core.Path.{_≡_, refl, ap, sym, _∙_}
 use mathlib.Core.Option.{Option, none, some}
-use mathlib.Core.List.{List, [], _∷_, _++_}
+use mathlib.Core.List.{List, _++_}
 use lib.ListN.{length, getD}
 use lib.Dec.{leb}
-use Rattle.quorum.specs.Quorum.{count}
+use borrow.Author.Tests.{lt-leb, leb-false, not-true}
+use Rattle.quorum.specs.Quorum.{bit, count}
 use Rattle.blocks.specs.declared.Params.{Params}
 use Rattle.frame.specs.declared.Stamp.{Stamp}
-use Rattle.frame.specs.Params.{Bounded}
 use Rattle.frame.specs.Messages.{Entry}
-use Rattle.frame.specs.Chunks.{entryAt, placeAt, rowsBytes}
+use Rattle.frame.specs.Chunks.{chunkAt, entryAt, rowsBytes}
 use Rattle.frame.specs.Coded.{hasList, decoded}
-use Rattle.group.specs.Entries.{marked, entries, sentList, flags}
+use Rattle.group.specs.Entries.{kept, marked, entries, sentList, flags}
 use Rattle.group.specs.Choice.{valueFrom}
 use Rattle.group.specs.Needs.{Comparing}
-use Rattle.group.proofs.Matched.{matched-count, matched-value}
+use Rattle.group.proofs.Matched.{count-flags, matched-count, matched-value}
 use Rattle.client.specs.declared.Row.{Row}
-use Rattle.client.specs.State.{noStamp, noRow}
+use Rattle.client.specs.State.{noRow}
 use Rattle.client.specs.Rows.{Kept, used, placesFrom, atStamp, rowsFrom, agreed, firstBy, firstAgreed}
+use Rattle.client.specs.Steps.{quorate}
 use Rattle.client_search.specs.declared.Hits.{Hits}
 use Rattle.client_search.specs.AtStamp.{hitsOf}
 use Rattle.client_search.specs.declared.Stop.{Stop}
-use Rattle.client_search.specs.declared.Stop.the-variants.{At, Nowhere}
+use Rattle.client_search.specs.declared.Stop.the-variants.{Nowhere}
 use Rattle.client_search.specs.Search.{view, holdersOf, keptAt, standing, Inside, Searching}
 use Rattle.client_search.proofs.Firsts.{hits-within, hits-entry}
 
 -- ---- a candidate: stamp x, and the digest list in chunk p
 
+-- fewer pass a test that implies another
+bit-le : (a b : Bool) → (a ≡ true → b ≡ true) → bit a ≤ bit b
+bit-le true b h = rw (h refl) (omega arith)
+bit-le false b h = omega arith
+
+count-le-count : (p q : ℕ → Bool) (n : ℕ) → ((j : ℕ) → p j ≡ true → q j ≡ true) → count p n ≤ count q n
+unfolding count
+count-le-count p q zero h = omega arith
+count-le-count p q (suc n) h = omega (arith, bit-le (p (suc n)) (q (suc n)) (h (suc n)), count-le-count p q n h)
+
+kept-list : (b : Bool) (e : Entry) (d : List ℕ) → hasList (kept b e) d ≡ true → b ≡ true
+kept-list true e d q = refl
+kept-list false e d q = q
+
+sent-flagged : (g : Params) (on : List Bool) (at a d : List ℕ) (j : ℕ) → sentList g on at a d j ≡ true → marked on j ≡ true
+unfolding sentList entries
+sent-flagged g on at a d j e = kept-list (marked on j) (entryAt g a (getD at j 0)) d e
+
 pub comparing : (g : Params) (rows : List Row) (a : List ℕ) (x : Stamp) → Searching g (length a) → (h : Hits) → h ≡ hitsOf rows x → Comparing g (h .at) a
 comparing g rows a x q h e = record { bounded = q .bounded; within = rw e (hits-within rows x a (q .whole)) }
 
-module _ (g : Params) (rows : List Row) (a : List ℕ) (x : Stamp) (p : ℕ) where
-  pub holders-law : (h : Hits) (list : List ℕ) (on : List Bool) → h ≡ hitsOf rows x → list ≡ entryAt g a p .digests
-      → on ≡ flags (sentList g (h .on) (h .at) a list) (g .n) → _≡_ {A = Hits} (record { on = on; at = h .at }) (holdersOf g rows a x p)
+pub chunk-room : (p l : ℕ) → p ≤ 39 → rowsBytes ≤ l → chunkAt p + 576 ≤ l
+chunk-room p l h w = omega arith
+
+pub holders-law : (g : Params) (a : List ℕ) (h : Hits) (p : ℕ) (list : List ℕ) (on : List Bool) → list ≡ entryAt g a p .digests
+    → on ≡ flags (sentList g (h .on) (h .at) a list) (g .n) → _≡_ {A = Hits} (record { on = on; at = h .at }) (holdersOf g a h p)
+unfolding holdersOf
+holders-law g a h p list on d q =
+    let w = q ∙ ap (λ l. flags (sentList g (h .on) (h .at) a l) (g .n)) d in
+    λ i. record { on = w i; at = h .at }
+
+module _ (g : Params) (rows : List Row) (a : List ℕ) (x : Stamp) (p : ℕ) (q : Searching g (length a)) where
+  -- what row j has at the stamp, and how many have it with the list
+  abbrev at-row : ℕ → Option Entry
+  at-row j = atStamp (view g rows a j) x
+
+  abbrev with-list : ℕ
+  with-list = count (λ j. hasList (at-row j) (entryAt g a p .digests)) (g .n)
+
+  agree : (j : ℕ) → 1 ≤ j → j ≤ g .n → entries g (hitsOf rows x .on) (hitsOf rows x .at) a j ≡ at-row j
+  agree j low high = hits-entry rows x g a j low (omega (arith, high, q .bounded .servers-high))
+
+  pub holders-count : count (marked (holdersOf g a (hitsOf rows x) p .on)) (g .n) ≡ with-list
   unfolding holdersOf
-  holders-law h list on e d q =
-      let w = q ∙ ap₂ (λ (k : Hits) l. flags (sentList g (k .on) (k .at) a l) (g .n)) e d in
-      λ i. record { on = w i; at = e i .at }
+  holders-count = matched-count g (hitsOf rows x .on) (hitsOf rows x .at) a (entryAt g a p .digests) at-row agree (q .bounded .servers-high)
 
-  module _ (q : Searching g (length a)) where
-    agree : (j : ℕ) → 1 ≤ j → j ≤ g .n → entries g (hitsOf rows x .on) (hitsOf rows x .at) a j ≡ atStamp (view g rows a j) x
-    agree j low high = hits-entry rows x g a j low (omega (arith, high, q .bounded .servers-high))
+  -- "the value is decoded from the k lowest of those servers"
+  pub holders-value : valueFrom g (holdersOf g a (hitsOf rows x) p .on) (holdersOf g a (hitsOf rows x) p .at) a ≡ decoded g at-row (entryAt g a p .digests)
+  unfolding holdersOf
+  holders-value = matched-value g (hitsOf rows x .on) (hitsOf rows x .at) a (entryAt g a p .digests) at-row agree (q .bounded .servers-high)
 
-    pub holders-count : count (marked (holdersOf g rows a x p .on)) (g .n) ≡ count (λ j. hasList (atStamp (view g rows a j) x) (entryAt g a p .digests)) (g .n)
-    unfolding holdersOf
-    holders-count =
-        matched-count g (hitsOf rows x .on) (hitsOf rows x .at) a (entryAt g a p .digests) (λ j. atStamp (view g rows a j) x) agree (q .bounded .servers-high)
+  -- at most as many as have the stamp
+  with-list-le : with-list ≤ count (marked (hitsOf rows x .on)) (g .n)
+  unfolding holdersOf
+  with-list-le =
+      let on = hitsOf rows x .on in
+      let at = hitsOf rows x .at in
+      let d = entryAt g a p .digests in
+      let e : with-list ≡ count (sentList g on at a d) (g .n) = sym holders-count ∙ count-flags (sentList g on at a d) (g .n) (q .bounded .servers-high) in
+      let l = count-le-count (sentList g on at a d) (marked on) (g .n) (sent-flagged g on at a d) in
+      omega (arith, e, l)
 
-    -- "the value is decoded from the k lowest of those servers"
-    pub holders-value : valueFrom g (holdersOf g rows a x p .on) (holdersOf g rows a x p .at) a ≡ decoded g (λ j. atStamp (view g rows a j) x) (entryAt g a p .digests)
-    unfolding holdersOf
-    holders-value =
-        matched-value g (hitsOf rows x .on) (hitsOf rows x .at) a (entryAt g a p .digests) (λ j. atStamp (view g rows a j) x) agree (q .bounded .servers-high)
+  module _ (h : Hits) (e : h ≡ hitsOf rows x) (b : Bool) where
+    -- too few rows have the stamp
+    pub agreed-few : b ≡ quorate g (h .on) → not b ≡ true → false ≡ agreed g (view g rows a) (record { stamp = x; entry = entryAt g a p })
+    unfolding agreed quorate marked
+    agreed-few d o =
+        let f : leb (g .n) (count (marked (hitsOf rows x .on)) (g .n) + g .t) ≡ false =
+        sym (d ∙ ap (λ (k : Hits). quorate g (k .on)) e) ∙ not-true b o in
+        let m : count (marked (hitsOf rows x .on)) (g .n) + g .t < g .n = leb-false _ _ f in
+        let n : with-list + g .t < g .n = omega (arith, with-list-le) in
+        sym (lt-leb (g .n) (with-list + g .t) n)
 
-    pub agreed-law : (h : Hits) (c : ℕ) → h ≡ holdersOf g rows a x p → c ≡ count (marked (h .on)) (g .n)
-        → leb (g .n) (c + g .t) ≡ agreed g (view g rows a) (record { stamp = x; entry = entryAt g a p })
-    unfolding agreed
-    agreed-law h c e d =
-        let w : c ≡ count (λ j. hasList (atStamp (view g rows a j) x) (entryAt g a p .digests)) (g .n) =
-        d ∙ ap (λ (k : Hits). count (marked (k .on)) (g .n)) e ∙ holders-count in
-        ap (λ k. leb (g .n) (k + g .t)) w
+    pub agreed-law : (k : Hits) → k ≡ holdersOf g a h p → b ≡ quorate g (k .on)
+        → b ≡ agreed g (view g rows a) (record { stamp = x; entry = entryAt g a p })
+    unfolding agreed quorate marked
+    agreed-law k u d =
+        let w : k ≡ holdersOf g a (hitsOf rows x) p = u ∙ ap (λ z. holdersOf g a z p) e in
+        d ∙ ap (λ (z : Hits). quorate g (z .on)) w ∙ ap (λ c. leb (g .n) (c + g .t)) holders-count
 
 -- ---- the loops
 

@@ -8,7 +8,6 @@ use lib.ListN.{length, getD}
 use Rattle.blocks.specs.declared.Params.{Params}
 use Rattle.frame.specs.declared.Stamp.{Stamp}
 use Rattle.frame.specs.Params.{Bounded}
-use Rattle.frame.specs.Messages.{Entry}
 use Rattle.frame.specs.Chunks.{entryAt, placeAt, rowsBytes}
 use Rattle.frame.specs.Outbox.{Room, firstPlace}
 use Rattle.group.specs.Entries.{sentList, flags}
@@ -18,18 +17,14 @@ use Rattle.client.specs.Rows.{Kept, used, placesFrom, agreed}
 use Rattle.client_search.specs.declared.Hits.{Hits}
 use Rattle.client_search.specs.declared.Stop.{Stop}
 use Rattle.client_search.specs.declared.Stop.the-variants.{At, Nowhere}
-use Rattle.client_search.specs.AtStamp.{hitsOf}
 
 -- server j's row, in the order of its places
 abbrev pub view : Params → List Row → List ℕ → ℕ → List Kept
 view g rows a j = placesFrom g a j (getD rows j noRow) 0 (used (getD rows j noRow))
 
--- the servers whose rows have stamp x with the digest list in chunk p, and the chunks of what the rows have at x
-unfoldable pub holdersOf : Params → List Row → List ℕ → Stamp → ℕ → Hits
-holdersOf g rows a x p = record {
-  on = flags (sentList g (hitsOf rows x .on) (hitsOf rows x .at) a (entryAt g a p .digests)) (g .n);
-  at = hitsOf rows x .at;
-}
+-- of what the rows have at a stamp, that with the digest list in chunk p
+unfoldable pub holdersOf : Params → List ℕ → Hits → ℕ → Hits
+holdersOf g a h p = record { on = flags (sentList g (h .on) (h .at) a (entryAt g a p .digests)) (g .n); at = h .at }
 
 -- what stands at place i of server j's row
 abbrev pub keptAt : Params → List Row → List ℕ → ℕ → ℕ → Kept

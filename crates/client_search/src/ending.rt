@@ -1,4 +1,5 @@
 // The end of a read: "Then read-complete goes to all and the value is decoded from the k lowest of those servers."
+use crate::at_stamp::hits;
 use crate::searching::holders;
 use blocks::Params;
 use client::Answer;
@@ -29,9 +30,10 @@ fn regain_value(rows: [Row; 11], x: Stamp, p: usize, area: &[u8], g: Params, res
     requires { ⌜ Regaining g rows (now area) x p (length (now result)) ⌝ }
     ensures { λ _. ⌜ now (result .exit) ≡ sets (now (result .entry)) 0 (decoded g (λ j. atStamp (view g rows (now (area .entry)) j) x) (entryAt g (now (area .entry)) p .digests)) ⌝ }
 {
-    let h = holders(rows, x, p, area, g);
-    let on = h.on;
-    let at = h.at;
+    let h = hits(rows, x);
+    let k = holders(h, p, area, g);
+    let on = k.on;
+    let at = k.at;
     let ps = field::powers();
     let ls = field::logs();
     regain(on, at, area, g, result, &ps, &ls);

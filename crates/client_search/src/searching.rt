@@ -4,24 +4,24 @@ use crate::Stop;
 use crate::at_stamp::hits;
 use blocks::Params;
 use client::Row;
+use client::counts::is_quorate;
 use client::rows::used_places;
 use frame::Stamp;
 use frame::entries::digests_at;
 use group::matching::matching;
-use group::matching::tally;
 ghost use mathlib.Core.Path.{_≡_};
-ghost use Prim.Native.Nat.{_≤_};
+ghost use Prim.Native.Nat.{_+_, _≤_};
 ghost use lib.ListN.{length};
-ghost use Rattle.frame.specs.Chunks.{entryAt};
+ghost use Rattle.frame.specs.Chunks.{chunkAt, entryAt};
+ghost use Rattle.group.specs.Needs.{Comparing};
 ghost use Rattle.client.specs.Rows.{rowsFrom, agreed, firstAgreed};
 ghost use Rattle.client_search.specs.Search.{view, holdersOf, Searching, standing, Inside};
 
-// The servers whose rows have stamp x with the digest list in chunk p, and the chunks of what the rows have at x.
-pub fn holders(rows: [Row; 11], x: Stamp, p: usize, area: &[u8], g: Params) -> Hits
-    requires { ⌜ Searching g (length (now area)) × (p ≤ 39) ⌝ }
-    ensures { λ h. ⌜ h ≡ holdersOf g rows (now (area .entry)) x p ⌝ }
+// Of what the rows have at a stamp, that with the digest list in chunk p.
+pub fn holders(h: Hits, p: usize, area: &[u8], g: Params) -> Hits
+    requires { ⌜ Comparing g (h .at) (now area) × (chunkAt p + 576 ≤ length (now area)) ⌝ }
+    ensures { λ r. ⌜ r ≡ holdersOf g (now (area .entry)) h p ⌝ }
 {
-    let h = hits(rows, x);
     let on = h.on;
     let at = h.at;
     let list = digests_at(area, p, g);
@@ -29,14 +29,19 @@ pub fn holders(rows: [Row; 11], x: Stamp, p: usize, area: &[u8], g: Params) -> H
     Hits { on, at }
 }
 
-// Whether stamp x and the digest list in chunk p are in n - t rows.
+// Whether stamp x and the digest list in chunk p are in n - t rows. The lists are compared only where n - t rows have the stamp.
 fn is_agreed(rows: [Row; 11], x: Stamp, p: usize, area: &[u8], g: Params) -> bool
     requires { ⌜ Searching g (length (now area)) × (p ≤ 39) ⌝ }
     ensures { λ r. ⌜ r ≡ agreed g (view g rows (now (area .entry))) (record { stamp = x; entry = entryAt g (now (area .entry)) p }) ⌝ }
 {
-    let h = holders(rows, x, p, area, g);
+    let h = hits(rows, x);
     let on = h.on;
-    g.n <= tally(on, g.n) + g.t
+    if !is_quorate(g, on) {
+        return false;
+    }
+    let k = holders(h, p, area, g);
+    let on = k.on;
+    is_quorate(g, on)
 }
 
 // The first place, by rising server and place, whose stamp and digest list are in n - t rows.

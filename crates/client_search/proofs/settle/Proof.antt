@@ -1,46 +1,33 @@
+-- Nothing is found, or the read ends. Assumes nothing.
 use Rattle.client_search.proofs.Endings.{finishing, settle-none, settle-some}
-use native.Mathlib.Omega.{arith}
 use borrow.Author.Needs.{needs}
 use Rattle.client_search.proofs.settle.Statement.{statement}
 use Rattle.client_search.proofs.settle.Tie as tie
-use Rattle.client_search.proofs.settle.Reads as reads
-use Rattle.client_search.proofs.settle.Lts as lts
-use Rattle.client_search.proofs.ending.finish.Reads as finish-reads
-use Rattle.client_search.proofs.searching.search.Reads as search-reads
 
--- src/ending.rt:95:9
 search-requires : tie.Need-search-requires
 search-requires c κs = search needs
 
--- src/ending.rt:96:18
 enum-known-stop : tie.Need-enum-known-stop
 enum-known-stop c = search needs
 
--- src/ending.rt:98:21
 enum-told : tie.Need-enum-told
 enum-told c = search needs
 
--- src/ending.rt:97:9
 returns : tie.Need-returns
 returns c = settle-none _ _ _ _ _ _ _ _ (c .before .before .search .ensures) (c .enum-told .given .1)
 
--- src/ending.rt:102:5
 finish-requires : tie.Need-finish-requires
 finish-requires c κs = finishing _ _ _ _ _ _ (c .before .before .before .before .before .before .before .before .before .before .before .before .pre) _ _ _ (c .before .before .before .before .stop .given .1) (c .before .before .before .before .before .before .search .ensures)
 
--- src/ending.rt:82:1
 same-length : tie.Need-same-length
 same-length c = search needs
 
--- src/ending.rt:82:1
 same-length-2 : tie.Need-same-length-2
 same-length-2 c = search needs
 
--- src/ending.rt:82:1
 same-length-3 : tie.Need-same-length-3
 same-length-3 c = search needs
 
--- src/ending.rt:82:1
 returns-2 : tie.Need-returns-2
 returns-2 c = settle-some _ _ _ _ _ _ _ _ (c .before .before .before .before .before .before .before .before .before .before .before .before .before .search .ensures) _ _ _ (c .before .before .before .before .before .before .before .before .before .before .before .stop .given .1) (c .before .before .before .before .before .before .finish .ensures)
 

@@ -1,42 +1,30 @@
+-- By the tests in their order. Assumes nothing.
 use Rattle.client_search.proofs.Firsts.{hit-zero, hit-none, hit-some}
-use native.Mathlib.Omega.{arith}
 use borrow.Author.Needs.{needs}
 use Rattle.client_search.proofs.at_stamp.hit_at.Statement.{statement}
 use Rattle.client_search.proofs.at_stamp.hit_at.Tie as tie
-use Rattle.client_search.proofs.at_stamp.hit_at.Reads as reads
-use Rattle.client_search.proofs.at_stamp.hit_at.Lts as lts
-use Rattle.client.proofs.rows.used_places.Reads as used-places-reads
-use Rattle.client_search.proofs.at_stamp.first_place.Reads as first-place-reads
 
--- src/at_stamp.rt:34:9
 returns : tie.Need-returns
 returns c = hit-zero _ _ _ (c .if1 .taken)
 
--- src/at_stamp.rt:39:9
 used-places-requires : tie.Need-used-places-requires
 used-places-requires c κs = search needs
 
--- src/at_stamp.rt:41:9
 first-place-requires : tie.Need-first-place-requires
 first-place-requires c κs = search needs
 
--- src/at_stamp.rt:43:9
 returns-2 : tie.Need-returns-2
 returns-2 c = hit-none _ _ _ (c .before .before .before .before .if1 .left) _ _ (c .before .before .before .used-places .ensures .0) (c .before .first-place .ensures .0) (c .if2 .taken)
 
--- src/at_stamp.rt:50:16
 mul-t8 : tie.Need-mul-t8
 mul-t8 c = search needs
 
--- src/at_stamp.rt:50:16
 sub-t9 : tie.Need-sub-t9
 sub-t9 c = search needs
 
--- src/at_stamp.rt:50:16
 add-t10 : tie.Need-add-t10
 add-t10 c = search needs
 
--- src/at_stamp.rt:29:1
 returns-3 : tie.Need-returns-3
 returns-3 c = hit-some _ _ _ (c .before .before .before .before .if1 .left) _ _ (c .before .before .before .used-places .ensures .0) (c .before .first-place .ensures .0) (c .if2 .left)
 

@@ -1,3 +1,4 @@
+-- After j turns the flags and chunks of servers 0 to j - 1 are stored. Assumes nothing.
 use Prim.Native.Nat.{_≤_, _-_}
 use mathlib.Core.Bool.{false}
 use mathlib.Core.Path.{_≡_, refl, ap}
@@ -12,9 +13,6 @@ use native.Mathlib.Omega.{arith}
 use borrow.Author.Needs.{needs}
 use Rattle.client_search.proofs.at_stamp.hits.Statement.{statement}
 use Rattle.client_search.proofs.at_stamp.hits.Tie as tie
-use Rattle.client_search.proofs.at_stamp.hits.Reads as reads
-use Rattle.client_search.proofs.at_stamp.hits.Lts as lts
-use Rattle.client_search.proofs.at_stamp.hit_at.Reads as hit-at-reads
 
 abbrev Inv-loop : tie.InvT-loop
 Inv-loop x rows on₀ at₀ j₀ on at j =
@@ -25,50 +23,39 @@ Inv-loop x rows on₀ at₀ j₀ on at j =
 abbrev μ-loop : tie.MeasureT-loop
 μ-loop x rows on₀ at₀ j₀ on at j = 11 - j
 
--- src/at_stamp.rt:61:5
 loop-holds : tie.Need-loop-holds Inv-loop μ-loop
 unfolding table tableFrom
 loop-holds c = (refl, refl, omega arith)
 
--- src/at_stamp.rt:62:17
 mul-r : tie.Need-mul-r Inv-loop μ-loop
 mul-r c = search needs
 
--- src/at_stamp.rt:62:17
 array-copy-out-r : tie.Need-array-copy-out-r Inv-loop μ-loop
 array-copy-out-r c = search needs
 
--- src/at_stamp.rt:63:13
 hit-at-requires : tie.Need-hit-at-requires Inv-loop μ-loop
 hit-at-requires c κs = search needs
 
--- src/at_stamp.rt:64:9
 array-write-on : tie.Need-array-write-on Inv-loop μ-loop
 array-write-on c = search needs
 
--- src/at_stamp.rt:65:9
 mul-at : tie.Need-mul-at Inv-loop μ-loop
 mul-at c = search needs
 
--- src/at_stamp.rt:65:9
 array-write-at : tie.Need-array-write-at Inv-loop μ-loop
 array-write-at c = search needs
 
--- src/at_stamp.rt:66:9
 add-j : tie.Need-add-j Inv-loop μ-loop
 add-j c = search needs
 
--- src/at_stamp.rt:61:5
 loop-less : tie.Need-loop-less Inv-loop μ-loop
 loop-less c = search needs
 
--- src/at_stamp.rt:61:5
 loop-again : tie.Need-loop-again Inv-loop μ-loop
 loop-again c =
     let l = c .before .before .before .loop in
     (table-turn _ _ _ _ _ (l .inv .0) (ap (λ h. h .found) (c .hit-at .ensures)), table-turn _ _ _ _ _ (l .inv .1) (ap (λ h. h .chunk) (c .hit-at .ensures)), omega arith)
 
--- src/at_stamp.rt:55:1
 returns : tie.Need-returns Inv-loop μ-loop
 returns c =
     let l = c .before .loop in

@@ -1,3 +1,4 @@
+-- What is left of the rows, and of the row at hand, gives the same as all rows: outer and inner loop. Assumes nothing.
 use Prim.Native.Nat.{_+_, _-_, _≤_}
 use mathlib.Core.Path.{_≡_, refl, sym, _∙_}
 use mathlib.Core.List.{_++_}
@@ -11,10 +12,6 @@ use native.Mathlib.Omega.{arith}
 use borrow.Author.Needs.{needs}
 use Rattle.client_search.proofs.searching.search.Statement.{statement}
 use Rattle.client_search.proofs.searching.search.Tie as tie
-use Rattle.client_search.proofs.searching.search.Reads as reads
-use Rattle.client_search.proofs.searching.search.Lts as lts
-use Rattle.client.proofs.rows.used_places.Reads as used-places-reads
-use Rattle.client_search.proofs.searching.is_agreed.Reads as is-agreed-reads
 
 abbrev Inv-loop : tie.InvT-loop
 Inv-loop area g rows n stop₀ j m stamps i₀ j-end stop i =
@@ -36,95 +33,75 @@ Inv-search area g rows n stop₀ j₀ j-end stop j =
 abbrev μ-search : tie.MeasureT-search
 μ-search area g rows n stop₀ j₀ j-end stop j = g .n + 1 - j
 
--- src/searching.rt:49:26
 add-j-end : tie.Need-add-j-end Inv-loop μ-loop Inv-search μ-search
 add-j-end c = search needs
 
--- src/searching.rt:49:5
 search-holds : tie.Need-search-holds Inv-loop μ-loop Inv-search μ-search
 search-holds c = (omega arith, omega arith, refl, rows-start _ (c .before .args .t1) _)
 
--- src/searching.rt:50:17
 mul-r : tie.Need-mul-r Inv-loop μ-loop Inv-search μ-search
 mul-r c = search needs
 
--- src/searching.rt:50:17
 array-copy-out-r : tie.Need-array-copy-out-r Inv-loop μ-loop Inv-search μ-search
 array-copy-out-r c = search needs
 
--- src/searching.rt:51:13
 used-places-requires : tie.Need-used-places-requires Inv-loop μ-loop Inv-search μ-search
 used-places-requires c κs = search needs
 
--- src/searching.rt:53:9
 loop-holds : tie.Need-loop-holds Inv-loop μ-loop Inv-search μ-search
 loop-holds c =
     let a = c .before .before .before .before .before .before .args in
     let l = c .before .before .before .before .search in
     (omega arith, l .inv .2, l .inv .3 ∙ row-start (a .g) (a .t1) (a .area .now) (l .j) _ (c .before .before .before .search-test .taken) (c .before .used-places .ensures .0))
 
--- src/searching.rt:54:21
 mul-x : tie.Need-mul-x Inv-loop μ-loop Inv-search μ-search
 mul-x c = search needs
 
--- src/searching.rt:54:21
 array-copy-out-x : tie.Need-array-copy-out-x Inv-loop μ-loop Inv-search μ-search
 array-copy-out-x c = search needs
 
--- src/searching.rt:55:35
 mul-is-agreed : tie.Need-mul-is-agreed Inv-loop μ-loop Inv-search μ-search
 mul-is-agreed c = search needs
 
--- src/searching.rt:55:35
 sub-is-agreed : tie.Need-sub-is-agreed Inv-loop μ-loop Inv-search μ-search
 sub-is-agreed c = search needs
 
--- src/searching.rt:55:35
 add-is-agreed : tie.Need-add-is-agreed Inv-loop μ-loop Inv-search μ-search
 add-is-agreed c = search needs
 
--- src/searching.rt:55:16
 is-agreed-requires : tie.Need-is-agreed-requires Inv-loop μ-loop Inv-search μ-search
 is-agreed-requires c κs = search needs
 
--- src/searching.rt:53:13
 add-i : tie.Need-add-i Inv-loop μ-loop Inv-search μ-search
 add-i c = search needs
 
--- src/searching.rt:53:9
 loop-less : tie.Need-loop-less Inv-loop μ-loop Inv-search μ-search
 loop-less c = omega arith
 
--- src/searching.rt:53:9
 loop-again : tie.Need-loop-again Inv-loop μ-loop Inv-search μ-search
 loop-again c =
     let a = c .before .before .before .before .before .before .before .before .before .before .before .args in
     let l = c .before .before .before .before .loop in
     (omega arith, l .inv .1, l .inv .2 ∙ place-next (a .g) (a .t1) (a .area .now) _ (l .i) _ _ _ (c .before .before .before .loop-test .taken) (c .before .is-agreed .ensures) (c .if1 .left))
 
--- src/searching.rt:49:18
 add-j : tie.Need-add-j Inv-loop μ-loop Inv-search μ-search
 add-j c = search needs
 
--- src/searching.rt:49:5
 search-less : tie.Need-search-less Inv-loop μ-loop Inv-search μ-search
 search-less c = omega arith
 
--- src/searching.rt:49:5
 search-again : tie.Need-search-again Inv-loop μ-loop Inv-search μ-search
 search-again c =
     let a = c .before .before .before .before .before .before .before .before .args in
     let l = c .before .loop in
     (omega arith, omega arith, l .inv .1, l .inv .2 ∙ row-end (a .g) (a .t1) (a .area .now) _ (l .i) _ _ (c .loop-test .left))
 
--- src/searching.rt:43:1
 returns : tie.Need-returns Inv-loop μ-loop Inv-search μ-search
 returns c =
     let a = c .before .before .before .args in
     let l = c .before .search in
     stop-nowhere (a .g) (a .t1) (a .area .now) _ _ (l .inv .2) (l .inv .3 ∙ rows-end (a .g) (a .t1) (a .area .now) (l .j) (c .search-test .left))
 
--- src/searching.rt:43:1
 returns-2 : tie.Need-returns-2 Inv-loop μ-loop Inv-search μ-search
 returns-2 c =
     let a = c .before .before .before .before .before .before .before .before .before .before .before .args in

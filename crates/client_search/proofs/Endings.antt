@@ -42,7 +42,8 @@ use Rattle.client_search.proofs.Searches.{holders-count, holders-value}
 
 -- ---- decoding
 
-module _ (g : Params) (rows : List Row) (a : List ℕ) (x : Stamp) (p result : ℕ) (q : Regaining g rows a x p result) (h k : Hits) (e : h ≡ hitsOf rows x) (u : k ≡ holdersOf g a h p) where
+module _ (g : Params) (rows : List Row) (a : List ℕ) (x : Stamp) (p result : ℕ) (q : Regaining g rows a x p result)
+    (h k : Hits) (e : h ≡ hitsOf rows x) (u : k ≡ holdersOf g a h p) where
   all : k ≡ holdersOf g a (hitsOf rows x) p
   all = u ∙ ap (λ z. holdersOf g a z p) e
 
@@ -72,7 +73,8 @@ module _ (g : Params) (rows : List Row) (a : List ℕ) (x : Stamp) (p result : �
 -- ---- what the search tells
 
 module _ (g : Params) (f : ℕ → List Kept) where
-  agreed-of : (k w : Kept) (b : Bool) (o : Option Kept) → agreed g f w ≡ b → some k ≡ firstBy g f b w o → (some k ≡ o → agreed g f k ≡ true) → agreed g f k ≡ true
+  agreed-of : (k w : Kept) (b : Bool) (o : Option Kept) → agreed g f w ≡ b → some k ≡ firstBy g f b w o
+      → (some k ≡ o → agreed g f k ≡ true) → agreed g f k ≡ true
   unfolding firstBy
   agreed-of k w true o e q h = let z : k ≡ w = cc in ap (agreed g f) z ∙ e
   agreed-of k w false o e q h = h q
@@ -142,10 +144,12 @@ module _ (g : Params) (me : ℕ) (s : Client) (a result out to : List ℕ) where
         to = w z;
       }
 
-  module _ (p : Stop) (q : (standing g (s .rows) a p ≡ firstAgreed g (view g (s .rows) a) (rowsFrom (view g (s .rows) a) 1 (g .n))) × Inside p) where
-    stopped : settle digestOf g me s a ≡ completeBy digestOf g me (foundBy g (view g (s .rows) a) (standing g (s .rows) a p)) s a
+  module _ (p : Stop)
+      (q : (standing g (s .rows) a p ≡ firstAgreed g (view g (s .rows) a) (rowsFrom (view g (s .rows) a) 1 (g .n))) × Inside p) where
+    -- the step, by where the search stopped
+    stopped : (y : Stop) → p ≡ y → settle digestOf g me s a ≡ completeBy digestOf g me (foundBy g (view g (s .rows) a) (standing g (s .rows) a y)) s a
     unfolding settle search rowView
-    stopped = ap (λ o. completeBy digestOf g me (foundBy g (view g (s .rows) a) o) s a) (sym (q .0))
+    stopped y e = ap (λ o. completeBy digestOf g me (foundBy g (view g (s .rows) a) o) s a) (sym (q .0) ∙ ap (standing g (s .rows) a) e)
 
     -- nothing is found
     pub settle-none : p ≡ Nowhere
@@ -153,12 +157,11 @@ module _ (g : Params) (me : ℕ) (s : Client) (a result out to : List ℕ) where
         (record { answer = Y.Sent 0; client = s; area = a; result = result; out = out; to = to })
         (stepped (settle digestOf g me s a) result out to)
     unfolding stepped completeBy foundBy eventAnswer resultOf frames receivers
-    settle-none e = sym (ap (λ x. stepped x result out to) (stopped ∙ ap (λ y. completeBy digestOf g me (foundBy g (view g (s .rows) a) (standing g (s .rows) a y)) s a) e))
+    settle-none e = sym (ap (λ x. stepped x result out to) (stopped Nowhere e))
 
     -- the read ends
     pub settle-some : (j i : ℕ) (b : Outcome) → p ≡ At j i
         → b ≡ stepped (completeBy digestOf g me (some (foundOf g (view g (s .rows) a) (keptAt g (s .rows) a j i))) s a) result out to
         → b ≡ stepped (settle digestOf g me s a) result out to
     unfolding foundBy
-    settle-some j i b e d =
-        d ∙ sym (ap (λ x. stepped x result out to) (stopped ∙ ap (λ y. completeBy digestOf g me (foundBy g (view g (s .rows) a) (standing g (s .rows) a y)) s a) e))
+    settle-some j i b e d = d ∙ sym (ap (λ x. stepped x result out to) (stopped (At j i) e))

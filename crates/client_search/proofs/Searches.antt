@@ -50,7 +50,8 @@ sent-flagged : (g : Params) (on : List Bool) (at a d : List ℕ) (j : ℕ) → s
 unfolding sentList entries
 sent-flagged g on at a d j e = kept-list (marked on j) (entryAt g a (getD at j 0)) d e
 
-pub comparing : (g : Params) (rows : List Row) (a : List ℕ) (x : Stamp) → Searching g (length a) → (h : Hits) → h ≡ hitsOf rows x → Comparing g (h .at) a
+pub comparing : (g : Params) (rows : List Row) (a : List ℕ) (x : Stamp) → Searching g (length a) → (h : Hits) → h ≡ hitsOf rows x
+    → Comparing g (h .at) a
 comparing g rows a x q h e = record { bounded = q .bounded; within = rw e (hits-within rows x a (q .whole)) }
 
 pub chunk-room : (p l : ℕ) → p ≤ 39 → rowsBytes ≤ l → chunkAt p + 576 ≤ l

@@ -1,4 +1,5 @@
--- The search of the rows, in the code's terms: a place, and what stands there. What is found is `firstAgreed` of the client's specification. These are definitions.
+-- The search of the rows in the code's terms: a place, and what stands there. What is found is `firstAgreed` of the client's specification.
+-- These are definitions.
 use Prim.Native.Nat.{ℕ, _≤_, _<_}
 use mathlib.Core.Path.{_≡_}
 use mathlib.Core.Bool.{true}

@@ -17,7 +17,9 @@ returns : tie.Need-returns
 returns c = settle-none _ _ _ _ _ _ _ _ (c .before .before .search .ensures) (c .enum-told .given .1)
 
 finish-requires : tie.Need-finish-requires
-finish-requires c κs = finishing _ _ _ _ _ _ (c .before .before .before .before .before .before .before .before .before .before .before .before .pre) _ _ _ (c .before .before .before .before .stop .given .1) (c .before .before .before .before .before .before .search .ensures)
+finish-requires c κs =
+    let d = c .before .before .before .before in
+    finishing _ _ _ _ _ _ (d .before .before .before .before .before .before .before .before .pre) _ _ _ (d .stop .given .1) (d .before .before .search .ensures)
 
 same-length : tie.Need-same-length
 same-length c = search needs
@@ -29,7 +31,10 @@ same-length-3 : tie.Need-same-length-3
 same-length-3 c = search needs
 
 returns-2 : tie.Need-returns-2
-returns-2 c = settle-some _ _ _ _ _ _ _ _ (c .before .before .before .before .before .before .before .before .before .before .before .before .before .search .ensures) _ _ _ (c .before .before .before .before .before .before .before .before .before .before .before .stop .given .1) (c .before .before .before .before .before .before .finish .ensures)
+returns-2 c =
+    let e = c .before .before .before .before .before .before in
+    let d = e .before .before .before .before .before in
+    settle-some _ _ _ _ _ _ _ _ (d .before .before .search .ensures) _ _ _ (d .stop .given .1) (e .finish .ensures)
 
 pub settle-spec : {M : Type 1} → statement M
 settle-spec =

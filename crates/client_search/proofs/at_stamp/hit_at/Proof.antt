@@ -14,7 +14,9 @@ first-place-requires : tie.Need-first-place-requires
 first-place-requires c κs = search needs
 
 returns-2 : tie.Need-returns-2
-returns-2 c = hit-none _ _ _ (c .before .before .before .before .if1 .left) _ _ (c .before .before .before .used-places .ensures .0) (c .before .first-place .ensures .0) (c .if2 .taken)
+returns-2 c =
+    let u = c .before .before .before in
+    hit-none _ _ _ (u .before .if1 .left) _ _ (u .used-places .ensures .0) (c .before .first-place .ensures .0) (c .if2 .taken)
 
 mul-t8 : tie.Need-mul-t8
 mul-t8 c = search needs
@@ -26,7 +28,9 @@ add-t10 : tie.Need-add-t10
 add-t10 c = search needs
 
 returns-3 : tie.Need-returns-3
-returns-3 c = hit-some _ _ _ (c .before .before .before .before .if1 .left) _ _ (c .before .before .before .used-places .ensures .0) (c .before .first-place .ensures .0) (c .if2 .left)
+returns-3 c =
+    let u = c .before .before .before in
+    hit-some _ _ _ (u .before .if1 .left) _ _ (u .used-places .ensures .0) (c .before .first-place .ensures .0) (c .if2 .left)
 
 pub hit-at-spec : {M : Type 1} → statement M
 hit-at-spec =

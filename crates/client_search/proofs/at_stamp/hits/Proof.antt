@@ -54,12 +54,16 @@ loop-less c = search needs
 loop-again : tie.Need-loop-again Inv-loop μ-loop
 loop-again c =
     let l = c .before .before .before .loop in
-    (table-turn _ _ _ _ _ (l .inv .0) (ap (λ h. h .found) (c .hit-at .ensures)), table-turn _ _ _ _ _ (l .inv .1) (ap (λ h. h .chunk) (c .hit-at .ensures)), omega arith)
+    let p = table-turn _ _ _ _ _ (l .inv .0) (ap (λ h. h .found) (c .hit-at .ensures)) in
+    let q = table-turn _ _ _ _ _ (l .inv .1) (ap (λ h. h .chunk) (c .hit-at .ensures)) in
+    (p, q, omega arith)
 
 returns : tie.Need-returns Inv-loop μ-loop
 returns c =
     let l = c .before .loop in
-    hits-law _ _ _ _ (table-end _ _ _ _ _ refl (c .loop-test .left) (l .inv .2) (l .inv .0)) (table-end _ _ _ _ _ refl (c .loop-test .left) (l .inv .2) (l .inv .1))
+    let p = table-end _ _ _ _ _ refl (c .loop-test .left) (l .inv .2) (l .inv .0) in
+    let q = table-end _ _ _ _ _ refl (c .loop-test .left) (l .inv .2) (l .inv .1) in
+    hits-law _ _ _ _ p q
 
 pub hits-spec : {M : Type 1} → statement M
 hits-spec =

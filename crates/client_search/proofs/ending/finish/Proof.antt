@@ -41,7 +41,9 @@ same-length-3 : tie.Need-same-length-3
 same-length-3 c = search needs
 
 returns : tie.Need-returns
-returns c = finish-law _ _ _ _ _ _ _ _ _ _ _ _ _ (c .before .before .before .before .before .before .before .before .before .regain-value .ensures) (c .before .before .before .before .ask-all .ensures)
+returns c =
+    let q = c .before .before .before .before in
+    finish-law _ _ _ _ _ _ _ _ _ _ _ _ _ (q .before .before .before .before .before .regain-value .ensures) (q .ask-all .ensures)
 
 pub finish-spec : {M : Type 1} → statement M
 finish-spec =

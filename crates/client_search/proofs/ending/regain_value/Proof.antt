@@ -20,13 +20,21 @@ logs-requires : tie.Need-logs-requires
 logs-requires c κs = search needs
 
 regain-requires : tie.Need-regain-requires
-regain-requires c κs = regaining _ _ _ _ _ _ (c .before .before .before .before .before .before .before .before .before .before .before .pre) _ _ (c .before .before .before .before .before .before .before .before .hits .ensures) (c .before .before .before .before .before .before .before .holders .ensures) _ _ (c .before .before .before .before .powers .ensures) (c .before .before .before .logs .ensures)
+regain-requires c κs =
+    let l = c .before .before .before in
+    let k = l .before .before .before .before in
+    let h = k .before in
+    regaining _ _ _ _ _ _ (h .before .before .before .pre) _ _ (h .hits .ensures) (k .holders .ensures) _ _ (l .before .powers .ensures) (l .logs .ensures)
 
 same-length : tie.Need-same-length
 same-length c = search needs
 
 returns : tie.Need-returns
-returns c = regained _ _ _ _ _ _ (c .before .before .before .before .before .before .before .before .before .before .before .before .before .before .pre) _ _ (c .before .before .before .before .before .before .before .before .before .before .before .hits .ensures) (c .before .before .before .before .before .before .before .before .before .before .holders .ensures) _ _ (c .before .before .regain .ensures)
+returns c =
+    let r = c .before .before in
+    let k = r .before .before .before .before .before .before .before .before in
+    let h = k .before in
+    regained _ _ _ _ _ _ (h .before .before .before .pre) _ _ (h .hits .ensures) (k .holders .ensures) _ _ (r .regain .ensures)
 
 pub regain-value-spec : {M : Type 1} → statement M
 regain-value-spec =

@@ -11,7 +11,9 @@ is-quorate-requires : tie.Need-is-quorate-requires
 is-quorate-requires c κs = search needs
 
 returns : tie.Need-returns
-returns c = agreed-few _ _ _ _ _ (c .before .before .before .before .before .pre .0) _ (c .before .before .before .hits .ensures) _ (c .before .is-quorate .ensures) (c .if1 .taken)
+returns c =
+    let h = c .before .before .before in
+    agreed-few _ _ _ _ _ (h .before .before .pre .0) _ (h .hits .ensures) _ (c .before .is-quorate .ensures) (c .if1 .taken)
 
 holders-requires : tie.Need-holders-requires
 holders-requires c κs =
@@ -22,7 +24,9 @@ is-quorate-requires-2 : tie.Need-is-quorate-requires-2
 is-quorate-requires-2 c κs = search needs
 
 returns-2 : tie.Need-returns-2
-returns-2 c = agreed-law _ _ _ _ _ (c .before .before .before .before .before .before .before .before .pre .0) _ (c .before .before .before .before .before .before .hits .ensures) _ _ (c .before .before .holders .ensures) (c .is-quorate2 .ensures)
+returns-2 c =
+    let h = c .before .before .before .before .before .before in
+    agreed-law _ _ _ _ _ (h .before .before .pre .0) _ (h .hits .ensures) _ _ (c .before .before .holders .ensures) (c .is-quorate2 .ensures)
 
 pub is-agreed-spec : {M : Type 1} → statement M
 is-agreed-spec =

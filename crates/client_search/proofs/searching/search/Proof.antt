@@ -52,7 +52,8 @@ loop-holds : tie.Need-loop-holds Inv-loop μ-loop Inv-search μ-search
 loop-holds c =
     let a = c .before .before .before .before .before .before .args in
     let l = c .before .before .before .before .search in
-    (omega arith, l .inv .2, l .inv .3 ∙ row-start (a .g) (a .t1) (a .area .now) (l .j) _ (c .before .before .before .search-test .taken) (c .before .used-places .ensures .0))
+    let e = row-start (a .g) (a .t1) (a .area .now) (l .j) _ (c .before .before .before .search-test .taken) (c .before .used-places .ensures .0) in
+    (omega arith, l .inv .2, l .inv .3 ∙ e)
 
 mul-x : tie.Need-mul-x Inv-loop μ-loop Inv-search μ-search
 mul-x c = search needs
@@ -82,7 +83,8 @@ loop-again : tie.Need-loop-again Inv-loop μ-loop Inv-search μ-search
 loop-again c =
     let a = c .before .before .before .before .before .before .before .before .before .before .before .args in
     let l = c .before .before .before .before .loop in
-    (omega arith, l .inv .1, l .inv .2 ∙ place-next (a .g) (a .t1) (a .area .now) _ (l .i) _ _ _ (c .before .before .before .loop-test .taken) (c .before .is-agreed .ensures) (c .if1 .left))
+    let t = c .before .before .before .loop-test .taken in
+    (omega arith, l .inv .1, l .inv .2 ∙ place-next (a .g) (a .t1) (a .area .now) _ (l .i) _ _ _ t (c .before .is-agreed .ensures) (c .if1 .left))
 
 add-j : tie.Need-add-j Inv-loop μ-loop Inv-search μ-search
 add-j c = search needs
@@ -106,7 +108,9 @@ returns-2 : tie.Need-returns-2 Inv-loop μ-loop Inv-search μ-search
 returns-2 c =
     let a = c .before .before .before .before .before .before .before .before .before .before .before .args in
     let l = c .before .before .before .before .loop in
-    (sym (l .inv .2 ∙ place-found (a .g) (a .t1) (a .area .now) _ (l .i) _ _ _ (c .before .before .before .loop-test .taken) (c .before .is-agreed .ensures) (c .if1 .taken)), (omega arith, omega arith, omega arith))
+    let t = c .before .before .before .loop-test .taken in
+    let e = place-found (a .g) (a .t1) (a .area .now) _ (l .i) _ _ _ t (c .before .is-agreed .ensures) (c .if1 .taken) in
+    (sym (l .inv .2 ∙ e), (omega arith, omega arith, omega arith))
 
 pub search-spec : {M : Type 1} → statement M
 search-spec =

@@ -2,13 +2,13 @@
 use Prim.Native.Nat.{ℕ, zero, suc, _+_, _-_, _≤_, _<_}
 use native.Mathlib.Omega.{arith}
 use native.Mathlib.Numerals.{add-one}
-use mathlib.Core.Bool.{Bool, true, false, not}
+use mathlib.Core.Bool.{Bool, true, false}
 use mathlib.Core.Path.{_≡_, refl, ap, sym, _∙_}
 use mathlib.Core.Option.{Option, none, some}
 use mathlib.Core.List.{List, _++_}
 use lib.ListN.{length, getD}
 use lib.Dec.{leb}
-use borrow.Author.Tests.{lt-leb, leb-false, not-true}
+use borrow.Author.Tests.{lt-leb}
 use Rattle.quorum.specs.Quorum.{bit, count}
 use Rattle.blocks.specs.declared.Params.{Params}
 use Rattle.frame.specs.declared.Stamp.{Stamp}
@@ -22,7 +22,6 @@ use Rattle.group.proofs.Matched.{count-flags, matched-count, matched-value}
 use Rattle.client.specs.declared.Row.{Row}
 use Rattle.client.specs.State.{noRow}
 use Rattle.client.specs.Rows.{Kept, used, placesFrom, atStamp, rowsFrom, agreed, firstBy, firstAgreed}
-use Rattle.client.specs.Steps.{quorate}
 use Rattle.client_search.specs.declared.Hits.{Hits}
 use Rattle.client_search.specs.AtStamp.{hitsOf}
 use Rattle.client_search.specs.declared.Stop.{Stop}
@@ -95,23 +94,22 @@ module _ (g : Params) (rows : List Row) (a : List ℕ) (x : Stamp) (p : ℕ) (q 
       let l = count-le-count (sentList g on at a d) (marked on) (g .n) (sent-flagged g on at a d) in
       omega (arith, e, l)
 
-  module _ (h : Hits) (e : h ≡ hitsOf rows x) (b : Bool) where
+  module _ (h : Hits) (e : h ≡ hitsOf rows x) (c : ℕ) where
     -- too few rows have the stamp
-    pub agreed-few : b ≡ quorate g (h .on) → not b ≡ true → false ≡ agreed g (view g rows a) (record { stamp = x; entry = entryAt g a p })
-    unfolding agreed quorate marked
+    pub agreed-few : c ≡ count (marked (h .on)) (g .n) → c + g .t < g .n → false ≡ agreed g (view g rows a) (record { stamp = x; entry = entryAt g a p })
+    unfolding agreed
     agreed-few d o =
-        let f : leb (g .n) (count (marked (hitsOf rows x .on)) (g .n) + g .t) ≡ false =
-        sym (d ∙ ap (λ (k : Hits). quorate g (k .on)) e) ∙ not-true b o in
-        let m : count (marked (hitsOf rows x .on)) (g .n) + g .t < g .n = leb-false _ _ f in
+        let f : c ≡ count (marked (hitsOf rows x .on)) (g .n) = d ∙ ap (λ (k : Hits). count (marked (k .on)) (g .n)) e in
         let n : with-list + g .t < g .n = omega (arith, with-list-le) in
         sym (lt-leb (g .n) (with-list + g .t) n)
 
-    pub agreed-law : (k : Hits) → k ≡ holdersOf g a h p → b ≡ quorate g (k .on)
-        → b ≡ agreed g (view g rows a) (record { stamp = x; entry = entryAt g a p })
-    unfolding agreed quorate marked
+    pub agreed-law : (k : Hits) → k ≡ holdersOf g a h p → c ≡ count (marked (k .on)) (g .n)
+        → leb (g .n) (c + g .t) ≡ agreed g (view g rows a) (record { stamp = x; entry = entryAt g a p })
+    unfolding agreed
     agreed-law k u d =
         let w : k ≡ holdersOf g a (hitsOf rows x) p = u ∙ ap (λ z. holdersOf g a z p) e in
-        d ∙ ap (λ (z : Hits). quorate g (z .on)) w ∙ ap (λ c. leb (g .n) (c + g .t)) holders-count
+        let f : c ≡ with-list = d ∙ ap (λ (z : Hits). count (marked (z .on)) (g .n)) w ∙ holders-count in
+        ap (λ m. leb (g .n) (m + g .t)) f
 
 -- ---- the loops
 

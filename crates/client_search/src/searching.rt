@@ -4,11 +4,11 @@ use crate::Stop;
 use crate::at_stamp::hits;
 use blocks::Params;
 use client::Row;
-use client::counts::is_quorate;
 use client::rows::used_places;
 use frame::Stamp;
 use frame::entries::digests_at;
 use group::matching::matching;
+use group::matching::tally;
 ghost use mathlib.Core.Path.{_≡_};
 ghost use Prim.Native.Nat.{_+_, _≤_};
 ghost use lib.ListN.{length};
@@ -36,12 +36,12 @@ fn is_agreed(rows: [Row; 11], x: Stamp, p: usize, area: &[u8], g: Params) -> boo
 {
     let h = hits(rows, x);
     let on = h.on;
-    if !is_quorate(g, on) {
+    if tally(on, g.n) + g.t < g.n {
         return false;
     }
     let k = holders(h, p, area, g);
     let on = k.on;
-    is_quorate(g, on)
+    g.n <= tally(on, g.n) + g.t
 }
 
 // The first place, by rising server and place, whose stamp and digest list are in n - t rows.

@@ -1,0 +1,129 @@
+-- What the code sends of a write's value: one law a function. Assumes nothing.
+use Prim.Native.Nat.{ℕ, suc, _+_, _*_, _≤_, _<_}
+use native.Mathlib.Omega.{arith}
+use native.Mathlib.Numerals.{add-one}
+use native.Mathlib.Nat.{mul-le-mul-left, mul-le-mul-right}
+use mathlib.Core.Path.{_≡_, refl, ap, sym, _∙_}
+use mathlib.Core.List.{List, [], _∷_, _++_}
+use lib.ListN.{length, take}
+use lib.Seq.{sets}
+use lib.ListN.{length-append}
+use Rattle.area.specs.Numbers.{bytes2, bytes4, bytes8}
+use Rattle.sha256.specs.Hash.{digestOf}
+use Rattle.blocks.specs.declared.Params.{Params}
+use Rattle.blocks.specs.Code.{blockLength, blockOf}
+use Rattle.blocks.proofs.Stripes.{length-blockOf}
+use Rattle.frame.specs.declared.Place.{Place}
+use Rattle.frame.specs.declared.Party.the-variants as P
+use Rattle.frame.specs.Params.{Bounded, width, listed, entryLength, largestFrame}
+use Rattle.frame.specs.Messages.{entry, Message, message, Sending, sending, toFrom, toAll, blockIs, timeIs, send}
+use Rattle.frame.specs.Frames.{kindOf, entryBytes, bodyBytes, frameOf, build}
+use Rattle.frame.specs.Coded.{digestsOf, entryOf}
+use Rattle.frame.specs.Outbox.{Outbox, outbox, sent, frames, firstPlace, Room}
+use Rattle.frame.proofs.DigestLaws.{block-front}
+use Rattle.frame.proofs.Outbox.{sent-none, sent-append, toFrom-more}
+use Rattle.frame.proofs.RoundTrip.{length-frame}
+use Rattle.frame.proofs.Sizes.{small}
+use Rattle.group.proofs.Digests.{length-digests}
+use Rattle.group.proofs.Lists.{take-front}
+use Rattle.client_deliver.proofs.Rooms.{room-left, each-small}
+
+-- kind 3 to server j
+abbrev pub own : Params → List ℕ → ℕ → ℕ → ℕ → Message
+own g v me q j = message me q (blockIs send (entryOf digestOf g v j))
+
+module _ (g : Params) (v : List ℕ) (whole : length v ≡ g .size) where
+  pub length-own-block : (j : ℕ) → length (blockOf (g .k) v j) ≡ width g
+  unfolding width
+  length-own-block j = length-blockOf (g .k) v j ∙ ap (λ l. blockLength l (g .k)) whole
+
+  pub length-own : (me q j : ℕ) → length (build (own g v me q j)) ≡ 9 + entryLength g
+  unfolding build kindOf bodyBytes entryBytes entryOf
+  length-own me q j =
+      omega (
+        arith,
+        length-frame 3 me q (digestsOf digestOf g v ++ blockOf (g .k) v j),
+        length-append (digestsOf digestOf g v) (blockOf (g .k) v j),
+        length-digests g v,
+        length-own-block j,
+      )
+
+  -- the buffer's first bytes are the block
+  pub own-block : (z a : List ℕ) (j b : ℕ) → Bounded g → b ≡ width g → 256 ≤ length z → a ≡ sets z 0 (blockOf (g .k) v j) → take b a ≡ blockOf (g .k) v j
+  unfolding width
+  own-block z a j b B e h s =
+      let M = small g B in
+      let n : b ≤ length z = omega (arith, M .block-room) in
+      block-front z a (g .k) j b v (e ∙ ap (λ l. blockLength l (g .k)) (sym whole)) n s
+
+  -- one block went out
+  pub own-sent : (d b : List ℕ) (me q j : ℕ) (x y : Outbox) → d ≡ digestsOf digestOf g v → b ≡ blockOf (g .k) v j
+      → y ≡ sent x (sending (P.Server j) (message me q (blockIs send (entry d b))) ∷ []) → y ≡ sent x (sending (P.Server j) (own g v me q j) ∷ [])
+  unfolding entryOf
+  own-sent d b me q j x y e f s = s ∙ (λ i. sent x (sending (P.Server j) (message me q (blockIs send (entry (e i) (f i)))) ∷ []))
+
+-- ---- one after the other
+
+pub turn-none : (f : ℕ → Message) (x : Outbox) → x ≡ sent x (toFrom f 1 0)
+unfolding toFrom
+turn-none f x = sym (sent-none x)
+
+pub turn-next : (f : ℕ → Message) (j : ℕ) (x y z : Outbox) → y ≡ sent x (toFrom f 1 j) → z ≡ sent y (sending (P.Server (j + 1)) (f (j + 1)) ∷ [])
+    → z ≡ sent x (toFrom f 1 (j + 1))
+turn-next f j x y z e s =
+    let c : j + 1 ≡ 1 + j = omega arith in
+    s ∙ ap (λ k. sent y (sending (P.Server k) (f k) ∷ [])) c
+    ∙ ap (λ w. sent w (sending (P.Server (1 + j)) (f (1 + j)) ∷ [])) e
+    ∙ sent-append x (toFrom f 1 j) (sending (P.Server (1 + j)) (f (1 + j)) ∷ [])
+    ∙ ap (sent x) (sym (toFrom-more f 1 j))
+    ∙ ap (λ k. sent x (toFrom f 1 k)) (sym (add-one j))
+
+pub turn-last : (g : Params) (f : ℕ → Message) (j : ℕ) (x y : Outbox) → j ≤ g .n → g .n ≤ j → y ≡ sent x (toFrom f 1 j) → y ≡ sent x (toAll g f)
+unfolding toAll
+turn-last g f j x y a b e = let c : j ≡ g .n = omega arith in e ∙ ap (λ k. sent x (toFrom f 1 k)) c
+
+-- ---- rooms
+
+pub turn-room : (g : Params) (v : List ℕ) → length v ≡ g .size → (me q j : ℕ) (p r : Place) (o t o₀ t₀ : List ℕ) → j < g .n
+    → outbox o t r ≡ sent (outbox o₀ t₀ p) (toFrom (own g v me q) 1 j) → Room p (g .n) (9 + entryLength g) (length o₀) (length t₀)
+    → Room r 1 (9 + entryLength g) (length o) (length t)
+turn-room g v w me q j p r o t o₀ t₀ h e R =
+    let l : (i : ℕ) → length (build (own g v me q i)) ≤ 9 + entryLength g = λ i. omega (arith, length-own g v w me q i) in
+    let E = each-small (own g v me q) (9 + entryLength g) l 1 j in
+    let n : j + 1 ≤ g .n = omega arith in
+    let s : 9 + entryLength g ≤ 9 + entryLength g = omega arith in
+    room-left p r o t o₀ t₀ (toFrom (own g v me q) 1 j) j 1 (g .n) (9 + entryLength g) (9 + entryLength g) e (E .0) (E .1) n s R
+
+-- the frames of the time have room behind those of the blocks
+pub time-room : (g : Params) (v : List ℕ) → length v ≡ g .size → (me q : ℕ) (p r : Place) (o t o₀ t₀ : List ℕ)
+    → outbox o t r ≡ sent (outbox o₀ t₀ p) (toAll g (own g v me q)) → Room p (2 * g .n) (largestFrame g) (length o₀) (length t₀)
+    → Room r (g .n) 17 (length o) (length t)
+unfolding toAll largestFrame
+time-room g v w me q p r o t o₀ t₀ e R =
+    let l : (i : ℕ) → length (build (own g v me q i)) ≤ largestFrame g = λ i. omega (arith, length-own g v w me q i) in
+    let E = each-small (own g v me q) (largestFrame g) l 1 (g .n) in
+    let n : g .n + g .n ≤ 2 * g .n = omega arith in
+    let s : 17 ≤ largestFrame g = omega arith in
+    room-left p r o t o₀ t₀ (toFrom (own g v me q) 1 (g .n)) (g .n) (g .n) (2 * g .n) (largestFrame g) 17 e (E .0) (E .1) n s R
+
+pub block-room : (g : Params) (p : Place) (out to : ℕ) → Room p (2 * g .n) (largestFrame g) out to → Room p (g .n) (9 + entryLength g) out to
+unfolding largestFrame
+block-room g p out to R =
+    let l : 9 + entryLength g ≤ largestFrame g = omega arith in
+    let n : g .n ≤ 2 * g .n = omega arith in
+    let x : g .n * (9 + entryLength g) ≤ g .n * largestFrame g = mul-le-mul-left (g .n) l in
+    let y : g .n * largestFrame g ≤ 2 * g .n * largestFrame g = mul-le-mul-right (largestFrame g) n in
+    record { out-room = omega (arith, R .out-room); to-room = omega (arith, R .to-room) }
+
+-- ---- all of it
+
+-- the front of an area in which the digest list was stored
+pub list-front : (g : Params) (v z a : List ℕ) → Bounded g → 320 ≤ length z → a ≡ sets z 0 (digestsOf digestOf g v)
+    → take (32 * g .n) a ≡ digestsOf digestOf g v
+list-front g v z a B h s =
+    let l = length-digests g v in
+    let n : 32 * g .n ≤ length z = omega (arith, B .servers-high) in
+    ap (take (32 * g .n)) s ∙ take-front z (digestsOf digestOf g v) (32 * g .n) l n
+
+pub both-sent : (x y z : Outbox) (xs ys : List Sending) → y ≡ sent x xs → z ≡ sent y ys → z ≡ sent x (xs ++ ys)
+both-sent x y z xs ys e f = f ∙ ap (λ w. sent w ys) e ∙ sent-append x xs ys

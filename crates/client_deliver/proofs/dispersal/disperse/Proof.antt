@@ -1,0 +1,78 @@
+-- The digest list is made, then the blocks go out, then the time. Assumes nothing.
+use Prim.Native.Nat.{_+_, _*_, _≤_}
+use mathlib.Core.Path.{_≡_, sym, ap, _∙_}
+use lib.ListN.{length, take}
+use lib.Seq.{length-take-le}
+use Rattle.client_deliver.proofs.OwnBlocks.{list-front, block-room, time-room, both-sent}
+use native.Mathlib.Omega.{arith}
+use borrow.Author.Needs.{needs}
+use Rattle.client_deliver.proofs.dispersal.disperse.Statement.{statement}
+use Rattle.client_deliver.proofs.dispersal.disperse.Tie as tie
+
+powers-requires : tie.Need-powers-requires
+powers-requires c κs = search needs
+
+logs-requires : tie.Need-logs-requires
+logs-requires c κs = search needs
+
+slice-aggregate-digests : tie.Need-slice-aggregate-digests
+slice-aggregate-digests c = search needs
+
+digests-requires : tie.Need-digests-requires
+digests-requires c κs =
+    let B = c .before .before .before .before .before .before .before .before .pre .0 in (
+      record { bounded = B; short = omega (arith, c .before .before .before .before .before .before .before .before .pre .1, B .size-high); tables = record { powers = c .before .before .before .before .powers .ensures; logs = c .before .before .before .logs .ensures } },
+      omega (arith, B .servers-high),
+    )
+
+mul-w : tie.Need-mul-w
+mul-w c = search needs
+
+array-share-prefix-list : tie.Need-array-share-prefix-list
+array-share-prefix-list c = omega (arith, c .before .before .before .before .before .before .before .before .before .before .before .pre .0 .servers-high, c .before .before .digests .kept .1 .1 .0)
+
+slice-aggregate-own-blocks : tie.Need-slice-aggregate-own-blocks
+slice-aggregate-own-blocks c =
+    let n : 32 * c .before .before .before .before .before .before .before .before .before .before .before .before .args .g .n ≤ length (c .before .before .before .digests .last .1 .1 .0) = omega (arith, c .before .before .before .before .before .before .before .before .before .before .before .before .pre .0 .servers-high, c .before .before .before .digests .kept .1 .1 .0) in
+    sym (length-take-le _ _ n)
+
+own-blocks-requires : tie.Need-own-blocks-requires
+own-blocks-requires c κs =
+    let B = c .before .before .before .before .before .before .before .before .before .before .before .before .before .before .before .before .pre .0 in (
+      record {
+        bounded = B;
+        whole = c .before .before .before .before .before .before .before .before .before .before .before .before .before .before .before .before .pre .1;
+        list-is = list-front (c .before .before .before .before .before .before .before .before .before .before .before .before .before .before .before .before .args .g) (c .before .before .before .before .before .before .before .before .before .before .before .before .before .before .before .before .args .value .now) _ _ B (omega arith) (c .before .before .before .before .before .before .before .digests .ensures);
+        tables = record { powers = c .before .before .before .before .before .before .before .before .before .before .before .before .powers .ensures; logs = c .before .before .before .before .before .before .before .before .before .before .before .logs .ensures };
+      },
+      block-room (c .before .before .before .before .before .before .before .before .before .before .before .before .before .before .before .before .args .g) _ _ _ (c .before .before .before .before .before .before .before .before .before .before .before .before .before .before .before .before .pre .2),
+    )
+
+time-all-requires : tie.Need-time-all-requires
+time-all-requires c κs = (c .before .before .before .before .before .before .before .before .before .before .before .before .before .before .before .before .before .before .before .before .before .before .before .pre .0, time-room (c .before .before .before .before .before .before .before .before .before .before .before .before .before .before .before .before .before .before .before .before .before .before .before .args .g) (c .before .before .before .before .before .before .before .before .before .before .before .before .before .before .before .before .before .before .before .before .before .before .before .args .value .now) (c .before .before .before .before .before .before .before .before .before .before .before .before .before .before .before .before .before .before .before .before .before .before .before .pre .1) _ _ _ _ _ _ _ _ (c .before .before .before .before .before .before .own-blocks .ensures) (c .before .before .before .before .before .before .before .before .before .before .before .before .before .before .before .before .before .before .before .before .before .before .before .pre .2))
+
+same-length : tie.Need-same-length
+same-length c = search needs
+
+same-length-2 : tie.Need-same-length-2
+same-length-2 c = search needs
+
+returns : tie.Need-returns
+returns c = both-sent _ _ _ _ _ (c .before .before .before .before .before .before .before .before .before .before .before .own-blocks .ensures) (c .before .before .before .before .time-all .ensures)
+
+pub disperse-spec : {M : Type 1} → statement M
+disperse-spec =
+    tie.close
+    (tie.spec
+    powers-requires
+    logs-requires
+    slice-aggregate-digests
+    digests-requires
+    mul-w
+    array-share-prefix-list
+    slice-aggregate-own-blocks
+    own-blocks-requires
+    time-all-requires
+    same-length
+    same-length-2
+    returns)

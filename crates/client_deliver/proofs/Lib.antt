@@ -1,2 +1,7 @@
 pub mod Rooms
 pub mod OwnBlocks
+pub mod Senders
+pub mod Answers
+pub mod WriteLaws
+pub mod ReadLaws
+pub mod Deliveries

@@ -1,2 +1,5 @@
-// What frames do to a client: the entry point `deliver`.
+// What frames do to a client.
 pub mod dispersal;
+pub mod record;
+pub mod tests;
+pub mod writing;

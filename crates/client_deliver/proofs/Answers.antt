@@ -1,0 +1,31 @@
+-- From a test's verdict and a step to the outcome of a frame. Assumes nothing.
+use Prim.Native.Nat.{ℕ}
+use mathlib.Core.Path.{_≡_, ap, sym, _∙_}
+use mathlib.Core.Bool.{Bool, not, _&&_}
+use mathlib.Core.List.{List}
+use Rattle.area.specs.Area.{pick}
+use Rattle.frame.specs.declared.Refusal.{Refusal}
+use Rattle.frame.specs.declared.Refusal.the-variants as R
+use Rattle.frame.specs.declared.Verdict.{Verdict}
+use Rattle.frame.specs.declared.Verdict.the-variants as J
+use Rattle.client.specs.declared.Client.{Client}
+use Rattle.client.specs.declared.Answer.the-variants as Y
+use Rattle.client.specs.Tests.{awaited}
+use Rattle.client.specs.Steps.{Effect}
+use Rattle.client.specs.Delivery.{Outcome, outcome}
+use Rattle.client.specs.Stages.{stepped, answered}
+
+module _ (v u : Verdict) (s : Client) (a : List ℕ) (x : Effect) (l out to : List ℕ) (e : v ≡ u) where
+  -- turned down
+  pub refused-is : (r : Refusal) → v ≡ J.Bad r → outcome (record { answer = Y.Refused r; client = s }) a l out to ≡ answered u s a x l out to
+  unfolding answered
+  refused-is r f = ap (λ (z : Verdict). answered z s a x l out to) (sym f ∙ e)
+
+  -- a step
+  pub step-is : (o : Outcome) → v ≡ J.Fine → o ≡ stepped x l out to → o ≡ answered u s a x l out to
+  unfolding answered
+  step-is o f h = h ∙ ap (λ (z : Verdict). answered z s a x l out to) (sym f ∙ e)
+
+-- the verdict on a stamp or an ack, of whose phase b is the test's value
+pub verdict-in : (v w : Verdict) (t b phase x : Bool) → v ≡ pick t (awaited (b && x)) w → b ≡ phase → v ≡ pick t (awaited (phase && x)) w
+verdict-in v w t b phase x e p = e ∙ ap (λ z. pick t (awaited (z && x)) w) p

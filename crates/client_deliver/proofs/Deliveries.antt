@@ -1,0 +1,223 @@
+-- From the tests and the step to the outcome of a delivery. Assumes nothing.
+use Prim.Native.Nat.{ℕ, _+_, _*_, _≤_}
+use native.Mathlib.Omega.{arith}
+use mathlib.Core.Path.{_≡_, refl, ap, sym, _∙_}
+use mathlib.Core.Bool.{Bool, true, false, not, _&&_}
+use mathlib.Core.List.{List}
+use lib.ListN.{length}
+use lib.Dec.{eqb, ltb}
+use borrow.Author.Tests.{eqb-true, ltb-false, ne-eqb, eq-eqb}
+use Rattle.area.specs.Area.{pick}
+use Rattle.sha256.specs.Hash.{digestOf}
+use Rattle.blocks.specs.declared.Params.{Params}
+use Rattle.frame.specs.declared.Party.{Party}
+use Rattle.frame.specs.declared.Header.{Header}
+use Rattle.frame.specs.declared.Opened.{Opened}
+use Rattle.frame.specs.declared.Opened.the-variants as O
+use Rattle.frame.specs.declared.Refusal.{Refusal}
+use Rattle.frame.specs.declared.Refusal.the-variants as R
+use Rattle.frame.specs.declared.Verdict.{Verdict}
+use Rattle.frame.specs.declared.Verdict.the-variants as J
+use Rattle.frame.specs.Refusals.{andThen}
+use Rattle.frame.specs.Params.{Bounded, entryLength, largestFrame, outRoom, toRoom, paramsTest}
+use Rattle.frame.specs.Stamps.{lastClient}
+use Rattle.frame.specs.Messages.{Body, Message, message, numberIn, fromServer, Judged, bad, good, judgedBy, after}
+use Rattle.frame.specs.Messages.{stampIs, ack, valueIs}
+use Rattle.frame.specs.Frames.{stampIn, entryIn, bodyIn, messageIn, opened, lengthOf, bodyLength}
+use Rattle.frame.specs.Chunks.{rowsBytes}
+use Rattle.frame.specs.Outbox.{frames, receivers, Room, firstPlace}
+use Rattle.frame.proofs.Verdicts.{fine-not, fine-both}
+use Rattle.frame.proofs.Within.{admitted-of}
+use Rattle.frame.proofs.Opening.{opens-facts}
+use Rattle.area.specs.Numbers.{be8}
+use Rattle.client.specs.declared.Client.{Client}
+use Rattle.client.specs.declared.Answer.the-variants as Y
+use Rattle.client.specs.State.{writing}
+use Rattle.client.specs.Tests.{sendRoom, roomTest, valueTest, answers, orderTest, messageTest, judgeOpened, judge}
+use Rattle.client.specs.Steps.{Effect, onBody, effect, onStamp, onAck, onValue}
+use Rattle.client.specs.Delivery.{Outcome, outcome, eventAnswer, answerOf, resultOf, outcomeOf, effectBy, delivered, delivery}
+use Rattle.client.specs.Stages.{Lent, stepped, answered}
+use Rattle.client_deliver.specs.Needs.{Admitted, reasonIn}
+
+-- ---- what the tests leave
+
+pub bounded-of-call : (g : Params) (me : ℕ) (v w : Verdict) → v ≡ andThen (paramsTest g me lastClient) w → v ≡ J.Fine → Bounded g
+bounded-of-call g me v w e f = admitted-of g me lastClient (fine-both (paramsTest g me lastClient) w (sym e ∙ f) .0) .bounded
+
+-- where a test of two parts finds nothing and the first part holds, the second does not
+not-both : (p e : Bool) → (p && not e) ≡ false → p ≡ true → e ≡ true
+not-both true true q h = refl
+not-both true false q h = sym q
+not-both false e q h = let z : false ≡ true = h in go e z
+  where
+    go : (e : Bool) → false ≡ true → e ≡ true
+    go true z = refl
+    go false z = z
+
+whole-of : (p : Bool) (v size : ℕ) → pick (p && not (eqb v size)) (J.Bad R.Length) J.Fine ≡ J.Fine → p ≡ true → v ≡ size
+whole-of p v size e h = eqb-true v size (not-both p (eqb v size) (fine-not (p && not (eqb v size)) R.Length J.Fine e .0) h)
+
+room-of-send : (g : Params) (out to : ℕ) → sendRoom g out to ≡ J.Fine → Room firstPlace (2 * g .n) (largestFrame g) out to
+unfolding sendRoom outRoom toRoom
+room-of-send g out to e =
+    let a = fine-not (ltb out (outRoom g (2 * g .n))) R.Room _ e in
+    let b = fine-not (ltb to (toRoom (2 * g .n))) R.Room _ (a .1) in
+    let o : 2 * g .n * largestFrame g ≤ out = ltb-false _ _ (a .0) in
+    let t : 2 * (2 * g .n) ≤ to = ltb-false _ _ (b .0) in
+    record { out-room = omega arith; to-room = omega arith }
+
+lent-of : (g : Params) (area result out to : ℕ) → Bounded g → roomTest g area result out to ≡ J.Fine → Lent g area result out to
+unfolding roomTest
+lent-of g area result out to B e =
+    let a = fine-not (ltb area rowsBytes) R.Room _ e in
+    let b = fine-not (ltb result (g .size)) R.Room _ (a .1) in
+    record { bounded = B; whole = ltb-false _ _ (a .0); value-room = ltb-false _ _ (b .0); room = room-of-send g out to (b .1) }
+
+pub admitted-by : (g : Params) (me : ℕ) (s : Client) (h : Header) (f : List ℕ) (value area result out to : ℕ) (v w : Verdict) (o : Opened)
+    → v ≡ andThen (paramsTest g me lastClient) (pick (writing (s .phase) && not (eqb value (g .size))) (J.Bad R.Length) J.Fine) → v ≡ J.Fine
+    → o ≡ opened g f → o ≡ O.Frame h → w ≡ roomTest g area result out to → w ≡ J.Fine
+    → Admitted g s (h .kind) value (length f) area result out to
+admitted-by g me s h f value area result out to v w o e e′ q q′ r r′ =
+    let a = fine-both (paramsTest g me lastClient) _ (sym e ∙ e′) in
+    record {
+      lent = lent-of g area result out to (admitted-of g me lastClient (a .0) .bounded) (sym r ∙ r′);
+      whole = whole-of (writing (s .phase)) value (g .size) (a .1);
+      frame-is = opens-facts g f h (sym q ∙ q′) .length-is;
+    }
+
+-- ---- the outcome of a delivery
+
+module _ (g : Params) (me : ℕ) (s : Client) (a v : List ℕ) (from : Party) (f l out to : List ℕ) where
+  -- turned down, or a step
+  by-verdict : (w : Verdict) (m : Message) → outcomeOf (judgedBy w m) (effectBy digestOf g me (judgedBy w m) s a v from) l out to
+      ≡ answered w s a (effect digestOf g me s a v from m) l out to
+  unfolding outcomeOf effectBy answerOf resultOf answered stepped frames receivers
+  by-verdict J.Fine m = refl
+  by-verdict (J.Bad r) m = refl
+
+  by-judged : (j : Judged) → judge digestOf g me s a v from f l out to ≡ j
+      → outcomeOf j (effectBy digestOf g me j s a v from) l out to ≡ delivery digestOf g me s a v from f l out to
+  unfolding delivery delivered
+  by-judged j e = ap (λ z. outcomeOf z (effectBy digestOf g me z s a v from) l out to) (sym e)
+
+  bad-judged : (r : Refusal) → judge digestOf g me s a v from f l out to ≡ bad r
+      → outcome (record { answer = Y.Refused r; client = s }) a l out to ≡ delivery digestOf g me s a v from f l out to
+  unfolding outcomeOf effectBy answerOf resultOf frames receivers
+  bad-judged r e = by-judged (bad r) e
+
+  module _ (c : Verdict) (call : c ≡ andThen (paramsTest g me lastClient) (valueTest g s (length v))) where
+    pub call-refused : (r : Refusal) → c ≡ J.Bad r → outcome (record { answer = Y.Refused r; client = s }) a l out to ≡ delivery digestOf g me s a v from f l out to
+    unfolding judge
+    call-refused r e =
+        bad-judged r (ap (λ z. after z (judgeOpened digestOf g me (opened g f) (roomTest g (length a) (length l) (length out) (length to)) s from f)) (sym call ∙ e))
+
+    module _ (fine : c ≡ J.Fine) (o : Opened) (open-is : o ≡ opened g f) where
+      judged-opened : judge digestOf g me s a v from f l out to ≡ judgeOpened digestOf g me o (roomTest g (length a) (length l) (length out) (length to)) s from f
+      unfolding judge
+      judged-opened =
+          ap (λ z. after z (judgeOpened digestOf g me (opened g f) (roomTest g (length a) (length l) (length out) (length to)) s from f)) (sym call ∙ fine)
+          ∙ ap (λ z. judgeOpened digestOf g me z (roomTest g (length a) (length l) (length out) (length to)) s from f) (sym open-is)
+
+      pub not-opened : (r k : Refusal) → r ≡ reasonIn o → o ≡ O.Refused k
+          → outcome (record { answer = Y.Refused r; client = s }) a l out to ≡ delivery digestOf g me s a v from f l out to
+      unfolding judgeOpened
+      not-opened r k e q =
+          let d : r ≡ k = e ∙ ap reasonIn q in
+          bad-judged r (judged-opened ∙ ap (λ z. judgeOpened digestOf g me z (roomTest g (length a) (length l) (length out) (length to)) s from f) q ∙ ap bad (sym d))
+
+      module _ (h : Header) (frame-is : o ≡ O.Frame h) (w : Verdict) (room : w ≡ roomTest g (length a) (length l) (length out) (length to)) where
+        judged-frame : judge digestOf g me s a v from f l out to ≡ judgedBy (andThen w (messageTest digestOf g me s from (messageIn g h f))) (messageIn g h f)
+        unfolding judgeOpened
+        judged-frame =
+            judged-opened ∙ ap (λ z. judgeOpened digestOf g me z (roomTest g (length a) (length l) (length out) (length to)) s from f) frame-is
+            ∙ ap (λ z. judgedBy (andThen z (messageTest digestOf g me s from (messageIn g h f))) (messageIn g h f)) (sym room)
+
+        pub room-refused : (r : Refusal) → w ≡ J.Bad r → outcome (record { answer = Y.Refused r; client = s }) a l out to ≡ delivery digestOf g me s a v from f l out to
+        room-refused r e =
+            bad-judged r (judged-frame ∙ ap (λ z. judgedBy (andThen z (messageTest digestOf g me s from (messageIn g h f))) (messageIn g h f)) e)
+
+        pub frame-answered : (x : Outcome) → w ≡ J.Fine
+            → x ≡ answered (messageTest digestOf g me s from (messageIn g h f)) s a (effect digestOf g me s a v from (messageIn g h f)) l out to
+            → x ≡ delivery digestOf g me s a v from f l out to
+        frame-answered x e q =
+            let m = messageIn g h f in
+            q ∙ sym (by-verdict (messageTest digestOf g me s from m) m)
+            ∙ by-judged (judgedBy (messageTest digestOf g me s from m) m) (judged-frame ∙ ap (λ z. judgedBy (andThen z (messageTest digestOf g me s from m)) m) e)
+
+-- ---- the kinds
+
+pick-no : (b : Bool) (x y : Verdict) → b ≡ false → pick b x y ≡ y
+unfolding pick
+pick-no b x y e = rw e
+
+module _ (g : Params) (me : ℕ) (s : Client) (a v : List ℕ) (from : Party) (f l out to : List ℕ) (h : Header) where
+  abbrev told : Body → Outcome
+  told b = answered (messageTest digestOf g me s from (message (h .client) (h .sequence) b)) s a (onBody digestOf g me s a v (numberIn from) b) l out to
+
+  -- what the body says
+  told-in : (b : Body) (x : Outcome) → bodyIn g (h .kind) f ≡ b → x ≡ told b
+      → x ≡ answered (messageTest digestOf g me s from (messageIn g h f)) s a (effect digestOf g me s a v from (messageIn g h f)) l out to
+  unfolding messageIn effect
+  told-in b x e q = q ∙ ap told (sym e)
+
+  pub of-stamp : (x : Outcome) → h .kind ≡ 2
+      → x ≡ answered (messageTest digestOf g me s from (message (h .client) (h .sequence) (stampIs (be8 f 9)))) s a (onStamp digestOf g me s a v (numberIn from) (be8 f 9)) l out to
+      → x ≡ answered (messageTest digestOf g me s from (messageIn g h f)) s a (effect digestOf g me s a v from (messageIn g h f)) l out to
+  unfolding bodyIn onBody pick
+  of-stamp x k q = told-in (stampIs (be8 f 9)) x (ap (λ z. bodyIn g z f) k) q
+
+  pub of-ack : (x : Outcome) → h .kind ≡ 9
+      → x ≡ answered (messageTest digestOf g me s from (message (h .client) (h .sequence) ack)) s a (onAck digestOf g me s a (numberIn from)) l out to
+      → x ≡ answered (messageTest digestOf g me s from (messageIn g h f)) s a (effect digestOf g me s a v from (messageIn g h f)) l out to
+  unfolding bodyIn onBody pick
+  of-ack x k q = told-in ack x (ap (λ z. bodyIn g z f) k) q
+
+  pub of-value : (x : Outcome) → h .kind ≡ 11
+      → x ≡ answered (messageTest digestOf g me s from (message (h .client) (h .sequence) (valueIs (stampIn f) (entryIn g f 22)))) s a
+      (onValue digestOf g me s a (numberIn from) (stampIn f) (entryIn g f 22)) l out to
+      → x ≡ answered (messageTest digestOf g me s from (messageIn g h f)) s a (effect digestOf g me s a v from (messageIn g h f)) l out to
+  unfolding bodyIn onBody pick
+  of-value x k q = told-in (valueIs (stampIn f) (entryIn g f 22)) x (ap (λ z. bodyIn g z f) k) q
+
+  -- no other kind is for clients
+  neither : (b : Bool) (x y : Body) → answers x ≡ false → answers y ≡ false → answers (pick b x y) ≡ false
+  unfolding pick
+  neither true x y e d = e
+  neither false x y e d = d
+
+  not-answers : (h .kind ≡ 2 → ⊥) → (h .kind ≡ 9 → ⊥) → (h .kind ≡ 11 → ⊥) → answers (bodyIn g (h .kind) f) ≡ false
+  unfolding bodyIn pick answers
+  not-answers i j k =
+      rw (ne-eqb (h .kind) 2 i, ne-eqb (h .kind) 9 j, ne-eqb (h .kind) 11 k)
+      (neither (eqb (h .kind) 1) _ _ refl
+      (neither (eqb (h .kind) 3) _ _ refl
+      (neither (eqb (h .kind) 4) _ _ refl
+      (neither (eqb (h .kind) 5) _ _ refl
+      (neither (eqb (h .kind) 6) _ _ refl
+      (neither (eqb (h .kind) 7) _ _ refl
+      (neither (eqb (h .kind) 8) _ _ refl
+      (neither (eqb (h .kind) 10) _ _ refl refl))))))))
+
+  and-false : (x y z : Bool) → y ≡ false → (x && (y && z)) ≡ false
+  and-false true y z e = ap (λ w. w && z) e
+  and-false false y z e = refl
+
+  pub of-others : (h .kind ≡ 2 → ⊥) → (h .kind ≡ 9 → ⊥) → (h .kind ≡ 11 → ⊥)
+      → outcome (record { answer = Y.Refused R.Sender; client = s }) a l out to
+      ≡ answered (messageTest digestOf g me s from (messageIn g h f)) s a (effect digestOf g me s a v from (messageIn g h f)) l out to
+  unfolding messageTest messageIn answered
+  of-others i j k =
+      let d = and-false (fromServer g from) (answers (bodyIn g (h .kind) f)) (eqb (h .client) me) (not-answers i j k) in
+      let o = orderTest digestOf g me s (numberIn from) (h .sequence) (bodyIn g (h .kind) f) in
+      let e : pick (fromServer g from && (answers (bodyIn g (h .kind) f) && eqb (h .client) me)) o (J.Bad R.Sender) ≡ J.Bad R.Sender = pick-no _ o (J.Bad R.Sender) d in
+      ap (λ (z : Verdict). answered z s a (effect digestOf g me s a v from (messageIn g h f)) l out to) (sym e)
+
+-- ---- how long the frame is
+
+pub stamp-long : (g : Params) (kind frame : ℕ) → frame ≡ 9 + bodyLength g kind → kind ≡ 2 → 17 ≤ frame
+unfolding bodyLength lengthOf pick
+stamp-long g kind frame e k = let d : frame ≡ 9 + bodyLength g 2 = e ∙ ap (λ z. 9 + bodyLength g z) k in omega arith
+
+pub value-long : (g : Params) (kind frame : ℕ) → frame ≡ 9 + bodyLength g kind → kind ≡ 11 → 22 + entryLength g ≤ frame
+unfolding bodyLength lengthOf pick
+value-long g kind frame e k = let d : frame ≡ 9 + bodyLength g 11 = e ∙ ap (λ z. 9 + bodyLength g z) k in omega arith

@@ -1,0 +1,117 @@
+-- The steps of a write: one law for each return of the code. Assumes nothing.
+use Prim.Native.Nat.{ℕ, _+_, _≤_, _<_}
+use native.Mathlib.Nat.{zero-add}
+use mathlib.Core.Path.{_≡_, refl, ap, sym, _∙_}
+use mathlib.Core.Bool.{Bool, true, false, not}
+use mathlib.Core.List.{List, _++_}
+use lib.ListN.{length, getD, set, replicate}
+use lib.Seq.{sets}
+use lib.Dec.{ltb}
+use borrow.Author.Tests.{lt-ltb, le-ltb, not-true, not-false}
+use Rattle.sha256.specs.Hash.{digestOf}
+use Rattle.blocks.specs.declared.Params.{Params}
+use Rattle.frame.specs.declared.Place.{Place}
+use Rattle.frame.specs.declared.Refusal.the-variants as R
+use Rattle.frame.specs.declared.Verdict.{Verdict}
+use Rattle.frame.specs.declared.Verdict.the-variants as J
+use Rattle.frame.specs.Stamps.{lastTime}
+use Rattle.frame.specs.Messages.{message, toAll, timeIs, send}
+use Rattle.frame.specs.Outbox.{frames, receivers, Outbox, outbox, firstPlace, sent}
+use Rattle.frame.proofs.Verdicts.{fine-is}
+use Rattle.client.specs.declared.Client.{Client}
+use Rattle.client.specs.declared.Phase.{Phase}
+use Rattle.client.specs.declared.Phase.the-variants as F
+use Rattle.client.specs.declared.Answer.the-variants as Y
+use Rattle.client.specs.State.{asking, writing, largest, inPhase, shut}
+use Rattle.client.specs.Steps.{Effect, quorate, sendBelow, gatherBy, onStamp, endBy, onAck}
+use Rattle.client.specs.Delivery.{Outcome, outcome, eventAnswer, resultOf}
+use Rattle.client.specs.Stages.{stepped}
+use Rattle.client_deliver.proofs.OwnBlocks.{own}
+
+-- a write is open in its first part
+pub asking-writes : (p : Phase) → asking p ≡ true → writing p ≡ true
+asking-writes F.Idle e = e
+asking-writes F.Asking e = refl
+asking-writes F.Acking e = refl
+asking-writes F.Reading e = e
+
+module _ (g : Params) (me : ℕ) (s : Client) (v a l out to : List ℕ) where
+  -- ---- n - t stamps
+
+  abbrev top : ℕ
+  top = largest (λ j. getD (s .times) j 0) (g .n)
+
+  pub out-of-stamps : (T : ℕ) (y : Client) → T ≡ top → lastTime ≤ T → y ≡ shut s
+      → outcome (record { answer = Y.OutOfStamps; client = y }) a l out to ≡ stepped (gatherBy digestOf g me true s a v) l out to
+  unfolding stepped gatherBy sendBelow eventAnswer resultOf frames receivers
+  out-of-stamps T y e h p =
+      let d : ltb top lastTime ≡ false = ap (λ z. ltb z lastTime) (sym e) ∙ le-ltb T lastTime h in
+      let c : outcome (record { answer = Y.OutOfStamps; client = y }) a l out to ≡ stepped (sendBelow digestOf g me false s a v top) l out to =
+      λ i. record { answer = Y.OutOfStamps; client = p i; area = a; result = l; out = out; to = to } in
+      c ∙ ap (λ b. stepped (sendBelow digestOf g me b s a v top) l out to) (sym d)
+
+  pub write-sent : (T : ℕ) (y : Client) (q : Place) (o t : List ℕ) → T ≡ top → T < lastTime → y ≡ inPhase s F.Acking (replicate 11 false) (s .times)
+      → outbox o t q ≡ sent (outbox out to firstPlace) (toAll g (own g v me (s .writes)) ++ toAll g (λ j. message me (s .writes) (timeIs send T)))
+      → outcome (record { answer = Y.Sent (q .count); client = y }) a l o t ≡ stepped (gatherBy digestOf g me true s a v) l out to
+  unfolding stepped gatherBy sendBelow eventAnswer resultOf sent
+  write-sent T y q o t e h p w =
+      let d : ltb T lastTime ≡ true = lt-ltb T lastTime h in
+      let xs = toAll g (own g v me (s .writes)) ++ toAll g (λ j. message me (s .writes) (timeIs send T)) in
+      let n : q .count ≡ length xs = ap (λ (z : Outbox). z .place .count) w ∙ zero-add (length xs) in
+      let u : o ≡ sets out 0 (frames xs) = ap (λ (z : Outbox). z .out) w in
+      let r : t ≡ sets to 0 (receivers xs) = ap (λ (z : Outbox). z .to) w in
+      let c : outcome (record { answer = Y.Sent (q .count); client = y }) a l o t ≡ stepped (sendBelow digestOf g me true s a v T) l out to =
+      λ i. record { answer = Y.Sent (n i); client = p i; area = a; result = l; out = u i; to = r i } in
+      c ∙ ap (λ b. stepped (sendBelow digestOf g me b s a v T) l out to) (sym d)
+      ∙ ap (λ z. stepped (sendBelow digestOf g me (ltb z lastTime) s a v z) l out to) e
+
+  -- ---- a stamp of time T from server j, which was marked
+
+  module _ (i j T U : ℕ) (b : Bool) (y : Client) (at : i ≡ j) (time : U ≡ T) (p : y ≡ inPhase s F.Asking (set (s .heard) i true) (set (s .times) i U))
+      (q : b ≡ quorate g (set (s .heard) i true)) where
+    marked-is : y ≡ inPhase s F.Asking (set (s .heard) j true) (set (s .times) j T)
+    marked-is = p ∙ (λ z. inPhase s F.Asking (set (s .heard) (at z) true) (set (s .times) (at z) (time z)))
+
+    tested-is : b ≡ quorate g (set (s .heard) j true)
+    tested-is = q ∙ ap (λ z. quorate g (set (s .heard) z true)) at
+
+    pub stamp-waits : not b ≡ true → outcome (record { answer = Y.Sent 0; client = y }) a l out to ≡ stepped (onStamp digestOf g me s a v j T) l out to
+    unfolding stepped onStamp gatherBy eventAnswer resultOf frames receivers
+    stamp-waits h =
+        let x = inPhase s F.Asking (set (s .heard) j true) (set (s .times) j T) in
+        let d : quorate g (set (s .heard) j true) ≡ false = sym tested-is ∙ not-true b h in
+        let m = marked-is in
+        let c : outcome (record { answer = Y.Sent 0; client = y }) a l out to ≡ stepped (gatherBy digestOf g me false x a v) l out to =
+        λ z. record { answer = Y.Sent 0; client = m z; area = a; result = l; out = out; to = to } in
+        c ∙ ap (λ z. stepped (gatherBy digestOf g me z x a v) l out to) (sym d)
+
+    pub stamp-gathers : (r : Outcome) → not b ≡ false → r ≡ stepped (gatherBy digestOf g me true y a v) l out to
+        → r ≡ stepped (onStamp digestOf g me s a v j T) l out to
+    unfolding onStamp
+    stamp-gathers r h e =
+        let d : quorate g (set (s .heard) j true) ≡ true = sym tested-is ∙ not-false b h in
+        e ∙ ap (λ z. stepped (gatherBy digestOf g me true z a v) l out to) marked-is
+        ∙ ap (λ z. stepped (gatherBy digestOf g me z (inPhase s F.Asking (set (s .heard) j true) (set (s .times) j T)) a v) l out to) (sym d)
+
+-- ---- an ack from server j, which was marked
+
+module _ (g : Params) (me : ℕ) (s : Client) (a l out to : List ℕ) (i j : ℕ) (b : Bool) (y : Client) (at : i ≡ j) (q : b ≡ quorate g (set (s .heard) i true)) where
+  pub ack-waits : y ≡ inPhase s F.Acking (set (s .heard) i true) (s .times) → not b ≡ true
+      → outcome (record { answer = Y.Sent 0; client = y }) a l out to ≡ stepped (onAck digestOf g me s a j) l out to
+  unfolding stepped onAck endBy eventAnswer resultOf frames receivers
+  ack-waits p h =
+      let d : quorate g (set (s .heard) j true) ≡ false = ap (λ z. quorate g (set (s .heard) z true)) (sym at) ∙ sym q ∙ not-true b h in
+      let m = p ∙ ap (λ z. inPhase s F.Acking (set (s .heard) z true) (s .times)) at in
+      let c : outcome (record { answer = Y.Sent 0; client = y }) a l out to ≡ stepped (endBy digestOf g me false s a (set (s .heard) j true)) l out to =
+      λ z. record { answer = Y.Sent 0; client = m z; area = a; result = l; out = out; to = to } in
+      c ∙ ap (λ z. stepped (endBy digestOf g me z s a (set (s .heard) j true)) l out to) (sym d)
+
+  pub ack-ends : y ≡ inPhase s F.Idle (set (s .heard) i true) (s .times) → not b ≡ false
+      → outcome (record { answer = Y.Written; client = y }) a l out to ≡ stepped (onAck digestOf g me s a j) l out to
+  unfolding stepped onAck endBy eventAnswer resultOf frames receivers
+  ack-ends p h =
+      let d : quorate g (set (s .heard) j true) ≡ true = ap (λ z. quorate g (set (s .heard) z true)) (sym at) ∙ sym q ∙ not-false b h in
+      let m = p ∙ ap (λ z. inPhase s F.Idle (set (s .heard) z true) (s .times)) at in
+      let c : outcome (record { answer = Y.Written; client = y }) a l out to ≡ stepped (endBy digestOf g me true s a (set (s .heard) j true)) l out to =
+      λ z. record { answer = Y.Written; client = m z; area = a; result = l; out = out; to = to } in
+      c ∙ ap (λ z. stepped (endBy digestOf g me z s a (set (s .heard) j true)) l out to) (sym d)

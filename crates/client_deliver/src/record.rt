@@ -1,0 +1,51 @@
+// The client's record with a part changed.
+use client::Client;
+use client::Phase;
+use client::Row;
+ghost use mathlib.Core.Path.{_≡_};
+ghost use Prim.Native.Nat.{_<_};
+ghost use Rattle.client.specs.State.{inPhase, shut, withRow};
+
+// In a phase, with what that phase counts.
+pub fn in_phase(s: Client, phase: Phase, heard: [bool; 11], times: [u64; 11]) -> Client
+    ensures { λ r. ⌜ r ≡ inPhase s phase heard times ⌝ }
+{
+    let rows = s.rows;
+    Client {
+        writes: s.writes,
+        reads: s.reads,
+        closed: s.closed,
+        phase,
+        heard,
+        times,
+        rows,
+    }
+}
+
+// Out of stamps.
+pub fn shut(s: Client) -> Client
+    ensures { λ r. ⌜ r ≡ shut s ⌝ }
+{
+    let heard = s.heard;
+    let times = s.times;
+    let rows = s.rows;
+    Client {
+        writes: s.writes,
+        reads: s.reads,
+        closed: true,
+        phase: Phase::Idle,
+        heard,
+        times,
+        rows,
+    }
+}
+
+// With server j's row.
+pub fn with_row(s: Client, j: usize, r: Row) -> Client
+    requires { ⌜ j < 11 ⌝ }
+    ensures { λ y. ⌜ y ≡ withRow s j r ⌝ }
+{
+    let mut y = s;
+    y.rows[j] = r;
+    y
+}

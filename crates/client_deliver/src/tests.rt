@@ -1,0 +1,111 @@
+// What turns an opened frame down: 11, 12 and 14.
+use blocks::Params;
+use client::Client;
+use client::phases::is_reading;
+use client::rows::has_stamp;
+use client::rows::used_places;
+use client::tests::awaited_test;
+use client::tests::from_server;
+use client::tests::number_in;
+use frame::Header;
+use frame::Party;
+use frame::Refusal;
+use frame::Stamp;
+use frame::Verdict;
+use frame::bounds::width;
+use frame::digests::block_fits;
+ghost use mathlib.Core.Path.{_≡_};
+ghost use Prim.Native.Nat.{_+_, _≤_};
+ghost use mathlib.Core.Bool.{false, not, _&&_};
+ghost use lib.ListN.{length, getD};
+ghost use lib.Dec.{eqb};
+ghost use Rattle.area.specs.Area.{pick};
+ghost use Rattle.sha256.specs.Hash.{digestOf};
+ghost use Rattle.frame.specs.Params.{Bounded, entryLength};
+ghost use Rattle.frame.specs.Refusals.{andThen};
+ghost use Rattle.frame.specs.Messages.{fromServer, numberIn};
+ghost use Rattle.frame.specs.Frames.{entryIn};
+ghost use Rattle.frame.specs.declared.Verdict.the-variants as J;
+ghost use Rattle.frame.specs.declared.Refusal.the-variants as R;
+ghost use Rattle.client.specs.State.{reading, rowOf};
+ghost use Rattle.client.specs.Rows.{used, hasStamp};
+ghost use Rattle.client.specs.Tests.{awaited, fitTest};
+
+// 11: whether the sender is one of servers 1 to n, and the client that the frame names is this one.
+pub fn sender_right(g: Params, from: Party, c: u8, me: u8) -> bool
+    ensures { λ r. ⌜ r ≡ (fromServer g from && eqb c me) ⌝ }
+{
+    if !from_server(g, from) {
+        return false;
+    }
+    c == me
+}
+
+// 11 and 12 of a stamp or an ack, where last is the number of the open write, whose phase is right where fit holds; heard says of which servers one was counted.
+pub fn reply_test(
+    g: Params,
+    me: u8,
+    from: Party,
+    h: Header,
+    fit: bool,
+    last: u32,
+    heard: [bool; 11],
+) -> Verdict
+    requires { ⌜ Bounded g ⌝ }
+    ensures { λ r. ⌜ r ≡ pick (fromServer g from && eqb (h .client) me) (awaited (fit && (eqb (h .sequence) last && not (getD heard (numberIn from) false)))) (J.Bad R.Sender) ⌝ }
+{
+    if !sender_right(g, from, h.client, me) {
+        return Verdict::Bad(Refusal::Sender);
+    }
+    let j = number_in(from) as usize;
+    awaited_test(fit, h.sequence, last, heard[j])
+}
+
+// 14 of a value from server j.
+fn fit_test(g: Params, f: &[u8], j: usize) -> Verdict
+    requires { ⌜ Bounded g × (1 ≤ j) × (j ≤ g .n) × (22 + entryLength g ≤ length (now f)) ⌝ }
+    ensures { λ r. ⌜ r ≡ fitTest digestOf (entryIn g (now (f .entry)) 22) j ⌝ }
+{
+    let middle = 22 + 32 * g.n;
+    let end = middle + width(g);
+    if !block_fits(&f[22..middle], &f[middle..end], j) {
+        return Verdict::Bad(Refusal::Digest);
+    }
+    Verdict::Fine
+}
+
+// 12 and 14 of a value from server j with stamp x.
+fn kept_test(s: Client, g: Params, j: usize, q: u32, x: Stamp, f: &[u8]) -> Verdict
+    requires { ⌜ Bounded g × (1 ≤ j) × (j ≤ g .n) × (22 + entryLength g ≤ length (now f)) ⌝ }
+    ensures { λ r. ⌜ r ≡ andThen (awaited (reading (s .phase) && (eqb q (s .reads) && not (hasStamp (rowOf s j .stamps) (used (rowOf s j)) x)))) (fitTest digestOf (entryIn g (now (f .entry)) 22) j) ⌝ }
+{
+    let p = s.phase;
+    let row = s.rows[j];
+    let stamps = row.stamps;
+    let again = has_stamp(stamps, used_places(row), x);
+    let order = awaited_test(is_reading(p), q, s.reads, again);
+    if let Verdict::Bad(r) = order {
+        return Verdict::Bad(r);
+    }
+    fit_test(g, f, j)
+}
+
+// 11, 12 and 14 of a value with stamp x.
+pub fn entry_test(
+    s: Client,
+    g: Params,
+    me: u8,
+    from: Party,
+    h: Header,
+    x: Stamp,
+    f: &[u8],
+) -> Verdict
+    requires { ⌜ Bounded g × (22 + entryLength g ≤ length (now f)) ⌝ }
+    ensures { λ r. ⌜ r ≡ pick (fromServer g from && eqb (h .client) me) (andThen (awaited (reading (s .phase) && (eqb (h .sequence) (s .reads) && not (hasStamp (rowOf s (numberIn from) .stamps) (used (rowOf s (numberIn from))) x)))) (fitTest digestOf (entryIn g (now (f .entry)) 22) (numberIn from))) (J.Bad R.Sender) ⌝ }
+{
+    if !sender_right(g, from, h.client, me) {
+        return Verdict::Bad(Refusal::Sender);
+    }
+    let j = number_in(from) as usize;
+    kept_test(s, g, j, h.sequence, x, f)
+}

@@ -1,0 +1,128 @@
+// Stamps and acks of an open write: kinds 2 and 9.
+use crate::dispersal::disperse;
+use crate::record::in_phase;
+use crate::record::shut;
+use crate::tests::reply_test;
+use blocks::Params;
+use client::Answer;
+use client::Answered;
+use client::Client;
+use client::Phase;
+use client::counts::is_quorate;
+use client::counts::largest_time;
+use client::phases::is_acking;
+use client::phases::is_asking;
+use client::tests::number_in;
+use frame::Header;
+use frame::Party;
+use frame::Verdict;
+ghost use mathlib.Core.Path.{_≡_};
+ghost use mathlib.Core.Bool.{true};
+ghost use mathlib.Core.List.{List};
+ghost use Prim.Native.Nat.{ℕ, _*_, _≤_};
+ghost use lib.ListN.{length};
+ghost use Rattle.area.specs.Numbers.{be8};
+ghost use Rattle.sha256.specs.Hash.{digestOf};
+ghost use Rattle.frame.specs.Params.{Bounded, largestFrame};
+ghost use Rattle.frame.specs.Messages.{message, stampIs, ack, numberIn};
+ghost use Rattle.frame.specs.Outbox.{firstPlace, Room};
+ghost use Rattle.client.specs.Tests.{messageTest};
+ghost use Rattle.client.specs.Steps.{gatherBy, onStamp, onAck};
+ghost use Rattle.client.specs.Delivery.{outcome};
+ghost use Rattle.client.specs.Stages.{stepped, answered};
+ghost use Rattle.client_deliver.specs.Needs.{Stamping};
+
+// 2^64 - 1.
+const LAST_TIME: u64 = 18446744073709551615;
+
+// "At n - t first stamps, take the largest time": it goes out with the blocks, or the write closes as out of stamps.
+fn gather(s: Client, g: Params, me: u8, value: &[u8], out: &mut [u8], to: &mut [u8]) -> Answered
+    requires { ⌜ Bounded g × (length (now value) ≡ g .size) × Room firstPlace (2 * g .n) (largestFrame g) (length (now out)) (length (now to)) ⌝ }
+    ensures { λ r. ⌜ ((a l : List ℕ) → outcome r a l (now (out .exit)) (now (to .exit)) ≡ stepped (gatherBy digestOf g me true s a (now (value .entry))) l (now (out .entry)) (now (to .entry))) ⌝ }
+{
+    let times = s.times;
+    let time = largest_time(times, g.n);
+    if LAST_TIME <= time {
+        let client = shut(s);
+        return Answered {
+            answer: Answer::OutOfStamps,
+            client,
+        };
+    }
+    let p = disperse(value, g, me, s.writes, time, out, to);
+    let heard = [false; 11];
+    let client = in_phase(s, Phase::Acking, heard, times);
+    Answered {
+        answer: Answer::Sent(p.count),
+        client,
+    }
+}
+
+// 2: a server's stamp.
+pub fn on_stamp(
+    s: Client,
+    g: Params,
+    me: u8,
+    value: &[u8],
+    from: Party,
+    h: Header,
+    f: &[u8],
+    out: &mut [u8],
+    to: &mut [u8],
+) -> Answered
+    requires { ⌜ Stamping g s (length (now value)) (length (now out)) (length (now to)) × (17 ≤ length (now f)) ⌝ }
+    ensures { λ r. ⌜ ((a l : List ℕ) → outcome r a l (now (out .exit)) (now (to .exit)) ≡ answered (messageTest digestOf g me s from (message (h .client) (h .sequence) (stampIs (be8 (now (f .entry)) 9)))) s a (onStamp digestOf g me s a (now (value .entry)) (numberIn from) (be8 (now (f .entry)) 9)) l (now (out .entry)) (now (to .entry))) ⌝ }
+{
+    let p = s.phase;
+    let mut heard = s.heard;
+    let mut times = s.times;
+    let v = reply_test(g, me, from, h, is_asking(p), s.writes, heard);
+    if let Verdict::Bad(r) = v {
+        return Answered {
+            answer: Answer::Refused(r),
+            client: s,
+        };
+    }
+    let j = number_in(from) as usize;
+    heard[j] = true;
+    times[j] = area::read8(f, 9);
+    let client = in_phase(s, Phase::Asking, heard, times);
+    if !is_quorate(g, heard) {
+        return Answered {
+            answer: Answer::Sent(0),
+            client,
+        };
+    }
+    gather(client, g, me, value, out, to)
+}
+
+// 9: a server's ack.
+pub fn on_ack(s: Client, g: Params, me: u8, from: Party, h: Header) -> Answered
+    requires { ⌜ Bounded g ⌝ }
+    ensures { λ r. ⌜ ((a l o t : List ℕ) → outcome r a l o t ≡ answered (messageTest digestOf g me s from (message (h .client) (h .sequence) ack)) s a (onAck digestOf g me s a (numberIn from)) l o t) ⌝ }
+{
+    let p = s.phase;
+    let mut heard = s.heard;
+    let times = s.times;
+    let v = reply_test(g, me, from, h, is_acking(p), s.writes, heard);
+    if let Verdict::Bad(r) = v {
+        return Answered {
+            answer: Answer::Refused(r),
+            client: s,
+        };
+    }
+    let j = number_in(from) as usize;
+    heard[j] = true;
+    if !is_quorate(g, heard) {
+        let client = in_phase(s, Phase::Acking, heard, times);
+        return Answered {
+            answer: Answer::Sent(0),
+            client,
+        };
+    }
+    let client = in_phase(s, Phase::Idle, heard, times);
+    Answered {
+        answer: Answer::Written,
+        client,
+    }
+}

@@ -1,5 +1,137 @@
-// What frames do to a client.
+// What frames do to a client: the entry point `deliver`.
 pub mod dispersal;
+pub mod reading;
 pub mod record;
+pub mod stub;
 pub mod tests;
 pub mod writing;
+
+use blocks::Params;
+use client::Answer;
+use client::Answered;
+use client::Client;
+use client::Phase;
+use client::tests::room_test;
+use client::tests::value_test;
+use frame::Header;
+use frame::Opened;
+use frame::Party;
+use frame::Refusal;
+use frame::Verdict;
+use frame::bounds::params_test;
+use frame::opener::open_frame;
+use reading::on_value;
+use writing::on_ack;
+use writing::on_stamp;
+ghost use mathlib.Core.Path.{_≡_};
+ghost use mathlib.Core.Bool.{not, _&&_};
+ghost use lib.ListN.{length};
+ghost use lib.Dec.{eqb};
+ghost use Rattle.area.specs.Area.{pick};
+ghost use Rattle.sha256.specs.Hash.{digestOf};
+ghost use Rattle.frame.specs.Params.{paramsTest};
+ghost use Rattle.frame.specs.Stamps.{lastClient};
+ghost use Rattle.frame.specs.Refusals.{andThen};
+ghost use Rattle.frame.specs.Frames.{messageIn};
+ghost use Rattle.frame.specs.declared.Verdict.the-variants as J;
+ghost use Rattle.frame.specs.declared.Refusal.the-variants as R;
+ghost use Rattle.client.specs.State.{writing};
+ghost use Rattle.client.specs.Tests.{messageTest};
+ghost use Rattle.client.specs.Steps.{effect};
+ghost use Rattle.client.specs.Delivery.{outcome, delivery};
+ghost use Rattle.client.specs.Stages.{answered};
+ghost use Rattle.client_deliver.specs.Needs.{Admitted, reasonIn};
+
+// 1 to 3: the parameters and the own number, and a value of this length, which must be L where a write is open.
+fn call_test(g: Params, me: usize, p: Phase, value: usize) -> Verdict
+    ensures { λ r. ⌜ r ≡ andThen (paramsTest g me lastClient) (pick (writing p && not (eqb value (g .size))) (J.Bad R.Length) J.Fine) ⌝ }
+{
+    let params = params_test(g, me, 8);
+    if let Verdict::Bad(r) = params {
+        return Verdict::Bad(r);
+    }
+    value_test(g, p, value)
+}
+
+// Why a frame did not open.
+fn reason(o: Opened) -> Refusal
+    ensures { λ r. ⌜ r ≡ reasonIn o ⌝ }
+{
+    match o {
+        Opened::Refused(r) => r,
+        Opened::Frame(_) => Refusal::Framing,
+    }
+}
+
+// The step of an opened frame, or its refusal by 11 to 14.
+fn step(
+    g: Params,
+    me: u8,
+    s: Client,
+    value: &[u8],
+    from: Party,
+    h: Header,
+    f: &[u8],
+    area: &mut [u8],
+    result: &mut [u8],
+    out: &mut [u8],
+    to: &mut [u8],
+) -> Answered
+    requires { ⌜ Admitted g s (h .kind) (length (now value)) (length (now f)) (length (now area)) (length (now result)) (length (now out)) (length (now to)) ⌝ }
+    ensures { λ r. ⌜ outcome r (now (area .exit)) (now (result .exit)) (now (out .exit)) (now (to .exit)) ≡ answered (messageTest digestOf g me s from (messageIn g h (now (f .entry)))) s (now (area .entry)) (effect digestOf g me s (now (area .entry)) (now (value .entry)) from (messageIn g h (now (f .entry)))) (now (result .entry)) (now (out .entry)) (now (to .entry)) ⌝ }
+{
+    if h.kind == 2 {
+        return on_stamp(s, g, me, value, from, h, f, out, to);
+    }
+    if h.kind == 9 {
+        return on_ack(s, g, me, from, h);
+    }
+    if h.kind == 11 {
+        return on_value(s, g, me, from, h, f, area, result, out, to);
+    }
+    Answered {
+        answer: Answer::Refused(Refusal::Sender),
+        client: s,
+    }
+}
+
+// Delivers a frame to client me, whose open write's value is lent: the entry point.
+pub fn deliver(
+    g: Params,
+    me: u8,
+    s: Client,
+    value: &[u8],
+    from: Party,
+    f: &[u8],
+    area: &mut [u8],
+    result: &mut [u8],
+    out: &mut [u8],
+    to: &mut [u8],
+) -> Answered
+    ensures { λ r. ⌜ outcome r (now (area .exit)) (now (result .exit)) (now (out .exit)) (now (to .exit)) ≡ delivery digestOf g me s (now (area .entry)) (now (value .entry)) from (now (f .entry)) (now (result .entry)) (now (out .entry)) (now (to .entry)) ⌝ }
+{
+    let p = s.phase;
+    let call = call_test(g, me as usize, p, value.len());
+    if let Verdict::Bad(r) = call {
+        return Answered {
+            answer: Answer::Refused(r),
+            client: s,
+        };
+    }
+    let opened = open_frame(g, f);
+    let Opened::Frame(h) = opened else {
+        let r = reason(opened);
+        return Answered {
+            answer: Answer::Refused(r),
+            client: s,
+        };
+    };
+    let room = room_test(g, area.len(), result.len(), out.len(), to.len());
+    if let Verdict::Bad(r) = room {
+        return Answered {
+            answer: Answer::Refused(r),
+            client: s,
+        };
+    }
+    step(g, me, s, value, from, h, f, area, result, out, to)
+}

@@ -1,0 +1,84 @@
+// Values of an open read: kind 11.
+use crate::record::with_row;
+use crate::stub::settle;
+use crate::tests::entry_test;
+use blocks::Params;
+use client::Answer;
+use client::Answered;
+use client::Client;
+use client::Spot;
+use client::rows::place_for;
+use client::rows::row_with;
+use client::tests::number_in;
+use frame::Header;
+use frame::Party;
+use frame::Stamp;
+use frame::Verdict;
+use frame::entries::keep_entry;
+use frame::opener::stamp_in;
+ghost use mathlib.Core.Path.{_≡_};
+ghost use Prim.Native.Nat.{_+_, _≤_};
+ghost use lib.ListN.{length};
+ghost use Rattle.sha256.specs.Hash.{digestOf};
+ghost use Rattle.frame.specs.Params.{entryLength};
+ghost use Rattle.frame.specs.Messages.{message, valueIs, numberIn};
+ghost use Rattle.frame.specs.Frames.{stampIn, entryIn};
+ghost use Rattle.client.specs.Tests.{messageTest};
+ghost use Rattle.client.specs.Steps.{onValue};
+ghost use Rattle.client.specs.Delivery.{outcome};
+ghost use Rattle.client.specs.Stages.{Lent, stepped, answered};
+
+// A value from server j with stamp x is kept, if there is a place for it; then the rows are searched.
+fn keep(
+    s: Client,
+    g: Params,
+    me: u8,
+    j: usize,
+    x: Stamp,
+    f: &[u8],
+    area: &mut [u8],
+    result: &mut [u8],
+    out: &mut [u8],
+    to: &mut [u8],
+) -> Answered
+    requires { ⌜ Lent g (length (now area)) (length (now result)) (length (now out)) (length (now to)) × (1 ≤ j) × (j ≤ g .n) × (22 + entryLength g ≤ length (now f)) ⌝ }
+    ensures { λ r. ⌜ outcome r (now (area .exit)) (now (result .exit)) (now (out .exit)) (now (to .exit)) ≡ stepped (onValue digestOf g me s (now (area .entry)) j x (entryIn g (now (f .entry)) 22)) (now (result .entry)) (now (out .entry)) (now (to .entry)) ⌝ }
+{
+    let row = s.rows[j];
+    let spot = place_for(row, x);
+    let Spot::At(i) = spot else {
+        return settle(s, g, me, area, result, out, to);
+    };
+    keep_entry(area, 4 * j - 4 + i, g, f, 22);
+    let kept = row_with(row, i, x);
+    let client = with_row(s, j, kept);
+    settle(client, g, me, area, result, out, to)
+}
+
+// 11: a server's value.
+pub fn on_value(
+    s: Client,
+    g: Params,
+    me: u8,
+    from: Party,
+    h: Header,
+    f: &[u8],
+    area: &mut [u8],
+    result: &mut [u8],
+    out: &mut [u8],
+    to: &mut [u8],
+) -> Answered
+    requires { ⌜ Lent g (length (now area)) (length (now result)) (length (now out)) (length (now to)) × (22 + entryLength g ≤ length (now f)) ⌝ }
+    ensures { λ r. ⌜ outcome r (now (area .exit)) (now (result .exit)) (now (out .exit)) (now (to .exit)) ≡ answered (messageTest digestOf g me s from (message (h .client) (h .sequence) (valueIs (stampIn (now (f .entry))) (entryIn g (now (f .entry)) 22)))) s (now (area .entry)) (onValue digestOf g me s (now (area .entry)) (numberIn from) (stampIn (now (f .entry))) (entryIn g (now (f .entry)) 22)) (now (result .entry)) (now (out .entry)) (now (to .entry)) ⌝ }
+{
+    let x = stamp_in(f);
+    let v = entry_test(s, g, me, from, h, x, f);
+    if let Verdict::Bad(r) = v {
+        return Answered {
+            answer: Answer::Refused(r),
+            client: s,
+        };
+    }
+    let j = number_in(from) as usize;
+    keep(s, g, me, j, x, f, area, result, out, to)
+}

@@ -2,7 +2,6 @@
 pub mod dispersal;
 pub mod reading;
 pub mod record;
-pub mod stub;
 pub mod tests;
 pub mod writing;
 

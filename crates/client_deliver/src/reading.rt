@@ -1,6 +1,6 @@
 // Values of an open read: kind 11.
 use crate::record::with_row;
-use crate::stub::settle;
+use client_search::settle;
 use crate::tests::entry_test;
 use blocks::Params;
 use client::Answer;
@@ -9,7 +9,7 @@ use client::Client;
 use client::Spot;
 use client::rows::place_for;
 use client::rows::row_with;
-use client::tests::number_in;
+use frame::parties::number_in;
 use frame::Header;
 use frame::Party;
 use frame::Stamp;

@@ -12,7 +12,7 @@ use client::counts::is_quorate;
 use client::counts::largest_time;
 use client::phases::is_acking;
 use client::phases::is_asking;
-use client::tests::number_in;
+use frame::parties::number_in;
 use frame::Header;
 use frame::Party;
 use frame::Verdict;

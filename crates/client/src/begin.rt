@@ -3,7 +3,7 @@ use crate::Answer;
 use crate::Answered;
 use crate::Client;
 use crate::Phase;
-use crate::Row;
+use crate::fresh::fresh_rows;
 use crate::tests::closed_test;
 use crate::tests::idle_test;
 use crate::tests::length_test;
@@ -14,32 +14,15 @@ use frame::Place;
 use frame::Verdict;
 use frame::bounds::params_test;
 use frame::send::ask_all;
-use frame::stamps::zero_stamp;
 ghost use mathlib.Core.Path.{_≡_};
-ghost use lib.ListN.{length, replicate};
+ghost use lib.ListN.{length};
 ghost use Rattle.frame.specs.Params.{paramsTest};
 ghost use Rattle.frame.specs.Refusals.{andThen};
 ghost use Rattle.frame.specs.Stamps.{lastClient};
 ghost use Rattle.frame.specs.declared.Verdict.the-variants as J;
-ghost use Rattle.client.specs.State.{freshRow};
 ghost use Rattle.client.specs.Tests.{sendRoom};
 ghost use Rattle.client.specs.Beginning.{begun, lengthTest, openRead, openWrite, begunOf, readBeginning, writeBeginning};
 ghost use Rattle.client.specs.Stages.{idleBy, closedBy, Opening};
-
-fn fresh_row() -> Row
-    ensures { λ r. ⌜ r ≡ freshRow ⌝ }
-{
-    let x = zero_stamp();
-    let stamps = [x; 4];
-    Row { count: 0, stamps }
-}
-
-fn fresh_rows() -> [Row; 11]
-    ensures { λ r. ⌜ r ≡ replicate 11 freshRow ⌝ }
-{
-    let r = fresh_row();
-    [r; 11]
-}
 
 // 1, 2, 3, 10, 15 and 16 of a read, where last is the last number used.
 fn read_test(g: Params, me: usize, p: Phase, last: u32, out: usize, to: usize) -> Verdict

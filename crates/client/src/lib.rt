@@ -1,6 +1,7 @@
 // A client: its small record of its open operation, by value. Place j of an array belongs to server j; place 0 stays empty.
 pub mod begin;
 pub mod counts;
+pub mod fresh;
 pub mod phases;
 pub mod rows;
 pub mod tests;

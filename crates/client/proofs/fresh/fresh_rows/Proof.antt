@@ -1,6 +1,6 @@
 use borrow.Author.Needs.{needs}
-use Rattle.client.proofs.begin.fresh_rows.Statement.{statement}
-use Rattle.client.proofs.begin.fresh_rows.Tie as tie
+use Rattle.client.proofs.fresh.fresh_rows.Statement.{statement}
+use Rattle.client.proofs.fresh.fresh_rows.Tie as tie
 
 fresh-row-requires : tie.Need-fresh-row-requires
 fresh-row-requires c κs = search needs

@@ -1,7 +1,7 @@
 use borrow.Author.Needs.{needs}
 use Rattle.client.specs.State.{freshRow}
-use Rattle.client.proofs.begin.fresh_row.Statement.{statement}
-use Rattle.client.proofs.begin.fresh_row.Tie as tie
+use Rattle.client.proofs.fresh.fresh_row.Statement.{statement}
+use Rattle.client.proofs.fresh.fresh_row.Tie as tie
 
 zero-stamp-requires : tie.Need-zero-stamp-requires
 zero-stamp-requires c κs = search needs

@@ -1,0 +1,248 @@
+// The parties of one register on one machine. Place j belongs to server or client j; place 0 serves a number that is nobody's, and stays as it is.
+use crate::counts::count_of;
+use crate::print::print_out_of_stamps;
+use crate::print::print_refused;
+use crate::print::print_step;
+use crate::print::print_value;
+use crate::print::print_written;
+use blocks::Params;
+use client::Answer;
+use client::Client;
+use client::begin::begin_read;
+use client::begin::begin_write;
+use client_deliver::fresh_client;
+use frame::Party;
+use server::Reply;
+use server::Server;
+use server::state::fresh_server;
+ghost use mathlib.Core.Path.{_≡_};
+ghost use Prim.Native.Nat.{_+_, _≤_};
+ghost use lib.ListN.{length};
+
+pub struct Hall {
+    pub ready: bool,
+    pub g: Params,
+    pub servers: [Server; 11],
+    pub clients: [Client; 9],
+}
+
+pub fn no_hall() -> Hall {
+    let g = Params {
+        n: 0,
+        t: 0,
+        k: 0,
+        size: 0,
+    };
+    Hall {
+        ready: false,
+        g,
+        servers: [fresh_server(); 11],
+        clients: [fresh_client(); 9],
+    }
+}
+
+// The place of party j of at most so many.
+fn place_of(j: usize, most: usize) -> usize
+    ensures { λ r. ⌜ r ≤ most ⌝ }
+{
+    if most < j {
+        return 0;
+    }
+    j
+}
+
+// A number as a byte; 255 is nobody's.
+pub fn byte_of(j: usize) -> u8 {
+    if 255 < j {
+        return 255;
+    }
+    j as u8
+}
+
+fn with_server(h: Hall, i: usize, s: Server) -> Hall {
+    if 10 < i {
+        return h;
+    }
+    let mut y = h;
+    y.servers[i] = s;
+    y
+}
+
+fn with_client(h: Hall, i: usize, s: Client) -> Hall {
+    if 8 < i {
+        return h;
+    }
+    let mut y = h;
+    y.clients[i] = s;
+    y
+}
+
+// Makes servers 1 to n afresh with this initial value. The first refusal is the reply; the parameters being the same, it is the first server's.
+pub fn fresh_servers(g: Params, value: &[u8], areas: &mut [u8], initials: &mut [u8]) -> Reply
+    requires { ⌜ (length (now areas) ≡ 1070784) × (length (now initials) ≡ 2816) ⌝ }
+{
+    let mut j = 1;
+    while j < 11 {
+        let at = 97344 * j;
+        let first = 256 * j;
+        let r = server_deliver::fresh(
+            g,
+            j as u8,
+            value,
+            &mut areas[at..at + 97344],
+            &mut initials[first..first + 256],
+        );
+        let reply = r.reply;
+        if let Reply::Refused(x) = reply {
+            return Reply::Refused(x);
+        }
+        if g.n <= j {
+            return Reply::Step(0);
+        }
+        j += 1;
+    }
+    Reply::Step(0)
+}
+
+fn print_served(r: Reply, out: &[u8], to: &[u8]) {
+    match r {
+        Reply::Step(count) => print_step(out, to, count),
+        Reply::Refused(x) => print_refused(x),
+    }
+}
+
+// A frame is handed to server j.
+pub fn hand_server(
+    h: Hall,
+    j: usize,
+    from: Party,
+    f: &[u8],
+    areas: &mut [u8],
+    initials: &[u8],
+) -> Hall
+    requires { ⌜ (length (now areas) ≡ 1070784) × (length (now initials) ≡ 2816) ⌝ }
+{
+    let i = place_of(j, 10);
+    let at = 97344 * i;
+    let first = 256 * i;
+    let g = h.g;
+    let servers = h.servers;
+    let mut out = [0u8; 12000];
+    let mut to = [0u8; 64];
+    let r = server_deliver::deliver(
+        servers[i],
+        g,
+        byte_of(j),
+        from,
+        f,
+        &mut areas[at..at + 97344],
+        &initials[first..first + 256],
+        &mut out,
+        &mut to,
+    );
+    let reply = r.reply;
+    print_served(reply, &out, &to);
+    let s = r.server;
+    with_server(h, i, s)
+}
+
+fn print_answered(a: Answer, n: usize, value: &[u8], out: &[u8], to: &[u8]) {
+    match a {
+        Answer::Sent(count) => print_step(out, to, count),
+        Answer::Written => {
+            print_step(out, to, 0);
+            print_written();
+        }
+        Answer::OutOfStamps => {
+            print_step(out, to, 0);
+            print_out_of_stamps();
+        }
+        Answer::Value(stamp) => {
+            print_step(out, to, n);
+            print_value(value);
+        }
+        Answer::Refused(x) => print_refused(x),
+    }
+}
+
+// A frame is handed to client j, whose open write's value lies in values.
+pub fn hand_client(
+    h: Hall,
+    j: usize,
+    from: Party,
+    f: &[u8],
+    rows: &mut [u8],
+    values: &[u8],
+) -> Hall
+    requires { ⌜ (length (now rows) ≡ 207360) × (length (now values) ≡ 2304) ⌝ }
+{
+    let i = place_of(j, 8);
+    let at = 23040 * i;
+    let first = 256 * i;
+    let g = h.g;
+    let clients = h.clients;
+    let mut result = [0u8; 256];
+    let value = &values[first..first + 256];
+    let size = count_of(g.size, value);
+    let mut out = [0u8; 12000];
+    let mut to = [0u8; 64];
+    let r = client_deliver::deliver(
+        g,
+        byte_of(j),
+        clients[i],
+        &value[..size],
+        from,
+        f,
+        &mut rows[at..at + 23040],
+        &mut result,
+        &mut out,
+        &mut to,
+    );
+    let a = r.answer;
+    let shown = count_of(g.size, &result);
+    print_answered(a, g.n, &result[..shown], &out, &to);
+    let s = r.client;
+    with_client(h, i, s)
+}
+
+// Client j begins a read.
+pub fn read(h: Hall, j: usize) -> Hall {
+    let i = place_of(j, 8);
+    let mut out = [0u8; 12000];
+    let mut to = [0u8; 64];
+    let g = h.g;
+    let clients = h.clients;
+    let r = begin_read(g, byte_of(j), clients[i], &mut out, &mut to);
+    let a = r.answer;
+    print_answered(a, 0, b"", &out, &to);
+    let s = r.client;
+    with_client(h, i, s)
+}
+
+// Keeps the value of a write that has begun.
+fn keep(a: Answer, value: &[u8], values: &mut [u8], at: usize)
+    requires { ⌜ at + 256 ≤ length (now values) ⌝ }
+{
+    if let Answer::Sent(count) = a {
+        if value.len() <= 256 {
+            area::put(values, at, value);
+        }
+    }
+}
+
+// Client j begins the write of a value.
+pub fn write(h: Hall, j: usize, value: &[u8], values: &mut [u8]) -> Hall
+    requires { ⌜ length (now values) ≡ 2304 ⌝ }
+{
+    let i = place_of(j, 8);
+    let mut out = [0u8; 12000];
+    let mut to = [0u8; 64];
+    let g = h.g;
+    let clients = h.clients;
+    let r = begin_write(g, byte_of(j), clients[i], value, &mut out, &mut to);
+    let a = r.answer;
+    keep(a, value, values, 256 * i);
+    print_answered(a, 0, b"", &out, &to);
+    let s = r.client;
+    with_client(h, i, s)
+}

@@ -1,6 +1,5 @@
 // Values of an open read: kind 11.
 use crate::record::with_row;
-use client_search::settle;
 use crate::tests::entry_test;
 use blocks::Params;
 use client::Answer;
@@ -9,13 +8,14 @@ use client::Client;
 use client::Spot;
 use client::rows::place_for;
 use client::rows::row_with;
-use frame::parties::number_in;
+use client_search::settle;
 use frame::Header;
 use frame::Party;
 use frame::Stamp;
 use frame::Verdict;
 use frame::entries::keep_entry;
 use frame::opener::stamp_in;
+use frame::parties::number_in;
 ghost use mathlib.Core.Path.{_≡_};
 ghost use Prim.Native.Nat.{_+_, _≤_};
 ghost use lib.ListN.{length};

@@ -130,7 +130,14 @@ fn server_call(h: Hall, line: Line, f: &[u8], areas: &mut [u8], initials: &[u8])
         print_what();
         return h;
     }
-    hand_server(h, j.number, sender(fields[2], fields[3]), f, areas, initials)
+    hand_server(
+        h,
+        j.number,
+        sender(fields[2], fields[3]),
+        f,
+        areas,
+        initials,
+    )
 }
 
 // `C I s J HEX` and `C I c J HEX`.

@@ -13,7 +13,6 @@ ghost use lib.ListN.{length};
 mod calls;
 mod counts;
 mod line;
-mod numbers;
 mod parties;
 mod print;
 
@@ -204,5 +203,11 @@ fn main() {
     let mut rows = no_rows();
     let mut values = [0u8; 2304];
     let mut bytes = no_bytes();
-    serve(&mut bytes, &mut areas, &mut initials, &mut rows, &mut values);
+    serve(
+        &mut bytes,
+        &mut areas,
+        &mut initials,
+        &mut rows,
+        &mut values,
+    );
 }

@@ -10,7 +10,7 @@ use client::Answer;
 use client::Client;
 use client::begin::begin_read;
 use client::begin::begin_write;
-use client_deliver::fresh_client;
+use client::fresh::fresh_client;
 use frame::Party;
 use server::Reply;
 use server::Server;
@@ -85,7 +85,7 @@ pub fn fresh_servers(g: Params, value: &[u8], areas: &mut [u8], initials: &mut [
     while j < 11 {
         let at = 97344 * j;
         let first = 256 * j;
-        let r = server_deliver::fresh(
+        let r = Server::fresh(
             g,
             j as u8,
             value,
@@ -166,14 +166,7 @@ fn print_answered(a: Answer, n: usize, value: &[u8], out: &[u8], to: &[u8]) {
 }
 
 // A frame is handed to client j, whose open write's value lies in values.
-pub fn hand_client(
-    h: Hall,
-    j: usize,
-    from: Party,
-    f: &[u8],
-    rows: &mut [u8],
-    values: &[u8],
-) -> Hall
+pub fn hand_client(h: Hall, j: usize, from: Party, f: &[u8], rows: &mut [u8], values: &[u8]) -> Hall
     requires { ⌜ (length (now rows) ≡ 207360) × (length (now values) ≡ 2304) ⌝ }
 {
     let i = place_of(j, 8);

@@ -1,7 +1,7 @@
 // What is printed for an answer.
 use frame::Refusal;
+use frame::refusals::number_of;
 ghost use Rattle.io.specs.Counts.{Counts};
-use crate::numbers::number_of;
 
 fn glyph(d: u8) -> u8 {
     if d < 10 {

@@ -1,5 +1,4 @@
 // Frames of a write's blocks: kinds 3 to 5.
-use server_blocks::settle_blocks;
 use blocks::Params;
 use frame::Broadcast;
 use frame::Header;
@@ -9,6 +8,7 @@ use frame::Refusal;
 use frame::Verdict;
 use frame::digests::block_fits;
 use frame::entries::put_entry;
+use frame::parties::number_in;
 use frame::send::block_all;
 use server::Moved;
 use server::Reply;
@@ -20,9 +20,9 @@ use server::state::block_echo;
 use server::state::block_ready;
 use server::state::block_sent;
 use server::state::with_slot;
-use frame::parties::number_in;
 use server::tests::owner_test;
 use server::tests::server_test;
+use server_blocks::settle_blocks;
 ghost use mathlib.Core.Path.{_≡_};
 ghost use Prim.Native.Nat.{ℕ, _+_, _≤_};
 ghost use mathlib.Core.Bool.{false};

@@ -7,7 +7,7 @@ use Rattle.hall.proofs.parties.fresh_servers.Statement.{statement}
 use Rattle.hall.proofs.parties.fresh_servers.Tie as tie
 use Rattle.hall.proofs.parties.fresh_servers.Reads as reads
 use Rattle.hall.proofs.parties.fresh_servers.Lts as lts
-use Rattle.server_deliver.proofs.fresh.Reads as fresh-reads
+use Rattle.server.proofs.Server.fresh.Reads as fresh-reads
 
 abbrev Inv-loop : tie.InvT-loop
 Inv-loop g value areas₀ initials₀ j₀ areas initials j = (j ≤ 11) × (length areas ≡ 1070784) × (length initials ≡ 2816)

@@ -1,3 +1,4 @@
 pub mod Firsts
 pub mod Searches
 pub mod Endings
+pub mod Staying

@@ -1,0 +1,52 @@
+// The client's record lent to a delivery, which updates it.
+use blocks::Params;
+use client::Answer;
+use client::Answered;
+use client::Client;
+use frame::Party;
+ghost use mathlib.Core.Path.{_≡_};
+ghost use Rattle.sha256.specs.Hash.{digestOf};
+ghost use Rattle.client.specs.Delivery.{outcome, delivery};
+
+// Delivers a frame to the client whose record is lent: the step by value, whose record is stored.
+pub fn deliver(
+    rec: &mut Client,
+    g: Params,
+    me: u8,
+    value: &[u8],
+    from: Party,
+    f: &[u8],
+    area: &mut [u8],
+    result: &mut [u8],
+    out: &mut [u8],
+    to: &mut [u8],
+) -> Answer
+    ensures { λ r. ⌜ outcome (record { answer = r; client = now (rec .exit) }) (now (area .exit)) (now (result .exit)) (now (out .exit)) (now (to .exit)) ≡ delivery digestOf g me (now (rec .entry)) (now (area .entry)) (now (value .entry)) from (now (f .entry)) (now (result .entry)) (now (out .entry)) (now (to .entry)) ⌝ }
+{
+    let stepped = client_deliver::deliver(g, me, *rec, value, from, f, area, result, out, to);
+    *rec = stepped.client;
+    stepped.answer
+}
+
+// The same for a record by value, which is lent for the call. Callers of this function need no walk of their own.
+pub fn lend(
+    s: Client,
+    g: Params,
+    me: u8,
+    value: &[u8],
+    from: Party,
+    f: &[u8],
+    area: &mut [u8],
+    result: &mut [u8],
+    out: &mut [u8],
+    to: &mut [u8],
+) -> Answered
+    ensures { λ r. ⌜ outcome r (now (area .exit)) (now (result .exit)) (now (out .exit)) (now (to .exit)) ≡ delivery digestOf g me s (now (area .entry)) (now (value .entry)) from (now (f .entry)) (now (result .entry)) (now (out .entry)) (now (to .entry)) ⌝ }
+{
+    let mut rec = s;
+    let answer = deliver(&mut rec, g, me, value, from, f, area, result, out, to);
+    Answered {
+        answer,
+        client: rec,
+    }
+}

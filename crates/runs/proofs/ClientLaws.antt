@@ -29,7 +29,7 @@ use Rattle.client.specs.State.{heardOf}
 use Rattle.client.specs.Steps as C
 use Rattle.client.specs.Tests as CT
 use Rattle.steps.proofs.BlockFacts.{is-server}
-use Rattle.steps.proofs.ClientFacts.{timeOf, ClientShape, client-shape-fresh, ClientFacts, KnowsV, Brought, Nought, quiet-facts, effect-facts, read-facts, write-facts}
+use Rattle.client.proofs.CallFacts.{timeOf, ClientShape, client-shape-fresh, ClientFacts, KnowsV, Brought, Nought, quiet-facts, effect-facts, read-facts, write-facts}
 use Rattle.steps.proofs.ClientTaken.{Taken, Delivered, refused, taken, delivered, passed}
 use Rattle.runs.specs.Admissible.{Sent, Honest, Proper, Admissible}
 use Rattle.runs.specs.World.{Setup, Call, toServer, toClient, beginRead, beginWrite, caller, ClientSide, clientEffect, readEffect, writeEffect, start, step, run, sends, put}

@@ -14,7 +14,7 @@ use Rattle.frame.specs.Coded.{fits}
 use Rattle.frame.specs.Messages.{Entry}
 use Rattle.frame.specs.Stamps.{sameStamp}
 use Rattle.client.specs.Rows.{Kept, Found, atStamp, rowsFrom, agreed, foundOf, firstAgreed, foundBy, search}
-use Rattle.steps.proofs.ClientFacts.{first-agreed}
+use Rattle.client.proofs.Agreed.{first-agreed}
 use Rattle.runs.specs.Blocks.{InFrame}
 use Rattle.runs.specs.Events.{At}
 use Rattle.runs.specs.World.{Setup, Call}

@@ -37,7 +37,7 @@ use Rattle.client.specs.Steps as C
 use Rattle.client.specs.Tests as CT
 use Rattle.client.proofs.Views as CV
 use Rattle.steps.proofs.ClientTaken.{passed, Delivered, refused, taken, delivered}
-use Rattle.steps.proofs.ClientFacts.{row-shaped, rows-shaped, no-rows}
+use Rattle.client.proofs.CallFacts.{row-shaped, rows-shaped, no-rows}
 use Rattle.steps.proofs.BlockFacts.{SizedIn, is-server}
 use Rattle.steps.proofs.ServerTaken.{message-sized}
 use Rattle.runs.specs.Admissible.{Admissible}

@@ -20,7 +20,7 @@ use Rattle.server.specs.Steps as S
 use Rattle.client.specs.declared.Phase.the-variants as F
 use Rattle.client.specs.Rows.{Found, Kept, rowView}
 use Rattle.client.specs.State.{heardOf}
-use Rattle.steps.proofs.ClientFacts.{timeOf}
+use Rattle.client.proofs.CallFacts.{timeOf}
 use Rattle.steps.proofs.Keys.{key, key-time}
 use Rattle.runs.specs.Events.{At, Accepts, CompletesRead, EndsWrite}
 use Rattle.runs.specs.World.{Setup, Call, ClientSide, initialOf, run}

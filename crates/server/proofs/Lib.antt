@@ -8,3 +8,4 @@ pub mod TimeStage
 pub mod Present
 pub mod Answers
 pub mod Constructing
+pub mod Settling

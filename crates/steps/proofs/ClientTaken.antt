@@ -42,13 +42,9 @@ use Rattle.client.specs.Delivery as CD
 use Rattle.client.specs.State as CS
 use Rattle.client.specs.Steps as C
 use Rattle.client.specs.Tests as CT
+pub use Rattle.client.proofs.CallFacts.{awaited-true}
 use Rattle.steps.proofs.ServerRanges.{AllFormed, formed-all}
 use Rattle.steps.proofs.Decoding.{block-width}
-
-pub awaited-true : (H : List ℕ → List ℕ) (g : Params) (me : ℕ) (b : Bool) → CT.awaited b ≡ J.Fine → b ≡ true
-unfolding CT.awaited pick
-awaited-true H g me true e = refl
-awaited-true H g me false e = impossible (cc)
 
 module _ (H : List ℕ → List ℕ) (g : Params) (me : ℕ) where
   pub record Taken (s : Client) (v : List ℕ) (from : Party) (f : List ℕ) (m : Message) : Type 0 where

@@ -1,4 +1,3 @@
-pub mod Acceptance
 pub mod PartFacts
 pub mod ServerFacts
 pub mod BlockFacts
@@ -10,5 +9,4 @@ pub mod ServerRanges
 pub mod Keys
 pub mod ServerStamps
 pub mod ClientTaken
-pub mod ClientFacts
 pub mod SendCount

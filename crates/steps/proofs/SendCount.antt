@@ -25,7 +25,7 @@ use Rattle.client.specs.Rows.{Found, rowView, placeFor, search}
 use Rattle.client.specs.State.{largest, rowOf}
 use Rattle.client.specs.Steps as C
 use Rattle.client.specs.Beginning as CB
-use Rattle.steps.proofs.Acceptance.{Settling, waits, accepts, settling}
+use Rattle.server.proofs.Settling.{Settling, waits, accepts, settling}
 
 from-length : (f : ℕ → Message) (j m : ℕ) → length (toFrom f j m) ≡ m
 unfolding toFrom

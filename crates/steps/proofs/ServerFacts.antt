@@ -19,7 +19,7 @@ use Rattle.frame.specs.declared.Stamp.{Stamp}
 use Rattle.frame.specs.declared.Party.{Party}
 use Rattle.frame.specs.declared.Party.the-variants as A
 use Rattle.frame.specs.Chunks.{entryAt, storeIf, completeAt, areaBytes}
-use Rattle.frame.specs.Messages.{Entry, Stage, send, echo, ready, Body, ack, valueIs, Message, message, Sending, sending, toFrom, Sized}
+use Rattle.frame.specs.Messages.{Entry, Stage, send, echo, ready, Body, ack, valueIs, Message, message, Sending, sending, Sized}
 use Rattle.frame.specs.Params.{width, listed}
 use Rattle.frame.specs.Stamps.{older}
 use Rattle.frame.proofs.Chunks.{length-store}
@@ -31,7 +31,8 @@ use Rattle.server.specs.State.{freshSlot, noSlot, slotOf, readerOf, withSlot, b
 use Rattle.server.specs.Steps as S
 use Rattle.server.proofs.Parts.{noPart, kept-some}
 use Rattle.server.proofs.Views as SV
-use Rattle.steps.proofs.Acceptance.{Settling, waits, accepts, settling}
+pub use Rattle.client.proofs.Sends.{mem-all}
+use Rattle.server.proofs.Settling.{Settling, waits, accepts, settling}
 use Rattle.steps.proofs.PartFacts.{Heard, PartFacts}
 
 -- ---- small laws
@@ -48,11 +49,6 @@ entry-sized g M a p h = record {
 }
 
 -- what goes to all
-pub mem-all : (f : ℕ → Message) (j m : ℕ) (x : Sending) → List·Memᴰ x (toFrom f j m) → (i : ℕ) × (x .says ≡ f i)
-unfolding toFrom
-mem-all f j zero x u = absurd (List·Memᴰ·not-nil u)
-mem-all f j (suc m) x u = ⊎-elim (λ e. (j, ap (λ y. y .says) e)) (λ w. mem-all f (suc j) m x w) (List·Memᴰ·cases-cons u)
-
 pub mem-pick : {A : Type 0} (b : Bool) (l : List A) (x : A) → List·Memᴰ x (pick b l []) → (b ≡ true) × List·Memᴰ x l
 unfolding pick
 mem-pick true l x u = (refl, u)

@@ -26,7 +26,7 @@ use Rattle.server.specs.Tests as ST
 use Rattle.server.proofs.Views as SV
 use Rattle.steps.proofs.BlockFacts.{is-server, test-split}
 use Rattle.steps.proofs.ServerFacts.{ServerShape, this-slot, other-slot, length-if}
-use Rattle.steps.proofs.Acceptance.{Settling, waits, accepts, settling}
+use Rattle.server.proofs.Settling.{Settling, waits, accepts, settling}
 use Rattle.steps.proofs.ServerTaken.{Taken, took}
 
 pub shape-slot : (s : Server) (a a′ : List ℕ) → ServerShape s a → (c : ℕ) → Among 8 c → (x : Slot) → SV.Shaped x → areaBytes ≤ length a′ → ServerShape (withSlot s c x) a′

@@ -38,7 +38,7 @@ use Rattle.server.specs.Tests as ST
 use Rattle.steps.proofs.BlockFacts.{open-passed, test-split}
 use Rattle.steps.proofs.Decoding.{quota-blocks, block-width, decoded-size, votes-are}
 use Rattle.steps.proofs.ServerFacts.{mem-all, mem-pick, ServerShape, length-if, done-sized}
-use Rattle.steps.proofs.Acceptance.{Settling, waits, accepts, settling}
+use Rattle.server.proofs.Settling.{Settling, waits, accepts, settling}
 
 -- ---- stamps in range
 

@@ -36,7 +36,7 @@ use Rattle.server.specs.Tests as ST
 use Rattle.steps.proofs.BlockFacts.{open-passed, is-owner, is-server, test-split}
 use Rattle.steps.proofs.ServerFacts.{mem-all, mem-pick, ServerShape, length-if, done-sized}
 use Rattle.steps.proofs.ServerRanges.{StampInBounds, WriteInBounds, write-stamp-in-bounds, InBounds}
-use Rattle.steps.proofs.Acceptance.{Settling, waits, accepts, settling}
+use Rattle.server.proofs.Settling.{Settling, waits, accepts, settling}
 use Rattle.steps.proofs.Keys.{key, older-key, not-older}
 
 -- ---- frames of the two broadcasts

@@ -7,16 +7,15 @@ use mathlib.Core.Bool.{Bool, true, false}
 use mathlib.Core.Path.{_≡_, refl, ap, sym, _∙_, subst}
 use mathlib.Core.Logic.{_⊎_, inl, inr, ⊎-elim}
 use mathlib.Core.Option.{Option, none, some}
-use mathlib.Core.List.{List, [], _∷_, List·Memᴰ, List·Memᴰ·head, List·Memᴰ·tail, List·Memᴰ·not-nil, List·Memᴰ·append-cases}
+use mathlib.Core.List.{List, [], List·Memᴰ, List·Memᴰ·not-nil, List·Memᴰ·append-cases}
 use lib.ListN.{length, getD, set, replicate, length-set, length-replicate, getD-replicate}
 use lib.Seq.{getD-set-same, getD-set-other}
-use lib.Dec.{ltb, eqb}
+use lib.Dec.{eqb}
 use borrow.Author.Tests.{leb-true, eqb-true}
 use Rattle.quorum.specs.Quorum.{count, Among}
 use Rattle.quorum.proofs.Logic.{impossible, and-split}
 use Rattle.quorum.proofs.Quorums.{AtLeast, at-least-map}
 use Rattle.area.specs.Area.{pick}
-use Rattle.area.proofs.Same.{same-true}
 use Rattle.blocks.specs.declared.Params.{Params}
 use Rattle.frame.specs.declared.Stamp.{Stamp}
 use Rattle.frame.specs.declared.Party.{Party}
@@ -24,74 +23,35 @@ use Rattle.frame.specs.declared.Verdict.{Verdict}
 use Rattle.frame.specs.declared.Party.the-variants as A
 use Rattle.frame.specs.declared.Verdict.the-variants as J
 use Rattle.frame.specs.Chunks.{storeEntry, rowsBytes, placeAt}
-use Rattle.frame.specs.Coded.{hasList, entryOf}
+use Rattle.frame.specs.Coded.{entryOf}
 use Rattle.frame.specs.Messages.{Entry, send, Body, getStamp, ack, askRead, readComplete, stampIs, blockIs, timeIs, valueIs, Message, message, Sending, sending, toAll, Sized, FormedBody}
-use Rattle.frame.specs.Stamps.{sameStamp, lastTime}
 use Rattle.frame.proofs.Chunks.{length-store}
 use Rattle.frame.proofs.Sizes.{Small}
 use Rattle.frame.proofs.Verdicts.{fine-both}
-use Rattle.frame.proofs.StampOrder.{stamp-of}
-use Rattle.server.specs.Broadcast.{kept}
 use Rattle.client.specs.declared.Phase.{Phase}
 use Rattle.client.specs.declared.Client.{Client}
 use Rattle.client.specs.declared.Phase.the-variants as F
-use Rattle.client.specs.Rows.{used, Kept, placesFrom, rowView, placeFor, rowWith, atStamp, rowsFrom, Found, agreed, foundOf, firstBy, firstAgreed, foundBy, search}
+use Rattle.client.specs.Rows.{used, Kept, placesFrom, rowView, placeFor, rowWith, Found, search}
 use Rattle.client.specs.State.{freshRow, freshClient, noRow, rowOf, inPhase, withRow, heardOf, largest}
 use Rattle.client.specs.Beginning as CB
 use Rattle.client.specs.State as CS
 use Rattle.client.specs.Steps as C
 use Rattle.client.specs.Tests as CT
 use Rattle.client.proofs.Views as CV
-use Rattle.steps.proofs.ClientTaken.{awaited-true}
-use Rattle.steps.proofs.ServerFacts.{mem-all}
-
--- ---- the search
-
-pub record Has (l : List Kept) (x : Stamp) (d : List ℕ) : Type 0 where
-  pub it : Kept
-  pub stamp : it .stamp ≡ x
-  pub digests : it .entry .digests ≡ d
-  pub in-row : List·Memᴰ it l
-
-row-has : (l : List Kept) (x : Stamp) (d : List ℕ) → hasList (atStamp l x) d ≡ true → Has l x d
-unfolding atStamp pick
-row-has [] x d e = impossible (cc)
-row-has (k ∷ l) x d e = go (row-has l x d) (sameStamp (k .stamp) x) refl e
-  where
-    go : (hasList (atStamp l x) d ≡ true → Has l x d) → (b : Bool) → sameStamp (k .stamp) x ≡ b → hasList (pick b (some (k .entry)) (atStamp l x)) d ≡ true → Has (k ∷ l) x d
-    go f true z u = record { it = k; stamp = stamp-of (k .stamp) x z; digests = same-true (k .entry .digests) d u; in-row = List·Memᴰ·head refl }
-    go f false z u = let w = f u in record { it = w .it; stamp = w .stamp; digests = w .digests; in-row = List·Memᴰ·tail (w .in-row) }
-
-module _ (H : List ℕ → List ℕ) (g : Params) where
-  pub first-agreed : (f : ℕ → List Kept) (l : List Kept) (k : Kept) → firstAgreed g f l ≡ some k → agreed g f k ≡ true
-  unfolding firstAgreed firstBy
-  first-agreed f [] k e = impossible (cc)
-  first-agreed f (y ∷ l) k e = go (first-agreed f l k) (agreed g f y) refl e
-    where
-      go : (firstAgreed g f l ≡ some k → agreed g f k ≡ true) → (b : Bool) → agreed g f y ≡ b → firstBy g f b y (firstAgreed g f l) ≡ some k → agreed g f k ≡ true
-      go r true z u = let w : y ≡ k = cc in subst (λ v. agreed g f v ≡ true) w z
-      go r false z u = r u
-
-  agreed-rows : (f : ℕ → List Kept) (k : Kept) → agreed g f k ≡ true → AtLeast (g .n) (g .n - g .t) (λ j. Has (f j) (k .stamp) (k .entry .digests))
-  unfolding agreed
-  agreed-rows f k e = record {
-    member = λ j. hasList (atStamp (f j) (k .stamp)) (k .entry .digests);
-    many = omega (arith, leb-true (g .n) (count (λ j. hasList (atStamp (f j) (k .stamp)) (k .entry .digests)) (g .n) + g .t) e);
-    each = λ j i b. row-has (f j) (k .stamp) (k .entry .digests) b;
-  }
-
-  -- the search finds what n - t rows have
-  pub finds : (f : ℕ → List Kept) (v : Found) → search g f ≡ some v → AtLeast (g .n) (g .n - g .t) (λ j. Has (f j) (v .stamp) (v .digests))
-  unfolding search foundOf foundBy
-  finds f v e = go (firstAgreed g f (rowsFrom f 1 (g .n))) refl e
-    where
-      go : (o : Option Kept) → firstAgreed g f (rowsFrom f 1 (g .n)) ≡ o → foundBy g f o ≡ some v → AtLeast (g .n) (g .n - g .t) (λ j. Has (f j) (v .stamp) (v .digests))
-      go none z u = impossible (cc)
-      go (some k) z u =
-          let w : foundOf g f k ≡ v = cc in
-          subst (λ y. AtLeast (g .n) (g .n - g .t) (λ j. Has (f j) (y .stamp) (y .digests))) w (agreed-rows f k (first-agreed f (rowsFrom f 1 (g .n)) k z))
+use Rattle.client.proofs.Agreed.{finds}
+use Rattle.client.proofs.Sends.{mem-all}
 
 -- ---- small laws
+
+pub awaited-true : (H : List ℕ → List ℕ) (g : Params) (me : ℕ) (b : Bool) → CT.awaited b ≡ J.Fine → b ≡ true
+unfolding CT.awaited pick
+awaited-true H g me true e = refl
+awaited-true H g me false e = impossible (cc)
+
+-- a time beside its flag
+abbrev kept : Bool → ℕ → Option ℕ
+kept true T = some T
+kept false T = none
 
 no-flag : (n j : ℕ) → getD (replicate n false) j false ≡ false
 no-flag zero j = refl
@@ -262,74 +222,81 @@ module _ (H : List ℕ → List ℕ) (g : Params) (M : Small g) (few : g .n ≤ 
     unfolding toAll
     body-all f b m u = let w = mem-all f 1 (g .n) (sending b m) u in (w .0, ap (λ z. z .body) (w .1), ap (λ z. z .sequence) (w .1))
 
-    stamp-facts : ClientShape s a → s .phase ≡ F.Asking → (v : List ℕ) (j T : ℕ) → Among (g .n) j → N j (message me (s .writes) (stampIs T))
-        → ClientFacts (C.onStamp H g me s a v j T .client) (C.onStamp H g me s a v j T .area) (C.onStamp H g me s a v j T .sends) (C.onStamp H g me s a v j T .event)
-    unfolding C.onStamp C.quorate C.sendBelow C.gatherBy
-    stamp-facts X p v j T ij new = gather (C.quorate g (heardNow j)) refl
-      where
-        Of : C.Effect → Type 0
-        Of r = ClientFacts (r .client) (r .area) (r .sends) (r .event)
+    -- all counted times are at most U
+    abbrev Above : ℕ → ℕ → ℕ → Type 0
+    Above j T U = (i : ℕ) → Among (g .n) i → getD (timesNow j T) i 0 ≤ U
 
-        quorum : C.quorate g (heardNow j) ≡ true → (T₁ : ℕ) → T₁ ≡ largest (λ i. getD (timesNow j T) i 0) (g .n)
-            → AtLeast (g .n) (g .n - g .t) (λ i. (T′ : ℕ) × (T′ ≤ T₁) × KnowsT i T′)
-        quorum e T₁ eT = record {
-          member = λ i. getD (heardNow j) i false;
-          many = omega (arith, leb-true (g .n) (count (λ i. getD (heardNow j) i false) (g .n) + g .t) e);
-          each = λ i is b. (
-            getD (timesNow j T) i 0,
-            subst (λ y. getD (timesNow j T) i 0 ≤ y) (sym eT) (le-largest (λ i. getD (timesNow j T) i 0) (g .n) i is),
-            stamp-knows X p j T ij new i (getD (timesNow j T) i 0) (kept-true _ _ b),
-          );
-        }
+    abbrev Of : C.Effect → Type 0
+    Of r = ClientFacts (r .client) (r .area) (r .sends) (r .event)
 
-        time-same : (T₁ T₂ : ℕ) → timeIs send T₁ ≡ timeIs send T₂ → T₁ ≡ T₂
-        time-same T₁ T₂ e = cc
+    module _ (X : ClientShape s a) (p : s .phase ≡ F.Asking) (v : List ℕ) (j T : ℕ) (ij : Among (g .n) j) (new : N j (message me (s .writes) (stampIs T))) where
+      quorum : C.quorate g (heardNow j) ≡ true → (U : ℕ) → Above j T U → (T₁ : ℕ) → T₁ ≡ U → AtLeast (g .n) (g .n - g .t) (λ i. (T′ : ℕ) × (T′ ≤ T₁) × KnowsT i T′)
+      unfolding C.quorate
+      quorum e U above T₁ eT = record {
+        member = λ i. getD (heardNow j) i false;
+        many = let h = leb-true (g .n) _ e in omega (arith, h);
+        each = λ i is b. (
+          getD (timesNow j T) i 0,
+          subst (λ y. getD (timesNow j T) i 0 ≤ y) (sym eT) (above i is),
+          stamp-knows X p j T ij new i (getD (timesNow j T) i 0) (kept-true _ _ b),
+        );
+      }
 
-        send-by : (b : Bool) → C.quorate g (heardNow j) ≡ true → Of (C.sendBelow H g me b (asked j T) a v (largest (λ i. getD (timesNow j T) i 0) (g .n)))
-        send-by true e = record {
-          client-shape = phase-trim X F.Acking (replicate 11 false) (timesNow j T) refl (length-set (s .times) j T ∙ X .times-many);
-          writes-up = omega arith;
-          reads-up = omega arith;
-          t-kept = λ i T′ is q z. impossible (cc);
-          a-kept = λ i is q z. impossible (cc (no-flag 11 i, z));
-          v-kept = λ i k is q z. impossible (cc);
-          t-sent = λ b d q T₁ u. ⊎-elim
-              (λ y. impossible (cc (body-all (λ j. message me (s .writes) (blockIs send (entryOf H g v j))) b _ y .1)))
-              (λ y. (body-all _ b _ y .2, quorum e T₁ (time-same T₁ _ (body-all _ b _ y .1))))
-              (List·Memᴰ·append-cases (toAll g (λ j. message me (s .writes) (blockIs send (entryOf H g v j)))) u);
-          g-sent = λ b d q u. ⊎-elim
-              (λ y. impossible (cc (body-all (λ j. message me (s .writes) (blockIs send (entryOf H g v j))) b _ y .1)))
-              (λ y. impossible (cc (body-all _ b _ y .1)))
-              (List·Memᴰ·append-cases (toAll g (λ j. message me (s .writes) (blockIs send (entryOf H g v j)))) u);
-          r-sent = λ b d q u. ⊎-elim
-              (λ y. impossible (cc (body-all (λ j. message me (s .writes) (blockIs send (entryOf H g v j))) b _ y .1)))
-              (λ y. impossible (cc (body-all _ b _ y .1)))
-              (List·Memᴰ·append-cases (toAll g (λ j. message me (s .writes) (blockIs send (entryOf H g v j)))) u);
-          write-why = λ z. impossible (cc);
-          read-why = λ v z. impossible (cc);
-        }
-        send-by false e = record {
-          client-shape = record {
-            shaped = record { rows-many = X .shaped .rows-many; stamps-many = X .shaped .stamps-many };
-            heard-many = length-set (s .heard) j true ∙ X .heard-many;
-            times-many = length-set (s .times) j T ∙ X .times-many;
-            room = X .room;
-          };
-          writes-up = omega arith;
-          reads-up = omega arith;
-          t-kept = λ i T′ is q z. impossible (cc);
-          a-kept = λ i is q z. impossible (cc);
-          v-kept = λ i k is q z. impossible (cc);
-          t-sent = λ b d q T u. absurd (List·Memᴰ·not-nil u);
-          g-sent = λ b d q u. absurd (List·Memᴰ·not-nil u);
-          r-sent = λ b d q u. absurd (List·Memᴰ·not-nil u);
-          write-why = λ z. impossible (cc);
-          read-why = λ v z. impossible (cc);
-        }
+      time-same : (T₁ T₂ : ℕ) → timeIs send T₁ ≡ timeIs send T₂ → T₁ ≡ T₂
+      time-same T₁ T₂ e = cc
 
-        gather : (b : Bool) → C.quorate g (heardNow j) ≡ b → Of (C.gatherBy H g me b (asked j T) a v)
-        gather true e = send-by (ltb (largest (λ i. getD (timesNow j T) i 0) (g .n)) lastTime) e
-        gather false e = turn-facts (asked j T) a (asked-trim X j T) refl refl (λ i T′ is q z. stamp-knows X p j T ij new i T′ z) (λ i is q z. impossible (cc)) (λ i k is q z. impossible (cc))
+      send-by : (b : Bool) (U : ℕ) → Above j T U → C.quorate g (heardNow j) ≡ true → Of (C.sendBelow H g me b (asked j T) a v U)
+      unfolding C.sendBelow
+      send-by true U above e = record {
+        client-shape = phase-trim X F.Acking (replicate 11 false) (timesNow j T) refl (length-set (s .times) j T ∙ X .times-many);
+        writes-up = omega arith;
+        reads-up = omega arith;
+        t-kept = λ i T′ is q z. impossible (cc);
+        a-kept = λ i is q z. impossible (cc (no-flag 11 i, z));
+        v-kept = λ i k is q z. impossible (cc);
+        t-sent = λ b d q T₁ u. ⊎-elim
+            (λ y. impossible (cc (body-all (λ j. message me (s .writes) (blockIs send (entryOf H g v j))) b _ y .1)))
+            (λ y. (body-all _ b _ y .2, quorum e U above T₁ (time-same T₁ _ (body-all _ b _ y .1))))
+            (List·Memᴰ·append-cases (toAll g (λ j. message me (s .writes) (blockIs send (entryOf H g v j)))) u);
+        g-sent = λ b d q u. ⊎-elim
+            (λ y. impossible (cc (body-all (λ j. message me (s .writes) (blockIs send (entryOf H g v j))) b _ y .1)))
+            (λ y. impossible (cc (body-all _ b _ y .1)))
+            (List·Memᴰ·append-cases (toAll g (λ j. message me (s .writes) (blockIs send (entryOf H g v j)))) u);
+        r-sent = λ b d q u. ⊎-elim
+            (λ y. impossible (cc (body-all (λ j. message me (s .writes) (blockIs send (entryOf H g v j))) b _ y .1)))
+            (λ y. impossible (cc (body-all _ b _ y .1)))
+            (List·Memᴰ·append-cases (toAll g (λ j. message me (s .writes) (blockIs send (entryOf H g v j)))) u);
+        write-why = λ z. impossible (cc);
+        read-why = λ v z. impossible (cc);
+      }
+      send-by false U above e = record {
+        client-shape = record {
+          shaped = record { rows-many = X .shaped .rows-many; stamps-many = X .shaped .stamps-many };
+          heard-many = length-set (s .heard) j true ∙ X .heard-many;
+          times-many = length-set (s .times) j T ∙ X .times-many;
+          room = X .room;
+        };
+        writes-up = omega arith;
+        reads-up = omega arith;
+        t-kept = λ i T′ is q z. impossible (cc);
+        a-kept = λ i is q z. impossible (cc);
+        v-kept = λ i k is q z. impossible (cc);
+        t-sent = λ b d q T u. absurd (List·Memᴰ·not-nil u);
+        g-sent = λ b d q u. absurd (List·Memᴰ·not-nil u);
+        r-sent = λ b d q u. absurd (List·Memᴰ·not-nil u);
+        write-why = λ z. impossible (cc);
+        read-why = λ v z. impossible (cc);
+      }
+
+      -- the time that is sent is the largest of them, so at least each
+      gather : (b : Bool) → C.quorate g (heardNow j) ≡ b → Of (C.gatherBy H g me b (asked j T) a v)
+      unfolding C.gatherBy
+      gather true e = send-by _ _ (λ i is. le-largest (λ m. getD (timesNow j T) m 0) (g .n) i is) e
+      gather false e = turn-facts (asked j T) a (asked-trim X j T) refl refl (λ i T′ is q z. stamp-knows X p j T ij new i T′ z) (λ i is q z. impossible (cc)) (λ i k is q z. impossible (cc))
+
+      stamp-facts : Of (C.onStamp H g me s a v j T)
+      unfolding C.onStamp
+      stamp-facts = gather (C.quorate g (heardNow j)) refl
 
     -- ---- acks
 

@@ -1,0 +1,42 @@
+-- A run, as a list of calls, latest first: server 4 and client 1 are false. Client 1 sends a time without blocks; client 2 reads, and its read completes with the
+-- initial value. k = 1. These are definitions.
+use Prim.Native.Nat.{ℕ}
+use mathlib.Core.List.{List, [], _∷_}
+use lib.Dec.{eqb}
+use Rattle.blocks.specs.declared.Params.{Params}
+use Rattle.frame.specs.declared.Party.the-variants as P
+use Rattle.frame.specs.Stamps.{zeroStamp}
+use Rattle.frame.specs.Messages.{send, Message, message, askRead, timeIs, valueIs}
+use Rattle.frame.specs.Coded.{entryOf, digestsOf}
+use Rattle.client.specs.Rows.{Found}
+use Rattle.runs.specs.World.{Setup, Call}
+use Rattle.witness.specs.Toy.{toy, four, setup, handServer, handClient, startRead}
+
+unfoldable pub g : Params
+g = four 1 1
+
+unfoldable pub initial : List ℕ
+initial = 9 ∷ []
+
+unfoldable pub Z : Setup
+Z = setup g initial (λ c. eqb c 1)
+
+-- what false client 1 sends, what client 2 asks, and what server j answers, false server 4 too
+unfoldable pub falseTime : Message
+falseTime = message 1 1 (timeIs send 5)
+
+unfoldable pub question : Message
+question = message 2 1 askRead
+
+unfoldable pub answer : ℕ → Message
+answer j = message 2 1 (valueIs zeroStamp (entryOf toy g initial j))
+
+unfoldable pub calls : List Call
+calls =
+    handClient g 2 (P.Server 4) (answer 4) ∷ handClient g 2 (P.Server 2) (answer 2) ∷ handClient g 2 (P.Server 1) (answer 1)
+    ∷ handServer g 2 (P.Client 2) question ∷ handServer g 1 (P.Client 2) question ∷ startRead g 2
+    ∷ handServer g 1 (P.Client 1) falseTime ∷ []
+
+-- what the read finds
+unfoldable pub found : Found
+found = record { stamp = zeroStamp; digests = digestsOf toy g initial; bytes = initial }

@@ -1,0 +1,3 @@
+pub mod Toy
+pub mod WriteRead
+pub mod FalseParties

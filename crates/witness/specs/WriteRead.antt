@@ -1,0 +1,124 @@
+-- A run, as a list of calls, latest first: client 1 writes 01 02 03, servers 1 and 2 accept it, the write ends, and client 2 reads it. k = 2. Server 4 is false and
+-- says what an honest server would say; server 3 hears nothing. These are definitions.
+use Prim.Native.Nat.{ℕ}
+use mathlib.Core.Bool.{true, false}
+use mathlib.Core.List.{List, [], _∷_}
+use Rattle.blocks.specs.declared.Params.{Params}
+use Rattle.frame.specs.declared.Stamp.{Stamp}
+use Rattle.frame.specs.declared.Party.the-variants as P
+use Rattle.frame.specs.Messages.{Entry, Stage, send, echo, ready, message, getStamp, stampIs, blockIs, timeIs, ack, askRead, valueIs}
+use Rattle.frame.specs.Coded.{entryOf, digestsOf}
+use Rattle.server.specs.Steps.{Write}
+use Rattle.client.specs.Rows.{Found}
+use Rattle.runs.specs.World.{Setup, Call}
+use Rattle.runs.specs.Demand.{Operation}
+use Rattle.witness.specs.Toy.{toy, four, setup, handServer, handClient, startRead, startWrite}
+
+unfoldable pub g : Params
+g = four 2 3
+
+-- the initial value, and the value written
+unfoldable pub initial : List ℕ
+initial = 0 ∷ 0 ∷ 0 ∷ []
+
+unfoldable pub value : List ℕ
+value = 1 ∷ 2 ∷ 3 ∷ []
+
+-- no client is false
+unfoldable pub Z : Setup
+Z = setup g initial (λ c. false)
+
+-- what server j gets of the value; the write's stamp: the largest time is 0
+unfoldable pub entryFor : ℕ → Entry
+entryFor j = entryOf toy g value j
+
+unfoldable pub stamp : Stamp
+stamp = record { time = 1; writer = 1; sequence = 1 }
+
+-- ---- frames of client 1's write 1
+
+-- server i is asked for its stamp, and client 1 gets server j's
+unfoldable pub stampAsked : ℕ → Call
+stampAsked i = handServer g i (P.Client 1) (message 1 1 getStamp)
+
+unfoldable pub stampFrom : ℕ → Call
+stampFrom j = handClient g 1 (P.Server j) (message 1 1 (stampIs 0))
+
+-- client 1's block and time to server i
+unfoldable pub blockTo : ℕ → Call
+blockTo i = handServer g i (P.Client 1) (message 1 1 (blockIs send (entryFor i)))
+
+unfoldable pub timeTo : ℕ → Call
+timeTo i = handServer g i (P.Client 1) (message 1 1 (timeIs send 0))
+
+-- server j's echo or ready to server i, of its block and of the time
+unfoldable pub block : Stage → ℕ → ℕ → Call
+block z j i = handServer g i (P.Server j) (message 1 1 (blockIs z (entryFor j)))
+
+unfoldable pub time : Stage → ℕ → ℕ → Call
+time z j i = handServer g i (P.Server j) (message 1 1 (timeIs z 0))
+
+unfoldable pub ackFrom : ℕ → Call
+ackFrom j = handClient g 1 (P.Server j) (message 1 1 ack)
+
+-- ---- frames of client 2's read 1
+
+unfoldable pub readAsked : ℕ → Call
+readAsked i = handServer g i (P.Client 2) (message 2 1 askRead)
+
+unfoldable pub valueFrom : ℕ → Call
+valueFrom j = handClient g 2 (P.Server j) (message 2 1 (valueIs stamp (entryFor j)))
+
+-- ---- the run, each part latest first
+
+-- Client 1 begins to write; three stamps come, and it sends blocks and time.
+unfoldable pub asking : List Call
+asking = stampFrom 4 ∷ stampFrom 2 ∷ stampFrom 1 ∷ stampAsked 2 ∷ stampAsked 1 ∷ startWrite g 1 value ∷ []
+
+-- Servers 1 and 2 echo their blocks. Server 1 hears three echoes and sends a ready; server 2 hears two readies and sends one; each hears three readies, and its block
+-- part is complete.
+unfoldable pub blocks : List Call
+blocks =
+    block ready 2 1 ∷ block ready 1 1 ∷ block ready 4 1
+    ∷ block ready 2 2 ∷ block ready 1 2 ∷ block ready 4 2
+    ∷ block echo 2 1 ∷ block echo 1 1 ∷ block echo 4 1
+    ∷ blockTo 2 ∷ blockTo 1 ∷ asking
+
+-- The same of the time, up to the call in which server 2 accepts
+unfoldable pub times : List Call
+times =
+    time ready 1 2 ∷ time ready 4 2
+    ∷ time echo 2 1 ∷ time echo 1 1 ∷ time echo 4 1
+    ∷ timeTo 2 ∷ timeTo 1 ∷ blocks
+
+-- Server 2 accepts, then server 1; two acks come.
+unfoldable pub accepting : List Call
+accepting =
+    ackFrom 2 ∷ ackFrom 1
+    ∷ time ready 2 1 ∷ time ready 1 1 ∷ time ready 4 1
+    ∷ time ready 2 2 ∷ times
+
+-- The third ack ends the write. Client 2 begins to read; two values come.
+unfoldable pub reading : List Call
+reading = valueFrom 2 ∷ valueFrom 1 ∷ readAsked 2 ∷ readAsked 1 ∷ startRead g 2 ∷ ackFrom 4 ∷ accepting
+
+-- The third value ends the read.
+unfoldable pub calls : List Call
+calls = valueFrom 4 ∷ reading
+
+-- ---- what happens
+
+-- the write that is accepted at server i
+unfoldable pub writeAt : ℕ → Write
+writeAt i = record { client = 1; sequence = 1; time = 0; entry = entryFor i }
+
+-- what the read finds
+unfoldable pub found : Found
+found = record { stamp = stamp; digests = digestsOf toy g value; bytes = value }
+
+-- the two operations, as the row of demand 3 has them
+unfoldable pub write : Operation
+write = record { reading = false; client = 1; sequence = 1; stamp = stamp }
+
+unfoldable pub read : Operation
+read = record { reading = true; client = 2; sequence = 1; stamp = stamp }

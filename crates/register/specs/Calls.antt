@@ -1,0 +1,111 @@
+-- The whole outcome of each exported call: the answer, and every byte of the areas that the host lends. A record comes and goes as its bytes (crate layout).
+-- These are definitions.
+use Prim.Native.Nat.{ℕ}
+use mathlib.Core.Bool.{Bool, true, false}
+use mathlib.Core.List.{List}
+use lib.ListN.{length}
+use lib.Seq.{sets}
+use lib.Dec.{ltb}
+use Rattle.area.specs.Area.{pick}
+use Rattle.blocks.specs.declared.Params.{Params}
+use Rattle.blocks.specs.Calls.{Outcome, encoding, decoding}
+use Rattle.sha256.specs.Hash.{digestOf}
+use Rattle.frame.specs.declared.Verdict.{Verdict}
+use Rattle.frame.specs.declared.Refusal.the-variants as R
+use Rattle.frame.specs.declared.Verdict.the-variants as J
+use Rattle.frame.specs.Refusals.{andThen}
+use Rattle.frame.specs.Params.{paramsTest}
+use Rattle.frame.specs.Stamps.{lastClient}
+use Rattle.client.specs.declared.Answer.{Answer}
+use Rattle.client.specs.declared.Answer.the-variants as Y
+use Rattle.client.specs.declared.Client.{Client}
+use Rattle.client.specs.State.{freshClient}
+use Rattle.client.specs.Beginning.{Begun, lengthTest, readBeginning, writeBeginning}
+use Rattle.history_text.specs.Lines.{answerTo}
+use Rattle.order.specs.declared.judge.Answer.the-variants as O
+use Rattle.order.specs.declared.judge.Answer.{Answer as Judgement}
+use Rattle.order.specs.declared.judge.Verdict.{Verdict as Judged}
+use Rattle.layout.specs.Clients.{clientSize, clientBytes, clientIn}
+use Rattle.register.specs.Answers.{codeAnswer, testAnswer, clientAnswer, historyAnswer}
+
+abbrev pub params : ℕ → ℕ → ℕ → ℕ → Params
+params n t k L = record { n = n; t = t; k = k; size = L }
+
+-- ---- calls that lend one area to be written
+
+pub record Wrote : Type 0 where
+  pub answer : ℕ
+  pub out : List ℕ
+
+abbrev pub wrote : ℕ → List ℕ → Wrote
+wrote x out = record { answer = x; out = out }
+
+-- the digest of at most 256 bytes, 3 for more; 10, "lent area short"
+unfoldable pub digestCall : List ℕ → List ℕ → Wrote
+digestCall m out = pick (ltb 256 (length m)) (wrote 3 out) (pick (ltb (length out) 32) (wrote 10 out) (wrote 0 (sets out 0 (digestOf m))))
+
+unfoldable pub codeCall : Outcome → Wrote
+codeCall x = wrote (codeAnswer (x .answer)) (x .out)
+
+unfoldable pub encodeCall : Params → List ℕ → List ℕ → Wrote
+encodeCall g value out = codeCall (encoding g value out)
+
+unfoldable pub decodeCall : Params → List ℕ → List ℕ → List ℕ → Wrote
+decodeCall g numbers blocks out = codeCall (decoding g numbers blocks out)
+
+unfoldable pub hasOrder : Judgement → Bool
+hasOrder (O.Ordered m) = true
+hasOrder (O.Offending a b) = false
+hasOrder (O.Refused x) = false
+
+-- where there is an order its line numbers go to the front of the lent area, 0 behind the last, 64 in all
+unfoldable pub judgedCall : Judged → List ℕ → Wrote
+judgedCall v lines = wrote (historyAnswer (v .answer)) (pick (hasOrder (v .answer)) (sets lines 0 (v .lines)) lines)
+
+unfoldable pub historyCall : List ℕ → List ℕ → Wrote
+historyCall text lines = pick (ltb (length lines) 64) (wrote 10 lines) (judgedCall (answerTo text) lines)
+
+-- ---- a client
+
+-- a fresh client's record
+unfoldable pub freshCall : List ℕ → Wrote
+freshCall state = pick (ltb (length state) clientSize) (wrote 10 state) (wrote 0 (sets state 0 (clientBytes freshClient)))
+
+pub record Began : Type 0 where
+  pub answer : ℕ
+  pub state : List ℕ
+  pub out : List ℕ
+  pub to : List ℕ
+
+abbrev pub began : ℕ → List ℕ → List ℕ → List ℕ → Began
+began x state out to = record { answer = x; state = state; out = out; to = to }
+
+unfoldable pub isRefusal : Answer → Bool
+isRefusal (Y.Sent m) = false
+isRefusal Y.Written = false
+isRefusal Y.OutOfStamps = false
+isRefusal (Y.Value x) = false
+isRefusal (Y.Refused r) = true
+
+-- the record's bytes after a call: "state and all lent bytes remain unchanged" where it was turned down
+unfoldable pub stateAfter : Answer → Client → List ℕ → List ℕ
+stateAfter a s state = pick (isRefusal a) state (sets state 0 (clientBytes s))
+
+unfoldable pub beganOf : Begun → List ℕ → Began
+beganOf x state = began (clientAnswer (x .answer)) (stateAfter (x .answer) (x .client) state) (x .out) (x .to)
+
+-- where the record's area is short: 10, but a lower number first
+unfoldable pub readShort : Params → ℕ → Verdict
+readShort g me = andThen (paramsTest g me lastClient) (J.Bad R.Room)
+
+unfoldable pub writeShort : Params → ℕ → ℕ → Verdict
+writeShort g me v = andThen (paramsTest g me lastClient) (andThen (lengthTest g v) (J.Bad R.Room))
+
+unfoldable pub readCall : Params → ℕ → List ℕ → List ℕ → List ℕ → Began
+readCall g me state out to =
+    pick (ltb (length state) clientSize) (began (testAnswer (readShort g me)) state out to) (beganOf (readBeginning g me (clientIn state) out to) state)
+
+unfoldable pub writeCall : Params → ℕ → List ℕ → List ℕ → List ℕ → List ℕ → Began
+writeCall g me value state out to =
+    pick (ltb (length state) clientSize) (began (testAnswer (writeShort g me (length value))) state out to)
+    (beganOf (writeBeginning g me (clientIn state) value out to) state)

@@ -96,7 +96,8 @@ module _ (g : Params) (rows : List Row) (a : List ℕ) (x : Stamp) (p : ℕ) (q 
 
   module _ (h : Hits) (e : h ≡ hitsOf rows x) (c : ℕ) where
     -- too few rows have the stamp
-    pub agreed-few : c ≡ count (marked (h .on)) (g .n) → c + g .t < g .n → false ≡ agreed g (view g rows a) (record { stamp = x; entry = entryAt g a p })
+    pub agreed-few : c ≡ count (marked (h .on)) (g .n) → c + g .t < g .n
+        → false ≡ agreed g (view g rows a) (record { stamp = x; entry = entryAt g a p })
     unfolding agreed
     agreed-few d o =
         let f : c ≡ count (marked (hitsOf rows x .on)) (g .n) = d ∙ ap (λ (k : Hits). count (marked (k .on)) (g .n)) e in

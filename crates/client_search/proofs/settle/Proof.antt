@@ -19,7 +19,8 @@ returns c = settle-none _ _ _ _ _ _ _ _ (c .before .before .search .ensures) (c 
 finish-requires : tie.Need-finish-requires
 finish-requires c κs =
     let d = c .before .before .before .before in
-    finishing _ _ _ _ _ _ (d .before .before .before .before .before .before .before .before .pre) _ _ _ (d .stop .given .1) (d .before .before .search .ensures)
+    let r = d .before .before in
+    finishing _ _ _ _ _ _ (r .before .before .before .before .before .before .pre) _ _ _ (d .stop .given .1) (r .search .ensures)
 
 same-length : tie.Need-same-length
 same-length c = search needs

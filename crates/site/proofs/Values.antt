@@ -28,6 +28,11 @@ use Rattle.client.proofs.Answer.Laws as N′
 use Rattle.client.proofs.Answered as S
 use Rattle.client.proofs.Answered.Laws as S′
 
+-- a tuple of many parts, nested to the right
+infixr 2 _▸_
+abbrev pub _▸_ {α β} : {X : Type α} {Y : Type β} → X → Y → X × Y
+x ▸ y = (x, y)
+
 abbrev pub slice : RefT (List ℕ) → Val
 slice x = sliceVal (x .ptr) (length (x .now))
 
@@ -68,4 +73,5 @@ bytes x₁ x₂ x₃ x₄ = record { area = x₁ .now; result = x₂ .now; out =
 -- what says the last bytes
 abbrev pub Ends : RefT (List ℕ) → RefT (List ℕ) → RefT (List ℕ) → RefT (List ℕ) → Last → Fml
 Ends x₁ x₂ x₃ x₄ y =
-    fsep (finally u8 (x₁ .name) (y .area)) (fsep (finally u8 (x₂ .name) (y .result)) (fsep (finally u8 (x₃ .name) (y .out)) (fsep (finally u8 (x₄ .name) (y .to)) ftrue)))
+    fsep (finally u8 (x₁ .name) (y .area)) (fsep (finally u8 (x₂ .name) (y .result)) (fsep (finally u8 (x₃ .name) (y .out)) (fsep (finally u8
+    (x₄ .name) (y .to)) ftrue)))

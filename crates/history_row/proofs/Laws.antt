@@ -2,34 +2,37 @@
 use mathlib.Core.Path.{_≡_, refl, sym, ap, _∙_}
 use mathlib.Core.Bool.{Bool, true, false}
 use mathlib.Core.List.{List, [], _∷_, _++_, append-assoc, append-nil}
-use Prim.Native.Nat.{ℕ, suc, _+_, _<_, _≤_}
+use Prim.Native.Nat.{ℕ, zero, suc, _+_, _<_, _≤_}
 use native.Mathlib.Numerals.{add-one}
 use native.Mathlib.Omega.{arith}
 use lib.Dec.{ltb, leb}
-use lib.ListN.{length, getD, take, drop, set, drop-of-length-le, length-append, length-set}
-use lib.Seq.{drop-cons, take-suc-set, length-take-le}
+use lib.ListN.{length, getD, take, set, length-append, length-set}
+use lib.Seq.{take-all, take-suc-set, length-take-le}
 use borrow.Author.Tests.{ltb-true, ltb-false, lt-ltb, le-ltb, lt-leb, le-leb}
 use Rattle.area.specs.Area.{pick}
 use Rattle.order.specs.Histories.{noOperation, refused, judged}
-use Rattle.order.proofs.Lists.{by-test as by-test₀}
+use Rattle.order.proofs.Lists.{by-test}
 use Rattle.order.specs.declared.operation.Operation.{Operation}
 use Rattle.history_row.specs.Rows.{none, added, addedAll, verdictOf}
 use Rattle.history_row.specs.declared.History.{History}
 
--- the two values of a test
-pub by-test : {X : Type 1} (b : Bool) → (b ≡ true → X) → (b ≡ false → X) → X
-by-test true f g = f refl
-by-test false f g = g refl
-
--- one turn, and the end
-pub added-more : (ops : List Operation) (i : ℕ) (h : History) → i < length ops
-    → addedAll h (drop i ops) ≡ addedAll (added h (getD ops i noOperation)) (drop (i + 1) ops)
+-- what is added after none of the operations, after one more, and after all
+pub added-none : (ops : List Operation) (h : History) → h ≡ addedAll h (take 0 ops)
 unfolding addedAll
-added-more ops i h l = rw (add-one i, drop-cons ops i noOperation)
+added-none ops h = refl
 
-pub added-end : (ops : List Operation) (i : ℕ) (h : History) → length ops ≤ i → addedAll h (drop i ops) ≡ h
+next : (ops : List Operation) (h : History) (i : ℕ) → i < length ops → addedAll h (take (suc i) ops) ≡ added (addedAll h (take i ops)) (getD ops i noOperation)
 unfolding addedAll
-added-end ops i h l = rw (drop-of-length-le ops l)
+next [] h i l = absurd (omega arith)
+next (a ∷ ops) h zero l = refl
+next (a ∷ ops) h (suc i) l = next ops (added h a) i (omega arith)
+
+pub added-next : (ops : List Operation) (h acc : History) (a : Operation) (i : ℕ) → i < length ops → acc ≡ addedAll h (take i ops) → a ≡ getD ops i noOperation
+    → added acc a ≡ addedAll h (take (i + 1) ops)
+added-next ops h acc a i l p q = rw (p, q, add-one i) (sym (next ops h i l))
+
+pub added-whole : (ops : List Operation) (h acc : History) (i : ℕ) → length ops ≤ i → acc ≡ addedAll h (take i ops) → acc ≡ addedAll h ops
+added-whole ops h acc i l p = p ∙ ap (addedAll h) (take-all i ops l)
 
 -- ---- what the walk gives is what is judged
 
@@ -66,7 +69,7 @@ verdict-added : (h : History) (ops : List Operation) → length (h .rows) ≡ 64
 unfolding addedAll
 verdict-added h [] e l = verdict-small h l ∙ ap judged (sym (append-nil (take (h .count) (h .rows))))
 verdict-added h (a ∷ ops) e l =
-    by-test₀ (ltb (h .count) 64)
+    by-test (ltb (h .count) 64)
     (λ t.
     let g : h .count < 64 = ltb-true (h .count) 64 t in
     let i : h .count < length (h .rows) = omega arith in

@@ -1,3 +1,4 @@
+-- `write_all` meets its promise: an answer to each of its needs.
 use Rattle.frame_write.specs.Writes.{writeAll, framed}
 use Rattle.frame_write.proofs.Laws.{all-room, stays, goes-out}
 use native.Mathlib.Omega.{arith}

@@ -1,3 +1,4 @@
+-- `write_one` meets its promise: an answer to each of its needs.
 use Rattle.frame_write.specs.Writes.{writeOne, framed}
 use Rattle.frame_write.proofs.Laws.{one-room, stays, goes-out}
 use native.Mathlib.Omega.{arith}

@@ -1,3 +1,4 @@
+-- `content_test` meets its promise: an answer to each of its needs.
 use Rattle.frame.proofs.Chain.{content-none}
 use Rattle.frame_write.proofs.Laws.{content-body}
 use native.Mathlib.Omega.{arith}

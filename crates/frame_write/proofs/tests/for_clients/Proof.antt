@@ -1,3 +1,4 @@
+-- `for_clients` meets its promise: an answer to each of its needs.
 use Rattle.area.proofs.Tests.{tests}
 use Rattle.frame_write.specs.Writes.{forClients}
 use native.Mathlib.Omega.{arith}

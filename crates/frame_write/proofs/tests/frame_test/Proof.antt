@@ -1,3 +1,4 @@
+-- `frame_test` meets its promise: an answer to each of its needs.
 use Rattle.frame_write.specs.Writes.{frameTest}
 use Rattle.frame.proofs.Within.{stop-first, go-second}
 use Rattle.frame_write.proofs.Laws.{bounded-by, other-length, right-length, value-body}

@@ -1,3 +1,4 @@
+-- `is_owner` meets its promise: an answer to each of its needs.
 use mathlib.Core.Path.{refl}
 use native.Mathlib.Omega.{arith}
 use borrow.Author.Needs.{needs}

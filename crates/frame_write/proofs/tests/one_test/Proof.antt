@@ -1,3 +1,4 @@
+-- `one_test` meets its promise: an answer to each of its needs.
 use Rattle.frame_write.specs.Writes.{oneTest}
 use native.Mathlib.Omega.{arith}
 use Rattle.frame.proofs.Within.{stop-first, go-second}

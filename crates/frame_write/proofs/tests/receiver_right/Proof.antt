@@ -1,3 +1,4 @@
+-- `receiver_right` meets its promise: an answer to each of its needs.
 use Rattle.area.specs.Area.{pick}
 use Rattle.frame_write.specs.Writes.{receiverRight}
 use mathlib.Core.Path.{_∙_, sym}

@@ -1,3 +1,4 @@
+-- `room_test` meets its promise: an answer to each of its needs.
 use Prim.Native.Nat.{_*_, _≤_}
 use native.Mathlib.Nat.{mul-le-mul}
 use Rattle.frame_write.proofs.Laws.{short-out, short-to, long-both}

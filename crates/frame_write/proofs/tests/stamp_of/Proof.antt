@@ -1,3 +1,4 @@
+-- `stamp_of` meets its promise: an answer to each of its needs.
 use Rattle.frame_write.specs.Writes.{stampOf}
 use native.Mathlib.Omega.{arith}
 use borrow.Author.Needs.{needs}

@@ -5,4 +5,7 @@ pub mod Searches
 pub mod Inserts
 pub mod Judges
 pub mod Rows
+pub mod StampLaws
+pub mod Accepts
+pub mod Arranged
 pub mod Theorems

@@ -21,3 +21,4 @@ pub mod KeptRows
 pub mod Values
 pub mod Theorem
 pub mod Answers
+pub mod AnswerEvents

@@ -4,8 +4,10 @@ use Prim.Native.Nat.{ℕ, zero, suc, _+_}
 use mathlib.Core.Path.{_≡_}
 use mathlib.Core.List.{List, [], _∷_, map}
 use lib.ListN.{getD, take, drop}
+use lib.Seq.{sets}
 use Rattle.area.specs.Numbers.{be2}
 use Rattle.blocks.specs.declared.Params.{Params}
+use Rattle.frame.specs.declared.Stamp.{Stamp}
 use Rattle.frame.specs.declared.Party.{Party}
 use Rattle.frame.specs.declared.Party.the-variants as P
 use Rattle.frame.specs.Frames.{build}
@@ -14,9 +16,11 @@ use Rattle.server.specs.declared.Reply.the-variants as R
 use Rattle.server.specs.Delivery as SD
 use Rattle.client.specs.declared.Answer.{Answer}
 use Rattle.client.specs.declared.Answer.the-variants as A
+use Rattle.client.specs.Rows.{Found}
+use Rattle.client.specs.Steps as C
 use Rattle.client.specs.Delivery as CD
 use Rattle.client.specs.Beginning as CB
-use Rattle.runs.specs.World.{Setup, Sound, DigestSize, Call, toServer, toClient, beginRead, beginWrite, World, initialOf, run, sends}
+use Rattle.runs.specs.World.{Setup, Sound, DigestSize, Call, toServer, toClient, beginRead, beginWrite, World, initialOf, clientEffect, run, sends}
 use Rattle.runs.specs.Admissible.{Admissible}
 
 -- m frames from the front of an out area
@@ -76,3 +80,19 @@ pub record ReadsBack (Z : Setup) (ks : List Call) (k : Call) : Type 0 where
 
 unfoldable pub AnswersReadBack : Type 0
 AnswersReadBack = (Z : Setup) → Sound Z → DigestSize (Z .H) → (k : Call) (ks : List Call) → Admissible Z (k ∷ ks) → ReadsBack Z ks k
+
+-- ---- what a call ends, and what it answers
+
+-- "A read is completed by the call that answers its value": the event ev of a delivery to a client, its answer, and the result area before and after
+pub record Tells (ev : C.Event) (answer : Answer) (result left : List ℕ) : Type 0 where
+  -- a completed read is answered with its stamp, and its bytes lie at the start of the result area
+  pub completes : (x : Found) → ev ≡ C.completed x → (answer ≡ A.Value (x .stamp)) × (left ≡ sets result 0 (x .bytes))
+  pub completed-only : (s : Stamp) → answer ≡ A.Value s → (x : Found) × (ev ≡ C.completed x) × (x .stamp ≡ s)
+  -- a write that ends is answered so
+  pub ends : ev ≡ C.written → answer ≡ A.Written
+  pub ended-only : answer ≡ A.Written → ev ≡ C.written
+
+unfoldable pub AnswersTell : Type 0
+AnswersTell = (Z : Setup) (w : World) (c : ℕ) (from : Party) (f result out to : List ℕ)
+    → let r = CD.delivery (Z .H) (Z .g) c (w .clients c .client) (w .clients c .area) (w .clients c .value) from f result out to in
+    Tells (clientEffect Z w c from f result out to .event) (r .answer) result (r .result)

@@ -1,0 +1,68 @@
+-- What a delivery to a client ends is what its answer says. Assumes nothing.
+use Prim.Native.Nat.{ℕ}
+use mathlib.Core.Path.{_≡_, refl, ap}
+use mathlib.Core.List.{List}
+use lib.Seq.{sets}
+use Rattle.quorum.proofs.Logic.{impossible}
+use Rattle.blocks.specs.declared.Params.{Params}
+use Rattle.frame.specs.declared.Stamp.{Stamp}
+use Rattle.frame.specs.declared.Party.{Party}
+use Rattle.frame.specs.Messages.{Judged, bad, good}
+use Rattle.client.specs.declared.Client.{Client}
+use Rattle.client.specs.declared.Answer.the-variants as A
+use Rattle.client.specs.Rows.{Found}
+use Rattle.client.specs.Steps as C
+use Rattle.client.specs.Tests as CT
+use Rattle.client.specs.Delivery as CD
+use Rattle.runs.specs.Answers.{Tells, AnswersTell}
+
+found-same : (x y : Found) → C.completed x ≡ C.completed y → x ≡ y
+found-same x y e = cc
+
+stamp-same : (s r : Stamp) → A.Value s ≡ A.Value r → s ≡ r
+stamp-same s r e = cc
+
+told : (ev : C.Event) (n : ℕ) (result : List ℕ) → Tells ev (CD.eventAnswer ev n) result (CD.resultOf ev result)
+unfolding CD.eventAnswer CD.resultOf
+told C.nothing n result = record {
+  completes = λ x e. impossible (cc);
+  completed-only = λ s e. impossible (cc);
+  ends = λ e. impossible (cc);
+  ended-only = λ e. impossible (cc);
+}
+told C.written n result = record {
+  completes = λ x e. impossible (cc);
+  completed-only = λ s e. impossible (cc);
+  ends = λ e. refl;
+  ended-only = λ e. refl;
+}
+told C.outOfStamps n result = record {
+  completes = λ x e. impossible (cc);
+  completed-only = λ s e. impossible (cc);
+  ends = λ e. impossible (cc);
+  ended-only = λ e. impossible (cc);
+}
+told (C.completed y) n result = record {
+  completes = λ x e. let h = found-same y x e in (ap (λ z. A.Value (z .stamp)) h, ap (λ z. sets result 0 (z .bytes)) h);
+  completed-only = λ s e. (y, refl, stamp-same (y .stamp) s e);
+  ends = λ e. impossible (cc);
+  ended-only = λ e. impossible (cc);
+}
+
+module _ (H : List ℕ → List ℕ) (g : Params) (me : ℕ) (s : Client) (a v : List ℕ) (from : Party) (result out to : List ℕ) where
+  told-by : (j : Judged) → Tells (CD.effectBy H g me j s a v from .event) (CD.outcomeOf j (CD.effectBy H g me j s a v from) result out to .answer) result
+      (CD.outcomeOf j (CD.effectBy H g me j s a v from) result out to .result)
+  unfolding CD.outcomeOf CD.effectBy CD.answerOf
+  told-by (bad r) = record {
+    completes = λ x e. impossible (cc);
+    completed-only = λ t e. impossible (cc);
+    ends = λ e. impossible (cc);
+    ended-only = λ e. impossible (cc);
+  }
+  told-by (good m) = told (C.effect H g me s a v from m .event) _ result
+
+pub answers-tell : AnswersTell
+unfolding AnswersTell CD.delivery CD.delivered
+answers-tell Z w c from f result out to =
+    let p = w .clients c in
+    told-by (Z .H) (Z .g) c (p .client) (p .area) (p .value) from result out to (CT.judge (Z .H) (Z .g) c (p .client) (p .area) (p .value) from f result out to)

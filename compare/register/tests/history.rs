@@ -1,7 +1,7 @@
 //! Histories: document 01's examples, the judgement against brute force, and damaged input.
 
-use register::frame::Stamp;
-use register::history::{judge, offends, parse, precedes, report, Judgement, Record};
+use register::history::{judge, offends, parse, precedes, report, Judgement};
+use register::orders::{is_order, line, some_history, some_order};
 use register::random::Random;
 use register::Refusal;
 
@@ -88,64 +88,6 @@ fn no_ring_of_reads() {
     assert_eq!(report(text.as_bytes()), "order 3 1 2\n");
 }
 
-/// Document 01's words: a row that keeps precedence, has writes in stamp order, and each read
-/// after the write of its own stamp and before any larger.
-fn is_order(records: &[Record], row: &[usize]) -> bool {
-    for (place, &later) in row.iter().enumerate() {
-        for &earlier in &row[..place] {
-            let (a, b) = (&records[earlier], &records[later]);
-            let wrong = precedes(b, a)
-                || (a.write && a.stamp > b.stamp)
-                || (!a.write && b.write && a.stamp >= b.stamp);
-            if wrong {
-                return false;
-            }
-        }
-    }
-    true
-}
-
-/// Whether some permutation of the records is an order, trying all.
-fn some_order(records: &[Record], row: &mut Vec<usize>) -> bool {
-    if row.len() == records.len() {
-        return is_order(records, row);
-    }
-    (0..records.len()).any(|i| {
-        if row.contains(&i) {
-            return false;
-        }
-        row.push(i);
-        let found = some_order(records, row);
-        row.pop();
-        found
-    })
-}
-
-fn some_history(random: &mut Random, length: usize) -> Vec<Record> {
-    let mut stamps = vec![Stamp::default()];
-    (0..length)
-        .map(|_| {
-            let start = random.below(8) as u32;
-            let end = if random.chance(1, 10) { u32::MAX } else { start + 1 + random.below(4) as u32 };
-            if random.chance(1, 2) {
-                let time = random.range(1, 3) as u64;
-                let stamp =
-                    Stamp { time, writer: random.range(1, 2) as u8, sequence: random.range(1, 2) as u32 };
-                stamps.push(stamp);
-                Record { write: true, start, end, stamp }
-            } else {
-                Record { write: false, start, end, stamp: random.pick(&stamps) }
-            }
-        })
-        .collect()
-}
-
-fn line(r: &Record) -> String {
-    let kind = if r.write { 'W' } else { 'R' };
-    let Stamp { time, writer, sequence } = r.stamp;
-    format!("{kind} {} {} {time} {writer} {sequence}\n", r.start, r.end)
-}
-
 #[test]
 fn against_all_permutations() {
     let mut random = Random::new(5);
@@ -173,7 +115,7 @@ fn against_all_permutations() {
             }
             Ok(Judgement::NoOrder(a, b)) => {
                 assert!(offends(&records[a - 1], &records[b - 1]));
-                assert!(!some_order(&records, &mut Vec::new()), "round {round}: {text}");
+                assert!(!some_order(&records), "round {round}: {text}");
                 pairs += 1;
             }
         }

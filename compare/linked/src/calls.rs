@@ -1,0 +1,147 @@
+//! The calls of include/semduoli.h. Each passes a slice as its pointer and length and gives the answer as it is.
+
+use register::Params;
+
+mod raw {
+    extern "C" {
+        pub fn semduoli_digest(
+            message: *const u8,
+            message_length: usize,
+            out: *mut u8,
+            out_length: usize,
+        ) -> u64;
+        pub fn semduoli_encode(
+            n: usize,
+            t: usize,
+            k: usize,
+            size: usize,
+            value: *const u8,
+            value_length: usize,
+            out: *mut u8,
+            out_length: usize,
+        ) -> u64;
+        pub fn semduoli_decode(
+            n: usize,
+            t: usize,
+            k: usize,
+            size: usize,
+            numbers: *const u8,
+            numbers_length: usize,
+            blocks: *const u8,
+            blocks_length: usize,
+            out: *mut u8,
+            out_length: usize,
+        ) -> u64;
+        pub fn semduoli_judge(
+            text: *const u8,
+            text_length: usize,
+            lines: *mut u8,
+            lines_length: usize,
+        ) -> u64;
+        pub fn semduoli_client_fresh(state: *mut u8, state_length: usize) -> u64;
+        pub fn semduoli_begin_read(
+            n: usize,
+            t: usize,
+            k: usize,
+            size: usize,
+            me: u8,
+            state: *mut u8,
+            state_length: usize,
+            out: *mut u8,
+            out_length: usize,
+            to: *mut u8,
+            to_length: usize,
+        ) -> u64;
+        pub fn semduoli_begin_write(
+            n: usize,
+            t: usize,
+            k: usize,
+            size: usize,
+            me: u8,
+            state: *mut u8,
+            state_length: usize,
+            value: *const u8,
+            value_length: usize,
+            out: *mut u8,
+            out_length: usize,
+            to: *mut u8,
+            to_length: usize,
+        ) -> u64;
+    }
+}
+
+// Safety of every call: each pointer is a slice's, with that slice's length, and slices to be written do not overlap others.
+
+pub fn digest(message: &[u8], out: &mut [u8]) -> u64 {
+    unsafe { raw::semduoli_digest(message.as_ptr(), message.len(), out.as_mut_ptr(), out.len()) }
+}
+
+pub fn encode(p: &Params, value: &[u8], out: &mut [u8]) -> u64 {
+    let (value_length, out_length) = (value.len(), out.len());
+    unsafe {
+        raw::semduoli_encode(p.n, p.t, p.k, p.l, value.as_ptr(), value_length, out.as_mut_ptr(), out_length)
+    }
+}
+
+pub fn decode(p: &Params, numbers: &[u8], blocks: &[u8], out: &mut [u8]) -> u64 {
+    unsafe {
+        raw::semduoli_decode(
+            p.n,
+            p.t,
+            p.k,
+            p.l,
+            numbers.as_ptr(),
+            numbers.len(),
+            blocks.as_ptr(),
+            blocks.len(),
+            out.as_mut_ptr(),
+            out.len(),
+        )
+    }
+}
+
+pub fn judge(text: &[u8], lines: &mut [u8]) -> u64 {
+    unsafe { raw::semduoli_judge(text.as_ptr(), text.len(), lines.as_mut_ptr(), lines.len()) }
+}
+
+pub fn client_fresh(state: &mut [u8]) -> u64 {
+    unsafe { raw::semduoli_client_fresh(state.as_mut_ptr(), state.len()) }
+}
+
+pub fn begin_read(p: &Params, me: u8, state: &mut [u8], out: &mut [u8], to: &mut [u8]) -> u64 {
+    unsafe {
+        raw::semduoli_begin_read(
+            p.n,
+            p.t,
+            p.k,
+            p.l,
+            me,
+            state.as_mut_ptr(),
+            state.len(),
+            out.as_mut_ptr(),
+            out.len(),
+            to.as_mut_ptr(),
+            to.len(),
+        )
+    }
+}
+
+pub fn begin_write(p: &Params, me: u8, state: &mut [u8], value: &[u8], out: &mut [u8], to: &mut [u8]) -> u64 {
+    unsafe {
+        raw::semduoli_begin_write(
+            p.n,
+            p.t,
+            p.k,
+            p.l,
+            me,
+            state.as_mut_ptr(),
+            state.len(),
+            value.as_ptr(),
+            value.len(),
+            out.as_mut_ptr(),
+            out.len(),
+            to.as_mut_ptr(),
+            to.len(),
+        )
+    }
+}

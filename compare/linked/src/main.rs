@@ -1,5 +1,5 @@
-//! linked [KIND [COUNT [FIRST SEED]]]: the comparison with the proved library. Without COUNT as many cases as the gate tries;
-//! KIND `all` is every kind.
+//! linked [KIND [COUNT [SEED]]]: the comparison with the proved library, COUNT cases from SEED (0) on. KIND `all` is every kind.
+//! COUNT xN is N times as many as the gate tries, which is x1.
 
 use linked::{try_seeds, KINDS};
 use std::process::ExitCode;
@@ -7,18 +7,22 @@ use std::time::Instant;
 
 fn main() -> ExitCode {
     let arguments: Vec<String> = std::env::args().skip(1).collect();
-    let numbers: Option<Vec<u64>> = arguments.iter().skip(1).map(|text| text.parse().ok()).collect();
     let name = arguments.first().map_or("all", String::as_str);
     let kinds: Vec<_> = KINDS.iter().filter(|kind| name == "all" || name == kind.name).collect();
-    let (Some(numbers), false) = (numbers.filter(|numbers| numbers.len() < 3), kinds.is_empty()) else {
+    let count = arguments.get(1).map_or("x1", String::as_str);
+    let (times, count) = match count.strip_prefix('x') {
+        Some(times) => (true, times.parse::<u64>()),
+        None => (false, count.parse()),
+    };
+    let first = arguments.get(2).map_or(Ok(0), |text| text.parse::<u64>());
+    let (Ok(count), Ok(first), false, true) = (count, first, kinds.is_empty(), arguments.len() < 4) else {
         let names: Vec<&str> = KINDS.iter().map(|kind| kind.name).collect();
-        eprintln!("linked [KIND [COUNT [FIRST SEED]]], KIND all or one of {}", names.join(", "));
+        eprintln!("linked [KIND [COUNT [SEED]]], KIND all or one of {}", names.join(", "));
         return ExitCode::from(2);
     };
     let mut code = ExitCode::SUCCESS;
     for kind in kinds {
-        let count = numbers.first().copied().unwrap_or(kind.usual);
-        let first = numbers.get(1).copied().unwrap_or(0);
+        let count = if times { count.saturating_mul(kind.usual) } else { count };
         let begun = Instant::now();
         match try_seeds(kind, first, count) {
             Ok(_) => println!(

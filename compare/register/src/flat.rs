@@ -21,8 +21,8 @@ pub const ROWS_AREA: usize = MAX_SERVERS * KEPT * CHUNK;
 /// No sequence is open.
 pub const NONE_OPEN: u64 = 1 << 32;
 
-const SEATS: usize = MAX_SERVERS + 1;
-const DESKS: usize = CLIENTS + 1;
+pub const SEATS: usize = MAX_SERVERS + 1;
+pub const DESKS: usize = CLIENTS + 1;
 
 pub fn complete_chunk(client: usize) -> usize {
     21 * client - 20
@@ -504,9 +504,9 @@ pub struct Client {
     pub writes: u32,
     pub reads: u32,
     pub out_of_stamps: bool,
-    /// Servers whose stamp, or then ack, was counted.
+    /// Servers whose stamp, or then ack, was counted, and the times of the stamps.
     pub counted: [bool; SEATS],
-    pub largest: u64,
+    pub times: [u64; SEATS],
     /// Stamps kept of each server, and how many.
     pub kept: [u8; SEATS],
     pub stamps: [[Stamp; KEPT]; SEATS],
@@ -521,10 +521,15 @@ impl Client {
             reads: 0,
             out_of_stamps: false,
             counted: [false; SEATS],
-            largest: 0,
+            times: [0; SEATS],
             kept: [0; SEATS],
             stamps: [[zero; KEPT]; SEATS],
         }
+    }
+
+    /// The largest time counted.
+    pub fn largest(&self) -> u64 {
+        self.times.iter().copied().max().unwrap_or(0)
     }
 
     fn check_begin(&self, p: &Params, used: u32, out: &[u8], to: &[u8]) -> Result<(), Refusal> {
@@ -559,7 +564,7 @@ impl Client {
         self.writes += 1;
         self.operation = Operation::Stamps;
         self.counted = [false; SEATS];
-        self.largest = 0;
+        self.times = [0; SEATS];
         let mut out = Out { out, to, bytes: 0, frames: 0 };
         let frame = Frame { client: own as u8, sequence: self.writes, body: Body::GetStamp };
         out.send_servers(p.n, &frame);
@@ -658,11 +663,12 @@ impl Client {
         out: &mut Out,
     ) -> Result<Outcome, Refusal> {
         let enough = self.count(p, server)?;
-        self.largest = self.largest.max(time);
+        self.times[server] = time;
         if !enough {
             return Ok(Outcome::Going);
         }
-        if self.largest == u64::MAX {
+        let largest = self.largest();
+        if largest == u64::MAX {
             self.operation = Operation::None;
             self.out_of_stamps = true;
             return Ok(Outcome::OutOfStamps);
@@ -682,7 +688,7 @@ impl Client {
             let body = Body::Block { stage: Stage::Send, digests, block };
             out.send(1, j, &Frame { body, ..*frame });
         }
-        let body = Body::Time { stage: Stage::Send, time: self.largest };
+        let body = Body::Time { stage: Stage::Send, time: largest };
         out.send_servers(p.n, &Frame { body, ..*frame });
         Ok(Outcome::Going)
     }

@@ -11,6 +11,7 @@ pub mod field;
 pub mod flat;
 pub mod frame;
 pub mod history;
+pub mod layout;
 pub mod orders;
 pub mod params;
 pub mod random;

@@ -29,6 +29,32 @@ impl Refusal {
     pub fn number(self) -> u8 {
         self as u8
     }
+
+    pub fn of_number(number: u8) -> Option<Refusal> {
+        use Refusal::*;
+        let all = [
+            Parties,
+            Threshold,
+            ValueLength,
+            FrameLength,
+            Version,
+            Kind,
+            Operation,
+            BodyLength,
+            Parts,
+            Room,
+            Sender,
+            Old,
+            Early,
+            Digest,
+            Open,
+            UsedUp,
+            OutOfStamps,
+            Record,
+            Unlisted,
+        ];
+        all.into_iter().find(|refusal| refusal.number() == number)
+    }
 }
 
 /// A server or a client with its number, as the host names it; the number may be anything.

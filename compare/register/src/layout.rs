@@ -1,0 +1,209 @@
+//! The records of `flat` as bytes of a fixed layout, as the static library's hosts lend them. Numbers are big-endian, a flag is one
+//! byte, a stamp is time (8), writer (1) and sequence (4).
+//!
+//! A server: its stamp, 9 slots, 9 readers. A slot: the open sequence (8); of blocks the flags sent, ready, complete, 11 of echoes
+//! and 11 of readies; of the time the flags sent, ready, delivered, the time (8), 11 flags of echoes and 11 of readies, and the times
+//! of both (11 of 8 each). A reader: the newest sequence (4), listening, the noted stamp.
+//!
+//! A client: writes and reads (4 each), out of stamps, the open operation (0 none, 1 awaits stamps, 2 awaits acks, 3 read), 11 flags
+//! of servers counted, their 11 times, and 11 rows, each a count (8) and 4 stamps.
+
+use crate::client::KEPT;
+use crate::flat::{BlockPart, Client, Operation, Reader, Server, Slot, TimePart, DESKS, SEATS};
+use crate::frame::Stamp;
+
+pub const SERVER: usize = 2353;
+pub const CLIENT: usize = 769;
+
+/// What is still to be read.
+struct Source<'a>(&'a [u8]);
+
+impl Source<'_> {
+    fn take<const N: usize>(&mut self) -> [u8; N] {
+        let (first, rest) = self.0.split_first_chunk().expect("a whole record");
+        self.0 = rest;
+        *first
+    }
+
+    fn flag(&mut self) -> bool {
+        self.take::<1>()[0] != 0
+    }
+
+    fn four(&mut self) -> u32 {
+        u32::from_be_bytes(self.take())
+    }
+
+    fn eight(&mut self) -> u64 {
+        u64::from_be_bytes(self.take())
+    }
+
+    fn flags(&mut self) -> [bool; SEATS] {
+        self.take::<SEATS>().map(|byte| byte != 0)
+    }
+
+    fn times(&mut self) -> [u64; SEATS] {
+        std::array::from_fn(|_| self.eight())
+    }
+
+    fn stamp(&mut self) -> Stamp {
+        Stamp { time: self.eight(), writer: self.take::<1>()[0], sequence: self.four() }
+    }
+
+    fn slot(&mut self) -> Slot {
+        Slot {
+            open: self.eight(),
+            blocks: BlockPart {
+                sent: self.flag(),
+                ready: self.flag(),
+                complete: self.flag(),
+                echoes: self.flags(),
+                readies: self.flags(),
+            },
+            times: TimePart {
+                sent: self.flag(),
+                ready: self.flag(),
+                delivered: self.flag(),
+                time: self.eight(),
+                echoes: self.flags(),
+                readies: self.flags(),
+                echo_times: self.times(),
+                ready_times: self.times(),
+            },
+        }
+    }
+}
+
+/// What is still to be written.
+struct Target<'a>(&'a mut [u8]);
+
+impl Target<'_> {
+    fn put<const N: usize>(&mut self, bytes: [u8; N]) {
+        let (first, rest) = std::mem::take(&mut self.0).split_first_chunk_mut().expect("room for a record");
+        *first = bytes;
+        self.0 = rest;
+    }
+
+    fn flag(&mut self, flag: bool) {
+        self.put([flag as u8]);
+    }
+
+    fn flags(&mut self, flags: &[bool; SEATS]) {
+        self.put(flags.map(|flag| flag as u8));
+    }
+
+    fn times(&mut self, times: &[u64; SEATS]) {
+        times.iter().for_each(|time| self.put(time.to_be_bytes()));
+    }
+
+    fn stamp(&mut self, stamp: &Stamp) {
+        self.put(stamp.time.to_be_bytes());
+        self.put([stamp.writer]);
+        self.put(stamp.sequence.to_be_bytes());
+    }
+
+    fn slot(&mut self, slot: &Slot) {
+        let Slot { open, blocks, times } = slot;
+        self.put(open.to_be_bytes());
+        self.put([blocks.sent as u8, blocks.ready as u8, blocks.complete as u8]);
+        self.flags(&blocks.echoes);
+        self.flags(&blocks.readies);
+        self.put([times.sent as u8, times.ready as u8, times.delivered as u8]);
+        self.put(times.time.to_be_bytes());
+        self.flags(&times.echoes);
+        self.flags(&times.readies);
+        self.times(&times.echo_times);
+        self.times(&times.ready_times);
+    }
+}
+
+/// The server that the first bytes say.
+pub fn server_in(bytes: &[u8]) -> Server {
+    let mut source = Source(bytes);
+    Server {
+        stamp: source.stamp(),
+        slots: std::array::from_fn::<Slot, DESKS, _>(|_| source.slot()),
+        readers: std::array::from_fn(|_| Reader {
+            newest: source.four(),
+            listening: source.flag(),
+            noted: source.stamp(),
+        }),
+    }
+}
+
+/// Writes a server to the first bytes.
+pub fn put_server(server: &Server, bytes: &mut [u8]) {
+    let mut target = Target(bytes);
+    target.stamp(&server.stamp);
+    server.slots.iter().for_each(|slot| target.slot(slot));
+    for reader in &server.readers {
+        target.put(reader.newest.to_be_bytes());
+        target.flag(reader.listening);
+        target.stamp(&reader.noted);
+    }
+}
+
+/// The client that the first bytes say; an unknown operation is none, and a row has at most four.
+pub fn client_in(bytes: &[u8]) -> Client {
+    let mut source = Source(bytes);
+    let (writes, reads, out_of_stamps) = (source.four(), source.four(), source.flag());
+    let operation = match source.take::<1>()[0] {
+        1 => Operation::Stamps,
+        2 => Operation::Acks,
+        3 => Operation::Read,
+        _ => Operation::None,
+    };
+    let (counted, times) = (source.flags(), source.times());
+    let (mut kept, mut stamps) = ([0; SEATS], [[Stamp::default(); KEPT]; SEATS]);
+    for (count, row) in kept.iter_mut().zip(&mut stamps) {
+        *count = source.eight().min(KEPT as u64) as u8;
+        *row = std::array::from_fn(|_| source.stamp());
+    }
+    Client { operation, writes, reads, out_of_stamps, counted, times, kept, stamps }
+}
+
+/// Writes a client to the first bytes.
+pub fn put_client(client: &Client, bytes: &mut [u8]) {
+    let mut target = Target(bytes);
+    target.put(client.writes.to_be_bytes());
+    target.put(client.reads.to_be_bytes());
+    target.flag(client.out_of_stamps);
+    let operation = match client.operation {
+        Operation::None => 0,
+        Operation::Stamps => 1,
+        Operation::Acks => 2,
+        Operation::Read => 3,
+    };
+    target.put([operation]);
+    target.flags(&client.counted);
+    target.times(&client.times);
+    for (count, row) in client.kept.iter().zip(&client.stamps) {
+        target.put((*count as u64).to_be_bytes());
+        row.iter().for_each(|stamp| target.stamp(stamp));
+    }
+}
+
+#[cfg(test)]
+mod tests {
+    use super::*;
+    use crate::random::Random;
+
+    /// Bytes that a record wrote are read back to it and written again, and a record's bytes fill its size.
+    #[test]
+    fn written_and_read() {
+        let mut random = Random::new(1);
+        for _ in 0..100 {
+            let mut bytes: Vec<u8> = (0..SERVER).map(|_| random.below(2) as u8).collect();
+            let server = server_in(&bytes);
+            let given = bytes.clone();
+            bytes.fill(9);
+            put_server(&server, &mut bytes);
+            assert_eq!(bytes, given);
+            let mut bytes = random.bytes(CLIENT);
+            let client = client_in(&bytes);
+            bytes.fill(9);
+            put_client(&client, &mut bytes);
+            assert_eq!(client_in(&bytes), client);
+            assert!(bytes[CLIENT - 52..] != [9; 52]);
+        }
+    }
+}

@@ -4,4 +4,5 @@ pub mod adversary;
 pub mod check;
 pub mod lockstep;
 pub mod run;
+pub mod style;
 pub mod world;

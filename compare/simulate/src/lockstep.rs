@@ -1,6 +1,7 @@
-//! Each party in both styles, called side by side: every byte of answers, states and lent areas
-//! is compared. A wrong variant runs in the clear style alone.
+//! Each party in the clear style and in another, called side by side: every byte of answers, states and lent areas
+//! is compared.
 
+use crate::style::{Answer, Ended, Handed, OtherClient, OtherServer, Sending, Style, Told};
 use register::client::{self, Client, Operation, Outcome};
 use register::flat::{self, CHUNK, ROWS_AREA, STATE_AREA};
 use register::frame::{open, Body, Stage};
@@ -13,7 +14,7 @@ fn pattern(length: usize, salt: usize) -> Vec<u8> {
 }
 
 /// Compares frames and receivers with the out and to areas, whose further bytes are as lent.
-fn compare_out(sends: &[Send], done: &flat::Done, out: &[u8], to: &[u8], salt: usize) -> Result<(), String> {
+fn compare_out(sends: &[Send], told: &Told, out: &[u8], to: &[u8], salt: usize) -> Result<(), String> {
     let mut expected = pattern(out.len(), salt);
     let mut receivers = pattern(to.len(), salt + 1);
     let mut at = 0;
@@ -27,7 +28,7 @@ fn compare_out(sends: &[Send], done: &flat::Done, out: &[u8], to: &[u8], salt: u
         receivers[2 * i] = class;
         receivers[2 * i + 1] = number as u8;
     }
-    if done.frames != sends.len() || done.bytes != at || out != expected || to != receivers {
+    if told.frames != sends.len() || out != expected || to != receivers {
         return Err("frames sent".to_string());
     }
     Ok(())
@@ -40,8 +41,8 @@ fn unchanged_out(out: &[u8], to: &[u8], salt: usize) -> Result<(), String> {
     Ok(())
 }
 
-struct FlatServer {
-    server: flat::Server,
+struct LentServer {
+    server: Box<dyn OtherServer>,
     area: Vec<u8>,
     initial: Vec<u8>,
 }
@@ -50,19 +51,19 @@ pub struct ServerPair {
     p: Params,
     own: usize,
     pub clear: Server,
-    flat: Option<FlatServer>,
+    other: Option<LentServer>,
 }
 
 impl ServerPair {
-    pub fn fresh(p: Params, own: usize, value: &[u8], variant: Variant, both: bool) -> ServerPair {
+    pub fn fresh(p: Params, own: usize, value: &[u8], variant: Variant, style: Option<Style>) -> ServerPair {
         let clear = Server::fresh(p, own, value).unwrap().with_variant(variant);
-        let flat = both.then(|| {
+        let other = style.map(|style| {
             let mut area = pattern(STATE_AREA + own % 3, own);
             let mut initial = pattern(p.block() + own % 2, own);
-            let server = flat::Server::fresh(&p, own, value, &mut initial, &mut area).unwrap();
-            FlatServer { server, area, initial }
+            let server = (style.server)(&p, own, value, &mut initial, &mut area);
+            LentServer { server, area, initial }
         });
-        ServerPair { p, own, clear, flat }
+        ServerPair { p, own, clear, other }
     }
 
     /// One call, with both answers compared.
@@ -73,34 +74,32 @@ impl ServerPair {
         room: usize,
     ) -> Result<Result<server::Step, Refusal>, String> {
         let answer = self.clear.deliver(from, bytes, room);
-        let Some(flat) = &mut self.flat else { return Ok(answer) };
-        let before = flat.area.clone();
-        let server_before = flat.server;
-        let initial_before = flat.initial.clone();
+        let Some(lent) = &mut self.other else { return Ok(answer) };
+        let before = lent.area.clone();
+        let record_before = lent.server.record();
+        let initial_before = lent.initial.clone();
         let mut out = pattern(room, self.own);
         let mut to = pattern(2 * (self.p.n + 9) + 1, self.own + 1);
         let (p, own) = (self.p, self.own);
-        let other =
-            flat.server.deliver(&p, own, &flat.initial, &mut flat.area, from, bytes, &mut out, &mut to);
-        if flat.initial != initial_before {
+        let handed = Handed { p: &p, own, from, frame: bytes };
+        let sending = Sending { out: &mut out, to: &mut to };
+        let other = lent.server.deliver(handed, &lent.initial, &mut lent.area, sending)?;
+        if lent.initial != initial_before {
             return Err("initial area".to_string());
         }
         match (&answer, other) {
             (Err(a), Err(b)) if *a == b => {
                 unchanged_out(&out, &to, self.own)?;
-                if flat.area != before || flat.server != server_before {
+                if lent.area != before || lent.server.record() != record_before {
                     return Err("a refusal changed a server".to_string());
                 }
             }
-            (Ok(step), Ok(done)) => {
-                compare_out(&step.sends, &done, &out, &to, self.own)?;
-                if (done.outcome == flat::Outcome::Accepted) != step.accepted.is_some() {
-                    return Err("acceptance".to_string());
-                }
-                let area = std::mem::take(&mut flat.area);
-                let same = area == self.expected_area(before, from, bytes, step);
-                self.flat.as_mut().unwrap().area = area;
-                if !same {
+            (Ok(step), Ok(told)) => {
+                compare_out(&step.sends, &told, &out, &to, self.own)?;
+                let expected = self.expected_area(before, from, bytes, step);
+                if told.ended != Ended::Nothing
+                    || self.other.as_ref().is_some_and(|lent| lent.area != expected)
+                {
                     return Err("state area".to_string());
                 }
                 self.compare_state()?;
@@ -135,12 +134,12 @@ impl ServerPair {
     }
 
     fn compare_state(&self) -> Result<(), String> {
-        let flat = self.flat.as_ref().unwrap();
-        let (p, a, b) = (&self.p, &self.clear, &flat.server);
-        let present = b.present(p, &flat.initial, &flat.area);
+        let Some(lent) = &self.other else { return Ok(()) };
+        let (p, a, b) = (&self.p, &self.clear, &lent.server.record());
+        let present = b.present(p, &lent.initial, &lent.area);
         if a.stamp != b.stamp
             || a.present.block != present
-            || a.present.digests != flat::list_in(p, &flat.area, 0)
+            || a.present.digests != flat::list_in(p, &lent.area, 0)
         {
             return Err("present value".to_string());
         }
@@ -155,8 +154,8 @@ impl ServerPair {
                 && x.delivered == y.times.delivered.then_some(y.times.time);
             let kept = (1..=p.n).all(|j| {
                 let at = |chunk| Dispersed {
-                    digests: flat::list_in(p, &flat.area, chunk).to_vec(),
-                    block: flat::block_in(p, &flat.area, chunk).to_vec(),
+                    digests: flat::list_in(p, &lent.area, chunk).to_vec(),
+                    block: flat::block_in(p, &lent.area, chunk).to_vec(),
                 };
                 x.echoes.get(&j) == y.blocks.echoes[j].then(|| at(flat::echo_chunk(c, j))).as_ref()
                     && x.readies.get(&j) == y.blocks.readies[j].then(|| at(flat::ready_chunk(c, j))).as_ref()
@@ -172,8 +171,8 @@ impl ServerPair {
     }
 }
 
-struct FlatClient {
-    client: flat::Client,
+struct LentClient {
+    client: Box<dyn OtherClient>,
     rows: Vec<u8>,
 }
 
@@ -181,48 +180,48 @@ pub struct ClientPair {
     p: Params,
     own: usize,
     pub clear: Client,
-    flat: Option<FlatClient>,
+    other: Option<LentClient>,
     /// The value of the open write.
     value: Vec<u8>,
 }
 
 impl ClientPair {
-    pub fn fresh(p: Params, own: usize, variant: Variant, both: bool) -> ClientPair {
+    pub fn fresh(p: Params, own: usize, variant: Variant, style: Option<Style>) -> ClientPair {
         let clear = Client::fresh(p, own).unwrap().with_variant(variant);
-        let flat = both
-            .then(|| FlatClient { client: flat::Client::fresh(), rows: pattern(ROWS_AREA + own % 3, own) });
-        ClientPair { p, own, clear, flat, value: Vec::new() }
+        let other = style
+            .map(|style| LentClient { client: (style.client)(), rows: pattern(ROWS_AREA + own % 3, own) });
+        ClientPair { p, own, clear, other, value: Vec::new() }
     }
 
     fn compare(
         &self,
         answer: &Result<client::Step, Refusal>,
-        other: Result<flat::Done, Refusal>,
+        other: Result<Told, Refusal>,
         before: flat::Client,
         areas: (&[u8], &[u8], &[u8]),
     ) -> Result<(), String> {
         let (out, to, value) = areas;
-        let flat = self.flat.as_ref().unwrap();
+        let Some(lent) = &self.other else { return Ok(()) };
         let mut expected_value = pattern(value.len(), self.own + 2);
         match (answer, other) {
             (Err(a), Err(b)) if *a == b => {
                 unchanged_out(out, to, self.own)?;
-                if flat.client != before {
+                if lent.client.record() != before {
                     return Err("a refusal changed a client".to_string());
                 }
             }
-            (Ok(step), Ok(done)) => {
-                compare_out(&step.sends, &done, out, to, self.own)?;
-                let outcome = match &step.outcome {
-                    Outcome::Going => flat::Outcome::Going,
-                    Outcome::Written => flat::Outcome::Written,
-                    Outcome::OutOfStamps => flat::Outcome::OutOfStamps,
-                    Outcome::Value(stamp, bytes) => {
+            (Ok(step), Ok(told)) => {
+                compare_out(&step.sends, &told, out, to, self.own)?;
+                let ended = match &step.outcome {
+                    Outcome::Going => Ended::Nothing,
+                    Outcome::Written => Ended::Written,
+                    Outcome::OutOfStamps => Ended::OutOfStamps,
+                    Outcome::Value(_, bytes) => {
                         expected_value[..bytes.len()].copy_from_slice(bytes);
-                        flat::Outcome::Value(*stamp)
+                        Ended::Value
                     }
                 };
-                if done.outcome != outcome {
+                if told.ended != ended {
                     return Err("outcome".to_string());
                 }
                 self.compare_state()?;
@@ -236,8 +235,8 @@ impl ClientPair {
     }
 
     fn compare_state(&self) -> Result<(), String> {
-        let flat = self.flat.as_ref().unwrap();
-        let (p, a, b) = (&self.p, &self.clear, &flat.client);
+        let Some(lent) = &self.other else { return Ok(()) };
+        let (p, a, b) = (&self.p, &self.clear, &lent.client.record());
         let operation = match &a.operation {
             Operation::None => b.operation == flat::Operation::None,
             Operation::Stamps(times) => {
@@ -255,8 +254,8 @@ impl ClientPair {
                             && row.iter().enumerate().all(|(place, kept)| {
                                 let chunk = flat::row_chunk(i + 1, place);
                                 kept.stamp == b.stamps[i + 1][place]
-                                    && kept.digests == flat::list_in(p, &flat.rows, chunk)
-                                    && kept.block == flat::block_in(p, &flat.rows, chunk)
+                                    && kept.digests == flat::list_in(p, &lent.rows, chunk)
+                                    && kept.block == flat::block_in(p, &lent.rows, chunk)
                             })
                     })
             }
@@ -268,15 +267,24 @@ impl ClientPair {
         Ok(())
     }
 
+    /// A call that lends no rows: made on the other side, and compared.
+    fn also(
+        &mut self,
+        answer: &Result<client::Step, Refusal>,
+        room: usize,
+        call: impl FnOnce(&mut dyn OtherClient, &Params, usize, Sending) -> Answer,
+    ) -> Result<(), String> {
+        let (mut out, mut to) = self.areas(room);
+        let (p, own) = (self.p, self.own);
+        let Some(lent) = &mut self.other else { return Ok(()) };
+        let before = lent.client.record();
+        let other = call(&mut *lent.client, &p, own, Sending { out: &mut out, to: &mut to })?;
+        self.compare(answer, other, before, (&out, &to, &[]))
+    }
+
     pub fn begin_read(&mut self, room: usize) -> Result<Result<client::Step, Refusal>, String> {
         let answer = self.clear.begin_read(room);
-        if let Some(flat) = &mut self.flat {
-            let before = flat.client;
-            let (mut out, mut to) = self.areas(room);
-            let flat = self.flat.as_mut().unwrap();
-            let other = flat.client.begin_read(&self.p, self.own, &mut out, &mut to);
-            self.compare(&answer, other, before, (&out, &to, &[]))?;
-        }
+        self.also(&answer, room, |client, p, own, sending| client.begin_read(p, own, sending))?;
         Ok(answer)
     }
 
@@ -286,13 +294,7 @@ impl ClientPair {
         room: usize,
     ) -> Result<Result<client::Step, Refusal>, String> {
         let answer = self.clear.begin_write(value, room);
-        if let Some(flat) = &mut self.flat {
-            let before = flat.client;
-            let (mut out, mut to) = self.areas(room);
-            let flat = self.flat.as_mut().unwrap();
-            let other = flat.client.begin_write(&self.p, self.own, value, &mut out, &mut to);
-            self.compare(&answer, other, before, (&out, &to, &[]))?;
-        }
+        self.also(&answer, room, |client, p, own, sending| client.begin_write(p, own, value, sending))?;
         if answer.is_ok() {
             self.value = value.to_vec();
         }
@@ -310,30 +312,19 @@ impl ClientPair {
         room: usize,
     ) -> Result<Result<client::Step, Refusal>, String> {
         let rows_before = match &self.clear.operation {
-            Operation::Read(rows) if self.flat.is_some() => Some(rows.clone()),
+            Operation::Read(rows) if self.other.is_some() => Some(rows.clone()),
             _ => None,
         };
         let answer = self.clear.deliver(from, bytes, &self.value, room);
-        if self.flat.is_none() {
-            return Ok(answer);
-        }
         let (mut out, mut to) = self.areas(room);
         let mut value = pattern(self.p.l + self.own % 2, self.own + 2);
-        let flat = self.flat.as_mut().unwrap();
-        let before = flat.client;
-        let mut expected = flat.rows.clone();
+        let Some(lent) = &mut self.other else { return Ok(answer) };
+        let before = lent.client.record();
+        let mut expected = lent.rows.clone();
         let (p, own) = (self.p, self.own);
-        let other = flat.client.deliver(
-            &p,
-            own,
-            &self.value,
-            &mut flat.rows,
-            from,
-            bytes,
-            &mut out,
-            &mut to,
-            &mut value,
-        );
+        let handed = Handed { p: &p, own, from, frame: bytes };
+        let sending = Sending { out: &mut out, to: &mut to };
+        let other = lent.client.deliver(handed, &self.value, &mut lent.rows, &mut value, sending)?;
         // The rows area: the new value in a free place or in that of the smallest of five.
         if let (Ok(_), Some(rows), Party::Server(j)) = (&answer, rows_before, from) {
             let row: Vec<_> = rows[j - 1].iter().map(|kept| kept.stamp).collect();
@@ -348,8 +339,8 @@ impl ClientPair {
                 }
             }
         }
-        if flat.rows != expected {
-            let at = flat.rows.iter().zip(&expected).position(|(a, b)| a != b).unwrap();
+        if lent.rows != expected {
+            let at = lent.rows.iter().zip(&expected).position(|(a, b)| a != b).unwrap();
             return Err(format!("rows area, chunk {}", at / CHUNK));
         }
         self.compare(&answer, other, before, (&out, &to, &value))?;

@@ -4,6 +4,7 @@
 
 use register::Variant;
 use simulate::run::{parameters_of, run, Options, Summary};
+use simulate::style::FLAT;
 use std::process::ExitCode;
 use std::time::Instant;
 
@@ -28,7 +29,7 @@ fn main() -> ExitCode {
     let mut arguments = std::env::args().skip(1);
     while let Some(argument) = arguments.next() {
         if argument == "--both" {
-            options.both = true;
+            options.style = Some(FLAT);
         } else if argument == "--variant" {
             let name = arguments.next().unwrap_or_default();
             match Variant::WRONG.iter().find(|v| format!("{v:?}") == name) {

@@ -3,6 +3,7 @@
 
 use crate::adversary::{Adversary, Profile};
 use crate::check::{check_row, Violation};
+use crate::style::Style;
 use crate::world::{Setup, World};
 use hall::to_hex;
 use register::random::Random;
@@ -12,14 +13,14 @@ use std::collections::BTreeSet;
 #[derive(Clone, Copy, Debug)]
 pub struct Options {
     pub variant: Variant,
-    /// Run both styles side by side and compare every byte.
-    pub both: bool,
+    /// Run this style beside the clear one and compare every byte.
+    pub style: Option<Style>,
     /// Give the calls as a script of the hall program, where no area is short.
     pub script: bool,
 }
 
 impl Options {
-    pub const RIGHT: Options = Options { variant: Variant::Right, both: false, script: false };
+    pub const RIGHT: Options = Options { variant: Variant::Right, style: None, script: false };
 }
 
 /// What happened in a run or in many.
@@ -310,7 +311,7 @@ pub fn run(seed: u64, options: Options) -> Result<Summary, Violation> {
         false_servers: &false_servers,
         honest_clients: honest,
         variant: options.variant,
-        both: options.both,
+        style: options.style,
     };
     let mut run = Run {
         world: World::new(&setup),

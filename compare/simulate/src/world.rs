@@ -3,6 +3,7 @@
 
 use crate::check::{Acceptance, Observed, Read, Violation, Write};
 use crate::lockstep::{ClientPair, ServerPair};
+use crate::style::Style;
 use hall::to_hex;
 use register::client::{Operation, Outcome, KEPT};
 use register::{Params, Party, Refusal, Send, Variant};
@@ -44,7 +45,7 @@ pub struct Setup<'a> {
     pub false_servers: &'a [usize],
     pub honest_clients: &'a [usize],
     pub variant: Variant,
-    pub both: bool,
+    pub style: Option<Style>,
 }
 
 impl World {
@@ -52,11 +53,11 @@ impl World {
         let p = setup.p;
         let server = |j: usize| {
             let honest = 1 <= j && !setup.false_servers.contains(&j);
-            honest.then(|| ServerPair::fresh(p, j, setup.initial, setup.variant, setup.both))
+            honest.then(|| ServerPair::fresh(p, j, setup.initial, setup.variant, setup.style))
         };
         let client = |c: usize| {
             let honest = setup.honest_clients.contains(&c);
-            honest.then(|| ClientPair::fresh(p, c, setup.variant, setup.both))
+            honest.then(|| ClientPair::fresh(p, c, setup.variant, setup.style))
         };
         World {
             p,

@@ -3,11 +3,12 @@
 use register::Variant;
 use simulate::check::Violation;
 use simulate::run::{run, Options, Summary};
+use simulate::style::{Style, FLAT};
 
-fn all(seeds: std::ops::Range<u64>, both: bool) -> Summary {
+fn all(seeds: std::ops::Range<u64>, style: Option<Style>) -> Summary {
     let mut total = Summary::default();
     for seed in seeds {
-        match run(seed, Options { both, ..Options::RIGHT }) {
+        match run(seed, Options { style, ..Options::RIGHT }) {
             Ok(summary) => total.add(&summary),
             Err(violation) => panic!("seed {seed}: {violation}; reproduce with: simulate 1 {seed}"),
         }
@@ -17,7 +18,7 @@ fn all(seeds: std::ops::Range<u64>, both: bool) -> Summary {
 
 #[test]
 fn row_holds() {
-    let total = all(1..401, false);
+    let total = all(1..401, None);
     // The runs reach what they are meant to reach.
     assert!(total.reads > 800 && total.writes > 800 && total.foreign > 80, "{total:?}");
     for number in (3..=15).chain([17]) {
@@ -27,7 +28,7 @@ fn row_holds() {
 
 #[test]
 fn both_styles_agree() {
-    all(10_001..10_061, true);
+    all(10_001..10_061, Some(FLAT));
 }
 
 /// The first violation that fits within 500 runs of a wrong variant. The first seed of a rare
@@ -121,7 +122,7 @@ fn finds_silence_after_ready() {
 fn comparison_finds_differences() {
     for variant in Variant::WRONG {
         let differs = |seed| {
-            let found = run(seed, Options { variant, both: true, ..Options::RIGHT });
+            let found = run(seed, Options { variant, style: Some(FLAT), ..Options::RIGHT });
             matches!(found, Err(Violation::Differ(_)))
         };
         assert!((1..200).any(differs), "{variant:?} was not found");

@@ -1,0 +1,172 @@
+//! Random calls of any kind: any parameters, own numbers, senders, frames and lent sizes, mostly one thing wrong.
+
+use crate::flat::{Client, Operation, Server, ROWS_AREA, STATE_AREA};
+use crate::frame::{build, Body, Stage, Stamp};
+use crate::params::{Params, Party};
+use crate::random::Random;
+
+fn some_params(random: &mut Random) -> Params {
+    let mut p = random.pick(&Params::all(5));
+    p.l = random.range(1, 20);
+    let wild = [0, 1, 2, 3, 5, 9, 10, 11, 12, 256, 257, usize::MAX];
+    if random.chance(1, 4) {
+        let field = random.pick(&wild);
+        match random.below(4) {
+            0 => p.n = field,
+            1 => p.t = field,
+            2 => p.k = field,
+            _ => p.l = field,
+        }
+    }
+    p
+}
+
+/// Refusals 1 to 3, from the words of the table.
+pub fn bounds(p: &Params, own: usize, most: usize) -> Option<u8> {
+    let (n, t) = (p.n as u128, p.t as u128);
+    if !(4..=10).contains(&n) || t < 1 || n <= 3 * t || own < 1 || own > most {
+        return Some(1);
+    }
+    if p.k < 1 || p.k as u128 > n - 2 * t {
+        return Some(2);
+    }
+    (p.l < 1 || p.l > 256).then_some(3)
+}
+
+fn some_frame(p: &Params, client: usize, random: &mut Random) -> Vec<u8> {
+    let (list, block) = if bounds(p, 1, 1).is_none() { (p.list(), p.block()) } else { (128, 3) };
+    let (digests, block) = (random.bytes(list), random.bytes(block));
+    let time = random.below(3) as u64;
+    let mut stamp = Stamp { time, writer: random.below(3) as u8, sequence: random.below(3) as u32 };
+    if random.chance(1, 2) {
+        stamp = Stamp::default();
+    }
+    let stage = random.pick(&[Stage::Send, Stage::Echo, Stage::Ready]);
+    let body = match random.below(9) {
+        0 => Body::GetStamp,
+        1 => Body::Stamp { time },
+        2 => Body::Block { stage, digests: &digests, block: &block },
+        3 => Body::Time { stage, time },
+        4 => Body::Ack,
+        5 => Body::Read,
+        6 => Body::ReadComplete,
+        _ => Body::Value { stamp, digests: &digests, block: &block },
+    };
+    let client = if random.chance(1, 10) { random.range(0, 9) } else { client };
+    let mut frame = build(client as u8, random.pick(&[0, 1, 1, 1, 1, 1, 2, 2]), body);
+    if random.chance(1, 4) {
+        let i = random.below(frame.len().min(12));
+        frame[i] = random.below(16) as u8;
+    }
+    if random.chance(1, 10) {
+        frame.truncate(random.below(frame.len()));
+    }
+    frame
+}
+
+fn some_party(client: usize, random: &mut Random) -> Party {
+    if random.chance(2, 3) {
+        let server = Party::Server(random.range(1, 4));
+        return random.pick(&[server, Party::Client(client)]);
+    }
+    let number = random.pick(&[0, 1, 2, 3, 4, 8, 9, 10, 11, 255, 256, usize::MAX]);
+    if random.chance(1, 2) {
+        Party::Server(number)
+    } else {
+        Party::Client(number)
+    }
+}
+
+/// Enough, one too few, or none.
+fn some_size(enough: usize, random: &mut Random) -> usize {
+    match random.below(20) {
+        0 => enough - 1,
+        1 => 0,
+        _ => enough + random.below(2),
+    }
+}
+
+/// A frame handed to a server, with everything lent.
+#[derive(Clone, Debug, PartialEq, Eq)]
+pub struct ServerCall {
+    pub p: Params,
+    pub own: usize,
+    pub from: Party,
+    pub frame: Vec<u8>,
+    pub server: Server,
+    pub initial: Vec<u8>,
+    pub area: Vec<u8>,
+    pub out: Vec<u8>,
+    pub to: Vec<u8>,
+    /// Refusals 1 to 3, and whether an area is short.
+    pub bounds: Option<u8>,
+    pub short: bool,
+}
+
+pub fn server_call(random: &mut Random) -> ServerCall {
+    let p = some_params(random);
+    let own = random.pick(&[1, 1, 1, 2, 2, 3, 4, 4, 0, 7, 10, 11, 255]);
+    let bounds = bounds(&p, own, p.n);
+    let sane = if bounds.is_none() { p } else { Params::new(10, 1, 1, 256) };
+    let (mut initial, mut area) = (vec![1; sane.block()], vec![2; STATE_AREA]);
+    let mut server = Server::fresh(&sane, 1, &vec![3; sane.l], &mut initial, &mut area).unwrap();
+    server.readers[2].newest = random.below(2) as u32;
+    server.slots[2].open = random.pick(&[1, 1, 2]);
+    initial.truncate(some_size(sane.block(), random));
+    area.resize(some_size(STATE_AREA, random), 9);
+    let out = vec![4; some_size(sane.server_room(), random)];
+    let to = vec![5; some_size(2 * (sane.n + 9), random)];
+    let (from, frame) = (some_party(2, random), some_frame(&p, 2, random));
+    let short = initial.len() < sane.block()
+        || area.len() < STATE_AREA
+        || out.len() < sane.server_room()
+        || to.len() < 2 * (sane.n + 9);
+    ServerCall { p, own, from, frame, server, initial, area, out, to, bounds, short }
+}
+
+/// What a client is to do.
+#[derive(Clone, Copy, Debug, PartialEq, Eq)]
+pub enum ClientAct {
+    Read,
+    Write,
+    Deliver,
+}
+
+/// A call on a client, with everything lent.
+#[derive(Clone, Debug, PartialEq, Eq)]
+pub struct ClientCall {
+    pub p: Params,
+    pub own: usize,
+    pub act: ClientAct,
+    pub from: Party,
+    pub frame: Vec<u8>,
+    pub client: Client,
+    pub written: Vec<u8>,
+    pub rows: Vec<u8>,
+    pub value: Vec<u8>,
+    pub out: Vec<u8>,
+    pub to: Vec<u8>,
+    /// Refusals 1 to 3, and parameters within their bounds by which the areas were made.
+    pub bounds: Option<u8>,
+    pub sane: Params,
+}
+
+pub fn client_call(random: &mut Random) -> ClientCall {
+    let p = some_params(random);
+    let own = random.pick(&[3, 3, 3, 3, 3, 3, 1, 8, 0, 9, 255]);
+    let bounds = bounds(&p, own, 8);
+    let sane = if bounds.is_none() { p } else { Params::new(10, 1, 1, 256) };
+    let mut client = Client::fresh();
+    client.operation = random.pick(&[Operation::None, Operation::Stamps, Operation::Acks, Operation::Read]);
+    client.writes = random.pick(&[1, 1, 1, u32::MAX]);
+    client.reads = random.pick(&[1, 1, 1, u32::MAX]);
+    client.out_of_stamps = random.chance(1, 5);
+    let written = vec![1; some_size(sane.l, random)];
+    let rows = vec![2; some_size(ROWS_AREA, random)];
+    let out = vec![3; some_size(sane.client_room(), random)];
+    let to = vec![4; some_size(4 * sane.n, random)];
+    let value = vec![5; some_size(sane.l, random)];
+    let act = random.pick(&[ClientAct::Read, ClientAct::Write, ClientAct::Deliver, ClientAct::Deliver]);
+    let (from, frame) = (some_party(3, random), some_frame(&p, 3, random));
+    ClientCall { p, own, act, from, frame, client, written, rows, value, out, to, bounds, sane }
+}

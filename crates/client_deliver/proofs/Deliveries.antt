@@ -6,7 +6,7 @@ use mathlib.Core.Bool.{Bool, true, false, not, _&&_}
 use mathlib.Core.List.{List}
 use lib.ListN.{length}
 use lib.Dec.{eqb, ltb}
-use borrow.Author.Tests.{eqb-true, ltb-false, ne-eqb, eq-eqb}
+use borrow.Author.Tests.{eqb-true, ltb-false, ne-eqb}
 use Rattle.area.specs.Area.{pick}
 use Rattle.sha256.specs.Hash.{digestOf}
 use Rattle.blocks.specs.declared.Params.{Params}
@@ -21,7 +21,7 @@ use Rattle.frame.specs.declared.Verdict.the-variants as J
 use Rattle.frame.specs.Refusals.{andThen}
 use Rattle.frame.specs.Params.{Bounded, entryLength, largestFrame, outRoom, toRoom, paramsTest}
 use Rattle.frame.specs.Stamps.{lastClient}
-use Rattle.frame.specs.Messages.{Body, Message, message, numberIn, fromServer, Judged, bad, good, judgedBy, after}
+use Rattle.frame.specs.Messages.{Body, Message, message, numberIn, fromServer, Judged, bad, judgedBy, after}
 use Rattle.frame.specs.Messages.{stampIs, ack, valueIs}
 use Rattle.frame.specs.Frames.{stampIn, entryIn, bodyIn, messageIn, opened, lengthOf, bodyLength}
 use Rattle.frame.specs.Chunks.{rowsBytes}
@@ -34,8 +34,8 @@ use Rattle.client.specs.declared.Client.{Client}
 use Rattle.client.specs.declared.Answer.the-variants as Y
 use Rattle.client.specs.State.{writing}
 use Rattle.client.specs.Tests.{sendRoom, roomTest, valueTest, answers, orderTest, messageTest, judgeOpened, judge}
-use Rattle.client.specs.Steps.{Effect, onBody, effect, onStamp, onAck, onValue}
-use Rattle.client.specs.Delivery.{Outcome, outcome, eventAnswer, answerOf, resultOf, outcomeOf, effectBy, delivered, delivery}
+use Rattle.client.specs.Steps.{onBody, effect, onStamp, onAck, onValue}
+use Rattle.client.specs.Delivery.{Outcome, outcome, answerOf, resultOf, outcomeOf, effectBy, delivered, delivery}
 use Rattle.client.specs.Stages.{Lent, stepped, answered}
 use Rattle.client_deliver.specs.Needs.{Admitted, reasonIn}
 

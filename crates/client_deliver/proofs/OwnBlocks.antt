@@ -1,25 +1,24 @@
 -- What the code sends of a write's value: one law a function. Assumes nothing.
-use Prim.Native.Nat.{ℕ, suc, _+_, _*_, _≤_, _<_}
+use Prim.Native.Nat.{ℕ, _+_, _*_, _≤_, _<_}
 use native.Mathlib.Omega.{arith}
 use native.Mathlib.Numerals.{add-one}
 use native.Mathlib.Nat.{mul-le-mul-left, mul-le-mul-right}
-use mathlib.Core.Path.{_≡_, refl, ap, sym, _∙_}
+use mathlib.Core.Path.{_≡_, ap, sym, _∙_}
 use mathlib.Core.List.{List, [], _∷_, _++_}
 use lib.ListN.{length, take}
 use lib.Seq.{sets}
 use lib.ListN.{length-append}
-use Rattle.area.specs.Numbers.{bytes2, bytes4, bytes8}
 use Rattle.sha256.specs.Hash.{digestOf}
 use Rattle.blocks.specs.declared.Params.{Params}
 use Rattle.blocks.specs.Code.{blockLength, blockOf}
 use Rattle.blocks.proofs.Stripes.{length-blockOf}
 use Rattle.frame.specs.declared.Place.{Place}
 use Rattle.frame.specs.declared.Party.the-variants as P
-use Rattle.frame.specs.Params.{Bounded, width, listed, entryLength, largestFrame}
-use Rattle.frame.specs.Messages.{entry, Message, message, Sending, sending, toFrom, toAll, blockIs, timeIs, send}
-use Rattle.frame.specs.Frames.{kindOf, entryBytes, bodyBytes, frameOf, build}
+use Rattle.frame.specs.Params.{Bounded, width, entryLength, largestFrame}
+use Rattle.frame.specs.Messages.{entry, Message, message, Sending, sending, toFrom, toAll, blockIs, send}
+use Rattle.frame.specs.Frames.{kindOf, entryBytes, bodyBytes, build}
 use Rattle.frame.specs.Coded.{digestsOf, entryOf}
-use Rattle.frame.specs.Outbox.{Outbox, outbox, sent, frames, firstPlace, Room}
+use Rattle.frame.specs.Outbox.{Outbox, outbox, sent, Room}
 use Rattle.frame.proofs.DigestLaws.{block-front}
 use Rattle.frame.proofs.Outbox.{sent-none, sent-append, toFrom-more}
 use Rattle.frame.proofs.RoundTrip.{length-frame}

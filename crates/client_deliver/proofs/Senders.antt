@@ -1,5 +1,5 @@
 -- Who sent a frame, and what the tests of a frame say of it. Assumes nothing.
-use Prim.Native.Nat.{ℕ, _+_, _*_, _-_, _≤_, _<_}
+use Prim.Native.Nat.{ℕ, _+_, _*_, _-_, _≤_}
 use native.Mathlib.Omega.{arith}
 use mathlib.Core.Path.{_≡_, refl, ap, sym, _∙_}
 use mathlib.Core.Bool.{Bool, true, false, not, _&&_}
@@ -21,7 +21,7 @@ use Rattle.frame.specs.Params.{width}
 use Rattle.frame.specs.Messages.{entry, numberIn, fromServer}
 use Rattle.frame.specs.Frames.{entryIn}
 use Rattle.frame.specs.Coded.{fits}
-use Rattle.frame.proofs.Verdicts.{fine-is, fine-not}
+use Rattle.frame.proofs.Verdicts.{fine-is}
 use Rattle.frame.proofs.Writing.{part-at}
 use Rattle.client.specs.Rows.{hasStamp}
 use Rattle.client.specs.Tests.{awaited}

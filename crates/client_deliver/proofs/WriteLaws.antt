@@ -11,19 +11,15 @@ use borrow.Author.Tests.{lt-ltb, le-ltb, not-true, not-false}
 use Rattle.sha256.specs.Hash.{digestOf}
 use Rattle.blocks.specs.declared.Params.{Params}
 use Rattle.frame.specs.declared.Place.{Place}
-use Rattle.frame.specs.declared.Refusal.the-variants as R
-use Rattle.frame.specs.declared.Verdict.{Verdict}
-use Rattle.frame.specs.declared.Verdict.the-variants as J
 use Rattle.frame.specs.Stamps.{lastTime}
 use Rattle.frame.specs.Messages.{message, toAll, timeIs, send}
 use Rattle.frame.specs.Outbox.{frames, receivers, Outbox, outbox, firstPlace, sent}
-use Rattle.frame.proofs.Verdicts.{fine-is}
 use Rattle.client.specs.declared.Client.{Client}
 use Rattle.client.specs.declared.Phase.{Phase}
 use Rattle.client.specs.declared.Phase.the-variants as F
 use Rattle.client.specs.declared.Answer.the-variants as Y
 use Rattle.client.specs.State.{asking, writing, largest, inPhase, shut}
-use Rattle.client.specs.Steps.{Effect, quorate, sendBelow, gatherBy, onStamp, endBy, onAck}
+use Rattle.client.specs.Steps.{quorate, sendBelow, gatherBy, onStamp, endBy, onAck}
 use Rattle.client.specs.Delivery.{Outcome, outcome, eventAnswer, resultOf}
 use Rattle.client.specs.Stages.{stepped}
 use Rattle.client_deliver.proofs.OwnBlocks.{own}

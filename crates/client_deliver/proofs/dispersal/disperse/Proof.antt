@@ -1,7 +1,7 @@
 -- The digest list is made, then the blocks go out, then the time. Assumes nothing.
-use Prim.Native.Nat.{_+_, _*_, _≤_}
-use mathlib.Core.Path.{_≡_, sym, ap, _∙_}
-use lib.ListN.{length, take}
+use Prim.Native.Nat.{_*_, _≤_}
+use mathlib.Core.Path.{sym}
+use lib.ListN.{length}
 use lib.Seq.{length-take-le}
 use Rattle.client_deliver.proofs.OwnBlocks.{list-front, block-room, time-room, both-sent}
 use native.Mathlib.Omega.{arith}

@@ -1,7 +1,6 @@
 -- After j turns servers 1 to j were sent their blocks. Assumes nothing.
 use Prim.Native.Nat.{_-_, _≤_}
-use mathlib.Core.Path.{_≡_, sym, _∙_}
-use lib.ListN.{length}
+use mathlib.Core.Path.{_≡_}
 use Rattle.frame.specs.Messages.{toFrom}
 use Rattle.frame.specs.Outbox.{outbox, sent}
 use Rattle.client_deliver.proofs.Rooms.{same-lengths}

@@ -1,7 +1,7 @@
 -- The buffer's first bytes are server j's block; it goes out with the digest list. Assumes nothing.
 use Prim.Native.Nat.{_+_, _≤_}
-use mathlib.Core.Path.{_≡_, sym, ap, _∙_}
-use lib.ListN.{length, take, length-take}
+use mathlib.Core.Path.{_≡_, sym, ap}
+use lib.ListN.{length, take}
 use lib.Seq.{length-take-le}
 use Rattle.frame.specs.Params.{entryLength, width}
 use Rattle.frame.proofs.Sizes.{small}

@@ -1,7 +1,4 @@
 -- The tests; then the value is kept. Assumes nothing.
-use mathlib.Core.Path.{ap, _∙_}
-use Rattle.sha256.specs.Hash.{digestOf}
-use Rattle.frame.specs.Frames.{entryIn}
 use Rattle.client.specs.Tests.{messageTest, orderTest, answers}
 use Rattle.client_deliver.proofs.Senders.{fine-sender}
 use Rattle.client_deliver.proofs.Answers.{refused-is, step-is}

@@ -1,12 +1,12 @@
 // The block code: encode and decode, with their answers and every byte of the lent area after the call.
-use crate::report::result;
-use crate::text::bytes;
-use crate::text::number;
-use crate::text::put_bytes;
-use crate::text::word_at;
 use blocks::Coded;
 use blocks::Fault;
 use blocks::Params;
+use case_text::report::result;
+use case_text::text::bytes;
+use case_text::text::number;
+use case_text::text::put_bytes;
+use case_text::text::word_at;
 ghost use mathlib.Core.Path.{_≡_};
 ghost use Prim.Native.Nat.{_+_, _*_, _≤_};
 ghost use lib.ListN.{length};

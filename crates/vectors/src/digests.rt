@@ -1,8 +1,8 @@
 // SHA-256.
-use crate::report::result;
-use crate::text::bytes;
-use crate::text::put_bytes;
-use crate::text::word_at;
+use case_text::report::result;
+use case_text::text::bytes;
+use case_text::text::put_bytes;
+use case_text::text::word_at;
 ghost use Prim.Native.Nat.{_≤_};
 ghost use lib.ListN.{length};
 
@@ -14,7 +14,7 @@ pub fn digest(line: &[u8], at: usize)
     let mut message = [0u8; 1024];
     let n = bytes(line, m.start, m.end, &mut message);
     if 256 < n {
-        crate::report::echo(b"digest of a message that is too long");
+        case_text::report::echo(b"digest of a message that is too long");
         return;
     }
     let d = sha256::digest(&message[..n]);

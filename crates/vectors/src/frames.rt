@@ -1,10 +1,10 @@
 // Frames: what opening one finds, as document 01's number or, after 00, the frame's kind, client and sequence.
-use crate::report::result;
-use crate::text::bytes;
-use crate::text::number;
-use crate::text::put_bytes;
-use crate::text::word_at;
 use blocks::Params;
+use case_text::report::result;
+use case_text::text::bytes;
+use case_text::text::number;
+use case_text::text::put_bytes;
+use case_text::text::word_at;
 use frame::Header;
 use frame::Opened;
 use frame::refusals::number_of;

@@ -1,14 +1,12 @@
 // Runs the cases on standard input, one a line, and prints each result with `ok` or `differs`. A line is a kind, its arguments and the result that is
 // expected, which another implementation computed; numbers are decimal, bytes are hexadecimal, `-` is no bytes. A line that begins with # is printed as it is.
-use text::until;
-use text::word_at;
+use case_text::text::until;
+use case_text::text::word_at;
 
 mod coding;
 mod digests;
 mod frames;
 mod products;
-mod report;
-mod text;
 
 // One line, without its newline.
 fn case(line: &[u8]) {
@@ -40,7 +38,7 @@ fn case(line: &[u8]) {
         frames::opening(line, next);
         return;
     }
-    report::echo(line);
+    case_text::report::echo(line);
 }
 
 // All lines of s.

@@ -1,8 +1,8 @@
 // Products and inverses in the byte field.
-use crate::report::result;
-use crate::text::bytes;
-use crate::text::put_bytes;
-use crate::text::word_at;
+use case_text::report::result;
+use case_text::text::bytes;
+use case_text::text::put_bytes;
+use case_text::text::word_at;
 ghost use Prim.Native.Nat.{_≤_};
 ghost use lib.ListN.{length};
 

@@ -1,8 +1,8 @@
 -- The number stays below 100000. Assumes nothing.
 use Prim.Native.Nat.{_≤_, _<_, _-_}
 use borrow.Author.Needs.{needs}
-use Rattle.vectors.proofs.text.number.Statement.{statement}
-use Rattle.vectors.proofs.text.number.Tie as tie
+use Rattle.case_text.proofs.text.number.Statement.{statement}
+use Rattle.case_text.proofs.text.number.Tie as tie
 
 abbrev Inv-loop : tie.InvT-loop
 Inv-loop line start end x₀ i₀ x i = (i ≤ end) × (x < 100000)

@@ -2,8 +2,8 @@
 use lib.ListN.{length-set}
 use native.Mathlib.Omega.{arith}
 use borrow.Author.Needs.{needs}
-use Rattle.vectors.proofs.text.put_digits.Statement.{statement}
-use Rattle.vectors.proofs.text.put_digits.Tie as tie
+use Rattle.case_text.proofs.text.put_digits.Statement.{statement}
+use Rattle.case_text.proofs.text.put_digits.Tie as tie
 
 -- src/text.rt:107:16
 letter-requires : tie.Need-letter-requires

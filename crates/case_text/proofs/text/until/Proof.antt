@@ -2,8 +2,8 @@
 use Prim.Native.Nat.{_≤_, _-_}
 use lib.ListN.{length}
 use borrow.Author.Needs.{needs}
-use Rattle.vectors.proofs.text.until.Statement.{statement}
-use Rattle.vectors.proofs.text.until.Tie as tie
+use Rattle.case_text.proofs.text.until.Statement.{statement}
+use Rattle.case_text.proofs.text.until.Tie as tie
 
 abbrev Inv-loop : tie.InvT-loop
 Inv-loop s at b i₀ i = (at ≤ i) × (i ≤ length s)

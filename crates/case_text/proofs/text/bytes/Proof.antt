@@ -5,8 +5,8 @@ use lib.ListN.{length}
 use mathlib.Core.Path.{_≡_}
 use native.Mathlib.Omega.{arith}
 use borrow.Author.Needs.{needs}
-use Rattle.vectors.proofs.text.bytes.Statement.{statement}
-use Rattle.vectors.proofs.text.bytes.Tie as tie
+use Rattle.case_text.proofs.text.bytes.Statement.{statement}
+use Rattle.case_text.proofs.text.bytes.Tie as tie
 
 abbrev Inv-loop : tie.InvT-loop
 Inv-loop line start end out₀ n₀ i₀ out n i = (n ≤ length out) × (i ≤ end) × (length out ≡ length out₀)

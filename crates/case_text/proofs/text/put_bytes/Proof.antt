@@ -5,8 +5,8 @@ use lib.ListN.{length}
 use mathlib.Core.Path.{_≡_}
 use native.Mathlib.Omega.{arith}
 use borrow.Author.Needs.{needs}
-use Rattle.vectors.proofs.text.put_bytes.Statement.{statement}
-use Rattle.vectors.proofs.text.put_bytes.Tie as tie
+use Rattle.case_text.proofs.text.put_bytes.Statement.{statement}
+use Rattle.case_text.proofs.text.put_bytes.Tie as tie
 
 abbrev Inv-loop : tie.InvT-loop
 Inv-loop text₀ at bytes i₀ text i = (i ≤ length bytes) × (length text ≡ length text₀)

@@ -1,0 +1,91 @@
+-- The parts that are printed have room. Assumes nothing.
+use native.Mathlib.Omega.{arith}
+use borrow.Author.Needs.{needs}
+use lib.ListN.{length-take}
+use Rattle.server_cases.proofs.shown.stepped.Statement.{statement}
+use Rattle.server_cases.proofs.shown.stepped.Tie as tie
+
+sent-bytes-requires : tie.Need-sent-bytes-requires
+sent-bytes-requires c κs = search needs
+
+mul-at-most : tie.Need-mul-at-most
+mul-at-most c = search needs
+
+at-most-requires : tie.Need-at-most-requires
+at-most-requires c κs = search needs
+
+slice-aggregate-put-bytes : tie.Need-slice-aggregate-put-bytes
+slice-aggregate-put-bytes c = search needs
+
+cast-t17 : tie.Need-cast-t17
+cast-t17 c = search needs
+
+slice-aggregate-put-bytes-2 : tie.Need-slice-aggregate-put-bytes-2
+slice-aggregate-put-bytes-2 c = search needs
+
+put-bytes-requires : tie.Need-put-bytes-requires
+put-bytes-requires c κs = search needs
+
+slice-aggregate-put-bytes-3 : tie.Need-slice-aggregate-put-bytes-3
+slice-aggregate-put-bytes-3 c = search needs
+
+slice-aggregate-put-bytes-4 : tie.Need-slice-aggregate-put-bytes-4
+slice-aggregate-put-bytes-4 c = simp length-take (omega arith)
+
+put-bytes-requires-2 : tie.Need-put-bytes-requires-2
+put-bytes-requires-2 c κs = simp length-take (omega arith)
+
+mul-at : tie.Need-mul-at
+mul-at c = search needs
+
+add-at : tie.Need-add-at
+add-at c = search needs
+
+slice-aggregate-put-bytes-5 : tie.Need-slice-aggregate-put-bytes-5
+slice-aggregate-put-bytes-5 c = search needs
+
+slice-aggregate-put-bytes-6 : tie.Need-slice-aggregate-put-bytes-6
+slice-aggregate-put-bytes-6 c = simp length-take (omega arith)
+
+put-bytes-requires-3 : tie.Need-put-bytes-requires-3
+put-bytes-requires-3 c κs = simp length-take (omega arith)
+
+slice-aggregate-result : tie.Need-slice-aggregate-result
+slice-aggregate-result c = search needs
+
+array-share-prefix-text : tie.Need-array-share-prefix-text
+array-share-prefix-text c = search needs
+
+slice-aggregate-result-2 : tie.Need-slice-aggregate-result-2
+slice-aggregate-result-2 c = search needs
+
+result-requires : tie.Need-result-requires
+result-requires c κs = search needs
+
+returns : tie.Need-returns
+returns c = search needs
+
+pub stepped-spec : {M : Type 1} → statement M
+stepped-spec =
+    tie.close
+    (tie.spec
+    sent-bytes-requires
+    mul-at-most
+    at-most-requires
+    slice-aggregate-put-bytes
+    cast-t17
+    slice-aggregate-put-bytes-2
+    put-bytes-requires
+    slice-aggregate-put-bytes-3
+    slice-aggregate-put-bytes-4
+    put-bytes-requires-2
+    mul-at
+    add-at
+    slice-aggregate-put-bytes-5
+    slice-aggregate-put-bytes-6
+    put-bytes-requires-3
+    slice-aggregate-result
+    array-share-prefix-text
+    slice-aggregate-result-2
+    result-requires
+    returns)

@@ -1,0 +1,97 @@
+// A frame is handed to the server.
+use crate::shown::replied;
+use crate::trial::Trial;
+use crate::trial::at_most;
+use crate::trial::party;
+use crate::trial::told;
+use case_text::text::bytes;
+use case_text::text::word_at;
+use frame::Party;
+use server_deliver::deliver;
+ghost use Prim.Native.Nat.{_≤_};
+ghost use lib.ListN.{length};
+
+// The frame f comes from a party.
+fn answered(
+    line: &[u8],
+    expected: usize,
+    x: Trial,
+    from: Party,
+    f: &[u8],
+    area: &mut [u8],
+    initial: &[u8],
+    out: &mut [u8],
+    to: &mut [u8],
+) -> Trial
+    requires { ⌜ expected ≤ length (now line) ⌝ }
+{
+    let g = x.g;
+    let s = x.server;
+    let answer = deliver(s, g, x.me, from, f, area, initial, out, to);
+    let reply = answer.reply;
+    let server = answer.server;
+    replied(line, expected, reply, out, to);
+    Trial {
+        g,
+        me: x.me,
+        server,
+    }
+}
+
+// The frame from index at on comes from a party; out and to are the lengths of the areas lent for what is sent.
+fn from_party(
+    line: &[u8],
+    at: usize,
+    x: Trial,
+    from: Party,
+    area: &mut [u8],
+    initial: &[u8],
+    out: usize,
+    to: usize,
+) -> Trial
+    requires { ⌜ at ≤ length (now line) ⌝ }
+{
+    let f = word_at(line, at);
+    let mut buffer = [0u8; 1024];
+    let len = bytes(line, f.start, f.end, &mut buffer);
+    let mut frames = [0u8; 4096];
+    let mut receivers = [0u8; 64];
+    let o = at_most(out, 4096);
+    let r = at_most(to, 64);
+    answered(
+        line,
+        f.next,
+        x,
+        from,
+        &buffer[..len],
+        area,
+        initial,
+        &mut frames[..o],
+        &mut receivers[..r],
+    )
+}
+
+// deliver CLASS NUMBER AREA INITIAL OUT TO FRAME ANSWER, the lengths of the lent areas between the sender and the frame
+pub fn handed(line: &[u8], at: usize, x: Trial, area: &mut [u8], initial: &mut [u8]) -> Trial
+    requires { ⌜ at ≤ length (now line) ⌝ }
+{
+    let class = told(line, at);
+    let number = told(line, class.next);
+    let a = told(line, number.next);
+    let i = told(line, a.next);
+    let o = told(line, i.next);
+    let t = told(line, o.next);
+    let from = party(class.value, (number.value % 256) as u8);
+    let most = at_most(a.value, area.len());
+    let whole = at_most(i.value, initial.len());
+    from_party(
+        line,
+        t.next,
+        x,
+        from,
+        &mut area[..most],
+        &initial[..whole],
+        o.value,
+        t.value,
+    )
+}

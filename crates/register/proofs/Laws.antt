@@ -13,6 +13,7 @@ use Rattle.blocks.specs.declared.Coded.{Coded}
 use Rattle.blocks.specs.Calls.{Outcome, outcome}
 use Rattle.sha256.specs.Hash.{digestOf}
 use Rattle.frame.specs.declared.Verdict.{Verdict}
+use Rattle.frame.specs.Stamps.{lastClient}
 use Rattle.client.specs.declared.Answer.{Answer}
 use Rattle.client.specs.declared.Client.{Client}
 use Rattle.client.specs.State.{freshClient}
@@ -23,15 +24,16 @@ use Rattle.order.specs.Histories.{any, malformed, unlisted, offended, later, ea
 use Rattle.order.specs.declared.judge.Verdict.{Verdict as Judged}
 use Rattle.layout.specs.Clients.{clientSize, clientBytes, clientAt, clientIn}
 use Rattle.register.specs.Answers.{codeAnswer, testAnswer, clientAnswer, historyAnswer}
-use Rattle.register.specs.Calls.{wrote, digestCall, codeCall, hasOrder, judgedCall, historyCall, freshCall, began, isRefusal, stateAfter, beganOf, readShort, writeShort, readCall, writeCall}
+use Rattle.register.specs.Calls.{wrote, digestCall, codeCall, hasOrder, judgedCall, historyCall, freshCall, began, isRefusal, stateAfter, beganOf, readCall, writeCall}
+use Rattle.register.specs.Short.{readShort, valueShort}
 
 -- where an area is long enough, or short
 module _ {A : Type 0} (n m : ℕ) (x y : A) where
-  enough : m ≤ n → y ≡ pick (ltb n m) x y
+  pub enough : m ≤ n → y ≡ pick (ltb n m) x y
   unfolding pick
   enough h = sym (ap (λ b. pick b x y) (le-ltb n m h))
 
-  short : n < m → x ≡ pick (ltb n m) x y
+  pub short : n < m → x ≡ pick (ltb n m) x y
   unfolding pick
   short h = sym (ap (λ b. pick b x y) (lt-ltb n m h))
 
@@ -124,12 +126,12 @@ fresh-done state o s h e p =
     ∙ enough (length state) clientSize (wrote 10 state) (wrote 0 (sets state 0 (clientBytes freshClient))) h
 
 -- the record is kept as it was, or written
-module _ (a : Answer) (s : Client) (state : List ℕ) (x : ℕ) (b : Bool) (p : b ≡ isRefusal a) (e : x ≡ clientAnswer a) where
-  pub keep-old : b ≡ true → wrote x state ≡ wrote (clientAnswer a) (stateAfter a s state)
+module _ (a : Answer) (s : Client) (state : List ℕ) (n x : ℕ) (b : Bool) (p : b ≡ isRefusal a) (e : x ≡ clientAnswer n a) where
+  pub keep-old : b ≡ true → wrote x state ≡ wrote (clientAnswer n a) (stateAfter a s state)
   unfolding stateAfter pick
   keep-old q = ap₂ (λ y z. wrote y (pick z state (sets state 0 (clientBytes s)))) e (sym q ∙ p)
 
-  pub keep-new : b ≡ false → (o : List ℕ) → o ≡ sets state 0 (clientBytes s) → wrote x o ≡ wrote (clientAnswer a) (stateAfter a s state)
+  pub keep-new : b ≡ false → (o : List ℕ) → o ≡ sets state 0 (clientBytes s) → wrote x o ≡ wrote (clientAnswer n a) (stateAfter a s state)
   unfolding stateAfter pick
   keep-new q o r = ap₂ wrote e (r ∙ ap (λ z. pick z state (sets state 0 (clientBytes s))) (sym q ∙ p))
 
@@ -139,30 +141,30 @@ module _ (g : Params) (me : ℕ) (state out to : List ℕ) where
     unfolding readCall
     read-short p =
         ap (λ z. began z state out to) (e ∙ ap testAnswer p)
-        ∙ short (length state) clientSize (began (testAnswer (readShort g me)) state out to) (beganOf (readBeginning g me (clientIn state) out to) state) h
+        ∙ short (length state) clientSize (began (testAnswer (readShort g me)) state out to) (beganOf g (readBeginning g me (clientIn state) out to) state) h
 
-    pub write-short : (v : List ℕ) → t ≡ writeShort g me (length v) → began x state out to ≡ writeCall g me v state out to
+    pub write-short : (v : List ℕ) → t ≡ valueShort g me lastClient (length v) → began x state out to ≡ writeCall g me v state out to
     unfolding writeCall
     write-short v p =
         ap (λ z. began z state out to) (e ∙ ap testAnswer p)
-        ∙ short (length state) clientSize (began (testAnswer (writeShort g me (length v))) state out to) (beganOf (writeBeginning g me (clientIn state) v out to) state) h
+        ∙ short (length state) clientSize (began (testAnswer (valueShort g me lastClient (length v))) state out to) (beganOf g (writeBeginning g me (clientIn state) v out to) state) h
 
   module _ (s r : Client) (a : Answer) (x : ℕ) (st o u : List ℕ) (h : clientSize ≤ length state) (p : s ≡ clientAt state 0)
-      (k : wrote x st ≡ wrote (clientAnswer a) (stateAfter a r state)) where
+      (k : wrote x st ≡ wrote (clientAnswer (g .n) a) (stateAfter a r state)) where
     -- the outcome of a beginning as f says it of the record that the bytes say
-    begun-done : (f : Client → Begun) → _≡_ {A = Begun} (record { answer = a; client = r; out = o; to = u }) (f s) → began x st o u ≡ beganOf (f (clientIn state)) state
+    begun-done : (f : Client → Begun) → _≡_ {A = Begun} (record { answer = a; client = r; out = o; to = u }) (f s) → began x st o u ≡ beganOf g (f (clientIn state)) state
     unfolding beganOf clientIn
-    begun-done f e = ap (λ w. began (w .answer) (w .out) o u) k ∙ ap (λ w. beganOf w state) (e ∙ ap f p)
+    begun-done f e = ap (λ w. began (w .answer) (w .out) o u) k ∙ ap (λ w. beganOf g w state) (e ∙ ap f p)
 
     pub read-done : _≡_ {A = Begun} (record { answer = a; client = r; out = o; to = u }) (readBeginning g me s out to) → began x st o u ≡ readCall g me state out to
     unfolding readCall
     read-done e =
         begun-done (λ z. readBeginning g me z out to) e
-        ∙ enough (length state) clientSize (began (testAnswer (readShort g me)) state out to) (beganOf (readBeginning g me (clientIn state) out to) state) h
+        ∙ enough (length state) clientSize (began (testAnswer (readShort g me)) state out to) (beganOf g (readBeginning g me (clientIn state) out to) state) h
 
     pub write-done : (v : List ℕ) → _≡_ {A = Begun} (record { answer = a; client = r; out = o; to = u }) (writeBeginning g me s v out to)
         → began x st o u ≡ writeCall g me v state out to
     unfolding writeCall
     write-done v e =
         begun-done (λ z. writeBeginning g me z v out to) e
-        ∙ enough (length state) clientSize (began (testAnswer (writeShort g me (length v))) state out to) (beganOf (writeBeginning g me (clientIn state) v out to) state) h
+        ∙ enough (length state) clientSize (began (testAnswer (valueShort g me lastClient (length v))) state out to) (beganOf g (writeBeginning g me (clientIn state) v out to) state) h

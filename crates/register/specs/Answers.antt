@@ -9,6 +9,8 @@ use Rattle.frame.specs.declared.Verdict.the-variants as J
 use Rattle.frame.specs.Refusals.{numberOf}
 use Rattle.client.specs.declared.Answer.{Answer}
 use Rattle.client.specs.declared.Answer.the-variants as Y
+use Rattle.server.specs.declared.Reply.{Reply}
+use Rattle.server.specs.declared.Reply.the-variants as S
 use Rattle.order.specs.declared.judge.Answer.{Answer as Judgement}
 use Rattle.order.specs.declared.judge.Answer.the-variants as O
 
@@ -22,13 +24,19 @@ unfoldable pub testAnswer : Verdict → ℕ
 testAnswer J.Fine = 0
 testAnswer (J.Bad r) = numberOf r
 
--- a client's call: 0, frames were sent, as many as the bytes above say; 1, the write has ended; 2, it closed as out of stamps; 3, the read has ended
-unfoldable pub clientAnswer : Answer → ℕ
-clientAnswer (Y.Sent m) = 65536 * (m % 65536)
-clientAnswer Y.Written = 256
-clientAnswer Y.OutOfStamps = 512
-clientAnswer (Y.Value x) = 768
-clientAnswer (Y.Refused r) = numberOf r
+-- a client's call, where there are n servers: 0, no more than that frames were sent; 1, the write has ended; 2, it closed as out of stamps; 3, the read has
+-- ended, and a read-complete went to each server. The bytes above say how many frames were sent.
+unfoldable pub clientAnswer : ℕ → Answer → ℕ
+clientAnswer n (Y.Sent m) = 65536 * (m % 65536)
+clientAnswer n Y.Written = 256
+clientAnswer n Y.OutOfStamps = 512
+clientAnswer n (Y.Value x) = 768 + 65536 * (n % 65536)
+clientAnswer n (Y.Refused r) = numberOf r
+
+-- a server's call: the bytes above say how many frames were sent
+unfoldable pub serverAnswer : Reply → ℕ
+serverAnswer (S.Step m) = 65536 * (m % 65536)
+serverAnswer (S.Refused r) = numberOf r
 
 -- a history: 0, its operations have an order, as many as the bytes above say; 1, a pair of them offends, the line number of the earlier in the byte above
 -- and that of the later in the byte above that

@@ -10,23 +10,19 @@ use Rattle.area.specs.Area.{pick}
 use Rattle.blocks.specs.declared.Params.{Params}
 use Rattle.blocks.specs.Calls.{Outcome, encoding, decoding}
 use Rattle.sha256.specs.Hash.{digestOf}
-use Rattle.frame.specs.declared.Verdict.{Verdict}
-use Rattle.frame.specs.declared.Refusal.the-variants as R
-use Rattle.frame.specs.declared.Verdict.the-variants as J
-use Rattle.frame.specs.Refusals.{andThen}
-use Rattle.frame.specs.Params.{paramsTest}
 use Rattle.frame.specs.Stamps.{lastClient}
 use Rattle.client.specs.declared.Answer.{Answer}
 use Rattle.client.specs.declared.Answer.the-variants as Y
 use Rattle.client.specs.declared.Client.{Client}
 use Rattle.client.specs.State.{freshClient}
-use Rattle.client.specs.Beginning.{Begun, lengthTest, readBeginning, writeBeginning}
+use Rattle.client.specs.Beginning.{Begun, readBeginning, writeBeginning}
 use Rattle.history_text.specs.Lines.{answerTo}
 use Rattle.order.specs.declared.judge.Answer.the-variants as O
 use Rattle.order.specs.declared.judge.Answer.{Answer as Judgement}
 use Rattle.order.specs.declared.judge.Verdict.{Verdict as Judged}
 use Rattle.layout.specs.Clients.{clientSize, clientBytes, clientIn}
 use Rattle.register.specs.Answers.{codeAnswer, testAnswer, clientAnswer, historyAnswer}
+use Rattle.register.specs.Short.{readShort, valueShort}
 
 abbrev pub params : ℕ → ℕ → ℕ → ℕ → Params
 params n t k L = record { n = n; t = t; k = k; size = L }
@@ -91,21 +87,14 @@ isRefusal (Y.Refused r) = true
 unfoldable pub stateAfter : Answer → Client → List ℕ → List ℕ
 stateAfter a s state = pick (isRefusal a) state (sets state 0 (clientBytes s))
 
-unfoldable pub beganOf : Begun → List ℕ → Began
-beganOf x state = began (clientAnswer (x .answer)) (stateAfter (x .answer) (x .client) state) (x .out) (x .to)
-
--- where the record's area is short: 10, but a lower number first
-unfoldable pub readShort : Params → ℕ → Verdict
-readShort g me = andThen (paramsTest g me lastClient) (J.Bad R.Room)
-
-unfoldable pub writeShort : Params → ℕ → ℕ → Verdict
-writeShort g me v = andThen (paramsTest g me lastClient) (andThen (lengthTest g v) (J.Bad R.Room))
+unfoldable pub beganOf : Params → Begun → List ℕ → Began
+beganOf g x state = began (clientAnswer (g .n) (x .answer)) (stateAfter (x .answer) (x .client) state) (x .out) (x .to)
 
 unfoldable pub readCall : Params → ℕ → List ℕ → List ℕ → List ℕ → Began
 readCall g me state out to =
-    pick (ltb (length state) clientSize) (began (testAnswer (readShort g me)) state out to) (beganOf (readBeginning g me (clientIn state) out to) state)
+    pick (ltb (length state) clientSize) (began (testAnswer (readShort g me)) state out to) (beganOf g (readBeginning g me (clientIn state) out to) state)
 
 unfoldable pub writeCall : Params → ℕ → List ℕ → List ℕ → List ℕ → List ℕ → Began
 writeCall g me value state out to =
-    pick (ltb (length state) clientSize) (began (testAnswer (writeShort g me (length value))) state out to)
-    (beganOf (writeBeginning g me (clientIn state) value out to) state)
+    pick (ltb (length state) clientSize) (began (testAnswer (valueShort g me lastClient (length value))) state out to)
+    (beganOf g (writeBeginning g me (clientIn state) value out to) state)

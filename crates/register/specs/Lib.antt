@@ -1,2 +1,5 @@
 pub mod Answers
+pub mod Short
 pub mod Calls
+pub mod Handed
+pub mod ServerCalls

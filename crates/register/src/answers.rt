@@ -4,10 +4,11 @@ use blocks::Fault;
 use client::Answer;
 use frame::Refusal;
 use frame::Verdict;
+use server::Reply;
 ghost use mathlib.Core.Path.{_≡_};
 ghost use Rattle.blocks.specs.Params.{numberOf as faultNumber};
 ghost use Rattle.frame.specs.Refusals.{numberOf};
-ghost use Rattle.register.specs.Answers.{codeAnswer, testAnswer, clientAnswer, historyAnswer};
+ghost use Rattle.register.specs.Answers.{codeAnswer, testAnswer, clientAnswer, serverAnswer, historyAnswer};
 
 fn fault_number(f: Fault) -> u64
     ensures { λ r. ⌜ r ≡ faultNumber f ⌝ }
@@ -66,15 +67,25 @@ pub fn test_answer(v: Verdict) -> u64
     }
 }
 
-pub fn client_answer(a: Answer) -> u64
-    ensures { λ r. ⌜ r ≡ clientAnswer a ⌝ }
+// A client's answer, where there are n servers.
+pub fn client_answer(a: Answer, n: usize) -> u64
+    ensures { λ r. ⌜ r ≡ clientAnswer n a ⌝ }
 {
     match a {
         Answer::Sent(m) => 65536 * (m as u64 % 65536),
         Answer::Written => 256,
         Answer::OutOfStamps => 512,
-        Answer::Value(x) => 768,
+        Answer::Value(x) => 768 + 65536 * (n as u64 % 65536),
         Answer::Refused(r) => refusal_number(r),
+    }
+}
+
+pub fn server_answer(a: Reply) -> u64
+    ensures { λ r. ⌜ r ≡ serverAnswer a ⌝ }
+{
+    match a {
+        Reply::Step(m) => 65536 * (m as u64 % 65536),
+        Reply::Refused(r) => refusal_number(r),
     }
 }
 

@@ -3,3 +3,6 @@ pub mod answers;
 pub mod clients;
 pub mod coding;
 pub mod histories;
+pub mod senders;
+pub mod servers;
+pub mod short;

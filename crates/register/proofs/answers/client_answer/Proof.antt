@@ -5,58 +5,52 @@ use Rattle.register.specs.Answers.{clientAnswer}
 use Rattle.register.proofs.answers.client_answer.Statement.{statement}
 use Rattle.register.proofs.answers.client_answer.Tie as tie
 
--- src/answers.rt:73:22
 enum-known-a : tie.Need-enum-known-a
 enum-known-a c = search needs
 
--- src/answers.rt:73:28
 mul-result : tie.Need-mul-result
 mul-result c = search needs
 
--- src/answers.rt:74:28
 enum-told : tie.Need-enum-told
 enum-told c = search needs
 
--- src/answers.rt:75:32
 enum-told-2 : tie.Need-enum-told-2
 enum-told-2 c = search needs
 
--- src/answers.rt:76:23
 enum-known-a-2 : tie.Need-enum-known-a-2
 enum-known-a-2 c = search needs
 
--- src/answers.rt:77:25
+mul-result-2 : tie.Need-mul-result-2
+mul-result-2 c = search needs
+
+add-result : tie.Need-add-result
+add-result c = search needs
+
 enum-known-a-3 : tie.Need-enum-known-a-3
 enum-known-a-3 c = search needs
 
--- src/answers.rt:77:31
 refusal-number-requires : tie.Need-refusal-number-requires
 refusal-number-requires c κs = search needs
 
--- src/answers.rt:69:1
 returns : tie.Need-returns
 unfolding clientAnswer
-returns c = sym (ap clientAnswer (c .before .a .given .1))
+returns c = sym (ap (clientAnswer _) (c .before .a .given .1))
 
--- src/answers.rt:69:1
 returns-2 : tie.Need-returns-2
 unfolding clientAnswer
-returns-2 c = sym (ap clientAnswer (c .enum-told .given .1))
+returns-2 c = sym (ap (clientAnswer _) (c .enum-told .given .1))
 
--- src/answers.rt:69:1
 returns-3 : tie.Need-returns-3
 unfolding clientAnswer
-returns-3 c = sym (ap clientAnswer (c .enum-told2 .given .1))
+returns-3 c = sym (ap (clientAnswer _) (c .enum-told2 .given .1))
 
--- src/answers.rt:69:1
 returns-4 : tie.Need-returns-4
 unfolding clientAnswer
-returns-4 c = sym (ap clientAnswer (c .before .a2 .given .1))
+returns-4 c = sym (ap (clientAnswer _) (c .before .a2 .given .1))
 
--- src/answers.rt:69:1
 returns-5 : tie.Need-returns-5
 unfolding clientAnswer
-returns-5 c = c .refusal-number .ensures ∙ sym (ap clientAnswer (c .before .before .a3 .given .1))
+returns-5 c = c .refusal-number .ensures ∙ sym (ap (clientAnswer _) (c .before .before .a3 .given .1))
 
 pub client-answer-spec : {M : Type 1} → statement M
 client-answer-spec =
@@ -67,6 +61,8 @@ client-answer-spec =
     enum-told
     enum-told-2
     enum-known-a-2
+    mul-result-2
+    add-result
     enum-known-a-3
     refusal-number-requires
     returns

@@ -14,7 +14,7 @@ client-answer-requires c κs = search needs
 
 -- src/clients.rt:84:9
 returns : tie.Need-returns
-returns c = keep-old _ _ _ _ _ (c .before .before .is-refusal .ensures) (c .client-answer .ensures) (c .before .if1 .taken)
+returns c = keep-old _ _ _ _ _ _ (c .before .before .is-refusal .ensures) (c .client-answer .ensures) (c .before .if1 .taken)
 
 -- src/clients.rt:86:5
 put-client-requires : tie.Need-put-client-requires
@@ -30,7 +30,7 @@ same-length c = search needs
 
 -- src/clients.rt:79:1
 returns-2 : tie.Need-returns-2
-returns-2 c = keep-new _ _ _ _ _ (c .before .before .before .before .before .before .is-refusal .ensures) (c .client-answer2 .ensures) (c .before .before .before .before .before .if1 .left) _ (c .before .before .before .put-client .ensures)
+returns-2 c = keep-new _ _ _ _ _ _ (c .before .before .before .before .before .before .is-refusal .ensures) (c .client-answer2 .ensures) (c .before .before .before .before .before .if1 .left) _ (c .before .before .before .put-client .ensures)
 
 pub keep-spec : {M : Type 1} → statement M
 keep-spec =

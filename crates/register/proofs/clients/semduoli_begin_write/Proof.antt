@@ -5,8 +5,8 @@ use Rattle.register.proofs.clients.semduoli_begin_write.Statement.{stat
 use Rattle.register.proofs.clients.semduoli_begin_write.Tie as tie
 
 -- src/clients.rt:146:13
-write-short-requires : tie.Need-write-short-requires
-write-short-requires c κs = search needs
+value-short-requires : tie.Need-value-short-requires
+value-short-requires c κs = search needs
 
 -- src/clients.rt:147:9
 test-answer-requires : tie.Need-test-answer-requires
@@ -14,7 +14,7 @@ test-answer-requires c κs = search needs
 
 -- src/clients.rt:147:9
 returns : tie.Need-returns
-returns c = write-short _ _ _ _ _ _ _ (c .before .before .if1 .taken) (c .test-answer .ensures) _ (c .before .write-short .ensures)
+returns c = write-short _ _ _ _ _ _ _ (c .before .before .if1 .taken) (c .test-answer .ensures) _ (c .before .value-short .ensures)
 
 -- src/clients.rt:149:9
 client-at-requires : tie.Need-client-at-requires
@@ -48,7 +48,7 @@ pub semduoli-begin-write-spec : {M : Type 1} → statement M
 semduoli-begin-write-spec =
     tie.close
     (tie.spec
-    write-short-requires
+    value-short-requires
     test-answer-requires
     returns
     client-at-requires

@@ -1,0 +1,46 @@
+-- The whole outcome, by the laws of ServerCalls.antt. Assumes nothing.
+use borrow.Author.Needs.{needs}
+use Rattle.register.proofs.ServerCalls.{make-short, make-done}
+use Rattle.register.proofs.servers.semduoli_server_fresh.Statement.{statement}
+use Rattle.register.proofs.servers.semduoli_server_fresh.Tie as tie
+
+value-short-requires : tie.Need-value-short-requires
+value-short-requires c κs = search needs
+
+test-answer-requires : tie.Need-test-answer-requires
+test-answer-requires c κs = search needs
+
+returns : tie.Need-returns
+returns c = make-short _ _ _ _ _ _ _ _ (c .before .before .if1 .taken) (c .test-answer .ensures) (c .before .value-short .ensures)
+
+fresh-requires : tie.Need-fresh-requires
+fresh-requires c κs = search needs
+
+keep-requires : tie.Need-keep-requires
+keep-requires c κs = search needs
+
+same-length : tie.Need-same-length
+same-length c = search needs
+
+same-length-2 : tie.Need-same-length-2
+same-length-2 c = search needs
+
+same-length-3 : tie.Need-same-length-3
+same-length-3 c = search needs
+
+returns-2 : tie.Need-returns-2
+returns-2 c = make-done _ _ _ _ _ _ _ _ _ _ _ _ (c .before .before .before .before .before .before .before .before .before .before .before .before .if1 .left) (c .before .before .before .before .before .before .before .before .before .fresh .ensures) (c .before .before .keep .ensures)
+
+pub semduoli-server-fresh-spec : {M : Type 1} → statement M
+semduoli-server-fresh-spec =
+    tie.close
+    (tie.spec
+    value-short-requires
+    test-answer-requires
+    returns
+    fresh-requires
+    keep-requires
+    same-length
+    same-length-2
+    same-length-3
+    returns-2)

@@ -1,0 +1,42 @@
+-- The whole outcome of a frame handed to a client by a host: the answer, and every byte of the areas that the host lends. These are definitions.
+use Prim.Native.Nat.{ℕ}
+use mathlib.Core.List.{List}
+use lib.ListN.{length}
+use lib.Dec.{ltb, eqb}
+use Rattle.area.specs.Area.{pick}
+use Rattle.sha256.specs.Hash.{digestOf}
+use Rattle.blocks.specs.declared.Params.{Params}
+use Rattle.frame.specs.declared.Party.{Party}
+use Rattle.frame.specs.declared.Party.the-variants as P
+use Rattle.frame.specs.Stamps.{lastClient}
+use Rattle.client.specs.Delivery.{Outcome, delivery}
+use Rattle.layout.specs.Clients.{clientSize, clientIn}
+use Rattle.register.specs.Answers.{testAnswer, clientAnswer}
+use Rattle.register.specs.Calls.{stateAfter}
+use Rattle.register.specs.Short.{frameShort}
+
+-- the sender as the host names it: class 0 is a client, class 1 a server. Client 255 is nobody: 11 turns its frames down.
+abbrev pub nobody : Party
+nobody = P.Client 255
+
+unfoldable pub senderOf : ℕ → ℕ → Party
+senderOf class j = pick (ltb 255 j) nobody (pick (eqb class 0) (P.Client j) (pick (eqb class 1) (P.Server j) nobody))
+
+pub record ClientGot : Type 0 where
+  pub answer : ℕ
+  pub rows : List ℕ
+  pub result : List ℕ
+  pub state : List ℕ
+  pub out : List ℕ
+  pub to : List ℕ
+
+abbrev pub clientGot : ℕ → List ℕ → List ℕ → List ℕ → List ℕ → List ℕ → ClientGot
+clientGot x rows result state out to = record { answer = x; rows = rows; result = result; state = state; out = out; to = to }
+
+unfoldable pub clientGotOf : Params → Outcome → List ℕ → ClientGot
+clientGotOf g x state = clientGot (clientAnswer (g .n) (x .answer)) (x .area) (x .result) (stateAfter (x .answer) (x .client) state) (x .out) (x .to)
+
+unfoldable pub clientCall : Params → ℕ → Party → List ℕ → List ℕ → List ℕ → List ℕ → List ℕ → List ℕ → List ℕ → ClientGot
+clientCall g me from value f rows result state out to =
+    pick (ltb (length state) clientSize) (clientGot (testAnswer (frameShort g me lastClient f)) rows result state out to)
+    (clientGotOf g (delivery digestOf g me (clientIn state) rows value from f result out to) state)

@@ -1,0 +1,65 @@
+-- The whole outcome of a host's calls of a server: the answer, and every byte of the areas that the host lends. These are definitions.
+use Prim.Native.Nat.{ℕ}
+use mathlib.Core.Bool.{Bool, true, false}
+use mathlib.Core.List.{List}
+use lib.ListN.{length}
+use lib.Seq.{sets}
+use lib.Dec.{ltb}
+use Rattle.area.specs.Area.{pick}
+use Rattle.sha256.specs.Hash.{digestOf}
+use Rattle.blocks.specs.declared.Params.{Params}
+use Rattle.frame.specs.declared.Party.{Party}
+use Rattle.server.specs.declared.Reply.{Reply}
+use Rattle.server.specs.declared.Reply.the-variants as S
+use Rattle.server.specs.declared.Server.{Server}
+use Rattle.server.specs.Delivery.{Outcome, Constructed, delivery, construction}
+use Rattle.layout.specs.Servers.{serverSize, serverBytes, serverIn}
+use Rattle.register.specs.Answers.{testAnswer, serverAnswer}
+use Rattle.register.specs.Short.{valueShort, frameShort}
+
+unfoldable pub isTurnedDown : Reply → Bool
+isTurnedDown (S.Step m) = false
+isTurnedDown (S.Refused r) = true
+
+-- the record's bytes after a call: "state and all lent bytes remain unchanged" where it was turned down
+unfoldable pub recordAfter : Reply → Server → List ℕ → List ℕ
+recordAfter a s state = pick (isTurnedDown a) state (sets state 0 (serverBytes s))
+
+-- ---- a fresh server
+
+pub record Made : Type 0 where
+  pub answer : ℕ
+  pub area : List ℕ
+  pub initial : List ℕ
+  pub state : List ℕ
+
+abbrev pub made : ℕ → List ℕ → List ℕ → List ℕ → Made
+made x area initial state = record { answer = x; area = area; initial = initial; state = state }
+
+unfoldable pub madeOf : Constructed → List ℕ → Made
+madeOf x state = made (serverAnswer (x .reply)) (x .area) (x .initial) (recordAfter (x .reply) (x .server) state)
+
+unfoldable pub makeCall : Params → ℕ → List ℕ → List ℕ → List ℕ → List ℕ → Made
+makeCall g me value area initial state =
+    pick (ltb (length state) serverSize) (made (testAnswer (valueShort g me (g .n) (length value))) area initial state)
+    (madeOf (construction digestOf g me value area initial) state)
+
+-- ---- a frame is handed in
+
+pub record ServerGot : Type 0 where
+  pub answer : ℕ
+  pub area : List ℕ
+  pub state : List ℕ
+  pub out : List ℕ
+  pub to : List ℕ
+
+abbrev pub serverGot : ℕ → List ℕ → List ℕ → List ℕ → List ℕ → ServerGot
+serverGot x area state out to = record { answer = x; area = area; state = state; out = out; to = to }
+
+unfoldable pub serverGotOf : Outcome → List ℕ → ServerGot
+serverGotOf x state = serverGot (serverAnswer (x .reply)) (x .area) (recordAfter (x .reply) (x .server) state) (x .out) (x .to)
+
+unfoldable pub serverCall : Params → ℕ → Party → List ℕ → List ℕ → List ℕ → List ℕ → List ℕ → List ℕ → ServerGot
+serverCall g me from f area initial state out to =
+    pick (ltb (length state) serverSize) (serverGot (testAnswer (frameShort g me (g .n) f)) area state out to)
+    (serverGotOf (delivery digestOf g me (serverIn state) area initial from f out to) state)

@@ -1,0 +1,104 @@
+// A server, whose record the host keeps as bytes.
+use crate::answers::server_answer;
+use crate::answers::test_answer;
+use crate::senders::sender_of;
+use crate::short::frame_short;
+use crate::short::value_short;
+use blocks::Params;
+use layout::servers::put_server;
+use layout::servers::server_at;
+use server::Reply;
+use server::Server;
+ghost use mathlib.Core.Path.{_≡_};
+ghost use Prim.Native.Nat.{_≤_};
+ghost use lib.ListN.{length};
+ghost use Rattle.layout.specs.Servers.{serverSize};
+ghost use Rattle.register.specs.Answers.{serverAnswer};
+ghost use Rattle.register.specs.Calls.{params, wrote};
+ghost use Rattle.register.specs.Handed.{senderOf};
+ghost use Rattle.register.specs.ServerCalls.{isTurnedDown, recordAfter, made, makeCall, serverGot, serverCall};
+
+// ---- the record after a call
+
+fn is_turned_down(a: Reply) -> bool
+    ensures { λ r. ⌜ r ≡ isTurnedDown a ⌝ }
+{
+    match a {
+        Reply::Step(m) => false,
+        Reply::Refused(r) => true,
+    }
+}
+
+// Writes the record, unless the call was turned down.
+fn keep(a: Reply, s: Server, state: &mut [u8]) -> u64
+    requires { ⌜ serverSize ≤ length (now state) ⌝ }
+    ensures { λ r. ⌜ wrote r (now (state .exit)) ≡ wrote (serverAnswer a) (recordAfter a s (now (state .entry))) ⌝ }
+{
+    if is_turned_down(a) {
+        return server_answer(a);
+    }
+    put_server(s, state, 0);
+    server_answer(a)
+}
+
+// ---- a fresh server
+
+// Writes a fresh server's record, the digests of the initial value into the area, and server me's block of it into initial.
+#[no_mangle]
+pub extern "C" fn semduoli_server_fresh(
+    n: usize,
+    t: usize,
+    k: usize,
+    size: usize,
+    me: u8,
+    value: &[u8],
+    area: &mut [u8],
+    initial: &mut [u8],
+    state: &mut [u8],
+) -> u64
+    ensures { λ r. ⌜ made r (now (area .exit)) (now (initial .exit)) (now (state .exit)) ≡ makeCall (params n t k size) me (now (value .entry)) (now (area .entry)) (now (initial .entry)) (now (state .entry)) ⌝ }
+{
+    let g = Params { n, t, k, size };
+    if state.len() < 2353 {
+        let short = value_short(g, me, n, value.len());
+        return test_answer(short);
+    }
+    let done = Server::fresh(g, me, value, area, initial);
+    let reply = done.reply;
+    let after = done.server;
+    keep(reply, after, state)
+}
+
+// ---- a frame is handed in
+
+// Delivers a frame to server me.
+#[no_mangle]
+pub extern "C" fn semduoli_server_deliver(
+    n: usize,
+    t: usize,
+    k: usize,
+    size: usize,
+    me: u8,
+    class: usize,
+    sender: usize,
+    f: &[u8],
+    area: &mut [u8],
+    initial: &[u8],
+    state: &mut [u8],
+    out: &mut [u8],
+    to: &mut [u8],
+) -> u64
+    ensures { λ r. ⌜ serverGot r (now (area .exit)) (now (state .exit)) (now (out .exit)) (now (to .exit)) ≡ serverCall (params n t k size) me (senderOf class sender) (now (f .entry)) (now (area .entry)) (now (initial .entry)) (now (state .entry)) (now (out .entry)) (now (to .entry)) ⌝ }
+{
+    let g = Params { n, t, k, size };
+    if state.len() < 2353 {
+        let short = frame_short(g, me, n, f);
+        return test_answer(short);
+    }
+    let from = sender_of(class, sender);
+    let s = server_at(state, 0);
+    let done = server_deliver::deliver(s, g, me, from, f, area, initial, out, to);
+    let reply = done.reply;
+    let after = done.server;
+    keep(reply, after, state)
+}

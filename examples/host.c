@@ -1,4 +1,4 @@
-/* A host in C: a digest, blocks, two histories, and a client that begins a write. */
+/* A host in C: a digest, blocks, histories, a client that begins a write, and a whole run of a register whose parties are all in this process. */
 #include <stdio.h>
 #include <string.h>
 #include "semduoli.h"
@@ -13,12 +13,18 @@ static void show(const char *name, const uint8_t *bytes, size_t length)
     printf("\n");
 }
 
+/* the length of a frame */
+static size_t length_of(const uint8_t *frame)
+{
+    return 2 + 256 * frame[0] + frame[1];
+}
+
 /* the frames of an answer, each with its receiver */
 static void show_sent(uint64_t answer, const uint8_t *out, const uint8_t *to)
 {
     size_t at = 0;
     for (unsigned i = 0; i < SEMDUOLI_COUNT(answer); i++) {
-        size_t length = 2 + 256 * out[at] + out[at + 1];
+        size_t length = length_of(out + at);
         printf("to %s %u", to[2 * i] ? "server" : "client", to[2 * i + 1]);
         show(":", out + at, length);
         at += length;
@@ -35,6 +41,122 @@ static void judge(const char *text)
         show("history:", lines, SEMDUOLI_COUNT(answer));
     else
         printf("history: %u and %u offend\n", (unsigned)(answer >> 16 & 0xff), (unsigned)(answer >> 24 & 0xff));
+}
+
+/* ---- a whole run: the parties, each with what the host keeps of it, and the frames under way, first in, first out */
+
+enum { CLIENTS = 2, WAITING = 256 };
+
+struct server {
+    uint8_t state[SEMDUOLI_SERVER], area[SEMDUOLI_AREA], initial[B];
+};
+
+struct client {
+    uint8_t state[SEMDUOLI_CLIENT], rows[SEMDUOLI_ROWS];
+    const uint8_t *value; /* of its open write, SIZE bytes, or NULL */
+};
+
+struct parcel {
+    uint8_t from[2], to[2], frame[SEMDUOLI_FRAME(N, K, SIZE)];
+    size_t length;
+};
+
+static struct server servers[N + 1];
+static struct client clients[CLIENTS + 1];
+static struct parcel waiting[WAITING];
+static size_t taken, added, refused;
+
+/* puts the frames that a party sent behind those that wait */
+static void add_sent(uint8_t sender_class, uint8_t sender, uint64_t answer, const uint8_t *out, const uint8_t *to)
+{
+    size_t at = 0;
+    for (unsigned i = 0; i < SEMDUOLI_COUNT(answer); i++) {
+        struct parcel *p = &waiting[added++ % WAITING];
+        p->from[0] = sender_class;
+        p->from[1] = sender;
+        memcpy(p->to, to + 2 * i, 2);
+        p->length = length_of(out + at);
+        memcpy(p->frame, out + at, p->length);
+        at += p->length;
+    }
+}
+
+static uint64_t hand_to_server(const struct parcel *p)
+{
+    uint8_t out[SEMDUOLI_SERVER_OUT(N, K, SIZE)], to[SEMDUOLI_SERVER_TO(N)], me = p->to[1];
+    struct server *s = &servers[me];
+    uint64_t answer = semduoli_server_deliver(N, T, K, SIZE, me, p->from[0], p->from[1], p->frame, p->length, s->area, sizeof s->area, s->initial,
+                                              sizeof s->initial, s->state, sizeof s->state, out, sizeof out, to, sizeof to);
+    add_sent(SEMDUOLI_CLASS_SERVER, me, answer, out, to);
+    return answer;
+}
+
+static uint64_t hand_to_client(const struct parcel *p)
+{
+    uint8_t out[SEMDUOLI_CLIENT_OUT(N, K, SIZE)], to[SEMDUOLI_CLIENT_TO(N)], result[SIZE], me = p->to[1];
+    struct client *c = &clients[me];
+    uint64_t answer = semduoli_client_deliver(N, T, K, SIZE, me, p->from[0], p->from[1], c->value, c->value ? SIZE : 0, p->frame, p->length, c->rows,
+                                              sizeof c->rows, result, sizeof result, c->state, sizeof c->state, out, sizeof out, to, sizeof to);
+    add_sent(SEMDUOLI_CLASS_CLIENT, me, answer, out, to);
+    if (SEMDUOLI_OUTCOME(answer) == SEMDUOLI_WRITTEN)
+        printf("client %u has written\n", me);
+    if (SEMDUOLI_OUTCOME(answer) == SEMDUOLI_VALUE)
+        printf("client %u has read %.*s\n", me, SIZE, (const char *)result);
+    return answer;
+}
+
+/* hands in each frame that waits, until none does; one that came too early waits again */
+static void carry(void)
+{
+    while (taken != added) {
+        struct parcel p = waiting[taken++ % WAITING];
+        uint64_t answer = p.to[0] == SEMDUOLI_CLASS_SERVER ? hand_to_server(&p) : hand_to_client(&p);
+        if (SEMDUOLI_REFUSAL(answer))
+            refused++;
+        if (SEMDUOLI_REFUSAL(answer) == 13)
+            waiting[added++ % WAITING] = p;
+    }
+    printf("frames handed in so far: %u, of them refused: %u\n", (unsigned)taken, (unsigned)refused);
+}
+
+static void begin(uint8_t me, const uint8_t *value)
+{
+    uint8_t out[SEMDUOLI_CLIENT_OUT(N, K, SIZE)], to[SEMDUOLI_CLIENT_TO(N)];
+    struct client *c = &clients[me];
+    c->value = value;
+    uint64_t answer = value ? semduoli_begin_write(N, T, K, SIZE, me, c->state, sizeof c->state, value, SIZE, out, sizeof out, to, sizeof to)
+                            : semduoli_begin_read(N, T, K, SIZE, me, c->state, sizeof c->state, out, sizeof out, to, sizeof to);
+    printf("client %u begins: refusal %u, frames %u\n", me, SEMDUOLI_REFUSAL(answer), SEMDUOLI_COUNT(answer));
+    add_sent(SEMDUOLI_CLASS_CLIENT, me, answer, out, to);
+}
+
+static void whole_run(const uint8_t *initial, const uint8_t *value)
+{
+    for (uint8_t j = 1; j <= N; j++) {
+        struct server *s = &servers[j];
+        uint64_t answer = semduoli_server_fresh(N, T, K, SIZE, j, initial, SIZE, s->area, sizeof s->area, s->initial, sizeof s->initial, s->state,
+                                                sizeof s->state);
+        printf("server %u afresh: %u\n", j, (unsigned)answer);
+    }
+    for (uint8_t j = 1; j <= CLIENTS; j++)
+        semduoli_client_fresh(clients[j].state, sizeof clients[j].state);
+    begin(2, NULL);
+    carry();
+    begin(1, value);
+    carry();
+    begin(2, NULL);
+    carry();
+}
+
+/* what server 1 answers to client 1's get-stamp from this sender, so many bytes of the frame and of the record being lent */
+static void hand_get_stamp(const char *name, size_t sender_class, size_t sender, size_t frame_length, size_t state_length)
+{
+    const uint8_t frame[] = {0, 7, 1, 1, 1, 0, 0, 0, 1};
+    uint8_t out[SEMDUOLI_SERVER_OUT(N, K, SIZE)], to[SEMDUOLI_SERVER_TO(N)];
+    struct server *s = &servers[1];
+    uint64_t answer = semduoli_server_deliver(N, T, K, SIZE, 1, sender_class, sender, frame, frame_length, s->area, sizeof s->area, s->initial,
+                                              sizeof s->initial, s->state, state_length, out, sizeof out, to, sizeof to);
+    printf("get-stamp, %s: refusal %u, frames %u\n", name, SEMDUOLI_REFUSAL(answer), SEMDUOLI_COUNT(answer));
 }
 
 int main(void)
@@ -71,5 +193,12 @@ int main(void)
     printf("read meanwhile: refusal %u\n", SEMDUOLI_REFUSAL(answer));
     answer = semduoli_begin_read(3, T, K, SIZE, 3, state, 0, out, 0, to, 0);
     printf("read of three servers: refusal %u\n", SEMDUOLI_REFUSAL(answer));
+
+    whole_run((const uint8_t *)"first", value);
+    hand_get_stamp("from client 1", SEMDUOLI_CLASS_CLIENT, 1, 9, SEMDUOLI_SERVER);
+    hand_get_stamp("from client 257", SEMDUOLI_CLASS_CLIENT, 257, 9, SEMDUOLI_SERVER);
+    hand_get_stamp("from a third class", 2, 1, 9, SEMDUOLI_SERVER);
+    hand_get_stamp("record short", SEMDUOLI_CLASS_CLIENT, 1, 9, 0);
+    hand_get_stamp("record and frame short", SEMDUOLI_CLASS_CLIENT, 1, 3, 0);
     return 0;
 }

@@ -1,4 +1,6 @@
 // A host in Rust: the same calls as host.c. The declarations are those of include/semduoli.h; each wrapper passes a slice as its pointer and length.
+use std::collections::VecDeque;
+
 mod semduoli {
     mod raw {
         #[link(name = "register", kind = "static")]
@@ -9,6 +11,15 @@ mod semduoli {
                 n: usize, t: usize, k: usize, size: usize, js: *const u8, js_len: usize, bs: *const u8, bs_len: usize, out: *mut u8, out_len: usize,
             ) -> u64;
             pub fn semduoli_judge(text: *const u8, text_len: usize, lines: *mut u8, lines_len: usize) -> u64;
+            pub fn semduoli_server_fresh(
+                n: usize, t: usize, k: usize, size: usize, me: u8, v: *const u8, v_len: usize, area: *mut u8, area_len: usize, initial: *mut u8,
+                initial_len: usize, state: *mut u8, state_len: usize,
+            ) -> u64;
+            pub fn semduoli_server_deliver(
+                n: usize, t: usize, k: usize, size: usize, me: u8, class: usize, sender: usize, f: *const u8, f_len: usize, area: *mut u8,
+                area_len: usize, initial: *const u8, initial_len: usize, state: *mut u8, state_len: usize, out: *mut u8, out_len: usize, to: *mut u8,
+                to_len: usize,
+            ) -> u64;
             pub fn semduoli_client_fresh(state: *mut u8, state_len: usize) -> u64;
             pub fn semduoli_begin_read(
                 n: usize, t: usize, k: usize, size: usize, me: u8, state: *mut u8, state_len: usize, out: *mut u8, out_len: usize, to: *mut u8, to_len: usize,
@@ -16,6 +27,11 @@ mod semduoli {
             pub fn semduoli_begin_write(
                 n: usize, t: usize, k: usize, size: usize, me: u8, state: *mut u8, state_len: usize, v: *const u8, v_len: usize, out: *mut u8,
                 out_len: usize, to: *mut u8, to_len: usize,
+            ) -> u64;
+            pub fn semduoli_client_deliver(
+                n: usize, t: usize, k: usize, size: usize, me: u8, class: usize, sender: usize, v: *const u8, v_len: usize, f: *const u8, f_len: usize,
+                rows: *mut u8, rows_len: usize, result: *mut u8, result_len: usize, state: *mut u8, state_len: usize, out: *mut u8, out_len: usize,
+                to: *mut u8, to_len: usize,
             ) -> u64;
         }
     }
@@ -27,9 +43,33 @@ mod semduoli {
         pub size: usize,
     }
 
+    impl Params {
+        pub fn block(&self) -> usize {
+            (self.size + self.k - 1) / self.k
+        }
+
+        pub fn frame(&self) -> usize {
+            22 + 32 * self.n + self.block()
+        }
+    }
+
+    // A party: its class, and its number.
+    #[derive(Clone, Copy)]
+    pub struct Party(pub usize, pub usize);
+
+    pub const CLASS_CLIENT: usize = 0;
+    pub const CLASS_SERVER: usize = 1;
+
     pub const DIGEST: usize = 32;
+    pub const SERVER: usize = 2353;
     pub const CLIENT: usize = 769;
+    pub const AREA: usize = 97344;
+    pub const ROWS: usize = 23040;
     pub const LINES: usize = 64;
+
+    // What happened at a client.
+    pub const WRITTEN: u64 = 1;
+    pub const VALUE: u64 = 3;
 
     // The parts of an answer: a refusal's number or 0, what happened, and how many.
     pub struct Answer(pub u64);
@@ -64,6 +104,27 @@ mod semduoli {
         Answer(unsafe { raw::semduoli_judge(text.as_ptr(), text.len(), lines.as_mut_ptr(), lines.len()) })
     }
 
+    pub fn server_fresh(g: &Params, me: u8, v: &[u8], area: &mut [u8], initial: &mut [u8], state: &mut [u8]) -> Answer {
+        Answer(unsafe {
+            raw::semduoli_server_fresh(
+                g.n, g.t, g.k, g.size, me, v.as_ptr(), v.len(), area.as_mut_ptr(), area.len(), initial.as_mut_ptr(), initial.len(), state.as_mut_ptr(),
+                state.len(),
+            )
+        })
+    }
+
+    #[allow(clippy::too_many_arguments)]
+    pub fn server_deliver(
+        g: &Params, me: u8, from: Party, f: &[u8], area: &mut [u8], initial: &[u8], state: &mut [u8], out: &mut [u8], to: &mut [u8],
+    ) -> Answer {
+        Answer(unsafe {
+            raw::semduoli_server_deliver(
+                g.n, g.t, g.k, g.size, me, from.0, from.1, f.as_ptr(), f.len(), area.as_mut_ptr(), area.len(), initial.as_ptr(),
+                initial.len(), state.as_mut_ptr(), state.len(), out.as_mut_ptr(), out.len(), to.as_mut_ptr(), to.len(),
+            )
+        })
+    }
+
     pub fn client_fresh(state: &mut [u8]) -> Answer {
         Answer(unsafe { raw::semduoli_client_fresh(state.as_mut_ptr(), state.len()) })
     }
@@ -83,6 +144,18 @@ mod semduoli {
             )
         })
     }
+
+    #[allow(clippy::too_many_arguments)]
+    pub fn client_deliver(
+        g: &Params, me: u8, from: Party, v: &[u8], f: &[u8], rows: &mut [u8], result: &mut [u8], state: &mut [u8], out: &mut [u8], to: &mut [u8],
+    ) -> Answer {
+        Answer(unsafe {
+            raw::semduoli_client_deliver(
+                g.n, g.t, g.k, g.size, me, from.0, from.1, v.as_ptr(), v.len(), f.as_ptr(), f.len(), rows.as_mut_ptr(), rows.len(),
+                result.as_mut_ptr(), result.len(), state.as_mut_ptr(), state.len(), out.as_mut_ptr(), out.len(), to.as_mut_ptr(), to.len(),
+            )
+        })
+    }
 }
 
 fn show(name: &str, bytes: &[u8]) {
@@ -90,11 +163,16 @@ fn show(name: &str, bytes: &[u8]) {
     println!("{name}{text}");
 }
 
+// The length of a frame.
+fn length_of(frame: &[u8]) -> usize {
+    2 + 256 * frame[0] as usize + frame[1] as usize
+}
+
 // The frames of an answer, each with its receiver.
 fn show_sent(answer: &semduoli::Answer, out: &[u8], to: &[u8]) {
     let mut at = 0;
     for i in 0..answer.count() {
-        let length = 2 + 256 * out[at] as usize + out[at + 1] as usize;
+        let length = length_of(&out[at..]);
         print!("to {} {}", if to[2 * i] == 0 { "client" } else { "server" }, to[2 * i + 1]);
         show(":", &out[at..at + length]);
         at += length;
@@ -110,6 +188,131 @@ fn judge(text: &str) {
         show("history:", &lines[..answer.count()]);
     } else {
         println!("history: {} and {} offend", answer.0 >> 16 & 0xff, answer.0 >> 24 & 0xff);
+    }
+}
+
+// ---- a whole run: the parties, each with what the host keeps of it, and the frames under way, first in, first out
+
+struct Server {
+    state: Vec<u8>,
+    area: Vec<u8>,
+    initial: Vec<u8>,
+}
+
+// The value is that of its open write, or empty.
+struct Client {
+    state: Vec<u8>,
+    rows: Vec<u8>,
+    value: Vec<u8>,
+}
+
+struct Parcel {
+    from: semduoli::Party,
+    to: semduoli::Party,
+    frame: Vec<u8>,
+}
+
+struct Run {
+    g: semduoli::Params,
+    servers: Vec<Server>,
+    clients: Vec<Client>,
+    waiting: VecDeque<Parcel>,
+    taken: usize,
+    refused: usize,
+}
+
+impl Run {
+    fn fresh(g: semduoli::Params, clients: usize, initial: &[u8]) -> Run {
+        let server = |_| Server { state: vec![0; semduoli::SERVER], area: vec![0; semduoli::AREA], initial: vec![0; g.block()] };
+        let client = |_| Client { state: vec![0; semduoli::CLIENT], rows: vec![0; semduoli::ROWS], value: vec![] };
+        let mut servers: Vec<Server> = (0..=g.n).map(server).collect();
+        let mut clients: Vec<Client> = (0..=clients).map(client).collect();
+        for j in 1..servers.len() {
+            let s = &mut servers[j];
+            let answer = semduoli::server_fresh(&g, j as u8, initial, &mut s.area, &mut s.initial, &mut s.state);
+            println!("server {j} afresh: {}", answer.0);
+        }
+        for c in &mut clients {
+            semduoli::client_fresh(&mut c.state);
+        }
+        Run { g, servers, clients, waiting: VecDeque::new(), taken: 0, refused: 0 }
+    }
+
+    // Areas for the frames of a step, and for their receivers.
+    fn areas(&self, frames: usize) -> (Vec<u8>, Vec<u8>) {
+        (vec![0; frames * self.g.frame()], vec![0; 2 * frames])
+    }
+
+    // Puts the frames that a party sent behind those that wait.
+    fn add_sent(&mut self, from: semduoli::Party, answer: &semduoli::Answer, out: &[u8], to: &[u8]) {
+        let mut at = 0;
+        for i in 0..answer.count() {
+            let length = length_of(&out[at..]);
+            self.waiting.push_back(Parcel { from, to: semduoli::Party(to[2 * i] as usize, to[2 * i + 1] as usize), frame: out[at..at + length].to_vec() });
+            at += length;
+        }
+    }
+
+    fn hand_to_server(&mut self, p: &Parcel) -> semduoli::Answer {
+        let (mut out, mut to) = self.areas(self.g.n + 9);
+        let s = &mut self.servers[p.to.1];
+        let answer = semduoli::server_deliver(&self.g, p.to.1 as u8, p.from, &p.frame, &mut s.area, &s.initial, &mut s.state, &mut out, &mut to);
+        self.add_sent(p.to, &answer, &out, &to);
+        answer
+    }
+
+    fn hand_to_client(&mut self, p: &Parcel) -> semduoli::Answer {
+        let (mut out, mut to) = self.areas(2 * self.g.n);
+        let mut result = vec![0; self.g.size];
+        let c = &mut self.clients[p.to.1];
+        let answer =
+            semduoli::client_deliver(&self.g, p.to.1 as u8, p.from, &c.value, &p.frame, &mut c.rows, &mut result, &mut c.state, &mut out, &mut to);
+        self.add_sent(p.to, &answer, &out, &to);
+        match answer.outcome() {
+            semduoli::WRITTEN => println!("client {} has written", p.to.1),
+            semduoli::VALUE => println!("client {} has read {}", p.to.1, String::from_utf8_lossy(&result)),
+            _ => {}
+        }
+        answer
+    }
+
+    // Hands in each frame that waits, until none does; one that came too early waits again.
+    fn carry(&mut self) {
+        while let Some(p) = self.waiting.pop_front() {
+            self.taken += 1;
+            let answer = if p.to.0 == semduoli::CLASS_SERVER { self.hand_to_server(&p) } else { self.hand_to_client(&p) };
+            if answer.refusal() != 0 {
+                self.refused += 1;
+            }
+            if answer.refusal() == 13 {
+                self.waiting.push_back(p);
+            }
+        }
+        println!("frames handed in so far: {}, of them refused: {}", self.taken, self.refused);
+    }
+
+    // A client begins the write of a value, or a read where there is none.
+    fn begin(&mut self, me: u8, value: &[u8]) {
+        let (mut out, mut to) = self.areas(2 * self.g.n);
+        let c = &mut self.clients[me as usize];
+        c.value = value.to_vec();
+        let answer = if value.is_empty() {
+            semduoli::begin_read(&self.g, me, &mut c.state, &mut out, &mut to)
+        } else {
+            semduoli::begin_write(&self.g, me, &mut c.state, value, &mut out, &mut to)
+        };
+        println!("client {me} begins: refusal {}, frames {}", answer.refusal(), answer.count());
+        self.add_sent(semduoli::Party(semduoli::CLASS_CLIENT, me as usize), &answer, &out, &to);
+    }
+
+    // What server 1 answers to client 1's get-stamp from this sender, so many bytes of the frame and of the record being lent.
+    fn hand_get_stamp(&mut self, name: &str, class: usize, sender: usize, frame: usize, state: usize) {
+        let (mut out, mut to) = self.areas(self.g.n + 9);
+        let f = [0, 7, 1, 1, 1, 0, 0, 0, 1];
+        let from = semduoli::Party(class, sender);
+        let s = &mut self.servers[1];
+        let answer = semduoli::server_deliver(&self.g, 1, from, &f[..frame], &mut s.area, &s.initial, &mut s.state[..state], &mut out, &mut to);
+        println!("get-stamp, {name}: refusal {}, frames {}", answer.refusal(), answer.count());
     }
 }
 
@@ -149,4 +352,17 @@ fn main() {
     println!("read meanwhile: refusal {}", semduoli::begin_read(&g, 3, &mut state, &mut out, &mut to).refusal());
     let three = semduoli::Params { n: 3, ..g };
     println!("read of three servers: refusal {}", semduoli::begin_read(&three, 3, &mut [], &mut [], &mut []).refusal());
+
+    let mut run = Run::fresh(g, 2, b"first");
+    run.begin(2, b"");
+    run.carry();
+    run.begin(1, value);
+    run.carry();
+    run.begin(2, b"");
+    run.carry();
+    run.hand_get_stamp("from client 1", semduoli::CLASS_CLIENT, 1, 9, semduoli::SERVER);
+    run.hand_get_stamp("from client 257", semduoli::CLASS_CLIENT, 257, 9, semduoli::SERVER);
+    run.hand_get_stamp("from a third class", 2, 1, 9, semduoli::SERVER);
+    run.hand_get_stamp("record short", semduoli::CLASS_CLIENT, 1, 9, 0);
+    run.hand_get_stamp("record and frame short", semduoli::CLASS_CLIENT, 1, 3, 0);
 }

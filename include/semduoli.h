@@ -6,7 +6,9 @@
  * bytes stay as they were. Calls with different areas may run at the same time.
  *
  * n, t, k and size are a register's parameters: n servers (4 to 10), of which at most t are false (at least 1, n > 3t), k blocks that decode a
- * value (1 to n - 2t), and the length of a value in bytes (1 to 256).
+ * value (1 to n - 2t), and the length of a value in bytes (1 to 256). All parties of a register are given the same ones in every call. Any numbers
+ * are accepted; those out of bounds are answered 1 to 3. The own number me is passed in one byte, so a host must not pass a larger number as me: C
+ * would pass its lowest byte.
  *
  * The answer is one number:
  *   bits 0 to 7    0, or the refusal's number, 1 to 19; then all other bits are 0, and every lent byte is as it was
@@ -37,12 +39,18 @@ extern "C" {
 /* ---- sizes in bytes */
 
 #define SEMDUOLI_DIGEST 32
-/* a client's record */
+/* the records of a server and of a client */
+#define SEMDUOLI_SERVER 2353
 #define SEMDUOLI_CLIENT 769
+/* what a server keeps of digests and blocks, and a client of the values that an open read has received */
+#define SEMDUOLI_AREA 97344
+#define SEMDUOLI_ROWS 23040
 /* a block, and the largest frame */
 #define SEMDUOLI_BLOCK(k, size) (((size) + (k) - 1) / (k))
 #define SEMDUOLI_FRAME(n, k, size) (22 + 32 * (n) + SEMDUOLI_BLOCK(k, size))
-/* the areas out and to of a client's call: 2n largest frames, and two bytes for the receiver of each */
+/* the areas out and to: n + 9 largest frames of a server's call, 2n of a client's, and two bytes for the receiver of each */
+#define SEMDUOLI_SERVER_OUT(n, k, size) (((n) + 9) * SEMDUOLI_FRAME(n, k, size))
+#define SEMDUOLI_SERVER_TO(n) (2 * ((n) + 9))
 #define SEMDUOLI_CLIENT_OUT(n, k, size) (2 * (n) * SEMDUOLI_FRAME(n, k, size))
 #define SEMDUOLI_CLIENT_TO(n) (4 * (n))
 /* line numbers of a history */
@@ -53,6 +61,10 @@ extern "C" {
 #define SEMDUOLI_REFUSAL(answer) ((unsigned)((answer) & 0xff))
 #define SEMDUOLI_OUTCOME(answer) ((unsigned)((answer) >> 8 & 0xff))
 #define SEMDUOLI_COUNT(answer) ((unsigned)((answer) >> 16 & 0xffff))
+
+/* the class of a party: of a frame's sender, and in the to area */
+#define SEMDUOLI_CLASS_CLIENT 0
+#define SEMDUOLI_CLASS_SERVER 1
 
 /* what happened at a client */
 #define SEMDUOLI_SENT 0
@@ -85,21 +97,54 @@ uint64_t semduoli_decode(size_t n, size_t t, size_t k, size_t size, const uint8_
  * an offending pair, bits 24 to 31 that of the later. */
 uint64_t semduoli_judge(const uint8_t *text, size_t text_length, uint8_t *lines, size_t lines_length);
 
-/* ---- a client: the host keeps its record, SEMDUOLI_CLIENT bytes, and lends it to each call as state. Any bytes are accepted as a record; only
- * those that these calls wrote are one of a run. */
+/* ---- parties: the host keeps each party's record and lends it to every call as state, SEMDUOLI_SERVER or SEMDUOLI_CLIENT bytes. Any bytes are
+ * accepted as a record; only those that these calls wrote are one of a run. Where the record's area is short, the lowest number up to 10 is answered.
+ *
+ * Frames that a call sends lie end to end from the start of out; the count says how many they are. Each begins with two bytes, high byte first, that
+ * say how many bytes follow. The to area has two bytes for each frame in the same order: the class of its receiver, SEMDUOLI_CLASS_CLIENT or
+ * SEMDUOLI_CLASS_SERVER, and its number. The host carries each frame to its receiver and hands it in there, by a deliver call, with the class and
+ * the number of the party that sent it. A frame that is answered 13 is handed in again later. A sender of another class, or whose number is above
+ * 255, is nobody: 11, unless a lower number applies. */
 
-/* Writes a fresh client's record. */
+/* ---- a server, of which the host keeps, beside the record, the area of SEMDUOLI_AREA bytes and its block of the initial value, initial */
+
+/* Makes server me (1 to n) afresh: writes its record, writes the digests of the initial value to the start of the area, and the server's block of
+ * that value, SEMDUOLI_BLOCK(k, size) bytes, to the start of initial. All servers are given the same value. The answer is 0 or a refusal: 1, 2, 3
+ * or 10. */
+uint64_t semduoli_server_fresh(size_t n, size_t t, size_t k, size_t size, uint8_t me, const uint8_t *value, size_t value_length, uint8_t *area,
+                               size_t area_length, uint8_t *initial, size_t initial_length, uint8_t *state, size_t state_length);
+
+/* Hands a frame to server me. The count says how many frames are sent, 0 to n + 9; out has SEMDUOLI_SERVER_OUT bytes at least, to has
+ * SEMDUOLI_SERVER_TO. Refusals: 1 to 14. */
+uint64_t semduoli_server_deliver(size_t n, size_t t, size_t k, size_t size, uint8_t me, size_t sender_class, size_t sender, const uint8_t *frame,
+                                 size_t frame_length, uint8_t *area, size_t area_length, const uint8_t *initial, size_t initial_length,
+                                 uint8_t *state, size_t state_length, uint8_t *out, size_t out_length, uint8_t *to, size_t to_length);
+
+/* ---- a client, of which the host keeps, beside the record, the area of SEMDUOLI_ROWS bytes, rows, of any content at first; out has
+ * SEMDUOLI_CLIENT_OUT bytes at least, to has SEMDUOLI_CLIENT_TO */
+
+/* Writes a fresh client's record. The answer is 0 or 10. */
 uint64_t semduoli_client_fresh(uint8_t *state, size_t state_length);
 
-/* Client me (1 to 8) begins a read. SEMDUOLI_SENT: the count says how many frames lie end to end from the start of out; each begins with two
- * bytes, high byte first, that say how many bytes follow. The to area has two bytes for each frame in the same order: 0 for a client or 1 for a
- * server, and its number. */
+/* Client me (1 to 8) begins a read. SEMDUOLI_SENT, and the count is n. Refusals: 1, 2, 3, 10, 15, 16. */
 uint64_t semduoli_begin_read(size_t n, size_t t, size_t k, size_t size, uint8_t me, uint8_t *state, size_t state_length, uint8_t *out,
                              size_t out_length, uint8_t *to, size_t to_length);
 
-/* Client me begins the write of a value. The value is lent again, unchanged, to the calls that carry the write on. */
+/* Client me begins the write of a value. SEMDUOLI_SENT, and the count is n. The value is lent again, unchanged, to the deliver calls that carry the
+ * write on. Refusals: 1, 2, 3, 10, 15, 16, 17. */
 uint64_t semduoli_begin_write(size_t n, size_t t, size_t k, size_t size, uint8_t me, uint8_t *state, size_t state_length, const uint8_t *value,
                               size_t value_length, uint8_t *out, size_t out_length, uint8_t *to, size_t to_length);
+
+/* Hands a frame to client me, with the value of its open write; where no write is open the value is not looked at and may have length 0.
+ *   SEMDUOLI_SENT            nothing has ended; the count says how many frames are sent, 0 or 2n
+ *   SEMDUOLI_WRITTEN         the write has ended; nothing is sent
+ *   SEMDUOLI_OUT_OF_STAMPS   the write has closed as out of stamps; nothing is sent, and the client writes no more
+ *   SEMDUOLI_VALUE           the read has ended; its value is in the first size bytes of result, and n frames are sent, as the count says
+ * result has size bytes at least, and stays as it was unless a read ends. Refusals: 1 to 12, 14. */
+uint64_t semduoli_client_deliver(size_t n, size_t t, size_t k, size_t size, uint8_t me, size_t sender_class, size_t sender, const uint8_t *value,
+                                 size_t value_length, const uint8_t *frame, size_t frame_length, uint8_t *rows, size_t rows_length,
+                                 uint8_t *result, size_t result_length, uint8_t *state, size_t state_length, uint8_t *out, size_t out_length,
+                                 uint8_t *to, size_t to_length);
 
 #ifdef __cplusplus
 }

@@ -1,68 +1,86 @@
-//! The rows of the benchmark, for either side.
+//! The rows of the benchmark, for any side.
 
-use crate::side::Side;
-use crate::system::{System, CLIENT};
-use register::blocks::encoded;
-use register::flat::{complete_chunk, list_in, Outcome, STATE_AREA};
+use crate::side::{Handed, Plain, Side};
+use crate::system::{fresh, Host, System, CLIENT};
+use register::blocks::{self, encoded};
+use register::flat::{complete_chunk, list_in, Server};
 use register::frame::{build, Body};
 use register::random::Random;
 use register::{Params, Party};
 use std::hint::black_box;
+use std::time::{Duration, Instant};
 
 pub struct Row {
     pub name: String,
-    /// Does the thing so many times.
-    pub work: Box<dyn FnMut(u64)>,
+    /// Does the thing so many times and gives the time of that.
+    pub work: Box<dyn FnMut(u64) -> Duration>,
 }
 
 fn row(name: String, mut once: impl FnMut() + 'static) -> Row {
-    Row { name, work: Box::new(move |times| (0..times).for_each(|_| once())) }
+    let work = move |times| {
+        let begun = Instant::now();
+        (0..times).for_each(|_| once());
+        begun.elapsed()
+    };
+    Row { name, work: Box::new(work) }
 }
 
 fn name(what: &str, p: &Params) -> String {
-    format!("{what} n={} t={} k={} L={}", p.n, p.t, p.k, p.l)
+    format!("{what}, n = {}, t = {}, k = {}, L = {}", p.n, p.t, p.k, p.l)
 }
 
-fn digest<S: Side + 'static>(length: usize) -> Row {
+pub fn digest<S: Side>(length: usize) -> Row {
     let message = Random::new(length as u64).bytes(length);
+    let mut out = [0; 32];
     row(format!("digest of {length} bytes"), move || {
-        black_box(S::digest(black_box(&message)));
+        S::digest(black_box(&message), &mut out);
+        black_box(&out);
     })
 }
 
-fn encode<S: Side + 'static>(p: Params) -> Row {
+pub fn encode<S: Side>(p: Params) -> Row {
     let value = Random::new(1).bytes(p.l);
     let mut out = vec![0; p.n * p.block()];
     row(name("encode", &p), move || {
-        S::encode(&p, black_box(&value), &mut out);
+        S::encode(black_box(&p), black_box(&value), &mut out);
         black_box(&out);
     })
 }
 
 /// Decoding from the last k blocks.
-fn decode<S: Side + 'static>(p: Params) -> Row {
+pub fn decode<S: Side>(p: Params) -> Row {
+    let value = Random::new(1).bytes(p.l);
+    let parts = encoded(&p, &value)[p.n - p.k..].concat();
+    let numbers: Vec<u8> = (p.n - p.k + 1..=p.n).map(|j| j as u8).collect();
+    let mut out = vec![0; p.l];
+    row(name("decode", &p), move || {
+        S::decode(black_box(&p), black_box(&numbers), black_box(&parts), &mut out);
+        black_box(&out);
+    })
+}
+
+/// Plain Rust by another algorithm: Lagrange's basis polynomials, computed once for all stripes. It checks nothing.
+pub fn decode_by_basis(p: Params) -> Row {
     let value = Random::new(1).bytes(p.l);
     let blocks = encoded(&p, &value);
     let numbers: Vec<u8> = (p.n - p.k + 1..=p.n).map(|j| j as u8).collect();
     let mut out = vec![0; p.l];
     row(name("decode", &p), move || {
         let mut parts: [&[u8]; 8] = [&[]; 8];
-        for (part, j) in parts.iter_mut().zip(&numbers) {
-            *part = &blocks[*j as usize - 1];
-        }
-        S::decode(&p, black_box(&numbers), &parts[..p.k], &mut out);
+        parts.iter_mut().zip(&blocks[p.n - p.k..]).for_each(|(part, block)| *part = block);
+        blocks::decode_by_basis(black_box(&p), black_box(&numbers), black_box(&parts[..p.k]), &mut out);
         black_box(&out);
     })
 }
 
-fn whole_write<S: Side + 'static>(p: Params) -> Row {
+pub fn whole_write<S: Side>(p: Params) -> Row {
     let mut random = Random::new(2);
     let mut system = System::<S>::new(p, &random.bytes(p.l));
     let value = random.bytes(p.l);
     row(name("whole write", &p), move || system.write(&value, |_, _, _, _| ()))
 }
 
-fn whole_read<S: Side + 'static>(p: Params) -> Row {
+pub fn whole_read<S: Side>(p: Params) -> Row {
     let mut random = Random::new(2);
     let mut system = System::<S>::new(p, &random.bytes(p.l));
     let value = random.bytes(p.l);
@@ -70,135 +88,93 @@ fn whole_read<S: Side + 'static>(p: Params) -> Row {
     row(name("whole read", &p), move || assert_eq!(system.read(), &value[..]))
 }
 
-/// A server before a delivery. Only the server's record is put back between deliveries (it is
-/// copied in every round); what a delivery leaves in the state area means nothing then.
-struct Moment<R> {
+/// Server 1 before a delivery, as plain Rust has it.
+struct Moment {
     what: &'static str,
-    server: R,
-    area: Vec<u8>,
-    initial: Vec<u8>,
+    host: Host<Server>,
     from: Party,
     frame: Vec<u8>,
 }
 
-/// Server 1 before each kind of step of a write, at the last frame of its kind that server 1 gets
-/// and at those that make it send or accept.
-fn moments<S: Side + 'static>(p: Params) -> Vec<Moment<S::Server>> {
-    let mut random = Random::new(3);
-    let mut system = System::<S>::new(p, &random.bytes(p.l));
-    let value = random.bytes(p.l);
-    let mut moments: Vec<Moment<S::Server>> = Vec::new();
+/// What a frame does to server 1, in words.
+fn what(p: &Params, host: &Host<Server>, from: Party, frame: &[u8]) -> Option<&'static str> {
     let (mut out, mut to) = (vec![0; p.server_room()], vec![0; 2 * (p.n + 9)]);
+    let (mut server, mut area) = (host.server, host.area.clone());
+    let done = server.deliver(p, 1, &host.initial, &mut area, from, frame, &mut out, &mut to).ok()?;
+    let accepts = done.outcome == register::flat::Outcome::Accepted;
+    let chunk = complete_chunk(CLIENT);
+    let complete = list_in(p, &area, chunk) != list_in(p, &host.area, chunk);
+    Some(match (frame[3], done.frames > 0) {
+        (5, _) if accepts => "kind 5, accepted",
+        (8, _) if accepts => "kind 8, accepted",
+        (1, _) => "kind 1",
+        (3, _) => "kind 3, echo sent",
+        (4, false) => "kind 4, kept",
+        (4, true) => "kind 4, ready sent",
+        (5, false) if complete => "kind 5, complete",
+        (5, false) => "kind 5, kept",
+        (5, true) => "kind 5, ready sent",
+        (6, _) => "kind 6, echo sent",
+        (7, false) => "kind 7, kept",
+        (7, true) => "kind 7, ready sent",
+        (8, false) => "kind 8, kept",
+        _ => "kind 8, ready sent",
+    })
+}
+
+/// Server 1 before each kind of step of a write, at the last frame of its kind and at those that make it send or accept.
+fn moments(p: Params) -> Vec<Moment> {
+    let mut random = Random::new(3);
+    let mut system = System::<Plain>::new(p, &random.bytes(p.l));
+    let value = random.bytes(p.l);
+    let mut moments: Vec<Moment> = Vec::new();
     system.write(&value, |system, from, receiver, frame| {
-        if receiver != Party::Server(1) {
-            return;
-        }
         let host = &system.hosts[0];
-        let (mut server, mut area) = (host.server, host.area.clone());
-        let done = S::to_server(&mut server, &p, 1, &host.initial, &mut area, from, frame, &mut out, &mut to);
-        let Ok(done) = done else { return };
-        let acts = done.frames > 0;
-        let complete =
-            list_in(&p, &area, complete_chunk(CLIENT)) != list_in(&p, &host.area, complete_chunk(CLIENT));
-        let what = match (frame[3], acts, done.outcome) {
-            (_, _, Outcome::Accepted) => "acceptance",
-            (1, ..) => "get-stamp",
-            (3, ..) => "block send",
-            (4, false, _) => "block echo, kept",
-            (4, true, _) => "block echo, ready sent",
-            (5, false, _) if complete => "block ready, complete",
-            (5, false, _) => "block ready, kept",
-            (5, true, _) => "block ready, ready sent",
-            (6, ..) => "time send",
-            (7, false, _) => "time echo, kept",
-            (7, true, _) => "time echo, ready sent",
-            (8, false, _) => "time ready, kept or delivered",
-            _ => "time ready, ready sent",
+        let Some(what) = (receiver == Party::Server(1)).then(|| what(&p, host, from, frame)).flatten() else {
+            return;
         };
-        let moment = Moment {
-            what,
-            server: host.server,
-            area: host.area.clone(),
-            initial: host.initial.clone(),
-            from,
-            frame: frame.to_vec(),
-        };
-        match moments.iter_mut().find(|m| m.what == what) {
-            Some(old) => *old = moment,
-            None => moments.push(moment),
-        }
+        let host = Host { server: host.server, area: host.area.clone(), initial: host.initial.clone() };
+        moments.retain(|moment| moment.what != what);
+        moments.push(Moment { what, host, from, frame: frame.to_vec() });
     });
-    let owner = Party::Client(CLIENT);
-    let (mut initial, mut area) = (vec![0; p.block()], vec![0; STATE_AREA]);
-    let server = S::server(&p, 1, &value, &mut initial, &mut area);
-    let mut direct = |what, server, frame: Vec<u8>| {
-        let (area, initial) = (area.clone(), initial.clone());
-        moments.push(Moment { what, server, area, initial, from: owner, frame });
+    let mut direct = |what, frame: Vec<u8>| {
+        let host = fresh(&p, 1, &value);
+        moments.push(Moment { what, host, from: Party::Client(CLIENT), frame });
     };
-    direct("read", server, build(CLIENT as u8, 1, Body::Read));
-    direct("read-complete", server, build(CLIENT as u8, 1, Body::ReadComplete));
-    direct("refused, kind 13", server, vec![0, 7, 1, 13, 1, 0, 0, 0, 1]);
+    direct("kind 10", build(CLIENT as u8, 1, Body::Read));
+    direct("kind 12", build(CLIENT as u8, 1, Body::ReadComplete));
+    direct("refused, kind 13", vec![0, 7, 1, 13, 1, 0, 0, 0, 1]);
+    moments.sort_by_key(|moment| moment.frame[3]);
     moments
 }
 
-fn server_steps<S: Side + 'static>(p: Params) -> Vec<Row> {
-    let moments = moments::<S>(p);
-    let rows = moments.into_iter().map(|mut m| {
+/// Records are put back before each turn of so many deliveries, outside the measured time. What a delivery leaves in the state area
+/// stays: it means nothing to the record that is put back.
+const TURN: usize = 16;
+
+pub fn server_steps<S: Side>(p: Params) -> Vec<Row> {
+    let step = |mut m: Moment| {
         let (mut out, mut to) = (vec![0; p.server_room()], vec![0; 2 * (p.n + 9)]);
-        let step = name(m.what, &p);
-        row(step, move || {
-            let mut server = black_box(m.server);
-            let done = S::to_server(
-                &mut server,
-                &p,
-                1,
-                &m.initial,
-                &mut m.area,
-                m.from,
-                black_box(&m.frame),
-                &mut out,
-                &mut to,
-            );
-            let _ = black_box((done, &server, &out));
-        })
-    });
-    let (mut initial, mut area) = (vec![0; p.block()], vec![0; STATE_AREA]);
-    let server = S::server(&p, 1, &vec![0; p.l], &mut initial, &mut area);
-    let copy = row(name("copy of the server's record, in each step here", &p), move || {
-        black_box(black_box(server));
-    });
-    rows.chain([copy]).collect()
-}
-
-/// Everything, in the order printed.
-pub fn rows<S: Side + 'static>() -> Vec<Row> {
-    let p = Params::new;
-    let mut rows: Vec<Row> = [32, 64, 256].into_iter().map(digest::<S>).collect();
-    let base = [p(4, 1, 2, 32), p(4, 1, 2, 256), p(10, 3, 4, 256), p(10, 1, 8, 256)];
-    rows.extend(base.map(encode::<S>));
-    rows.extend(base.map(decode::<S>));
-    for set in [p(4, 1, 2, 64), p(10, 3, 4, 256)] {
-        rows.extend(server_steps::<S>(set));
-    }
-    for set in [p(4, 1, 2, 64), p(10, 3, 4, 64)] {
-        rows.push(whole_write::<S>(set));
-        rows.push(whole_read::<S>(set));
-    }
-    rows
-}
-
-/// Growth with n, k and L.
-pub fn growth<S: Side + 'static>() -> Vec<Row> {
-    let p = Params::new;
-    let by_n = [p(4, 1, 2, 64), p(6, 1, 2, 64), p(8, 1, 2, 64), p(10, 1, 2, 64)];
-    let by_k = [p(10, 1, 1, 64), p(10, 1, 2, 64), p(10, 1, 4, 64), p(10, 1, 8, 64)];
-    let by_l = [p(7, 2, 3, 1), p(7, 2, 3, 16), p(7, 2, 3, 64), p(7, 2, 3, 256)];
-    let mut rows = Vec::new();
-    for sets in [by_n, by_k, by_l] {
-        rows.extend(sets.map(encode::<S>));
-        rows.extend(sets.map(decode::<S>));
-        rows.extend(sets.map(whole_write::<S>));
-        rows.extend(sets.map(whole_read::<S>));
-    }
-    rows
+        let record = S::server(&m.host.server);
+        let mut servers = vec![record; TURN];
+        let name = name(m.what, &p);
+        let work = move |times: u64| {
+            let mut spent = Duration::ZERO;
+            for _ in 0..times.div_ceil(TURN as u64) {
+                servers.fill(record);
+                black_box(&servers);
+                let begun = Instant::now();
+                for server in &mut servers {
+                    let frame = black_box(&m.frame[..]);
+                    let handed =
+                        Handed { p: black_box(&p), own: 1, from: m.from, frame, out: &mut out, to: &mut to };
+                    black_box(S::to_server(server, handed, &m.host.initial, &mut m.host.area));
+                }
+                spent += begun.elapsed();
+            }
+            spent.mul_f64(times as f64 / (times.div_ceil(TURN as u64) * TURN as u64) as f64)
+        };
+        Row { name, work: Box::new(work) }
+    };
+    moments(p).into_iter().map(step).collect()
 }

@@ -1,137 +1,226 @@
-//! What is measured of an implementation. The plain Rust side is here; the proved static library
-//! takes its place beside it under the feature `linked`.
+//! What is measured of an implementation, and the three that are: plain Rust with its records in memory, the same with its records
+//! as the bytes that a host lends, and the proved static library.
 
-use register::flat::{Client, Done, Server};
+use linked::calls;
+use register::flat::{Client, Done, Outcome, Server};
+use register::layout::{client_in, put_client, put_server, server_in, CLIENT, SERVER};
 use register::{blocks, sha256, Params, Party, Refusal};
 
-pub trait Side {
-    type Server: Copy;
-    type Client: Copy;
-    fn digest(message: &[u8]) -> [u8; 32];
-    fn encode(p: &Params, value: &[u8], out: &mut [u8]);
-    fn decode(p: &Params, numbers: &[u8], parts: &[&[u8]], out: &mut [u8]);
-    fn server(p: &Params, own: usize, value: &[u8], initial: &mut [u8], area: &mut [u8]) -> Self::Server;
-    fn client() -> Self::Client;
-    #[allow(clippy::too_many_arguments)]
-    fn to_server(
-        server: &mut Self::Server,
-        p: &Params,
-        own: usize,
-        initial: &[u8],
-        area: &mut [u8],
-        from: Party,
-        frame: &[u8],
-        out: &mut [u8],
-        to: &mut [u8],
-    ) -> Result<Done, Refusal>;
-    #[allow(clippy::too_many_arguments)]
-    fn to_client(
-        client: &mut Self::Client,
-        p: &Params,
-        own: usize,
-        written: &[u8],
-        rows: &mut [u8],
-        from: Party,
-        frame: &[u8],
-        out: &mut [u8],
-        to: &mut [u8],
-        value: &mut [u8],
-    ) -> Result<Done, Refusal>;
-    fn begin_write(
-        client: &mut Self::Client,
-        p: &Params,
-        own: usize,
-        value: &[u8],
-        out: &mut [u8],
-        to: &mut [u8],
-    ) -> Result<Done, Refusal>;
-    fn begin_read(
-        client: &mut Self::Client,
-        p: &Params,
-        own: usize,
-        out: &mut [u8],
-        to: &mut [u8],
-    ) -> Result<Done, Refusal>;
+/// A frame handed to a party, and the areas lent for what it sends.
+pub struct Handed<'a> {
+    pub p: &'a Params,
+    pub own: usize,
+    pub from: Party,
+    pub frame: &'a [u8],
+    pub out: &'a mut [u8],
+    pub to: &'a mut [u8],
 }
 
-/// The plain Rust implementation.
-pub struct Plain;
+/// What a step tells: frames sent, and whether an operation ended. A refusal is none.
+pub type Told = Option<(usize, bool)>;
 
-impl Side for Plain {
-    type Server = Server;
-    type Client = Client;
+pub trait Side: 'static {
+    const NAME: &'static str;
+    type Server: Copy + 'static;
+    type Client: Copy + 'static;
 
-    fn digest(message: &[u8]) -> [u8; 32] {
-        sha256::digest(message)
+    fn server(record: &Server) -> Self::Server;
+    fn client(record: &Client) -> Self::Client;
+    fn to_server(server: &mut Self::Server, handed: Handed, initial: &[u8], area: &mut [u8]) -> Told;
+    fn to_client(
+        client: &mut Self::Client,
+        handed: Handed,
+        written: &[u8],
+        rows: &mut [u8],
+        value: &mut [u8],
+    ) -> Told;
+    /// Begins a write of a value, or a read.
+    fn begin(
+        client: &mut Self::Client,
+        p: &Params,
+        own: usize,
+        write: Option<&[u8]>,
+        out: &mut [u8],
+        to: &mut [u8],
+    ) -> Told;
+
+    // The coding of plain Rust, unless the side has its own.
+
+    fn digest(message: &[u8], out: &mut [u8; 32]) {
+        *out = sha256::digest(message);
     }
 
     fn encode(p: &Params, value: &[u8], out: &mut [u8]) {
         blocks::encode(p, value, out).unwrap();
     }
 
-    fn decode(p: &Params, numbers: &[u8], parts: &[&[u8]], out: &mut [u8]) {
+    /// Blocks lie end to end.
+    fn decode(p: &Params, numbers: &[u8], parts: &[u8], out: &mut [u8]) {
         let mut given: [(usize, &[u8]); 8] = [(0, &[]); 8];
-        for i in 0..p.k {
-            given[i] = (numbers[i] as usize, parts[i]);
+        for (i, part) in parts.chunks(p.block()).enumerate() {
+            given[i] = (numbers[i] as usize, part);
         }
         blocks::decode(p, &given[..p.k], out).unwrap();
     }
+}
 
-    fn server(p: &Params, own: usize, value: &[u8], initial: &mut [u8], area: &mut [u8]) -> Server {
-        Server::fresh(p, own, value, initial, area).unwrap()
+fn told(answer: Result<Done, Refusal>) -> Told {
+    let done = answer.ok()?;
+    Some((done.frames, !matches!(done.outcome, Outcome::Going | Outcome::Accepted)))
+}
+
+/// Plain Rust, records in memory.
+pub struct Plain;
+
+impl Side for Plain {
+    const NAME: &'static str = "plain";
+    type Server = Server;
+    type Client = Client;
+
+    fn server(record: &Server) -> Server {
+        *record
     }
 
-    fn client() -> Client {
-        Client::fresh()
+    fn client(record: &Client) -> Client {
+        *record
     }
 
-    fn to_server(
-        server: &mut Server,
+    fn to_server(server: &mut Server, h: Handed, initial: &[u8], area: &mut [u8]) -> Told {
+        told(server.deliver(h.p, h.own, initial, area, h.from, h.frame, h.out, h.to))
+    }
+
+    fn to_client(client: &mut Client, h: Handed, written: &[u8], rows: &mut [u8], value: &mut [u8]) -> Told {
+        told(client.deliver(h.p, h.own, written, rows, h.from, h.frame, h.out, h.to, value))
+    }
+
+    fn begin(
+        client: &mut Client,
         p: &Params,
         own: usize,
-        initial: &[u8],
-        area: &mut [u8],
-        from: Party,
-        frame: &[u8],
+        write: Option<&[u8]>,
         out: &mut [u8],
         to: &mut [u8],
-    ) -> Result<Done, Refusal> {
-        server.deliver(p, own, initial, area, from, frame, out, to)
+    ) -> Told {
+        told(match write {
+            Some(value) => client.begin_write(p, own, value, out, to),
+            None => client.begin_read(p, own, out, to),
+        })
+    }
+}
+
+/// Plain Rust, records as bytes: read before a step, written after it.
+pub struct Bytes;
+
+impl Side for Bytes {
+    const NAME: &'static str = "plain, bytes";
+    type Server = [u8; SERVER];
+    type Client = [u8; CLIENT];
+
+    fn server(record: &Server) -> [u8; SERVER] {
+        let mut bytes = [0; SERVER];
+        put_server(record, &mut bytes);
+        bytes
+    }
+
+    fn client(record: &Client) -> [u8; CLIENT] {
+        let mut bytes = [0; CLIENT];
+        put_client(record, &mut bytes);
+        bytes
+    }
+
+    fn to_server(bytes: &mut [u8; SERVER], handed: Handed, initial: &[u8], area: &mut [u8]) -> Told {
+        let mut server = server_in(bytes);
+        let told = Plain::to_server(&mut server, handed, initial, area)?;
+        put_server(&server, bytes);
+        Some(told)
     }
 
     fn to_client(
-        client: &mut Client,
-        p: &Params,
-        own: usize,
+        bytes: &mut [u8; CLIENT],
+        handed: Handed,
         written: &[u8],
         rows: &mut [u8],
-        from: Party,
-        frame: &[u8],
-        out: &mut [u8],
-        to: &mut [u8],
         value: &mut [u8],
-    ) -> Result<Done, Refusal> {
-        client.deliver(p, own, written, rows, from, frame, out, to, value)
+    ) -> Told {
+        let mut client = client_in(bytes);
+        let told = Plain::to_client(&mut client, handed, written, rows, value)?;
+        put_client(&client, bytes);
+        Some(told)
     }
 
-    fn begin_write(
-        client: &mut Client,
+    fn begin(
+        bytes: &mut [u8; CLIENT],
         p: &Params,
         own: usize,
-        value: &[u8],
+        write: Option<&[u8]>,
         out: &mut [u8],
         to: &mut [u8],
-    ) -> Result<Done, Refusal> {
-        client.begin_write(p, own, value, out, to)
+    ) -> Told {
+        let mut client = client_in(bytes);
+        let told = Plain::begin(&mut client, p, own, write, out, to)?;
+        put_client(&client, bytes);
+        Some(told)
+    }
+}
+
+/// The proved static library.
+pub struct Proved;
+
+fn bits(answer: u64) -> Told {
+    (answer & 0xff == 0).then_some(((answer >> 16) as usize, answer & 0xff00 != 0))
+}
+
+impl Side for Proved {
+    const NAME: &'static str = "proved";
+    type Server = [u8; SERVER];
+    type Client = [u8; CLIENT];
+
+    fn server(record: &Server) -> [u8; SERVER] {
+        Bytes::server(record)
     }
 
-    fn begin_read(
-        client: &mut Client,
+    fn client(record: &Client) -> [u8; CLIENT] {
+        Bytes::client(record)
+    }
+
+    fn to_server(state: &mut [u8; SERVER], h: Handed, initial: &[u8], area: &mut [u8]) -> Told {
+        bits(calls::server_deliver(h.p, h.own as u8, h.from, h.frame, area, initial, state, h.out, h.to))
+    }
+
+    fn to_client(
+        state: &mut [u8; CLIENT],
+        h: Handed,
+        written: &[u8],
+        rows: &mut [u8],
+        value: &mut [u8],
+    ) -> Told {
+        let me = h.own as u8;
+        bits(calls::client_deliver(h.p, me, h.from, written, h.frame, rows, value, state, h.out, h.to))
+    }
+
+    fn begin(
+        state: &mut [u8; CLIENT],
         p: &Params,
         own: usize,
+        write: Option<&[u8]>,
         out: &mut [u8],
         to: &mut [u8],
-    ) -> Result<Done, Refusal> {
-        client.begin_read(p, own, out, to)
+    ) -> Told {
+        bits(match write {
+            Some(value) => calls::begin_write(p, own as u8, state, value, out, to),
+            None => calls::begin_read(p, own as u8, state, out, to),
+        })
+    }
+
+    fn digest(message: &[u8], out: &mut [u8; 32]) {
+        assert_eq!(calls::digest(message, out), 0);
+    }
+
+    fn encode(p: &Params, value: &[u8], out: &mut [u8]) {
+        assert_eq!(calls::encode(p, value, out), 0);
+    }
+
+    fn decode(p: &Params, numbers: &[u8], parts: &[u8], out: &mut [u8]) {
+        assert_eq!(calls::decode(p, numbers, parts, out), 0);
     }
 }

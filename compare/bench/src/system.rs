@@ -1,9 +1,8 @@
-//! All parties of a register of one side, with every frame delivered in the order sent.
+//! All servers of a register and one client, of one side, with every frame delivered in the order sent.
 
-use crate::side::Side;
-use register::flat::{Done, Outcome, ROWS_AREA, STATE_AREA};
+use crate::side::{Handed, Side};
+use register::flat::{Client, Server, ROWS_AREA, STATE_AREA};
 use register::{Params, Party};
-use std::collections::VecDeque;
 
 pub struct Host<S> {
     pub server: S,
@@ -11,120 +10,113 @@ pub struct Host<S> {
     pub initial: Vec<u8>,
 }
 
+/// Frames under way, end to end, each with sender, receiver and length.
+#[derive(Default)]
+struct Mail {
+    bytes: Vec<u8>,
+    frames: Vec<(Party, Party, usize)>,
+}
+
 pub struct System<S: Side> {
-    pub p: Params,
+    p: Params,
     /// Place j − 1 is server j's.
     pub hosts: Vec<Host<S::Server>>,
     client: S::Client,
     rows: Vec<u8>,
-    written: Vec<u8>,
     value: Vec<u8>,
     out: Vec<u8>,
     to: Vec<u8>,
-    /// Frames under way: sender, receiver, place in the buffer.
-    queue: VecDeque<(Party, Party, usize, usize)>,
-    buffer: Vec<u8>,
+    sent: Mail,
+    read: Mail,
 }
 
 /// The one client.
 pub const CLIENT: usize = 1;
 
+/// Server `own` afresh, with its areas.
+pub fn fresh(p: &Params, own: usize, value: &[u8]) -> Host<Server> {
+    let (mut area, mut initial) = (vec![0; STATE_AREA], vec![0; p.block()]);
+    let server = Server::fresh(p, own, value, &mut initial, &mut area).expect("sound parameters");
+    Host { server, area, initial }
+}
+
 impl<S: Side> System<S> {
     pub fn new(p: Params, initial_value: &[u8]) -> System<S> {
-        let hosts = (1..=p.n)
-            .map(|j| {
-                let mut area = vec![0; STATE_AREA];
-                let mut initial = vec![0; p.block()];
-                let server = S::server(&p, j, initial_value, &mut initial, &mut area);
-                Host { server, area, initial }
-            })
-            .collect();
+        let host = |j| {
+            let Host { server, area, initial } = fresh(&p, j, initial_value);
+            Host { server: S::server(&server), area, initial }
+        };
         System {
             p,
-            hosts,
-            client: S::client(),
+            hosts: (1..=p.n).map(host).collect(),
+            client: S::client(&Client::fresh()),
             rows: vec![0; ROWS_AREA],
-            written: Vec::new(),
             value: vec![0; p.l],
             out: vec![0; p.server_room().max(p.client_room())],
             to: vec![0; 4 * p.n + 18],
-            queue: VecDeque::new(),
-            buffer: Vec::new(),
+            sent: Mail::default(),
+            read: Mail::default(),
         }
     }
 
-    fn enqueue(&mut self, from: Party, done: Done) {
+    /// Takes the frames of the out area.
+    fn post(&mut self, from: Party, frames: usize) {
         let mut at = 0;
-        for i in 0..done.frames {
+        for receiver in self.to.chunks(2).take(frames) {
             let length = 2 + u16::from_be_bytes([self.out[at], self.out[at + 1]]) as usize;
-            let number = self.to[2 * i + 1] as usize;
-            let to = if self.to[2 * i] == 0 { Party::Client(number) } else { Party::Server(number) };
-            let start = self.buffer.len();
-            self.buffer.extend_from_slice(&self.out[at..at + length]);
-            self.queue.push_back((from, to, start, length));
+            let number = receiver[1] as usize;
+            let to = if receiver[0] == 0 { Party::Client(number) } else { Party::Server(number) };
+            self.sent.frames.push((from, to, length));
             at += length;
         }
-        assert_eq!(at, done.bytes);
+        self.sent.bytes.extend_from_slice(&self.out[..at]);
     }
 
-    /// Delivers everything and says how the client's operation ended. `look` sees each frame
-    /// before its delivery.
-    fn finish(&mut self, mut look: impl FnMut(&System<S>, Party, Party, &[u8])) -> Outcome {
-        let mut ended = Outcome::Going;
-        while let Some((from, to, start, length)) = self.queue.pop_front() {
-            let frame = self.buffer[start..start + length].to_vec();
-            look(self, from, to, &frame);
-            let answer = match to {
-                Party::Server(j) => {
-                    let host = &mut self.hosts[j - 1];
-                    S::to_server(
-                        &mut host.server,
-                        &self.p,
-                        j,
-                        &host.initial,
-                        &mut host.area,
-                        from,
-                        &frame,
-                        &mut self.out,
-                        &mut self.to,
-                    )
+    /// An operation, and the delivery of everything that it causes; it must end. `look` sees each frame before its delivery.
+    fn operate(&mut self, write: Option<&[u8]>, mut look: impl FnMut(&System<S>, Party, Party, &[u8])) {
+        let p = self.p;
+        let begun = S::begin(&mut self.client, &p, CLIENT, write, &mut self.out, &mut self.to);
+        self.post(Party::Client(CLIENT), begun.expect("no operation is open").0);
+        let mut ended = false;
+        while !self.sent.frames.is_empty() {
+            let mut mail = std::mem::take(&mut self.read);
+            std::mem::swap(&mut mail, &mut self.sent);
+            let mut rest = &mail.bytes[..];
+            for &(from, receiver, length) in &mail.frames {
+                let (frame, behind) = rest.split_at(length);
+                rest = behind;
+                look(self, from, receiver, frame);
+                let (out, to) = (&mut self.out[..], &mut self.to[..]);
+                let told = match receiver {
+                    Party::Server(own) => {
+                        let host = &mut self.hosts[own - 1];
+                        let handed = Handed { p: &p, own, from, frame, out, to };
+                        S::to_server(&mut host.server, handed, &host.initial, &mut host.area)
+                    }
+                    Party::Client(own) => {
+                        let handed = Handed { p: &p, own, from, frame, out, to };
+                        let written = write.unwrap_or_default();
+                        S::to_client(&mut self.client, handed, written, &mut self.rows, &mut self.value)
+                    }
+                };
+                if let Some((frames, end)) = told {
+                    ended |= end;
+                    self.post(receiver, frames);
                 }
-                Party::Client(c) => S::to_client(
-                    &mut self.client,
-                    &self.p,
-                    c,
-                    &self.written,
-                    &mut self.rows,
-                    from,
-                    &frame,
-                    &mut self.out,
-                    &mut self.to,
-                    &mut self.value,
-                ),
-            };
-            if let Ok(done) = answer {
-                if matches!(to, Party::Client(_)) && done.outcome != Outcome::Going {
-                    ended = done.outcome;
-                }
-                self.enqueue(to, done);
             }
+            mail.bytes.clear();
+            mail.frames.clear();
+            self.read = mail;
         }
-        self.buffer.clear();
-        ended
+        assert!(ended);
     }
 
     pub fn write(&mut self, value: &[u8], look: impl FnMut(&System<S>, Party, Party, &[u8])) {
-        self.written.clear();
-        self.written.extend_from_slice(value);
-        let done = S::begin_write(&mut self.client, &self.p, CLIENT, value, &mut self.out, &mut self.to);
-        self.enqueue(Party::Client(CLIENT), done.unwrap());
-        assert_eq!(self.finish(look), Outcome::Written);
+        self.operate(Some(value), look);
     }
 
     pub fn read(&mut self) -> &[u8] {
-        let done = S::begin_read(&mut self.client, &self.p, CLIENT, &mut self.out, &mut self.to);
-        self.enqueue(Party::Client(CLIENT), done.unwrap());
-        assert!(matches!(self.finish(|_, _, _, _| ()), Outcome::Value(_)));
+        self.operate(None, |_, _, _, _| ());
         &self.value
     }
 }

@@ -1,6 +1,6 @@
 //! The calls of include/semduoli.h. Each passes a slice as its pointer and length and gives the answer as it is.
 
-use register::Params;
+use register::{Params, Party};
 
 mod raw {
     extern "C" {
@@ -62,6 +62,65 @@ mod raw {
             state_length: usize,
             value: *const u8,
             value_length: usize,
+            out: *mut u8,
+            out_length: usize,
+            to: *mut u8,
+            to_length: usize,
+        ) -> u64;
+        pub fn semduoli_server_fresh(
+            n: usize,
+            t: usize,
+            k: usize,
+            size: usize,
+            me: u8,
+            value: *const u8,
+            value_length: usize,
+            area: *mut u8,
+            area_length: usize,
+            initial: *mut u8,
+            initial_length: usize,
+            state: *mut u8,
+            state_length: usize,
+        ) -> u64;
+        pub fn semduoli_server_deliver(
+            n: usize,
+            t: usize,
+            k: usize,
+            size: usize,
+            me: u8,
+            class: usize,
+            sender: usize,
+            frame: *const u8,
+            frame_length: usize,
+            area: *mut u8,
+            area_length: usize,
+            initial: *const u8,
+            initial_length: usize,
+            state: *mut u8,
+            state_length: usize,
+            out: *mut u8,
+            out_length: usize,
+            to: *mut u8,
+            to_length: usize,
+        ) -> u64;
+        pub fn semduoli_client_deliver(
+            n: usize,
+            t: usize,
+            k: usize,
+            size: usize,
+            me: u8,
+            class: usize,
+            sender: usize,
+            value: *const u8,
+            value_length: usize,
+            frame: *const u8,
+            frame_length: usize,
+            rows: *mut u8,
+            rows_length: usize,
+            result: *mut u8,
+            result_length: usize,
+            state: *mut u8,
+            state_length: usize,
             out: *mut u8,
             out_length: usize,
             to: *mut u8,
@@ -138,6 +197,120 @@ pub fn begin_write(p: &Params, me: u8, state: &mut [u8], value: &[u8], out: &mut
             state.len(),
             value.as_ptr(),
             value.len(),
+            out.as_mut_ptr(),
+            out.len(),
+            to.as_mut_ptr(),
+            to.len(),
+        )
+    }
+}
+
+pub fn server_fresh(
+    p: &Params,
+    me: u8,
+    value: &[u8],
+    area: &mut [u8],
+    initial: &mut [u8],
+    state: &mut [u8],
+) -> u64 {
+    unsafe {
+        raw::semduoli_server_fresh(
+            p.n,
+            p.t,
+            p.k,
+            p.l,
+            me,
+            value.as_ptr(),
+            value.len(),
+            area.as_mut_ptr(),
+            area.len(),
+            initial.as_mut_ptr(),
+            initial.len(),
+            state.as_mut_ptr(),
+            state.len(),
+        )
+    }
+}
+
+/// Class and number of a sender.
+fn sender(from: Party) -> (usize, usize) {
+    match from {
+        Party::Client(c) => (0, c),
+        Party::Server(j) => (1, j),
+    }
+}
+
+#[allow(clippy::too_many_arguments)]
+pub fn server_deliver(
+    p: &Params,
+    me: u8,
+    from: Party,
+    frame: &[u8],
+    area: &mut [u8],
+    initial: &[u8],
+    state: &mut [u8],
+    out: &mut [u8],
+    to: &mut [u8],
+) -> u64 {
+    let (class, number) = sender(from);
+    unsafe {
+        raw::semduoli_server_deliver(
+            p.n,
+            p.t,
+            p.k,
+            p.l,
+            me,
+            class,
+            number,
+            frame.as_ptr(),
+            frame.len(),
+            area.as_mut_ptr(),
+            area.len(),
+            initial.as_ptr(),
+            initial.len(),
+            state.as_mut_ptr(),
+            state.len(),
+            out.as_mut_ptr(),
+            out.len(),
+            to.as_mut_ptr(),
+            to.len(),
+        )
+    }
+}
+
+#[allow(clippy::too_many_arguments)]
+pub fn client_deliver(
+    p: &Params,
+    me: u8,
+    from: Party,
+    value: &[u8],
+    frame: &[u8],
+    rows: &mut [u8],
+    result: &mut [u8],
+    state: &mut [u8],
+    out: &mut [u8],
+    to: &mut [u8],
+) -> u64 {
+    let (class, number) = sender(from);
+    unsafe {
+        raw::semduoli_client_deliver(
+            p.n,
+            p.t,
+            p.k,
+            p.l,
+            me,
+            class,
+            number,
+            value.as_ptr(),
+            value.len(),
+            frame.as_ptr(),
+            frame.len(),
+            rows.as_mut_ptr(),
+            rows.len(),
+            result.as_mut_ptr(),
+            result.len(),
+            state.as_mut_ptr(),
+            state.len(),
             out.as_mut_ptr(),
             out.len(),
             to.as_mut_ptr(),

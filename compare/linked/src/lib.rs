@@ -4,6 +4,11 @@
 pub mod calls;
 mod coding;
 mod histories;
+pub mod runs;
+mod single;
+
+use register::flat::{Done, Outcome};
+use register::Refusal;
 
 /// What differed, in words.
 pub type Difference = String;
@@ -47,6 +52,19 @@ pub const KINDS: &[Kind] = &[
     Kind { name: "encode", usual: 20_000, refusals: &[1, 2, 3, 10], outcomes: &[0], case: coding::any_encode },
     Kind { name: "decode", usual: 20_000, refusals: &[1, 2, 3, 9, 10], outcomes: &[0], case: coding::any_decode },
     Kind { name: "history", usual: 20_000, refusals: &[10, 18, 19], outcomes: &[0, 1], case: histories::history },
+    Kind { name: "fresh", usual: 5_000, refusals: &[1, 2, 3, 10], outcomes: &[0], case: single::fresh },
+    Kind {
+        name: "server", usual: 20_000, case: single::server,
+        refusals: &[1, 2, 3, 4, 5, 6, 7, 8, 9, 10, 11, 12, 13, 14], outcomes: &[0],
+    },
+    Kind {
+        name: "client", usual: 20_000, case: single::client,
+        refusals: &[1, 2, 3, 4, 5, 6, 7, 8, 9, 10, 11, 12, 14, 15, 16, 17], outcomes: &[0, 1, 2, 3],
+    },
+    Kind {
+        name: "run", usual: 300, case: runs::lockstep,
+        refusals: &[3, 4, 5, 6, 7, 8, 10, 11, 12, 13, 14, 15], outcomes: &[0, 1, 3],
+    },
 ];
 
 /// The cases of `count` seeds from `first` on, and which answers came. A failure says what reproduces it.
@@ -88,4 +106,20 @@ fn same_bytes(what: &str, given: &[u8], expected: &[u8]) -> Result<(), Differenc
     }
     let at = given.iter().zip(expected).position(|(a, b)| a != b);
     Err(format!("{what} differ at byte {at:?}"))
+}
+
+/// An answer of the second implementation in the bits of include/semduoli.h.
+fn bits(answer: Result<Done, Refusal>) -> u64 {
+    match answer {
+        Err(refusal) => refusal.number() as u64,
+        Ok(done) => {
+            let outcome = match done.outcome {
+                Outcome::Going | Outcome::Accepted => 0,
+                Outcome::Written => 1,
+                Outcome::OutOfStamps => 2,
+                Outcome::Value(_) => 3,
+            };
+            outcome << 8 | (done.frames as u64) << 16
+        }
+    }
 }

@@ -1,9 +1,11 @@
 //! Random calls of any kind: any parameters, own numbers, senders, frames and lent sizes, mostly one thing wrong.
 
-use crate::flat::{Client, Operation, Server, ROWS_AREA, STATE_AREA};
+use crate::client::KEPT;
+use crate::flat::{Client, Operation, Reader, Server, ROWS_AREA, SEATS, STATE_AREA};
 use crate::frame::{build, Body, Stage, Stamp};
-use crate::params::{Params, Party};
+use crate::params::{Params, Party, DIGEST};
 use crate::random::Random;
+use crate::sha256::digest;
 
 fn some_params(random: &mut Random) -> Params {
     let mut p = random.pick(&Params::all(5));
@@ -35,7 +37,9 @@ pub fn bounds(p: &Params, own: usize, most: usize) -> Option<u8> {
 
 fn some_frame(p: &Params, client: usize, random: &mut Random) -> Vec<u8> {
     let (list, block) = if bounds(p, 1, 1).is_none() { (p.list(), p.block()) } else { (128, 3) };
-    let (digests, block) = (random.bytes(list), random.bytes(block));
+    let block = random.bytes(block);
+    // In half of the frames the block fits its digest, whoever sends it.
+    let digests = if random.chance(1, 2) { digest(&block).repeat(list / DIGEST) } else { random.bytes(list) };
     let time = random.below(3) as u64;
     let mut stamp = Stamp { time, writer: random.below(3) as u8, sequence: random.below(3) as u32 };
     if random.chance(1, 2) {
@@ -86,6 +90,56 @@ fn some_size(enough: usize, random: &mut Random) -> usize {
     }
 }
 
+fn some_flags(random: &mut Random) -> [bool; SEATS] {
+    std::array::from_fn(|_| random.chance(1, 2))
+}
+
+fn some_times(random: &mut Random) -> [u64; SEATS] {
+    std::array::from_fn(|_| random.pick(&[0, 1, 2, 2, 2, u64::MAX]))
+}
+
+fn some_stamp(random: &mut Random) -> Stamp {
+    match random.below(3) as u64 {
+        0 => Stamp::default(),
+        time => Stamp { time, writer: random.range(1, 8) as u8, sequence: random.range(1, 3) as u32 },
+    }
+}
+
+/// Gives a server any flags and times, of a run or of none.
+fn scramble_server(server: &mut Server, random: &mut Random) {
+    server.stamp = some_stamp(random);
+    for slot in &mut server.slots {
+        let (blocks, times) = (&mut slot.blocks, &mut slot.times);
+        for flag in
+            [&mut blocks.sent, &mut blocks.ready, &mut blocks.complete, &mut times.sent, &mut times.ready]
+        {
+            *flag = random.chance(1, 2);
+        }
+        (blocks.echoes, blocks.readies) = (some_flags(random), some_flags(random));
+        times.delivered = random.chance(1, 2);
+        times.time = random.pick(&[0, 1, 2, u64::MAX]);
+        (times.echoes, times.readies) = (some_flags(random), some_flags(random));
+        (times.echo_times, times.ready_times) = (some_times(random), some_times(random));
+    }
+    for reader in &mut server.readers {
+        *reader = Reader {
+            newest: random.below(3) as u32,
+            listening: random.chance(1, 2),
+            noted: some_stamp(random),
+        };
+    }
+}
+
+/// Gives a client any counts, times and rows; the stamps of a row differ.
+fn scramble_client(client: &mut Client, random: &mut Random) {
+    (client.counted, client.times) = (some_flags(random), some_times(random));
+    for (kept, row) in client.kept.iter_mut().zip(&mut client.stamps) {
+        *kept = random.range(0, KEPT) as u8;
+        let first = random.range(1, 2) as u64;
+        *row = std::array::from_fn(|i| Stamp { time: first + i as u64, writer: 1, sequence: 1 });
+    }
+}
+
 /// A frame handed to a server, with everything lent.
 #[derive(Clone, Debug, PartialEq, Eq)]
 pub struct ServerCall {
@@ -110,6 +164,9 @@ pub fn server_call(random: &mut Random) -> ServerCall {
     let sane = if bounds.is_none() { p } else { Params::new(10, 1, 1, 256) };
     let (mut initial, mut area) = (vec![1; sane.block()], vec![2; STATE_AREA]);
     let mut server = Server::fresh(&sane, 1, &vec![3; sane.l], &mut initial, &mut area).unwrap();
+    if random.chance(1, 2) {
+        scramble_server(&mut server, random);
+    }
     server.readers[2].newest = random.below(2) as u32;
     server.slots[2].open = random.pick(&[1, 1, 2]);
     initial.truncate(some_size(sane.block(), random));
@@ -161,6 +218,9 @@ pub fn client_call(random: &mut Random) -> ClientCall {
     client.writes = random.pick(&[1, 1, 1, u32::MAX]);
     client.reads = random.pick(&[1, 1, 1, u32::MAX]);
     client.out_of_stamps = random.chance(1, 5);
+    if random.chance(1, 2) {
+        scramble_client(&mut client, random);
+    }
     let written = vec![1; some_size(sane.l, random)];
     let rows = vec![2; some_size(ROWS_AREA, random)];
     let out = vec![3; some_size(sane.client_room(), random)];

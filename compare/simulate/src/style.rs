@@ -57,11 +57,13 @@ pub trait OtherClient {
     fn record(&self) -> flat::Client;
 }
 
+/// A fresh server: parameters, own number, value, initial area, state area.
+pub type FreshServer = fn(&Params, usize, &[u8], &mut [u8], &mut [u8]) -> Box<dyn OtherServer>;
+
 #[derive(Clone, Copy)]
 pub struct Style {
     pub name: &'static str,
-    /// A fresh server: parameters, own number, value, initial area, state area.
-    pub server: fn(&Params, usize, &[u8], &mut [u8], &mut [u8]) -> Box<dyn OtherServer>,
+    pub server: FreshServer,
     pub client: fn() -> Box<dyn OtherClient>,
 }
 

@@ -1,0 +1,115 @@
+//! The same server and client on fixed arrays and lent areas, without allocation: the plain
+//! Rust side of comparisons byte by byte and of benchmarks.
+//!
+//! An area of dispersed values is cut in chunks of 576 bytes: digest list at 0, block at 320. In
+//! the state area chunk 0 is the present value; for client c chunk 21c − 20 is the complete
+//! write, 21c − 20 + j the echo and 21c − 10 + j the ready of server j. In the rows area chunk
+//! 4(j − 1) + i is place i of server j's row. Chunks that are not in use keep their bytes.
+//! The out area gets frames end to end, the to area two bytes a frame: class (0 client, 1
+//! server) and number of the receiver.
+
+mod client;
+mod server;
+
+pub use client::{Client, Operation};
+pub use server::{BlockPart, Reader, Server, Slot, TimePart};
+
+use crate::client::KEPT;
+use crate::frame::{write, Frame, Stamp};
+use crate::params::{Params, CLIENTS, MAX_SERVERS};
+
+pub const CHUNK: usize = 576;
+pub const BLOCK_AT: usize = 320;
+pub const STATE_AREA: usize = 169 * CHUNK;
+pub const ROWS_AREA: usize = MAX_SERVERS * KEPT * CHUNK;
+
+/// No sequence is open.
+pub const NONE_OPEN: u64 = 1 << 32;
+
+pub const SEATS: usize = MAX_SERVERS + 1;
+pub const DESKS: usize = CLIENTS + 1;
+
+pub fn complete_chunk(client: usize) -> usize {
+    21 * client - 20
+}
+
+pub fn echo_chunk(client: usize, server: usize) -> usize {
+    21 * client - 20 + server
+}
+
+pub fn ready_chunk(client: usize, server: usize) -> usize {
+    21 * client - 10 + server
+}
+
+pub fn row_chunk(server: usize, place: usize) -> usize {
+    KEPT * (server - 1) + place
+}
+
+pub fn list_in<'a>(p: &Params, area: &'a [u8], chunk: usize) -> &'a [u8] {
+    &area[chunk * CHUNK..chunk * CHUNK + p.list()]
+}
+
+pub fn block_in<'a>(p: &Params, area: &'a [u8], chunk: usize) -> &'a [u8] {
+    let start = chunk * CHUNK + BLOCK_AT;
+    &area[start..start + p.block()]
+}
+
+pub fn store(area: &mut [u8], chunk: usize, digests: &[u8], block: &[u8]) {
+    let start = chunk * CHUNK;
+    area[start..start + digests.len()].copy_from_slice(digests);
+    area[start + BLOCK_AT..start + BLOCK_AT + block.len()].copy_from_slice(block);
+}
+
+/// What a call did: frames sent, bytes of the out area used.
+#[derive(Clone, Copy, Debug, PartialEq, Eq)]
+pub struct Done {
+    pub frames: usize,
+    pub bytes: usize,
+    pub outcome: Outcome,
+}
+
+#[derive(Clone, Copy, Debug, PartialEq, Eq)]
+pub enum Outcome {
+    Going,
+    /// A server accepted a write.
+    Accepted,
+    /// A read ended; its value is in the value area.
+    Value(Stamp),
+    Written,
+    OutOfStamps,
+}
+
+/// Frames written so far.
+struct Out<'a> {
+    out: &'a mut [u8],
+    to: &'a mut [u8],
+    bytes: usize,
+    frames: usize,
+}
+
+impl Out<'_> {
+    fn send(&mut self, class: u8, number: usize, frame: &Frame) {
+        self.bytes += write(frame, &mut self.out[self.bytes..]);
+        self.to[2 * self.frames] = class;
+        self.to[2 * self.frames + 1] = number as u8;
+        self.frames += 1;
+    }
+
+    fn send_client(&mut self, frame: &Frame) {
+        self.send(0, frame.client as usize, frame);
+    }
+
+    /// One frame to servers 1 to n: written once and copied.
+    fn send_servers(&mut self, n: usize, frame: &Frame) {
+        let start = self.bytes;
+        self.send(1, 1, frame);
+        let length = self.bytes - start;
+        for j in 2..=n {
+            self.out.copy_within(start..start + length, self.bytes);
+            self.bytes += length;
+            self.to[2 * self.frames] = 1;
+            self.to[2 * self.frames + 1] = j as u8;
+            self.frames += 1;
+        }
+    }
+}

@@ -54,15 +54,15 @@ pub const KINDS: &[Kind] = &[
     Kind { name: "history", usual: 20_000, refusals: &[10, 18, 19], outcomes: &[0, 1], case: histories::history },
     Kind { name: "fresh", usual: 5_000, refusals: &[1, 2, 3, 10], outcomes: &[0], case: single::fresh },
     Kind {
-        name: "server", usual: 20_000, case: single::server,
+        name: "server", usual: 60_000, case: single::server,
         refusals: &[1, 2, 3, 4, 5, 6, 7, 8, 9, 10, 11, 12, 13, 14], outcomes: &[0],
     },
     Kind {
-        name: "client", usual: 20_000, case: single::client,
+        name: "client", usual: 200_000, case: single::client,
         refusals: &[1, 2, 3, 4, 5, 6, 7, 8, 9, 10, 11, 12, 14, 15, 16, 17], outcomes: &[0, 1, 2, 3],
     },
     Kind {
-        name: "run", usual: 300, case: runs::lockstep,
+        name: "run", usual: 500, case: runs::lockstep,
         refusals: &[3, 4, 5, 6, 7, 8, 10, 11, 12, 13, 14, 15], outcomes: &[0, 1, 3],
     },
 ];

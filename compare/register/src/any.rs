@@ -83,7 +83,7 @@ fn some_party(client: usize, random: &mut Random) -> Party {
 
 /// Enough, one too few, or none.
 fn some_size(enough: usize, random: &mut Random) -> usize {
-    match random.below(20) {
+    match random.below(40) {
         0 => enough - 1,
         1 => 0,
         _ => enough + random.below(2),
@@ -221,7 +221,8 @@ pub fn client_call(random: &mut Random) -> ClientCall {
     if random.chance(1, 2) {
         scramble_client(&mut client, random);
     }
-    let written = vec![1; some_size(sane.l, random)];
+    let length = if random.chance(1, 8) { some_size(sane.l, random) } else { sane.l };
+    let written = vec![1; length];
     let rows = vec![2; some_size(ROWS_AREA, random)];
     let out = vec![3; some_size(sane.client_room(), random)];
     let to = vec![4; some_size(4 * sane.n, random)];

@@ -242,7 +242,7 @@ impl ClientPair {
             Operation::Stamps(times) => {
                 b.operation == flat::Operation::Stamps
                     && (1..=p.n).all(|j| times.contains_key(&j) == b.counted[j])
-                    && times.values().max().copied().unwrap_or(0) == b.largest()
+                    && times.values().max().copied().unwrap_or(0) == b.largest(p)
             }
             Operation::Acks(from) => {
                 b.operation == flat::Operation::Acks && (1..=p.n).all(|j| from.contains(&j) == b.counted[j])

@@ -46,8 +46,8 @@ impl Client {
     }
 
     /// The largest time counted.
-    pub fn largest(&self) -> u64 {
-        self.times.iter().copied().max().unwrap_or(0)
+    pub fn largest(&self, p: &Params) -> u64 {
+        self.times[1..=p.n].iter().copied().max().unwrap_or(0)
     }
 
     fn check_begin(&self, p: &Params, used: u32, out: &[u8], to: &[u8]) -> Result<(), Refusal> {
@@ -169,7 +169,7 @@ impl Client {
             return Err(Refusal::Old);
         }
         self.counted[server] = true;
-        Ok(self.counted.iter().filter(|&&x| x).count() >= p.most())
+        Ok(self.counted[1..=p.n].iter().filter(|&&x| x).count() >= p.most())
     }
 
     fn stamp(
@@ -186,7 +186,7 @@ impl Client {
         if !enough {
             return Ok(Outcome::Going);
         }
-        let largest = self.largest();
+        let largest = self.largest(p);
         if largest == u64::MAX {
             self.operation = Operation::None;
             self.out_of_stamps = true;

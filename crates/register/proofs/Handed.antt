@@ -3,8 +3,6 @@ use Prim.Native.Nat.{ℕ, _<_, _≤_}
 use mathlib.Core.Path.{_≡_, sym, ap, ap₂, _∙_}
 use mathlib.Core.List.{List}
 use lib.ListN.{length}
-use lib.Dec.{ltb}
-use Rattle.area.specs.Area.{pick}
 use Rattle.sha256.specs.Hash.{digestOf}
 use Rattle.blocks.specs.declared.Params.{Params}
 use Rattle.frame.specs.declared.Party.{Party}

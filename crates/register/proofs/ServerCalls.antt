@@ -5,7 +5,6 @@ use mathlib.Core.Bool.{Bool, true, false}
 use mathlib.Core.List.{List}
 use lib.ListN.{length}
 use lib.Seq.{sets}
-use lib.Dec.{ltb}
 use Rattle.area.specs.Area.{pick}
 use Rattle.sha256.specs.Hash.{digestOf}
 use Rattle.blocks.specs.declared.Params.{Params}

@@ -24,7 +24,7 @@ unfoldable pub testAnswer : Verdict → ℕ
 testAnswer J.Fine = 0
 testAnswer (J.Bad r) = numberOf r
 
--- a client's call, where there are n servers: 0, no more than that frames were sent; 1, the write has ended; 2, it closed as out of stamps; 3, the read has
+-- a client's call, where there are n servers: 0, nothing has ended; 1, the write has ended; 2, it closed as out of stamps; 3, the read has
 -- ended, and a read-complete went to each server. The bytes above say how many frames were sent.
 unfoldable pub clientAnswer : ℕ → Answer → ℕ
 clientAnswer n (Y.Sent m) = 65536 * (m % 65536)

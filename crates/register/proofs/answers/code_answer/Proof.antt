@@ -5,24 +5,19 @@ use Rattle.register.specs.Answers.{codeAnswer}
 use Rattle.register.proofs.answers.code_answer.Statement.{statement}
 use Rattle.register.proofs.answers.code_answer.Tie as tie
 
--- src/answers.rt:55:24
 enum-told : tie.Need-enum-told
 enum-told c = search needs
 
--- src/answers.rt:56:24
 enum-known-c : tie.Need-enum-known-c
 enum-known-c c = search needs
 
--- src/answers.rt:56:30
 fault-number-requires : tie.Need-fault-number-requires
 fault-number-requires c κs = search needs
 
--- src/answers.rt:51:1
 returns : tie.Need-returns
 unfolding codeAnswer
 returns c = sym (ap codeAnswer (c .enum-told .given .1))
 
--- src/answers.rt:51:1
 returns-2 : tie.Need-returns-2
 unfolding codeAnswer
 returns-2 c = c .fault-number .ensures ∙ sym (ap codeAnswer (c .before .before .c .given .1))

@@ -4,47 +4,37 @@ use Rattle.blocks.specs.Params.{numberOf as faultNumber}
 use Rattle.register.proofs.answers.fault_number.Statement.{statement}
 use Rattle.register.proofs.answers.fault_number.Tie as tie
 
--- src/answers.rt:16:27
 enum-told : tie.Need-enum-told
 enum-told c = search needs
 
--- src/answers.rt:17:29
 enum-told-2 : tie.Need-enum-told-2
 enum-told-2 c = search needs
 
--- src/answers.rt:18:26
 enum-told-3 : tie.Need-enum-told-3
 enum-told-3 c = search needs
 
--- src/answers.rt:19:26
 enum-told-4 : tie.Need-enum-told-4
 enum-told-4 c = search needs
 
--- src/answers.rt:20:24
 enum-told-5 : tie.Need-enum-told-5
 enum-told-5 c = search needs
 
--- src/answers.rt:12:1
 returns : tie.Need-returns
 unfolding faultNumber
 returns c = search needs
 
--- src/answers.rt:12:1
 returns-2 : tie.Need-returns-2
 unfolding faultNumber
 returns-2 c = search needs
 
--- src/answers.rt:12:1
 returns-3 : tie.Need-returns-3
 unfolding faultNumber
 returns-3 c = search needs
 
--- src/answers.rt:12:1
 returns-4 : tie.Need-returns-4
 unfolding faultNumber
 returns-4 c = search needs
 
--- src/answers.rt:12:1
 returns-5 : tie.Need-returns-5
 unfolding faultNumber
 returns-5 c = search needs

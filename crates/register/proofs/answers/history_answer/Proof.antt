@@ -5,53 +5,41 @@ use Rattle.register.specs.Answers.{historyAnswer}
 use Rattle.register.proofs.answers.history_answer.Statement.{statement}
 use Rattle.register.proofs.answers.history_answer.Tie as tie
 
--- src/answers.rt:85:39
 enum-known-a : tie.Need-enum-known-a
 enum-known-a c = search needs
 
--- src/answers.rt:85:45
 mul-result : tie.Need-mul-result
 mul-result c = search needs
 
--- src/answers.rt:86:41
 enum-known-a-2 : tie.Need-enum-known-a-2
 enum-known-a-2 c = search needs
 
--- src/answers.rt:87:19
 mul-result-2 : tie.Need-mul-result-2
 mul-result-2 c = search needs
 
--- src/answers.rt:87:13
 add-result : tie.Need-add-result
 add-result c = search needs
 
--- src/answers.rt:87:46
 mul-result-3 : tie.Need-mul-result-3
 mul-result-3 c = search needs
 
--- src/answers.rt:87:13
 add-result-2 : tie.Need-add-result-2
 add-result-2 c = search needs
 
--- src/answers.rt:89:39
 enum-known-a-3 : tie.Need-enum-known-a-3
 enum-known-a-3 c = search needs
 
--- src/answers.rt:89:45
 cast-result : tie.Need-cast-result
 cast-result c = search needs
 
--- src/answers.rt:81:1
 returns : tie.Need-returns
 unfolding historyAnswer
 returns c = sym (ap historyAnswer (c .before .a .given .1))
 
--- src/answers.rt:81:1
 returns-2 : tie.Need-returns-2
 unfolding historyAnswer
 returns-2 c = sym (ap historyAnswer (c .before .a2 .given .1))
 
--- src/answers.rt:81:1
 returns-3 : tie.Need-returns-3
 unfolding historyAnswer
 returns-3 c = sym (ap historyAnswer (c .before .a3 .given .1))

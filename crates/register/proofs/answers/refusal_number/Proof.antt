@@ -5,173 +5,135 @@ use Rattle.frame.specs.Refusals.{numberOf}
 use Rattle.register.proofs.answers.refusal_number.Statement.{statement}
 use Rattle.register.proofs.answers.refusal_number.Tie as tie
 
--- src/answers.rt:29:29
 enum-told : tie.Need-enum-told
 enum-told c = search needs
 
--- src/answers.rt:30:31
 enum-told-2 : tie.Need-enum-told-2
 enum-told-2 c = search needs
 
--- src/answers.rt:31:28
 enum-told-3 : tie.Need-enum-told-3
 enum-told-3 c = search needs
 
--- src/answers.rt:32:29
 enum-told-4 : tie.Need-enum-told-4
 enum-told-4 c = search needs
 
--- src/answers.rt:33:29
 enum-told-5 : tie.Need-enum-told-5
 enum-told-5 c = search needs
 
--- src/answers.rt:34:26
 enum-told-6 : tie.Need-enum-told-6
 enum-told-6 c = search needs
 
--- src/answers.rt:35:27
 enum-told-7 : tie.Need-enum-told-7
 enum-told-7 c = search needs
 
--- src/answers.rt:36:26
 enum-told-8 : tie.Need-enum-told-8
 enum-told-8 c = search needs
 
--- src/answers.rt:37:29
 enum-told-9 : tie.Need-enum-told-9
 enum-told-9 c = search needs
 
--- src/answers.rt:38:26
 enum-told-10 : tie.Need-enum-told-10
 enum-told-10 c = search needs
 
--- src/answers.rt:39:28
 enum-told-11 : tie.Need-enum-told-11
 enum-told-11 c = search needs
 
--- src/answers.rt:40:27
 enum-told-12 : tie.Need-enum-told-12
 enum-told-12 c = search needs
 
--- src/answers.rt:41:27
 enum-told-13 : tie.Need-enum-told-13
 enum-told-13 c = search needs
 
--- src/answers.rt:42:28
 enum-told-14 : tie.Need-enum-told-14
 enum-told-14 c = search needs
 
--- src/answers.rt:43:26
 enum-told-15 : tie.Need-enum-told-15
 enum-told-15 c = search needs
 
--- src/answers.rt:44:31
 enum-told-16 : tie.Need-enum-told-16
 enum-told-16 c = search needs
 
--- src/answers.rt:45:28
 enum-told-17 : tie.Need-enum-told-17
 enum-told-17 c = search needs
 
--- src/answers.rt:46:28
 enum-told-18 : tie.Need-enum-told-18
 enum-told-18 c = search needs
 
--- src/answers.rt:47:30
 enum-told-19 : tie.Need-enum-told-19
 enum-told-19 c = search needs
 
--- src/answers.rt:25:1
 returns : tie.Need-returns
 unfolding numberOf
 returns c = sym (ap numberOf (c .enum-told .given .1))
 
--- src/answers.rt:25:1
 returns-2 : tie.Need-returns-2
 unfolding numberOf
 returns-2 c = sym (ap numberOf (c .enum-told2 .given .1))
 
--- src/answers.rt:25:1
 returns-3 : tie.Need-returns-3
 unfolding numberOf
 returns-3 c = sym (ap numberOf (c .enum-told3 .given .1))
 
--- src/answers.rt:25:1
 returns-4 : tie.Need-returns-4
 unfolding numberOf
 returns-4 c = sym (ap numberOf (c .enum-told4 .given .1))
 
--- src/answers.rt:25:1
 returns-5 : tie.Need-returns-5
 unfolding numberOf
 returns-5 c = sym (ap numberOf (c .enum-told5 .given .1))
 
--- src/answers.rt:25:1
 returns-6 : tie.Need-returns-6
 unfolding numberOf
 returns-6 c = sym (ap numberOf (c .enum-told6 .given .1))
 
--- src/answers.rt:25:1
 returns-7 : tie.Need-returns-7
 unfolding numberOf
 returns-7 c = sym (ap numberOf (c .enum-told7 .given .1))
 
--- src/answers.rt:25:1
 returns-8 : tie.Need-returns-8
 unfolding numberOf
 returns-8 c = sym (ap numberOf (c .enum-told8 .given .1))
 
--- src/answers.rt:25:1
 returns-9 : tie.Need-returns-9
 unfolding numberOf
 returns-9 c = sym (ap numberOf (c .enum-told9 .given .1))
 
--- src/answers.rt:25:1
 returns-10 : tie.Need-returns-10
 unfolding numberOf
 returns-10 c = sym (ap numberOf (c .enum-told10 .given .1))
 
--- src/answers.rt:25:1
 returns-11 : tie.Need-returns-11
 unfolding numberOf
 returns-11 c = sym (ap numberOf (c .enum-told11 .given .1))
 
--- src/answers.rt:25:1
 returns-12 : tie.Need-returns-12
 unfolding numberOf
 returns-12 c = sym (ap numberOf (c .enum-told12 .given .1))
 
--- src/answers.rt:25:1
 returns-13 : tie.Need-returns-13
 unfolding numberOf
 returns-13 c = sym (ap numberOf (c .enum-told13 .given .1))
 
--- src/answers.rt:25:1
 returns-14 : tie.Need-returns-14
 unfolding numberOf
 returns-14 c = sym (ap numberOf (c .enum-told14 .given .1))
 
--- src/answers.rt:25:1
 returns-15 : tie.Need-returns-15
 unfolding numberOf
 returns-15 c = sym (ap numberOf (c .enum-told15 .given .1))
 
--- src/answers.rt:25:1
 returns-16 : tie.Need-returns-16
 unfolding numberOf
 returns-16 c = sym (ap numberOf (c .enum-told16 .given .1))
 
--- src/answers.rt:25:1
 returns-17 : tie.Need-returns-17
 unfolding numberOf
 returns-17 c = sym (ap numberOf (c .enum-told17 .given .1))
 
--- src/answers.rt:25:1
 returns-18 : tie.Need-returns-18
 unfolding numberOf
 returns-18 c = sym (ap numberOf (c .enum-told18 .given .1))
 
--- src/answers.rt:25:1
 returns-19 : tie.Need-returns-19
 unfolding numberOf
 returns-19 c = sym (ap numberOf (c .enum-told19 .given .1))

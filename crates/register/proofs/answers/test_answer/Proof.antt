@@ -5,24 +5,19 @@ use Rattle.register.specs.Answers.{testAnswer}
 use Rattle.register.proofs.answers.test_answer.Statement.{statement}
 use Rattle.register.proofs.answers.test_answer.Tie as tie
 
--- src/answers.rt:64:26
 enum-told : tie.Need-enum-told
 enum-told c = search needs
 
--- src/answers.rt:65:22
 enum-known-v : tie.Need-enum-known-v
 enum-known-v c = search needs
 
--- src/answers.rt:65:28
 refusal-number-requires : tie.Need-refusal-number-requires
 refusal-number-requires c κs = search needs
 
--- src/answers.rt:60:1
 returns : tie.Need-returns
 unfolding testAnswer
 returns c = sym (ap testAnswer (c .enum-told .given .1))
 
--- src/answers.rt:60:1
 returns-2 : tie.Need-returns-2
 unfolding testAnswer
 returns-2 c = c .refusal-number .ensures ∙ sym (ap testAnswer (c .before .before .v .given .1))

@@ -5,47 +5,37 @@ use Rattle.register.specs.Calls.{isRefusal}
 use Rattle.register.proofs.clients.is_refusal.Statement.{statement}
 use Rattle.register.proofs.clients.is_refusal.Tie as tie
 
--- src/clients.rt:70:22
 enum-known-a : tie.Need-enum-known-a
 enum-known-a c = search needs
 
--- src/clients.rt:71:28
 enum-told : tie.Need-enum-told
 enum-told c = search needs
 
--- src/clients.rt:72:32
 enum-told-2 : tie.Need-enum-told-2
 enum-told-2 c = search needs
 
--- src/clients.rt:73:23
 enum-known-a-2 : tie.Need-enum-known-a-2
 enum-known-a-2 c = search needs
 
--- src/clients.rt:74:25
 enum-known-a-3 : tie.Need-enum-known-a-3
 enum-known-a-3 c = search needs
 
--- src/clients.rt:66:1
 returns : tie.Need-returns
 unfolding isRefusal
 returns c = sym (ap isRefusal (c .before .a .given .1))
 
--- src/clients.rt:66:1
 returns-2 : tie.Need-returns-2
 unfolding isRefusal
 returns-2 c = sym (ap isRefusal (c .enum-told .given .1))
 
--- src/clients.rt:66:1
 returns-3 : tie.Need-returns-3
 unfolding isRefusal
 returns-3 c = sym (ap isRefusal (c .enum-told2 .given .1))
 
--- src/clients.rt:66:1
 returns-4 : tie.Need-returns-4
 unfolding isRefusal
 returns-4 c = sym (ap isRefusal (c .before .a2 .given .1))
 
--- src/clients.rt:66:1
 returns-5 : tie.Need-returns-5
 unfolding isRefusal
 returns-5 c = sym (ap isRefusal (c .before .a3 .given .1))

@@ -4,31 +4,24 @@ use Rattle.register.proofs.Laws.{keep-old, keep-new}
 use Rattle.register.proofs.clients.keep.Statement.{statement}
 use Rattle.register.proofs.clients.keep.Tie as tie
 
--- src/clients.rt:83:8
 is-refusal-requires : tie.Need-is-refusal-requires
 is-refusal-requires c κs = search needs
 
--- src/clients.rt:84:9
 client-answer-requires : tie.Need-client-answer-requires
 client-answer-requires c κs = search needs
 
--- src/clients.rt:84:9
 returns : tie.Need-returns
 returns c = keep-old _ _ _ _ _ _ (c .before .before .is-refusal .ensures) (c .client-answer .ensures) (c .before .if1 .taken)
 
--- src/clients.rt:86:5
 put-client-requires : tie.Need-put-client-requires
 put-client-requires c κs = search needs
 
--- src/clients.rt:87:5
 client-answer-requires-2 : tie.Need-client-answer-requires-2
 client-answer-requires-2 c κs = search needs
 
--- src/clients.rt:79:1
 same-length : tie.Need-same-length
 same-length c = search needs
 
--- src/clients.rt:79:1
 returns-2 : tie.Need-returns-2
 returns-2 c = keep-new _ _ _ _ _ _ (c .before .before .before .before .before .before .is-refusal .ensures) (c .client-answer2 .ensures) (c .before .before .before .before .before .if1 .left) _ (c .before .before .before .put-client .ensures)
 

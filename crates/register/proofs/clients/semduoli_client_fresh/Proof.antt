@@ -7,24 +7,19 @@ use Rattle.register.specs.Calls.{freshCall}
 use Rattle.register.proofs.clients.semduoli_client_fresh.Statement.{statement}
 use Rattle.register.proofs.clients.semduoli_client_fresh.Tie as tie
 
--- src/clients.rt:57:9
 returns : tie.Need-returns
 unfolding freshCall pick
 returns c = search tests
 
--- src/clients.rt:59:9
 fresh-client-requires : tie.Need-fresh-client-requires
 fresh-client-requires c κs = search needs
 
--- src/clients.rt:60:5
 put-client-requires : tie.Need-put-client-requires
 put-client-requires c κs = search needs
 
--- src/clients.rt:52:1
 same-length : tie.Need-same-length
 same-length c = search needs
 
--- src/clients.rt:52:1
 returns-2 : tie.Need-returns-2
 returns-2 c = fresh-done _ _ _ (c .before .before .before .before .before .if1 .left) (c .before .before .before .before .fresh-client .ensures) (c .before .before .put-client .ensures)
 

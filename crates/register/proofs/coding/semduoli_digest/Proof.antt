@@ -7,33 +7,26 @@ use Rattle.register.specs.Calls.{digestCall}
 use Rattle.register.proofs.coding.semduoli_digest.Statement.{statement}
 use Rattle.register.proofs.coding.semduoli_digest.Tie as tie
 
--- src/coding.rt:13:9
 returns : tie.Need-returns
 unfolding digestCall pick
 returns c = search tests
 
--- src/coding.rt:16:9
 returns-2 : tie.Need-returns-2
 unfolding digestCall pick
 returns-2 c = search tests
 
--- src/coding.rt:18:13
 digest-requires : tie.Need-digest-requires
 digest-requires c κs = search needs
 
--- src/coding.rt:19:23
 slice-aggregate-put : tie.Need-slice-aggregate-put
 slice-aggregate-put c = search needs
 
--- src/coding.rt:19:5
 put-requires : tie.Need-put-requires
 put-requires c κs = search needs
 
--- src/coding.rt:8:1
 same-length : tie.Need-same-length
 same-length c = search needs
 
--- src/coding.rt:8:1
 returns-3 : tie.Need-returns-3
 returns-3 c = digest-done _ _ _ _ (c .before .before .before .before .before .before .before .if1 .left) (c .before .before .before .before .before .before .if2 .left) (c .before .before .before .before .before .digest .ensures) (c .before .before .put .ensures)
 

@@ -5,19 +5,15 @@ use Rattle.register.specs.Calls.{encodeCall}
 use Rattle.register.proofs.coding.semduoli_encode.Statement.{statement}
 use Rattle.register.proofs.coding.semduoli_encode.Tie as tie
 
--- src/coding.rt:36:9
 encode-requires : tie.Need-encode-requires
 encode-requires c κs = search needs
 
--- src/coding.rt:37:5
 code-answer-requires : tie.Need-code-answer-requires
 code-answer-requires c κs = search needs
 
--- src/coding.rt:24:1
 same-length : tie.Need-same-length
 same-length c = search needs
 
--- src/coding.rt:24:1
 returns : tie.Need-returns
 unfolding encodeCall
 returns c = code-done _ _ _ _ (c .before .before .before .encode .ensures) (c .code-answer .ensures)

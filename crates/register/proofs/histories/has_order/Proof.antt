@@ -5,29 +5,23 @@ use Rattle.register.specs.Calls.{hasOrder}
 use Rattle.register.proofs.histories.has_order.Statement.{statement}
 use Rattle.register.proofs.histories.has_order.Tie as tie
 
--- src/histories.rt:12:25
 enum-known-a : tie.Need-enum-known-a
 enum-known-a c = search needs
 
--- src/histories.rt:13:27
 enum-known-a-2 : tie.Need-enum-known-a-2
 enum-known-a-2 c = search needs
 
--- src/histories.rt:14:25
 enum-known-a-3 : tie.Need-enum-known-a-3
 enum-known-a-3 c = search needs
 
--- src/histories.rt:8:1
 returns : tie.Need-returns
 unfolding hasOrder
 returns c = sym (ap hasOrder (c .before .a .given .1))
 
--- src/histories.rt:8:1
 returns-2 : tie.Need-returns-2
 unfolding hasOrder
 returns-2 c = search needs
 
--- src/histories.rt:8:1
 returns-3 : tie.Need-returns-3
 unfolding hasOrder
 returns-3 c = search needs

@@ -8,44 +8,34 @@ use Rattle.register.specs.Calls.{historyCall}
 use Rattle.register.proofs.histories.semduoli_judge.Statement.{statement}
 use Rattle.register.proofs.histories.semduoli_judge.Tie as tie
 
--- src/histories.rt:24:9
 returns : tie.Need-returns
 unfolding historyCall pick
 returns c = search tests
 
--- src/histories.rt:26:9
 judge-text-requires : tie.Need-judge-text-requires
 judge-text-requires c κs = search needs
 
--- src/histories.rt:28:9
 has-order-requires : tie.Need-has-order-requires
 has-order-requires c κs = search needs
 
--- src/histories.rt:29:9
 history-answer-requires : tie.Need-history-answer-requires
 history-answer-requires c κs = search needs
 
--- src/histories.rt:29:9
 returns-2 : tie.Need-returns-2
 returns-2 c = judged-other _ _ _ (c .before .before .before .judge-text .ensures) (c .before .before .before .before .if1 .left) _ (c .history-answer .ensures) _ (c .before .before .has-order .ensures) (c .before .if2 .taken)
 
--- src/histories.rt:32:25
 slice-aggregate-put : tie.Need-slice-aggregate-put
 slice-aggregate-put c = search needs
 
--- src/histories.rt:32:5
 put-requires : tie.Need-put-requires
 put-requires c κs = let h = whole-answer _ _ (c .before .before .before .before .before .judge-text .ensures) in omega (arith, h)
 
--- src/histories.rt:33:5
 history-answer-requires-2 : tie.Need-history-answer-requires-2
 history-answer-requires-2 c κs = search needs
 
--- src/histories.rt:19:1
 same-length : tie.Need-same-length
 same-length c = search needs
 
--- src/histories.rt:19:1
 returns-3 : tie.Need-returns-3
 returns-3 c = judged-order _ _ _ (c .before .before .before .before .before .before .before .before .before .judge-text .ensures) (c .before .before .before .before .before .before .before .before .before .before .if1 .left) _ (c .history-answer2 .ensures) _ (c .before .before .before .before .before .before .before .before .has-order .ensures) (c .before .before .before .before .before .before .before .if2 .left) _ (c .before .before .before .put .ensures)
 

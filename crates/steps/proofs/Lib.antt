@@ -10,3 +10,4 @@ pub mod Keys
 pub mod ServerStamps
 pub mod ClientTaken
 pub mod SendCount
+pub mod Outcomes

@@ -1,6 +1,7 @@
-//! bench [--quick]: the proved static library beside plain Rust, in the tables of docs/PERFORMANCE.md. Each row is measured in rounds;
-//! in a round every side works for some milliseconds, one after the other, in turns of first and last. A round's ratio is that of its
-//! two times. The rule, fixed before measuring: a row keeps its bound if the median of its rounds' ratios is at most the bound.
+//! bench [--quick] [TEXT]: the proved static library beside plain Rust, in the tables of docs/PERFORMANCE.md. Each row is measured in runs of
+//! many short rounds; in a round every side works for a fraction of a millisecond, one after the other, the first and the last in
+//! turns. A run's ratio is that of the sides' median times. The rule, fixed before measuring: a row keeps its bound if the median of its
+//! runs' ratios is at most the bound. With TEXT only rows whose name has it.
 
 mod rows;
 mod side;
@@ -12,54 +13,62 @@ use side::{Bytes, Plain, Proved, Side};
 use std::time::Duration;
 
 struct Plan {
+    /// Rows are measured whose name has this.
+    only: String,
+    runs: usize,
     rounds: usize,
     length: Duration,
 }
 
-/// Times that fill a round.
+/// Times that fill a round, by the quickest of several trials: others may have been interrupted.
 fn times_for(row: &mut Row, length: Duration) -> u64 {
     let mut times = 1;
     loop {
-        let spent = (row.work)(times);
-        if spent >= length / 4 {
+        let spent = (0..5).map(|_| (row.work)(times)).min().expect("trials");
+        if spent >= length / 2 {
             return ((times as f64 * length.as_secs_f64() / spent.as_secs_f64()) as u64).max(1);
         }
         times *= 2;
     }
 }
 
-fn median(values: &[f64]) -> f64 {
-    let mut sorted = values.to_vec();
+fn median(values: impl IntoIterator<Item = f64>) -> f64 {
+    let mut sorted: Vec<f64> = values.into_iter().collect();
     sorted.sort_by(f64::total_cmp);
     sorted[sorted.len() / 2]
 }
 
-/// Nanoseconds of each side, by round.
+/// The median nanoseconds of each side, by run.
 fn measure(sides: &mut [Row], plan: &Plan) -> Vec<Vec<f64>> {
     let times: Vec<u64> = sides.iter_mut().map(|row| times_for(row, plan.length)).collect();
-    let mut figures = vec![Vec::new(); sides.len()];
-    for round in 0..plan.rounds {
-        for turn in 0..sides.len() {
-            let i = if round % 2 == 0 { turn } else { sides.len() - 1 - turn };
-            let spent = (sides[i].work)(times[i]);
-            figures[i].push(spent.as_nanos() as f64 / times[i] as f64);
+    let run = |_| {
+        let mut figures = vec![Vec::new(); sides.len()];
+        for round in 0..plan.rounds {
+            for turn in 0..sides.len() {
+                let i = if round % 2 == 0 { turn } else { sides.len() - 1 - turn };
+                let spent = (sides[i].work)(times[i]);
+                figures[i].push(spent.as_nanos() as f64 / times[i] as f64);
+            }
         }
-    }
-    figures
+        figures.into_iter().map(median).collect()
+    };
+    (0..plan.runs).map(run).collect()
 }
 
-/// The ratios of the last side, proved, to another.
-fn ratios(other: &[f64], proved: &[f64], bound: f64) -> (f64, f64, usize) {
-    let ratios: Vec<f64> = proved.iter().zip(other).map(|(proved, other)| proved / other).collect();
-    let above = ratios.iter().filter(|&&ratio| ratio > bound).count();
-    (median(&ratios), ratios.iter().copied().fold(0.0, f64::max), above)
+/// The ratios of the last side, proved, to another: their median, the worst, and how many are above the bound.
+fn ratios(runs: &[Vec<f64>], other: usize, bound: f64) -> (f64, f64, usize) {
+    let ratio = |run: &Vec<f64>| run[run.len() - 1] / run[other];
+    let above = runs.iter().filter(|run| ratio(run) > bound).count();
+    (median(runs.iter().map(ratio)), runs.iter().map(ratio).fold(0.0, f64::max), above)
 }
 
 /// A table of rows in two sides, or in three with the plain one in both forms. A median above the bound is bold.
 fn table(title: &str, rows: Vec<Vec<Row>>, bound: f64, plan: &Plan) {
+    let rows: Vec<Vec<Row>> = rows.into_iter().filter(|sides| sides[0].name.contains(&plan.only)).collect();
+    let Some(first) = rows.first() else { return };
     println!("\n### {title}\n");
-    let wide = rows[0].len() == 3;
-    let note = format!("of {} rounds above {bound:.1}", plan.rounds);
+    let wide = first.len() == 3;
+    let note = format!("of {} runs above {bound:.1}", plan.runs);
     if wide {
         println!("| what | {}, ns | {}, ns | {}, ns | ratio to bytes | worst | {note} | ratio to plain | worst | {note} |", Plain::NAME, Bytes::NAME, Proved::NAME);
         println!("|---|---|---|---|---|---|---|---|---|---|");
@@ -68,12 +77,11 @@ fn table(title: &str, rows: Vec<Vec<Row>>, bound: f64, plan: &Plan) {
         println!("|---|---|---|---|---|---|");
     }
     for mut sides in rows {
-        let figures = measure(&mut sides, plan);
-        let (proved, others) = figures.split_last().expect("sides");
+        let runs = measure(&mut sides, plan);
         print!("| {} |", sides[0].name);
-        figures.iter().for_each(|figures| print!(" {:.0} |", median(figures)));
-        for other in others.iter().rev() {
-            let (middle, worst, above) = ratios(other, proved, bound);
+        (0..sides.len()).for_each(|i| print!(" {:.0} |", median(runs.iter().map(|run| run[i]))));
+        for other in (0..sides.len() - 1).rev() {
+            let (middle, worst, above) = ratios(&runs, other, bound);
             let mark = if middle > bound { "**" } else { "" };
             print!(" {mark}{middle:.2}{mark} | {worst:.2} | {above} |");
         }
@@ -90,14 +98,16 @@ macro_rules! sides {
 
 fn main() {
     let arguments: Vec<String> = std::env::args().skip(1).collect();
-    if arguments.iter().any(|a| a != "--quick") {
-        eprintln!("bench [--quick]");
+    let (options, texts): (Vec<&String>, Vec<&String>) = arguments.iter().partition(|a| a.starts_with("--"));
+    if options.iter().any(|a| *a != "--quick") || texts.len() > 1 {
+        eprintln!("bench [--quick] [TEXT]");
         std::process::exit(2);
     }
-    let plan = if arguments.is_empty() {
-        Plan { rounds: 41, length: Duration::from_millis(3) }
-    } else {
-        Plan { rounds: 5, length: Duration::from_millis(1) }
+    let plan = Plan {
+        only: texts.first().map_or_else(String::new, |text| text.to_string()),
+        runs: if options.is_empty() { 11 } else { 3 },
+        rounds: 41,
+        length: Duration::from_micros(150),
     };
     let p = Params::new;
     table("Digests", sides!([32, 64, 256], digest, [Plain, Proved]), 1.0, &plan);

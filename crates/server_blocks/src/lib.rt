@@ -60,8 +60,8 @@ fn compare_blocks(
     answer(s, g, area, c, q, x, due, full, list, &block[..w], out, to)
 }
 
-// An echo or a ready of a digest list was counted in client c's slot x, and kept in the state area.
-pub fn settle_blocks(
+// An echo or a ready was counted, and something may hang on it: the kept echoes and readies that have its list decide.
+fn settle_list(
     s: Server,
     g: Params,
     me: u8,
@@ -83,6 +83,35 @@ pub fn settle_blocks(
     let r = tally(rs, g.n);
     if matters(g, b.ready, b.complete, e, r) {
         return compare_blocks(s, g, me, area, c, q, x, es, rs, e, r, list, out, to);
+    }
+    let p = Place { at: 0, count: 0 };
+    settle(s, g, area, c, q, x, out, to, p)
+}
+
+// An echo or a ready of a digest list was counted in client c's slot x, and kept in the state area.
+// The counted echoes and readies, whatever their list, are at least those that have it: where nothing hangs on their numbers, no list is compared.
+pub fn settle_blocks(
+    s: Server,
+    g: Params,
+    me: u8,
+    area: &mut [u8],
+    c: u8,
+    q: u32,
+    x: Slot,
+    list: &[u8],
+    out: &mut [u8],
+    to: &mut [u8],
+) -> Moved
+    requires { ⌜ Lent g c (length (now area)) firstPlace (g .n + 9) (length (now out)) (length (now to)) × (x .sequence ≡ q) × (length (now list) ≡ listed g) × (1 ≤ me) × (me ≤ g .n) ⌝ }
+    ensures { λ r. ⌜ ((b : List ℕ) → progress (r .server) (now (area .exit)) (outbox (now (out .exit)) (now (to .exit)) (r .place)) ≡ moved (settleBlocks digestOf g me s (now (area .entry)) c x (entry (now (list .entry)) b)) (outbox (now (out .entry)) (now (to .entry)) firstPlace)) ⌝ }
+{
+    let b = x.blocks;
+    let echoes = b.echoes;
+    let readies = b.readies;
+    let e = tally(echoes, g.n);
+    let r = tally(readies, g.n);
+    if matters(g, b.ready, b.complete, e, r) {
+        return settle_list(s, g, me, area, c, q, x, list, out, to);
     }
     let p = Place { at: 0, count: 0 };
     settle(s, g, area, c, q, x, out, to, p)

@@ -1,5 +1,5 @@
--- The comparison is made where something hangs on it. Assumes nothing.
-use Rattle.server_blocks.proofs.Settling.{skipped}
+-- No list is compared where nothing hangs on the counted echoes and readies. Assumes nothing.
+use Rattle.server_blocks.proofs.Fewer.{unlisted}
 use Rattle.server_blocks.proofs.Rooms.{lent-none}
 use Rattle.sha256.specs.Hash.{digestOf}
 use mathlib.Core.Path.{sym, _∙_}
@@ -8,35 +8,17 @@ use borrow.Author.Needs.{needs}
 use Rattle.server_blocks.proofs.settle_blocks.Statement.{statement}
 use Rattle.server_blocks.proofs.settle_blocks.Tie as tie
 
-echo-votes-requires : tie.Need-echo-votes-requires
-echo-votes-requires c κs =
-    let P = c .before .before .before .before .before .before .pre in
-    record { bounded = P .0 .bounded; client-low = P .0 .client-low; client-high = P .0 .client-high; whole = P .0 .whole; list-is = P .2 }
-
-ready-votes-requires : tie.Need-ready-votes-requires
-ready-votes-requires c κs =
-    let P = c .before .before .before .before .before .before .before .before .pre in
-    record { bounded = P .0 .bounded; client-low = P .0 .client-low; client-high = P .0 .client-high; whole = P .0 .whole; list-is = P .2 }
-
 tally-requires : tie.Need-tally-requires
-tally-requires c κs = c .before .before .before .before .before .before .before .before .before .pre .0 .bounded .servers-high
+tally-requires c κs = search needs
 
 tally-requires-2 : tie.Need-tally-requires-2
-tally-requires-2 c κs = c .before .before .before .before .before .before .before .before .before .before .pre .0 .bounded .servers-high
+tally-requires-2 c κs = search needs
 
 matters-requires : tie.Need-matters-requires
-matters-requires c κs = let B = c .before .before .before .before .before .before .before .before .before .before .before .pre .0 .bounded in (B, omega (arith, c .before .tally .ensures .1, B .servers-high))
+matters-requires c κs = search needs
 
-compare-blocks-requires : tie.Need-compare-blocks-requires
-compare-blocks-requires c κs =
-    let P = c .before .before .before .before .before .before .before .before .before .before .before .before .before .before .before .before .pre in (
-      P .0,
-      P .1,
-      P .2,
-      record { echoes-are = c .before .before .before .before .before .before .before .before .before .echo-votes .ensures; readies-are = c .before .before .before .before .before .before .before .ready-votes .ensures; echo-number = c .before .before .before .before .before .before .tally .ensures .0; ready-number = c .before .before .before .before .before .tally2 .ensures .0 },
-      omega (arith, c .before .before .before .before .before .before .tally .ensures .1, P .0 .bounded .servers-high),
-      sym (c .before .before .before .before .matters .ensures) ∙ c .before .before .before .if1 .taken,
-    )
+settle-list-requires : tie.Need-settle-list-requires
+settle-list-requires c κs = search needs
 
 same-length : tie.Need-same-length
 same-length c = search needs
@@ -48,10 +30,10 @@ same-length-3 : tie.Need-same-length-3
 same-length-3 c = search needs
 
 returns : tie.Need-returns
-returns c = c .before .before .before .before .before .before .compare-blocks .ensures
+returns c = search needs
 
 settle-requires : tie.Need-settle-requires
-settle-requires c κs = let P = c .before .before .before .before .before .before .before .before .before .before .before .before .before .before .before .before .pre in (lent-none _ _ _ _ _ (P .0), P .1)
+settle-requires c κs = let P = c .before .before .before .before .before .before .before .before .before .before .before .before .before .before .pre in (lent-none _ _ _ _ _ (P .0), P .1)
 
 same-length-4 : tie.Need-same-length-4
 same-length-4 c = search needs
@@ -64,24 +46,23 @@ same-length-6 c = search needs
 
 returns-2 : tie.Need-returns-2
 returns-2 c =
-    let z = c .before .before .before .before .before .before .before .before .before .before .before .before .before .before .before .before .before .before .before .before .before .before .before in
+    let z = c .before .before .before .before .before .before .before .before .before .before .before .before .before .before .before .before .before .before .before .before .before in
     let P = z .pre in
     let a = z .args in
     λ b.
-    skipped digestOf (a .g) (P .0 .bounded) (a .area .now) (a .list .now) b (a .c) (a .x) _ _ _ _
-    (record { echoes-are = c .before .before .before .before .before .before .before .before .before .before .before .before .before .before .before .before .echo-votes .ensures; readies-are = c .before .before .before .before .before .before .before .before .before .before .before .before .before .before .ready-votes .ensures; echo-number = c .before .before .before .before .before .before .before .before .before .before .before .before .before .tally .ensures .0; ready-number = c .before .before .before .before .before .before .before .before .before .before .before .before .tally2 .ensures .0 })
-    (a .me) (a .s) _ _ (sym (c .before .before .before .before .before .before .before .before .before .before .before .matters .ensures) ∙ c .before .before .before .before .before .before .before .before .before .before .if1 .left) (c .before .before .before .before .before .before .settle .ensures)
+    unlisted digestOf (a .g) (P .0 .bounded) (a .area .now) (a .list .now) b (a .c) (a .x) _ _ (a .me) (a .s) _ _
+    (c .before .before .before .before .before .before .before .before .before .before .before .before .before .tally .ensures .0) (c .before .before .before .before .before .before .before .before .before .before .before .before .tally2 .ensures .0)
+    (sym (c .before .before .before .before .before .before .before .before .before .before .before .matters .ensures) ∙ c .before .before .before .before .before .before .before .before .before .before .if1 .left)
+    (c .before .before .before .before .before .before .settle .ensures)
 
 pub settle-blocks-spec : {M : Type 1} → statement M
 settle-blocks-spec =
     tie.close
     (tie.spec
-    echo-votes-requires
-    ready-votes-requires
     tally-requires
     tally-requires-2
     matters-requires
-    compare-blocks-requires
+    settle-list-requires
     same-length
     same-length-2
     same-length-3

@@ -1,0 +1,98 @@
+-- The echoes and readies that have a list are at most those that were counted: where nothing hangs on these, nothing hangs on them. Assumes nothing.
+use Prim.Native.Nat.{ℕ, zero, suc, _+_, _*_, _-_, _≤_}
+use native.Mathlib.Omega.{arith}
+use mathlib.Core.Path.{_≡_, refl, ap, ap₂}
+use mathlib.Core.Bool.{Bool, true, false, not, _&&_, _||_}
+use mathlib.Core.List.{List, []}
+use lib.ListN.{getD}
+use lib.Dec.{leb}
+use borrow.Author.Tests.{leb-false, lt-leb}
+use Rattle.quorum.specs.Quorum.{bit, count}
+use Rattle.quorum.proofs.Logic.{or-false, and-false}
+use Rattle.blocks.specs.declared.Params.{Params}
+use Rattle.frame.specs.Params.{Bounded, quota}
+use Rattle.frame.specs.Messages.{Entry, entry}
+use Rattle.frame.specs.Outbox.{Outbox}
+use Rattle.frame.specs.Chunks.{entryAt}
+use Rattle.frame.specs.Coded.{hasList}
+use Rattle.group.specs.Entries.{kept, marked, entries, sentList, flags, placesFrom}
+use Rattle.group.proofs.Matched.{count-flags}
+use Rattle.server.specs.declared.Slot.{Slot}
+use Rattle.server.specs.declared.Server.{Server}
+use Rattle.server.specs.Steps.{settle, settleBlocks}
+use Rattle.server.specs.Stages.{Progress, moved}
+use Rattle.server_blocks.specs.Votes.{enoughBy, mattersBy}
+use Rattle.server_blocks.proofs.Settling.{skipped}
+
+-- ---- fewer have the list than are flagged
+
+bit-le : (a b : Bool) → (a ≡ true → b ≡ true) → bit a ≤ bit b
+bit-le true b h = rw (h refl) (omega arith)
+bit-le false b h = omega arith
+
+count-le-count : (p q : ℕ → Bool) (n : ℕ) → ((j : ℕ) → p j ≡ true → q j ≡ true) → count p n ≤ count q n
+unfolding count
+count-le-count p q zero h = omega arith
+count-le-count p q (suc n) h = omega (arith, bit-le (p (suc n)) (q (suc n)) (h (suc n)), count-le-count p q n h)
+
+kept-list : (b : Bool) (e : Entry) (d : List ℕ) → hasList (kept b e) d ≡ true → b ≡ true
+kept-list true e d q = refl
+kept-list false e d q = q
+
+sent-flagged : (g : Params) (on : List Bool) (at a d : List ℕ) (j : ℕ) → sentList g on at a d j ≡ true → marked on j ≡ true
+unfolding sentList entries
+sent-flagged g on at a d j e = kept-list (marked on j) (entryAt g a (getD at j 0)) d e
+
+with-list-le : (g : Params) (on : List Bool) (at a d : List ℕ) → Bounded g
+    → count (marked (flags (sentList g on at a d) (g .n))) (g .n) ≤ count (marked on) (g .n)
+with-list-le g on at a d B =
+    let e = count-flags (sentList g on at a d) (g .n) (B .servers-high) in
+    let l = count-le-count (sentList g on at a d) (marked on) (g .n) (sent-flagged g on at a d) in
+    omega (arith, e, l)
+
+-- ---- fewer echoes and readies: nothing more hangs on them
+
+leb-fewer : (a m n : ℕ) → m ≤ n → leb a n ≡ false → leb a m ≡ false
+leb-fewer a m n h e = let l = leb-false a n e in lt-leb a m (omega (arith, h, l))
+
+or-fewer : (a b k l : Bool) → (k ≡ false → a ≡ false) → (l ≡ false → b ≡ false) → k || l ≡ false → a || b ≡ false
+or-fewer a b k l f h e = let s = or-false k l e in ap₂ (λ (u v : Bool). u || v) (f (s .0)) (h (s .1))
+
+and-fewer : (a b l : Bool) → (l ≡ false → b ≡ false) → a && l ≡ false → a && b ≡ false
+and-fewer true b l h e = h e
+and-fewer false b l h e = refl
+
+fewer-and : (a k b : Bool) → (k ≡ false → a ≡ false) → k && b ≡ false → a && b ≡ false
+fewer-and a true b f e = and-false a b e
+fewer-and a false b f e = ap (λ (u : Bool). u && b) (f refl)
+
+enough-fewer : (g : Params) (e r E R : ℕ) → e ≤ E → r ≤ R → enoughBy g E R ≡ false → enoughBy g e r ≡ false
+unfolding enoughBy
+enough-fewer g e r E R h k =
+    let l : e + g .t ≤ E + g .t = omega (arith, h) in
+    or-fewer (leb (g .n) (e + g .t)) (leb (quota g) r) (leb (g .n) (E + g .t)) (leb (quota g) R)
+    (leb-fewer (g .n) (e + g .t) (E + g .t) l) (leb-fewer (quota g) r R k)
+
+matters-fewer : (g : Params) (went complete : Bool) (e r E R : ℕ) → e ≤ E → r ≤ R → mattersBy g went complete E R ≡ false
+    → mattersBy g went complete e r ≡ false
+unfolding mattersBy
+matters-fewer g went complete e r E R h k =
+    or-fewer (not went && enoughBy g e r) (leb (quota g + g .t) r && not complete) (not went && enoughBy g E R) (leb (quota g + g .t) R && not complete)
+    (and-fewer (not went) (enoughBy g e r) (enoughBy g E R) (enough-fewer g e r E R h k))
+    (fewer-and (leb (quota g + g .t) r) (leb (quota g + g .t) R) (not complete) (leb-fewer (quota g + g .t) r R k))
+
+-- no list is compared: nothing hangs on the e echoes and r readies that were counted
+pub unlisted : (H : List ℕ → List ℕ) (g : Params) → Bounded g → (a d b : List ℕ) (c : ℕ) (x : Slot) (e r me : ℕ) (s : Server) (q : Outbox) (w : Progress)
+    → e ≡ count (marked (x .blocks .echoes)) (g .n)
+    → r ≡ count (marked (x .blocks .readies)) (g .n)
+    → mattersBy g (x .blocks .ready) (x .blocks .complete) e r ≡ false
+    → w ≡ moved (settle g s a c x [] []) q
+    → w ≡ moved (settleBlocks H g me s a c x (entry d b)) q
+unlisted H g B a d b c x e r me s q w u v h k =
+    let E = flags (sentList g (x .blocks .echoes) (placesFrom (21 * c - 20)) a d) (g .n) in
+    let R = flags (sentList g (x .blocks .readies) (placesFrom (21 * c - 10)) a d) (g .n) in
+    let i : count (marked E) (g .n) ≤ e = rw u (with-list-le g (x .blocks .echoes) (placesFrom (21 * c - 20)) a d B) in
+    let j : count (marked R) (g .n) ≤ r = rw v (with-list-le g (x .blocks .readies) (placesFrom (21 * c - 10)) a d B) in
+    skipped H g B a d b c x E R (count (marked E) (g .n)) (count (marked R) (g .n))
+    (record { echoes-are = refl; readies-are = refl; echo-number = refl; ready-number = refl }) me s q w
+    (matters-fewer g (x .blocks .ready) (x .blocks .complete) (count (marked E) (g .n)) (count (marked R) (g .n)) e r i j h) k

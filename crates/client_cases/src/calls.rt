@@ -86,9 +86,15 @@ pub fn hand(name: &[u8], x: Trial, j: u8, f: &[u8]) -> Trial {
 }
 
 // A stamp of server j is handed in.
-pub fn stamp(name: &[u8], c: Given, x: Trial, j: u8, sequence: u32, time: u64) -> Trial {
+pub fn stamp(name: &[u8], x: Trial, j: u8, sequence: u32, time: u64) -> Trial {
     let f = stamp_frame(sequence, time);
-    hand_from(name, c, x, Party::Server(j), &f)
+    hand(name, x, j, &f)
+}
+
+// The stamp of server 1 with time 5 for the first write is handed in with what is given.
+pub fn stamp_given(name: &[u8], c: Given, x: Trial) -> Trial {
+    let f = stamp_frame(1, 5);
+    hand_from(name, c, x, Party::Server(1), &f)
 }
 
 // An ack of server j is handed in.
@@ -132,8 +138,8 @@ fn write_answered(
     y
 }
 
-// A read begins.
-pub fn read(name: &[u8], c: Given, x: Trial) -> Trial {
+// A read begins with what is given.
+pub fn read_given(name: &[u8], c: Given, x: Trial) -> Trial {
     print_name(name);
     let mut out = [165u8; 1216];
     let mut to = [165u8; 16];
@@ -145,8 +151,8 @@ pub fn read(name: &[u8], c: Given, x: Trial) -> Trial {
     with_client(x, client)
 }
 
-// The write of the value begins.
-pub fn write(name: &[u8], c: Given, x: Trial) -> Trial {
+// The write of the value begins with what is given.
+pub fn write_given(name: &[u8], c: Given, x: Trial) -> Trial {
     print_name(name);
     let value = [1u8, 2, 3, 4];
     let mut out = [165u8; 1216];
@@ -158,4 +164,14 @@ pub fn write(name: &[u8], c: Given, x: Trial) -> Trial {
     let s = x.client;
     let client = write_answered(g, c.me, s, &value[..v], &mut out[..o], &mut to[..w]);
     with_client(x, client)
+}
+
+// A read begins.
+pub fn read(name: &[u8], x: Trial) -> Trial {
+    read_given(name, usual(), x)
+}
+
+// The write of the value begins.
+pub fn write(name: &[u8], x: Trial) -> Trial {
+    write_given(name, usual(), x)
 }

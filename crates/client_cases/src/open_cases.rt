@@ -3,6 +3,7 @@ use crate::calls::ack;
 use crate::calls::hand;
 use crate::calls::hand_from;
 use crate::calls::stamp;
+use crate::calls::stamp_given;
 use crate::calls::value;
 use crate::calls::write;
 use crate::frames::stamp_frame;
@@ -18,19 +19,12 @@ use frame::Party;
 
 // 1 to 3.
 fn bounds(x: Trial) {
-    stamp(b"1 n = 6, t = 2", with_params(6, 2, 2, 3), x, 1, 1, 5);
-    stamp(b"1 own number 0", with_own(0), x, 1, 1, 5);
-    stamp(b"1 own number 9", with_own(9), x, 1, 1, 5);
-    stamp(b"2 k = 3", with_params(4, 1, 3, 3), x, 1, 1, 5);
-    stamp(b"3 L = 257", with_params(4, 1, 2, 257), x, 1, 1, 5);
-    stamp(
-        b"3 open write's value of 2 bytes",
-        with_value(2),
-        x,
-        1,
-        1,
-        5,
-    );
+    stamp_given(b"1 n = 6, t = 2", with_params(6, 2, 2, 3), x);
+    stamp_given(b"1 own number 0", with_own(0), x);
+    stamp_given(b"1 own number 9", with_own(9), x);
+    stamp_given(b"2 k = 3", with_params(4, 1, 3, 3), x);
+    stamp_given(b"3 L = 257", with_params(4, 1, 2, 257), x);
+    stamp_given(b"3 open write's value of 2 bytes", with_value(2), x);
 }
 
 // 4 to 6.
@@ -77,38 +71,22 @@ fn contents(x: Trial) {
 
 // 10.
 fn room(x: Trial) {
-    stamp(
+    stamp_given(
         b"10 rows short by one byte",
         with_room(23039, 3, 1216, 16),
         x,
-        1,
-        1,
-        5,
     );
-    stamp(
+    stamp_given(
         b"10 result short by one byte",
         with_room(23040, 2, 1216, 16),
         x,
-        1,
-        1,
-        5,
     );
-    stamp(
+    stamp_given(
         b"10 out short by one byte",
         with_room(23040, 3, 1215, 16),
         x,
-        1,
-        1,
-        5,
     );
-    stamp(
-        b"10 to short by one byte",
-        with_room(23040, 3, 1216, 15),
-        x,
-        1,
-        1,
-        5,
-    );
+    stamp_given(b"10 to short by one byte", with_room(23040, 3, 1216, 15), x);
 }
 
 // A stamp from a client.
@@ -125,29 +103,22 @@ fn senders(x: Trial) {
         1,
         &[0, 7, 1, 1, 1, 0, 0, 0, 1],
     );
-    stamp(
-        b"11 stamp for client 1 to client 2",
-        with_own(2),
-        x,
-        1,
-        1,
-        5,
-    );
+    stamp_given(b"11 stamp for client 1 to client 2", with_own(2), x);
     from_client(b"11 stamp from client 1", x);
-    stamp(b"11 stamp from server 0", usual(), x, 0, 1, 5);
-    stamp(b"11 stamp from server 5", usual(), x, 5, 1, 5);
+    stamp(b"11 stamp from server 0", x, 0, 1, 5);
+    stamp(b"11 stamp from server 5", x, 5, 1, 5);
 }
 
 // 12.
 fn awaited(x: Trial) {
-    stamp(b"12 stamp of sequence 2", usual(), x, 1, 2, 5);
+    stamp(b"12 stamp of sequence 2", x, 1, 2, 5);
     ack(b"12 ack before the blocks are sent", x, 1, 1);
     value(b"12 value during a write", x, 1, 1, 3);
-    stamp(b"12 stamp to an idle client", usual(), fresh(), 1, 1, 5);
+    stamp(b"12 stamp to an idle client", fresh(), 1, 1, 5);
 }
 
 pub fn all() {
-    let x = write(b"write begins", usual(), fresh());
+    let x = write(b"write begins", fresh());
     bounds(x);
     headers(x);
     bodies(x);

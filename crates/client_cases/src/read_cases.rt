@@ -7,7 +7,6 @@ use crate::calls::value;
 use crate::frames::value_frame;
 use crate::trial::Trial;
 use crate::trial::fresh;
-use crate::trial::usual;
 
 // A value of server j with one bit of its block changed.
 fn bit_changed(name: &[u8], x: Trial, j: u8, read: u32) -> Trial {
@@ -24,8 +23,8 @@ fn of_another(name: &[u8], x: Trial, j: u8, i: u8) -> Trial {
 
 // Frames that do not count in the first read.
 fn opened() -> Trial {
-    let a = read(b"read begins", usual(), fresh());
-    let b = stamp(b"12 stamp during a read", usual(), a, 1, 1, 5);
+    let a = read(b"read begins", fresh());
+    let b = stamp(b"12 stamp during a read", a, 1, 1, 5);
     let c = ack(b"12 ack during a read", b, 1, 1);
     let d = bit_changed(b"12 before 14, value of sequence 2", c, 1, 2);
     let e = bit_changed(b"14 one bit of the block changed", d, 1, 1);
@@ -56,7 +55,7 @@ fn other(name: &[u8], x: Trial, j: u8) -> Trial {
 
 // The second read: two digest lists of one stamp.
 fn lists(x: Trial) -> Trial {
-    let a = read(b"second read begins", usual(), x);
+    let a = read(b"second read begins", x);
     let b = other(b"server 1, time 7, value 010204", a, 1);
     let c = value(b"server 2, time 7, value 010203", b, 2, 2, 7);
     let d = other(b"server 3, time 7, value 010204", c, 3);
@@ -65,7 +64,7 @@ fn lists(x: Trial) -> Trial {
 
 // The third read: server 1 sends five stamps, and the smallest is dropped.
 fn five(x: Trial) -> Trial {
-    let a = read(b"third read begins", usual(), x);
+    let a = read(b"third read begins", x);
     let b = value(b"server 1, time 3", a, 1, 3, 3);
     let c = value(b"server 1, time 1", b, 1, 3, 1);
     let d = value(b"server 1, time 2", c, 1, 3, 2);

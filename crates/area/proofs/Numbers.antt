@@ -1,5 +1,5 @@
 -- Big-endian numbers read back to what was written, and bytes that are read are written again. Assumes nothing.
-use mathlib.Core.Path.{_≡_, refl, sym, _∙_}
+use mathlib.Core.Path.{_≡_, refl, ap, sym, _∙_}
 use mathlib.Core.List.{List, [], _∷_, _++_}
 use Prim.Native.Nat.{ℕ, zero, suc, _+_, _*_, _/_, _%_, _≤_, _<_}
 use native.Mathlib.Nat.{div-add-mod'}
@@ -110,3 +110,15 @@ bytes8-be8 l i p h =
     let h₁ : i + 4 ≤ length l = omega arith in
     let h₂ : i + 4 + 4 ≤ length l = omega arith in
     rw (digits-div (be4 l i) b, digits-mod (be4 l i) b, bytes4-be4 l i p h₁, bytes4-be4 l (i + 4) p h₂) (part-part l i 4 4)
+
+-- eight bytes side by side
+pub be8-bytes : (l : List ℕ) (i : ℕ) → be8 l i
+    ≡ getD l i 0 * 72057594037927936 + getD l (i + 1) 0 * 281474976710656 + (getD l (i + 2) 0 * 1099511627776 + getD l (i + 3) 0 * 4294967296)
+    + (getD l (i + 4) 0 * 16777216 + getD l (i + 5) 0 * 65536) + (getD l (i + 6) 0 * 256 + getD l (i + 7) 0)
+unfolding be8 be4 be2
+be8-bytes l i =
+    let d : getD l (i + 2 + 1) 0 ≡ getD l (i + 3) 0 = ap (λ (k : ℕ). getD l k 0) (omega arith) in
+    let f : getD l (i + 4 + 1) 0 ≡ getD l (i + 5) 0 = ap (λ (k : ℕ). getD l k 0) (omega arith) in
+    let g : getD l (i + 4 + 2) 0 ≡ getD l (i + 6) 0 = ap (λ (k : ℕ). getD l k 0) (omega arith) in
+    let h : getD l (i + 4 + 2 + 1) 0 ≡ getD l (i + 7) 0 = ap (λ (k : ℕ). getD l k 0) (omega arith) in
+    omega (arith, d, f, g, h)

@@ -118,9 +118,11 @@ pub fn read8(s: &[u8], i: usize) -> u64
     requires { ⌜ i + 8 ≤ length (now s) ⌝ }
     ensures { λ r. ⌜ r ≡ be8 (now (s .entry)) i ⌝ }
 {
-    let a = read4(s, i) as u64;
-    let b = read4(s, i + 4) as u64;
-    a * 4294967296 + b
+    let a = byte(s, i) as u64 * 72057594037927936 + byte(s, i + 1) as u64 * 281474976710656;
+    let b = byte(s, i + 2) as u64 * 1099511627776 + byte(s, i + 3) as u64 * 4294967296;
+    let c = byte(s, i + 4) as u64 * 16777216 + byte(s, i + 5) as u64 * 65536;
+    let d = byte(s, i + 6) as u64 * 256 + byte(s, i + 7) as u64;
+    a + b + c + d
 }
 
 // Writes x into the 2 bytes from index at on.

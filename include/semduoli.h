@@ -115,7 +115,7 @@ uint64_t semduoli_server_fresh(size_t n, size_t t, size_t k, size_t size, uint8_
                                size_t area_length, uint8_t *initial, size_t initial_length, uint8_t *state, size_t state_length);
 
 /* Hands a frame to server me. The count says how many frames are sent, 0 to n + 9; out has SEMDUOLI_SERVER_OUT bytes at least, to has
- * SEMDUOLI_SERVER_TO. Refusals: 1 to 14. */
+ * SEMDUOLI_SERVER_TO. Of the record only the stamp and what it has of the client that the frame names are written. Refusals: 1 to 14. */
 uint64_t semduoli_server_deliver(size_t n, size_t t, size_t k, size_t size, uint8_t me, size_t sender_class, size_t sender, const uint8_t *frame,
                                  size_t frame_length, uint8_t *area, size_t area_length, const uint8_t *initial, size_t initial_length,
                                  uint8_t *state, size_t state_length, uint8_t *out, size_t out_length, uint8_t *to, size_t to_length);

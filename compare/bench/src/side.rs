@@ -3,7 +3,7 @@
 
 use linked::calls;
 use register::flat::{Client, Done, Outcome, Server};
-use register::layout::{client_in, put_client, put_server, server_in, CLIENT, SERVER};
+use register::layout::{client_in, put_client, put_scope, put_server, scope_in, CLIENT, SERVER};
 use register::{blocks, sha256, Params, Party, Refusal};
 
 /// A frame handed to a party, and the areas lent for what it sends.
@@ -108,7 +108,7 @@ impl Side for Plain {
     }
 }
 
-/// Plain Rust, records as bytes: read before a step, written after it.
+/// Plain Rust, records as bytes: read before a step, written after it, a server's in the scope of the client that the frame names.
 pub struct Bytes;
 
 impl Side for Bytes {
@@ -129,9 +129,12 @@ impl Side for Bytes {
     }
 
     fn to_server(bytes: &mut [u8; SERVER], handed: Handed, initial: &[u8], area: &mut [u8]) -> Told {
-        let mut server = server_in(bytes);
-        let told = Plain::to_server(&mut server, handed, initial, area)?;
-        put_server(&server, bytes);
+        let h = handed;
+        let frame = Server::admit(h.p, h.own, initial, area, h.frame, h.out, h.to).ok()?;
+        let client = frame.client as usize;
+        let mut server = scope_in(bytes, client);
+        let told = told(server.step(h.p, h.own, initial, area, h.from, frame, h.out, h.to))?;
+        put_scope(&server, client, bytes);
         Some(told)
     }
 

@@ -4,7 +4,8 @@
 
 use crate::{bits, calls, same_answer, same_bytes, Difference, Seen};
 use register::flat::{self, Done};
-use register::layout::{client_in, put_client, put_server, server_in, CLIENT, SERVER};
+use register::frame::client_named;
+use register::layout::{client_in, put_client, put_scope, put_server, server_in, CLIENT, SERVER};
 use register::{Params, Refusal};
 use simulate::run::{parameters_of, run, Options};
 use simulate::style::{Answer, Ended, Handed, OtherClient, OtherServer, Sending, Style, Told};
@@ -62,6 +63,7 @@ fn fresh_server(
 }
 
 impl Server {
+    /// Runs make canonical records only: the whole record is the twin's.
     fn compare(&self, area: &[u8]) -> Result<(), Difference> {
         let mut expected = [0; SERVER];
         put_server(&self.twin, &mut expected);
@@ -73,7 +75,7 @@ impl Server {
 impl OtherServer for Server {
     fn deliver(&mut self, handed: Handed, initial: &[u8], area: &mut [u8], sending: Sending) -> Answer {
         let Handed { p, own, from, frame } = handed;
-        let mut sent = copies(&sending);
+        let (mut sent, mut expected) = (copies(&sending), self.state);
         let (out, to) = (&mut *sending.out, &mut *sending.to);
         let answer =
             calls::server_deliver(p, own as u8, from, frame, area, initial, &mut self.state, out, to);
@@ -81,6 +83,10 @@ impl OtherServer for Server {
         let twin = self.twin.deliver(p, own, initial, &mut self.twin_area, from, frame, out, to);
         let told = told(answer, twin)?;
         same_sent(&sending, &sent)?;
+        if told.is_ok() {
+            put_scope(&self.twin, client_named(frame), &mut expected);
+        }
+        same_bytes("state", &self.state, &expected)?;
         self.compare(area)?;
         Ok(told)
     }

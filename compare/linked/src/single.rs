@@ -3,10 +3,11 @@
 use crate::{bits, calls, same_answer, same_bytes, Difference, Seen};
 use register::any::{bounds, client_call, server_call, ClientAct, ClientCall};
 use register::flat;
-use register::frame::open;
-use register::layout::{put_client, put_server, CLIENT, SERVER};
+use register::frame::{client_named, open};
+use register::layout::{put_client, put_scope, put_server, server_in, CLIENT, SERVER};
 use register::random::Random;
 use register::Refusal;
+use std::sync::LazyLock;
 
 /// How long the record's area is: sometimes short, sometimes longer.
 fn record_length(size: usize, random: &mut Random) -> usize {
@@ -25,12 +26,34 @@ fn record_bytes(size: usize, length: usize, put: impl FnOnce(&mut [u8])) -> Vec<
     bytes
 }
 
+/// Where the flags of a server's record lie: the bytes of which 1 and 2 say the same.
+static FLAGS: LazyLock<Vec<usize>> = LazyLock::new(|| {
+    let with = |i, byte| {
+        let mut bytes = [0; SERVER];
+        bytes[i] = byte;
+        server_in(&bytes)
+    };
+    (0..SERVER).filter(|&i| with(i, 1) == with(i, 2)).collect()
+});
+
+/// Writes a server, in half of the cases in no canonical form: a set flag is any byte but 0.
+fn put_loose(server: &flat::Server, bytes: &mut [u8], random: &mut Random) {
+    put_server(server, bytes);
+    if random.chance(1, 2) {
+        for &i in FLAGS.iter() {
+            if bytes[i] != 0 {
+                bytes[i] = random.range(1, 255) as u8;
+            }
+        }
+    }
+}
+
 pub fn server(seed: u64) -> Result<Seen, Difference> {
     let mut random = Random::new(seed);
     let mut c = server_call(&mut random);
     let mut d = c.clone();
     let length = record_length(SERVER, &mut random);
-    let mut state = record_bytes(SERVER, length, |bytes| put_server(&c.server, bytes));
+    let mut state = record_bytes(SERVER, length, |bytes| put_loose(&c.server, bytes, &mut random));
     let mut expected_state = state.clone();
     let expected = if length < SERVER {
         c.bounds.unwrap_or_else(|| open(&c.p, &c.frame).err().map_or(10, Refusal::number)) as u64
@@ -38,7 +61,7 @@ pub fn server(seed: u64) -> Result<Seen, Difference> {
         let answer =
             c.server.deliver(&c.p, c.own, &c.initial, &mut c.area, c.from, &c.frame, &mut c.out, &mut c.to);
         if answer.is_ok() {
-            put_server(&c.server, &mut expected_state);
+            put_scope(&c.server, client_named(&c.frame), &mut expected_state);
         }
         bits(answer)
     };

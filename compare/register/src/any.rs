@@ -3,7 +3,7 @@
 use crate::client::KEPT;
 use crate::flat::{Client, Operation, Reader, Server, ROWS_AREA, SEATS, STATE_AREA};
 use crate::frame::{build, Body, Stage, Stamp};
-use crate::params::{Params, Party, DIGEST};
+use crate::params::{Params, Party, CLIENTS, DIGEST};
 use crate::random::Random;
 use crate::sha256::digest;
 
@@ -167,13 +167,14 @@ pub fn server_call(random: &mut Random) -> ServerCall {
     if random.chance(1, 2) {
         scramble_server(&mut server, random);
     }
-    server.readers[2].newest = random.below(2) as u32;
-    server.slots[2].open = random.pick(&[1, 1, 2]);
+    let client = random.range(1, CLIENTS);
+    server.readers[client].newest = random.below(2) as u32;
+    server.slots[client].open = random.pick(&[1, 1, 2]);
     initial.truncate(some_size(sane.block(), random));
     area.resize(some_size(STATE_AREA, random), 9);
     let out = vec![4; some_size(sane.server_room(), random)];
     let to = vec![5; some_size(2 * (sane.n + 9), random)];
-    let (from, frame) = (some_party(2, random), some_frame(&p, 2, random));
+    let (from, frame) = (some_party(client, random), some_frame(&p, client, random));
     let short = initial.len() < sane.block()
         || area.len() < STATE_AREA
         || out.len() < sane.server_room()

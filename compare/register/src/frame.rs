@@ -70,6 +70,14 @@ fn stage(kind: u8) -> Stage {
     }
 }
 
+/// The client that a frame names, or 0: what names none of 0 to 8 does not open.
+pub fn client_named(bytes: &[u8]) -> usize {
+    match bytes.get(4) {
+        Some(&client) if client as usize <= CLIENTS => client as usize,
+        _ => 0,
+    }
+}
+
 /// Opens a frame, refusals 4 to 9; the parameters are within bounds.
 pub fn open<'a>(p: &Params, bytes: &'a [u8]) -> Result<Frame<'a>, Refusal> {
     if bytes.len() < HEADER || bytes.len() - 2 != u16::from_be_bytes([bytes[0], bytes[1]]) as usize {

@@ -7,6 +7,9 @@
 //!
 //! A client: writes and reads (4 each), out of stamps, the open operation (0 none, 1 awaits stamps, 2 awaits acks, 3 read), 11 flags
 //! of servers counted, their 11 times, and 11 rows, each a count (8) and 4 stamps.
+//!
+//! A server's step for a client reads the stamp, that client's slot and all readers, and changes the stamp, that slot and that
+//! client's reader at most: the client's scope.
 
 use crate::client::KEPT;
 use crate::flat::{BlockPart, Client, Operation, Reader, Server, Slot, TimePart, DESKS, SEATS};
@@ -14,6 +17,16 @@ use crate::frame::Stamp;
 
 pub const SERVER: usize = 2353;
 pub const CLIENT: usize = 769;
+
+/// Where a client's slot begins in a server's record.
+const fn slot_at(client: usize) -> usize {
+    13 + 242 * client
+}
+
+/// Where a client's reader begins: behind all slots.
+const fn reader_at(client: usize) -> usize {
+    slot_at(DESKS) + 18 * client
+}
 
 /// What is still to be read.
 struct Source<'a>(&'a [u8]);
@@ -71,6 +84,10 @@ impl Source<'_> {
             },
         }
     }
+
+    fn readers(&mut self) -> [Reader; DESKS] {
+        std::array::from_fn(|_| Reader { newest: self.four(), listening: self.flag(), noted: self.stamp() })
+    }
 }
 
 /// What is still to be written.
@@ -114,6 +131,12 @@ impl Target<'_> {
         self.times(&times.echo_times);
         self.times(&times.ready_times);
     }
+
+    fn reader(&mut self, reader: &Reader) {
+        self.put(reader.newest.to_be_bytes());
+        self.flag(reader.listening);
+        self.stamp(&reader.noted);
+    }
 }
 
 /// The server that the first bytes say.
@@ -122,12 +145,24 @@ pub fn server_in(bytes: &[u8]) -> Server {
     Server {
         stamp: source.stamp(),
         slots: std::array::from_fn::<Slot, DESKS, _>(|_| source.slot()),
-        readers: std::array::from_fn(|_| Reader {
-            newest: source.four(),
-            listening: source.flag(),
-            noted: source.stamp(),
-        }),
+        readers: source.readers(),
     }
+}
+
+/// All zeros, as a constant: its copy is quicker than the same slots made one by one.
+const EMPTY: Server = {
+    let stamp = Stamp { time: 0, writer: 0, sequence: 0 };
+    let reader = Reader { newest: 0, listening: false, noted: stamp };
+    Server { stamp, slots: [Slot::fresh(0); DESKS], readers: [reader; DESKS] }
+};
+
+/// What a step for a client (0 to 8) needs of the server that the first bytes say; the other slots are empty.
+pub fn scope_in(bytes: &[u8], client: usize) -> Server {
+    let mut server = EMPTY;
+    server.stamp = Source(bytes).stamp();
+    server.slots[client] = Source(&bytes[slot_at(client)..]).slot();
+    server.readers = Source(&bytes[reader_at(0)..]).readers();
+    server
 }
 
 /// Writes a server to the first bytes.
@@ -135,11 +170,14 @@ pub fn put_server(server: &Server, bytes: &mut [u8]) {
     let mut target = Target(bytes);
     target.stamp(&server.stamp);
     server.slots.iter().for_each(|slot| target.slot(slot));
-    for reader in &server.readers {
-        target.put(reader.newest.to_be_bytes());
-        target.flag(reader.listening);
-        target.stamp(&reader.noted);
-    }
+    server.readers.iter().for_each(|reader| target.reader(reader));
+}
+
+/// Writes what a step for a client may have changed of a server: its stamp, and the client's slot and reader. Other bytes stay.
+pub fn put_scope(server: &Server, client: usize, bytes: &mut [u8]) {
+    Target(bytes).stamp(&server.stamp);
+    Target(&mut bytes[slot_at(client)..]).slot(&server.slots[client]);
+    Target(&mut bytes[reader_at(client)..]).reader(&server.readers[client]);
 }
 
 /// The client that the first bytes say; an unknown operation is none, and a row has at most four.
@@ -204,6 +242,27 @@ mod tests {
             put_client(&client, &mut bytes);
             assert_eq!(client_in(&bytes), client);
             assert!(bytes[CLIENT - 52..] != [9; 52]);
+        }
+    }
+
+    /// Of any bytes a scope is what the whole record has there, and is written as that; all other bytes stay.
+    #[test]
+    fn scopes() {
+        let mut random = Random::new(2);
+        for client in (0..DESKS).cycle().take(100) {
+            let given = random.bytes(SERVER);
+            let (whole, scope) = (server_in(&given), scope_in(&given, client));
+            assert_eq!(scope.stamp, whole.stamp);
+            assert_eq!(scope.slots[client], whole.slots[client]);
+            assert_eq!(scope.readers, whole.readers);
+            let (mut canonical, mut bytes) = (vec![0; SERVER], given.clone());
+            put_server(&whole, &mut canonical);
+            put_scope(&scope, client, &mut bytes);
+            let (slot, reader) = (13 + 242 * client, 2191 + 18 * client);
+            for i in 0..SERVER {
+                let own = i < 13 || (slot..slot + 242).contains(&i) || (reader..reader + 18).contains(&i);
+                assert_eq!(bytes[i], if own { canonical[i] } else { given[i] }, "client {client}, byte {i}");
+            }
         }
     }
 }

@@ -3,7 +3,8 @@
 
 use register::any::{client_call, server_call, ClientAct};
 use register::flat::{Operation, ROWS_AREA};
-use register::frame::open;
+use register::frame::{client_named, open};
+use register::layout::{put_scope, put_server, scope_in, server_in, SERVER};
 use register::random::Random;
 use register::Refusal;
 
@@ -28,6 +29,29 @@ fn servers() {
         seen[number.unwrap_or(0) as usize] += 1;
     }
     assert!((0..=14).all(|n| seen[n] > 0), "{seen:?}");
+}
+
+/// A server's step on the scope of the client that the frame names is the step on the whole record.
+#[test]
+fn scopes() {
+    let mut random = Random::new(9);
+    for round in 0..20_000 {
+        let mut c = server_call(&mut random);
+        let mut d = c.clone();
+        let (client, mut bytes) = (client_named(&d.frame), [0; SERVER]);
+        put_server(&d.server, &mut bytes);
+        d.server = scope_in(&bytes, client);
+        let whole =
+            c.server.deliver(&c.p, c.own, &c.initial, &mut c.area, c.from, &c.frame, &mut c.out, &mut c.to);
+        let scope =
+            d.server.deliver(&d.p, d.own, &d.initial, &mut d.area, d.from, &d.frame, &mut d.out, &mut d.to);
+        assert_eq!(whole, scope, "round {round}");
+        if scope.is_ok() {
+            put_scope(&d.server, client, &mut bytes);
+        }
+        d.server = server_in(&bytes);
+        assert!(c == d, "round {round}");
+    }
 }
 
 #[test]

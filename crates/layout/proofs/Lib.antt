@@ -4,3 +4,4 @@ pub mod Puts
 pub mod Reading
 pub mod ClientBack
 pub mod ServerBack
+pub mod ScopeBack

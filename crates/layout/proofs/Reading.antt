@@ -116,6 +116,11 @@ getD-every P [] k d p h = absurd (not-suc-le-zero h)
 getD-every P (x ∷ xs) zero d p h = p .0
 getD-every P (x ∷ xs) (suc k) d p h = getD-every P xs k d (p .1) (omega arith)
 
+-- element k of an array that is read
+pub row-entry : {A : Type 0} (g : List ℕ → ℕ → A) (m w : ℕ) (l : List ℕ) (i k : ℕ) (d : A) → k < m → getD (rowAt g m w l i) k d ≡ g l (i + k * w)
+unfolding rowAt
+row-entry g m w l i k d h = getD-table m (λ j. g l (i + j * w)) k d h
+
 -- an array reads back if each element does
 module _ {A : Type 0} (f : A → List ℕ) (g : List ℕ → ℕ → A) (m w : ℕ) (d : A) (P : A → Type 0) (e : (x : A) → length (f x) ≡ w)
     (b : (l : List ℕ) (i : ℕ) (x : A) → P x → Stands l i (f x) → g l i ≡ x) where

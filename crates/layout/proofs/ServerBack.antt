@@ -87,7 +87,8 @@ times-at l i b t p =
       readied = g k;
     }
 
-slot-at : (l : List ℕ) (i : ℕ) (x : Slot) → TypedSlot x → Stands l i (slotBytes x) → slotAt l i ≡ x
+-- a slot reads back where its bytes stand
+pub slot-at : (l : List ℕ) (i : ℕ) (x : Slot) → TypedSlot x → Stands l i (slotBytes x) → slotAt l i ≡ x
 unfolding slotAt slotBytes
 slot-at l i x t p =
     let u = bytes8 (x .sequence) in
@@ -100,7 +101,8 @@ slot-at l i x t p =
     let c = times-at l (i + 33) (x .times) (t .times) p₂ in
     λ k. record { sequence = a k; blocks = b k; times = c k }
 
-reader-at : (l : List ℕ) (i : ℕ) (x : Reader) → TypedReader x → Stands l i (readerBytes x) → readerAt l i ≡ x
+-- and so does a reader
+pub reader-at : (l : List ℕ) (i : ℕ) (x : Reader) → TypedReader x → Stands l i (readerBytes x) → readerAt l i ≡ x
 unfolding readerAt readerBytes
 reader-at l i x t p =
     let u = bytes4 (x .sequence) in

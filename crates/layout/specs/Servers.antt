@@ -1,9 +1,11 @@
 -- A server's record as bytes: its stamp (13), 9 slots of 242 and 9 readers of 18. A slot is its sequence (8), what was counted of its blocks (25) and of its
 -- time (209). These are definitions.
-use Prim.Native.Nat.{ℕ, _+_}
+use Prim.Native.Nat.{ℕ, _+_, _*_}
 use mathlib.Core.Bool.{Bool}
 use mathlib.Core.List.{List, [], _∷_, _++_}
+use lib.Seq.{sets}
 use Rattle.area.specs.Numbers.{be4, be8, bytes4, bytes8}
+use Rattle.frame.specs.declared.Stamp.{Stamp}
 use Rattle.frame.specs.Frames.{stampBytes}
 use Rattle.server.specs.declared.BlockPart.{BlockPart}
 use Rattle.server.specs.declared.TimePart.{TimePart}
@@ -91,3 +93,9 @@ serverAt l i = record { stamp = stampAt l i; slots = slotsAt l (i + 13); readers
 -- the record that bytes say
 unfoldable pub serverIn : List ℕ → Server
 serverIn l = serverAt l 0
+
+-- ---- one client's scope
+
+-- the record's bytes after a step for client c: the stamp, its slot and its reader are written, the other clients' bytes stay
+unfoldable pub scopeSets : List ℕ → ℕ → Stamp → Slot → Reader → List ℕ
+scopeSets l c x y z = sets (sets (sets l 0 (stampBytes x)) (13 + c * 242) (slotBytes y)) (2191 + c * 18) (readerBytes z)

@@ -5,6 +5,7 @@ ghost use mathlib.Core.List.{_∷_, []};
 ghost use Prim.Native.Nat.{_+_, _≤_};
 ghost use lib.ListN.{length};
 ghost use lib.Seq.{sets};
+ghost use Rattle.area.specs.Numbers.{bytes8};
 ghost use Rattle.frame.specs.Frames.{stampBytes};
 ghost use Rattle.layout.specs.Fields.{flagByte, flagIn, stampAt, flagsBytes, flagsAt, numbersBytes, numbersAt};
 
@@ -84,13 +85,25 @@ pub fn flags_at(bytes: &[u8], at: usize) -> [bool; 11]
 
 // ---- a number for each server
 
+// Writes x into the 8 bytes from index at on.
+// (There is room, so the test fails always. With it the compiler writes the bytes of each number at once, and one by one without it.)
+fn put_number(x: u64, out: &mut [u8], at: usize)
+    requires { ⌜ at + 8 ≤ length (now out) ⌝ }
+    ensures { λ _. ⌜ now (out .exit) ≡ sets (now (out .entry)) at (bytes8 x) ⌝ }
+{
+    if out.len() < at + 8 {
+        return;
+    }
+    area::write8(out, at, x);
+}
+
 pub fn put_numbers(x: [u64; 11], out: &mut [u8], at: usize)
     requires { ⌜ at + 88 ≤ length (now out) ⌝ }
     ensures { λ _. ⌜ now (out .exit) ≡ sets (now (out .entry)) at (numbersBytes x) ⌝ }
 {
     let mut j = 0;
     while j < 11 {
-        area::write8(out, at + j * 8, x[j]);
+        put_number(x[j], out, at + j * 8);
         j += 1;
     }
 }

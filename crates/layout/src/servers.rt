@@ -10,6 +10,7 @@ use crate::fields::put_stamp;
 use crate::fields::stamp_at;
 use server::BlockPart;
 use server::Reader;
+use server::Scope;
 use server::Server;
 use server::Slot;
 use server::TimePart;
@@ -17,7 +18,8 @@ ghost use mathlib.Core.Path.{_≡_};
 ghost use Prim.Native.Nat.{_+_, _≤_};
 ghost use lib.ListN.{length};
 ghost use lib.Seq.{sets};
-ghost use Rattle.layout.specs.Servers.{serverSize, marksBytes, votesBytes, blocksBytes, blocksAt, timesBytes, timesAt, slotBytes, slotAt, slotsBytes, slotsAt, readerBytes, readerAt, readersBytes, readersAt, serverBytes, serverAt};
+ghost use Rattle.server.specs.State.{scopeOf};
+ghost use Rattle.layout.specs.Servers.{serverSize, marksBytes, votesBytes, blocksBytes, blocksAt, timesBytes, timesAt, slotBytes, slotAt, slotsBytes, readerBytes, readerAt, readersBytes, readersAt, serverBytes, serverIn, scopeSets};
 
 // ---- the parts of a slot
 
@@ -143,20 +145,6 @@ fn put_slots(x: [Slot; 9], out: &mut [u8], at: usize)
     }
 }
 
-fn slots_at(bytes: &[u8], at: usize) -> [Slot; 9]
-    requires { ⌜ at + 2178 ≤ length (now bytes) ⌝ }
-    ensures { λ r. ⌜ r ≡ slotsAt (now (bytes .entry)) at ⌝ }
-{
-    let first = slot_at(bytes, at);
-    let mut x = [first; 9];
-    let mut j = 0;
-    while j < 9 {
-        x[j] = slot_at(bytes, at + j * 242);
-        j += 1;
-    }
-    x
-}
-
 // ---- readers
 
 fn put_reader(x: Reader, out: &mut [u8], at: usize)
@@ -194,7 +182,7 @@ fn put_readers(x: [Reader; 9], out: &mut [u8], at: usize)
     }
 }
 
-fn readers_at(bytes: &[u8], at: usize) -> [Reader; 9]
+pub fn readers_at(bytes: &[u8], at: usize) -> [Reader; 9]
     requires { ⌜ at + 162 ≤ length (now bytes) ⌝ }
     ensures { λ r. ⌜ r ≡ readersAt (now (bytes .entry)) at ⌝ }
 {
@@ -223,17 +211,32 @@ pub fn put_server(s: Server, out: &mut [u8], at: usize)
     put_readers(readers, out, at + 2191);
 }
 
-// The record of a server that the bytes from index at on say.
-pub fn server_at(bytes: &[u8], at: usize) -> Server
-    requires { ⌜ at + serverSize ≤ length (now bytes) ⌝ }
-    ensures { λ r. ⌜ r ≡ serverAt (now (bytes .entry)) at ⌝ }
+// ---- one client's scope in the record
+
+// Client c's scope in the record that the bytes from index 0 on say.
+pub fn scope_at(bytes: &[u8], c: usize) -> Scope
+    requires { ⌜ (serverSize ≤ length (now bytes)) × (c ≤ 8) ⌝ }
+    ensures { λ r. ⌜ r ≡ scopeOf (serverIn (now (bytes .entry))) c ⌝ }
 {
-    let stamp = stamp_at(bytes, at);
-    let slots = slots_at(bytes, at + 13);
-    let readers = readers_at(bytes, at + 2191);
-    Server {
+    let stamp = stamp_at(bytes, 0);
+    let slot = slot_at(bytes, 13 + c * 242);
+    let reader = reader_at(bytes, 2191 + c * 18);
+    Scope {
         stamp,
-        slots,
-        readers,
+        slot,
+        reader,
     }
+}
+
+// Writes the stamp, client c's slot and its reader into the record at index 0.
+pub fn put_scope(x: Scope, c: usize, out: &mut [u8])
+    requires { ⌜ (serverSize ≤ length (now out)) × (c ≤ 8) ⌝ }
+    ensures { λ _. ⌜ now (out .exit) ≡ scopeSets (now (out .entry)) c (x .stamp) (x .slot) (x .reader) ⌝ }
+{
+    let stamp = x.stamp;
+    let slot = x.slot;
+    let reader = x.reader;
+    put_stamp(stamp, out, 0);
+    put_slot(slot, out, 13 + c * 242);
+    put_reader(reader, out, 2191 + c * 18);
 }

@@ -3,32 +3,49 @@ use Prim.Native.Nat.{ℕ, _<_, _≤_}
 use mathlib.Core.Path.{_≡_, sym, ap, ap₂, _∙_}
 use mathlib.Core.Bool.{Bool, true, false}
 use mathlib.Core.List.{List}
-use lib.ListN.{length}
-use lib.Seq.{sets}
-use Rattle.area.specs.Area.{pick}
+use lib.ListN.{length, getD}
+use lib.Seq.{getD-set-same}
+use native.Mathlib.Omega.{arith}
+use Rattle.area.specs.Area.{pick, table}
+use Rattle.area.proofs.Fills.{length-tableFrom}
 use Rattle.sha256.specs.Hash.{digestOf}
 use Rattle.blocks.specs.declared.Params.{Params}
+use Rattle.frame.specs.declared.Header.{Header}
+use Rattle.frame.specs.declared.Opened.{Opened}
+use Rattle.frame.specs.declared.Opened.the-variants as O
 use Rattle.frame.specs.declared.Party.{Party}
+use Rattle.frame.specs.declared.Refusal.{Refusal}
+use Rattle.frame.specs.Frames.{clientAt}
 use Rattle.frame.specs.declared.Verdict.{Verdict}
 use Rattle.server.specs.declared.Reply.{Reply}
+use Rattle.server.specs.declared.Reply.the-variants as S
+use Rattle.server.specs.declared.Reader.{Reader}
+use Rattle.server.specs.declared.Scope.{Scope}
+use Rattle.server.specs.declared.Slot.{Slot}
 use Rattle.server.specs.declared.Server.{Server}
+use Rattle.server.specs.declared.Taken.{Taken}
+use Rattle.server.specs.State.{noSlot, noReader, scopeOf, withScope}
+use Rattle.server.specs.Stages.{outcomeIn}
 use Rattle.server.specs.Delivery.{Outcome, Constructed, delivery, construction}
-use Rattle.layout.specs.Servers.{serverSize, serverBytes, serverAt, serverIn}
+use Rattle.layout.specs.Servers.{serverSize, slotsAt, readersAt, serverAt, serverIn}
+use Rattle.layout.specs.Fields.{rowAt}
+use Rattle.server_deliver.specs.Handed.{refusalIn, admitted, stepFor}
+use Rattle.server_deliver.proofs.Openings.{let-in, client-named, refused-delivery, taken-delivery}
 use Rattle.register.specs.Answers.{testAnswer, serverAnswer}
-use Rattle.register.specs.Calls.{wrote}
+use Rattle.register.specs.Calls.{Wrote, wrote}
 use Rattle.register.specs.Short.{valueShort, frameShort}
-use Rattle.register.specs.ServerCalls.{isTurnedDown, recordAfter, made, madeOf, makeCall, serverGot, serverGotOf, serverCall}
+use Rattle.register.specs.ServerCalls.{isTurnedDown, freshAfter, scopeAfter, made, madeOf, makeCall, serverGot, serverGotOf, serverCall}
 use Rattle.register.proofs.Laws.{enough, short}
 
 -- the record is kept as it was, or written
-module _ (a : Reply) (s : Server) (state : List ℕ) (x : ℕ) (b : Bool) (p : b ≡ isTurnedDown a) (e : x ≡ serverAnswer a) where
-  pub keep-old : b ≡ true → wrote x state ≡ wrote (serverAnswer a) (recordAfter a s state)
-  unfolding recordAfter pick
-  keep-old q = ap₂ (λ y z. wrote y (pick z state (sets state 0 (serverBytes s)))) e (sym q ∙ p)
+module _ (a : Reply) (state new : List ℕ) (x : ℕ) (b : Bool) (p : b ≡ isTurnedDown a) (e : x ≡ serverAnswer a) where
+  pub keep-old : b ≡ true → wrote x state ≡ wrote (serverAnswer a) (pick (isTurnedDown a) state new)
+  unfolding pick
+  keep-old q = ap₂ (λ y z. wrote y (pick z state new)) e (sym q ∙ p)
 
-  pub keep-new : b ≡ false → (o : List ℕ) → o ≡ sets state 0 (serverBytes s) → wrote x o ≡ wrote (serverAnswer a) (recordAfter a s state)
-  unfolding recordAfter pick
-  keep-new q o r = ap₂ wrote e (r ∙ ap (λ z. pick z state (sets state 0 (serverBytes s))) (sym q ∙ p))
+  pub keep-new : b ≡ false → (o : List ℕ) → o ≡ new → wrote x o ≡ wrote (serverAnswer a) (pick (isTurnedDown a) state new)
+  unfolding pick
+  keep-new q o r = ap₂ wrote e (r ∙ ap (λ z. pick z state new) (sym q ∙ p))
 
 -- ---- a fresh server
 
@@ -44,7 +61,7 @@ module _ (g : Params) (me : ℕ) (value area initial state : List ℕ) where
   module _ (r : Server) (a : Reply) (x : ℕ) (ar i st : List ℕ) where
     pub make-done : serverSize ≤ length state
         → _≡_ {A = Constructed} (record { reply = a; server = r; area = ar; initial = i }) (construction digestOf g me value area initial)
-        → wrote x st ≡ wrote (serverAnswer a) (recordAfter a r state)
+        → wrote x st ≡ wrote (serverAnswer a) (freshAfter a r state)
         → made x ar i st ≡ makeCall g me value area initial state
     unfolding makeCall madeOf
     make-done h e k =
@@ -55,6 +72,24 @@ module _ (g : Params) (me : ℕ) (value area initial state : List ℕ) where
 
 -- ---- a frame is handed in
 
+-- a record has nine slots and nine readers
+nine-slots : (state : List ℕ) → length (serverIn state .slots) ≡ 9
+unfolding serverIn serverAt slotsAt rowAt table
+nine-slots state = length-tableFrom _ 0 9
+
+nine-readers : (state : List ℕ) → length (serverIn state .readers) ≡ 9
+unfolding serverIn serverAt readersAt rowAt table
+nine-readers state = length-tableFrom _ 0 9
+
+abbrev scope-of : Scope → Slot → Reader → Scope
+scope-of x y z = record { stamp = x .stamp; slot = y; reader = z }
+
+-- the scope of the record with that scope put back
+scope-in : (state : List ℕ) (c : ℕ) (x : Scope) → c ≤ 8 → scopeOf (withScope (serverIn state) c x) c ≡ x
+scope-in state c x h =
+    ap₂ (scope-of x) (getD-set-same (serverIn state .slots) c (x .slot) noSlot (omega (arith, h, nine-slots state)))
+    (getD-set-same (serverIn state .readers) c (x .reader) noReader (omega (arith, h, nine-readers state)))
+
 module _ (g : Params) (me : ℕ) (from : Party) (f area initial state out to : List ℕ) where
   pub server-short : (x : ℕ) (t : Verdict) → length state < serverSize → x ≡ testAnswer t → t ≡ frameShort g me (g .n) f
       → serverGot x area state out to ≡ serverCall g me from f area initial state out to
@@ -62,16 +97,39 @@ module _ (g : Params) (me : ℕ) (from : Party) (f area initial state out to : L
   server-short x t h e p =
       ap (λ z. serverGot z area state out to) (e ∙ ap testAnswer p)
       ∙ short (length state) serverSize (serverGot (testAnswer (frameShort g me (g .n) f)) area state out to)
-      (serverGotOf (delivery digestOf g me (serverIn state) area initial from f out to) state) h
+      (serverGotOf (delivery digestOf g me (serverIn state) area initial from f out to) (getD f clientAt 0) state) h
 
-  module _ (w : Party) (s r : Server) (a : Reply) (x : ℕ) (ar st o u : List ℕ) where
-    pub server-done : serverSize ≤ length state → w ≡ from → s ≡ serverAt state 0
-        → _≡_ {A = Outcome} (record { reply = a; server = r; area = ar; out = o; to = u }) (delivery digestOf g me s area initial w f out to)
-        → wrote x st ≡ wrote (serverAnswer a) (recordAfter a r state)
+  enough-room : serverSize ≤ length state → serverGotOf (delivery digestOf g me (serverIn state) area initial from f out to) (getD f clientAt 0) state
+      ≡ serverCall g me from f area initial state out to
+  unfolding serverCall
+  enough-room h =
+      enough (length state) serverSize (serverGot (testAnswer (frameShort g me (g .n) f)) area state out to)
+      (serverGotOf (delivery digestOf g me (serverIn state) area initial from f out to) (getD f clientAt 0) state) h
+
+  module _ (w : Party) (q : Opened) (h : serverSize ≤ length state) (i : w ≡ from)
+      (e : q ≡ admitted g me f (length area) (length initial) (length out) (length to)) where
+    -- 1 to 10
+    pub server-refused : (x : ℕ) (r r′ : Refusal) → q ≡ O.Refused r → r′ ≡ refusalIn q → x ≡ serverAnswer (S.Refused r′)
+        → serverGot x area state out to ≡ serverCall g me from f area initial state out to
+    unfolding serverGotOf scopeAfter isTurnedDown pick
+    server-refused x r r′ p k n =
+        ap (λ (z : ℕ). serverGot z area state out to) n
+        ∙ ap (λ (z : Outcome). serverGotOf z (getD f clientAt 0) state) (refused-delivery digestOf g me (serverIn state) area initial from out to f q r r′ e p k)
+        ∙ enough-room h
+
+    -- 11 to 14, and the step
+    pub server-done : (d : Header) (s : Scope) (rs : List Reader) (r : Taken) (x : ℕ) (ar st o u : List ℕ) → q ≡ O.Frame d → s ≡ scopeOf (serverIn state) (d .client)
+        → rs ≡ readersAt state 2191 → ((v : Server) → s ≡ scopeOf v (d .client) → rs ≡ v .readers → outcomeIn v (d .client) r ar o u ≡ stepFor digestOf g me v area initial w d f out to)
+        → wrote x st ≡ wrote (serverAnswer (r .reply)) (scopeAfter (r .reply) (r .scope) (d .client) state)
         → serverGot x ar st o u ≡ serverCall g me from f area initial state out to
-    unfolding serverCall serverGotOf serverIn
-    server-done h q p e k =
-        ap (λ z. serverGot (z .answer) ar (z .out) o u) k
-        ∙ ap (λ z. serverGotOf z state) (e ∙ ap₂ (λ y z. delivery digestOf g me y area initial z f out to) p q)
-        ∙ enough (length state) serverSize (serverGot (testAnswer (frameShort g me (g .n) f)) area state out to)
-        (serverGotOf (delivery digestOf g me (serverIn state) area initial from f out to) state) h
+    unfolding serverGotOf serverIn serverAt
+    server-done d s rs r x ar st o u p k m l n =
+        let D = let-in g me d f (length area) (length initial) (length out) (length to) q e p in
+        let c = d .client in
+        let T = taken-delivery digestOf g me (serverIn state) area initial w out to f d q (outcomeIn (serverIn state) c r ar o u) e p (l (serverIn state) k m) in
+        ap (λ (z : Wrote). serverGot (z .answer) ar (z .out) o u) n
+        ∙ ap (λ (z : Scope). serverGot (serverAnswer (r .reply)) ar (scopeAfter (r .reply) z c state) o u) (sym (scope-in state c (r .scope) (D .0 .lent .client-high)))
+        ∙ ap (λ (z : Outcome). serverGotOf z c state) (T ∙ ap (λ (z : Party). delivery digestOf g me (serverIn state) area initial z f out to) i)
+        ∙ ap (λ (z : ℕ). serverGotOf (delivery digestOf g me (serverIn state) area initial from f out to) z state)
+        (sym (client-named g me d f (length area) (length initial) (length out) (length to) q e p))
+        ∙ enough-room h

@@ -2,18 +2,21 @@
 use Prim.Native.Nat.{ℕ}
 use mathlib.Core.Bool.{Bool, true, false}
 use mathlib.Core.List.{List}
-use lib.ListN.{length}
+use lib.ListN.{length, getD}
 use lib.Seq.{sets}
 use lib.Dec.{ltb}
 use Rattle.area.specs.Area.{pick}
 use Rattle.sha256.specs.Hash.{digestOf}
 use Rattle.blocks.specs.declared.Params.{Params}
 use Rattle.frame.specs.declared.Party.{Party}
+use Rattle.frame.specs.Frames.{clientAt}
 use Rattle.server.specs.declared.Reply.{Reply}
 use Rattle.server.specs.declared.Reply.the-variants as S
+use Rattle.server.specs.declared.Scope.{Scope}
 use Rattle.server.specs.declared.Server.{Server}
+use Rattle.server.specs.State.{scopeOf}
 use Rattle.server.specs.Delivery.{Outcome, Constructed, delivery, construction}
-use Rattle.layout.specs.Servers.{serverSize, serverBytes, serverIn}
+use Rattle.layout.specs.Servers.{serverSize, serverBytes, serverIn, scopeSets}
 use Rattle.register.specs.Answers.{testAnswer, serverAnswer}
 use Rattle.register.specs.Short.{valueShort, frameShort}
 
@@ -21,9 +24,13 @@ unfoldable pub isTurnedDown : Reply → Bool
 isTurnedDown (S.Step m) = false
 isTurnedDown (S.Refused r) = true
 
--- the record's bytes after a call: "state and all lent bytes remain unchanged" where it was turned down
-unfoldable pub recordAfter : Reply → Server → List ℕ → List ℕ
-recordAfter a s state = pick (isTurnedDown a) state (sets state 0 (serverBytes s))
+-- a fresh record's bytes; "state and all lent bytes remain unchanged" where the call was turned down
+unfoldable pub freshAfter : Reply → Server → List ℕ → List ℕ
+freshAfter a s state = pick (isTurnedDown a) state (sets state 0 (serverBytes s))
+
+-- the record's bytes after a step for client c that leaves the scope x: the stamp, and that client's slot and reader; the others' stay as lent
+unfoldable pub scopeAfter : Reply → Scope → ℕ → List ℕ → List ℕ
+scopeAfter a x c state = pick (isTurnedDown a) state (scopeSets state c (x .stamp) (x .slot) (x .reader))
 
 -- ---- a fresh server
 
@@ -37,7 +44,7 @@ abbrev pub made : ℕ → List ℕ → List ℕ → List ℕ → Made
 made x area initial state = record { answer = x; area = area; initial = initial; state = state }
 
 unfoldable pub madeOf : Constructed → List ℕ → Made
-madeOf x state = made (serverAnswer (x .reply)) (x .area) (x .initial) (recordAfter (x .reply) (x .server) state)
+madeOf x state = made (serverAnswer (x .reply)) (x .area) (x .initial) (freshAfter (x .reply) (x .server) state)
 
 unfoldable pub makeCall : Params → ℕ → List ℕ → List ℕ → List ℕ → List ℕ → Made
 makeCall g me value area initial state =
@@ -56,10 +63,11 @@ pub record ServerGot : Type 0 where
 abbrev pub serverGot : ℕ → List ℕ → List ℕ → List ℕ → List ℕ → ServerGot
 serverGot x area state out to = record { answer = x; area = area; state = state; out = out; to = to }
 
-unfoldable pub serverGotOf : Outcome → List ℕ → ServerGot
-serverGotOf x state = serverGot (serverAnswer (x .reply)) (x .area) (recordAfter (x .reply) (x .server) state) (x .out) (x .to)
+-- the frame names client c
+unfoldable pub serverGotOf : Outcome → ℕ → List ℕ → ServerGot
+serverGotOf x c state = serverGot (serverAnswer (x .reply)) (x .area) (scopeAfter (x .reply) (scopeOf (x .server) c) c state) (x .out) (x .to)
 
 unfoldable pub serverCall : Params → ℕ → Party → List ℕ → List ℕ → List ℕ → List ℕ → List ℕ → List ℕ → ServerGot
 serverCall g me from f area initial state out to =
     pick (ltb (length state) serverSize) (serverGot (testAnswer (frameShort g me (g .n) f)) area state out to)
-    (serverGotOf (delivery digestOf g me (serverIn state) area initial from f out to) state)
+    (serverGotOf (delivery digestOf g me (serverIn state) area initial from f out to) (getD f clientAt 0) state)

@@ -5,10 +5,17 @@ use crate::senders::sender_of;
 use crate::short::frame_short;
 use crate::short::value_short;
 use blocks::Params;
+use frame::Opened;
+use layout::servers::put_scope;
 use layout::servers::put_server;
-use layout::servers::server_at;
+use layout::servers::readers_at;
+use layout::servers::scope_at;
 use server::Reply;
+use server::Scope;
 use server::Server;
+use server_deliver::admit;
+use server_deliver::kinds::step_of_kind;
+use server_deliver::refusal;
 ghost use mathlib.Core.Path.{_≡_};
 ghost use Prim.Native.Nat.{_≤_};
 ghost use lib.ListN.{length};
@@ -16,7 +23,7 @@ ghost use Rattle.layout.specs.Servers.{serverSize};
 ghost use Rattle.register.specs.Answers.{serverAnswer};
 ghost use Rattle.register.specs.Calls.{params, wrote};
 ghost use Rattle.register.specs.Handed.{senderOf};
-ghost use Rattle.register.specs.ServerCalls.{isTurnedDown, recordAfter, made, makeCall, serverGot, serverCall};
+ghost use Rattle.register.specs.ServerCalls.{isTurnedDown, freshAfter, scopeAfter, made, makeCall, serverGot, serverCall};
 
 // ---- the record after a call
 
@@ -29,15 +36,27 @@ fn is_turned_down(a: Reply) -> bool
     }
 }
 
-// Writes the record, unless the call was turned down.
-fn keep(a: Reply, s: Server, state: &mut [u8]) -> u64
+// Writes a fresh record, unless the call was turned down.
+fn keep_fresh(a: Reply, s: Server, state: &mut [u8]) -> u64
     requires { ⌜ serverSize ≤ length (now state) ⌝ }
-    ensures { λ r. ⌜ wrote r (now (state .exit)) ≡ wrote (serverAnswer a) (recordAfter a s (now (state .entry))) ⌝ }
+    ensures { λ r. ⌜ wrote r (now (state .exit)) ≡ wrote (serverAnswer a) (freshAfter a s (now (state .entry))) ⌝ }
 {
     if is_turned_down(a) {
         return server_answer(a);
     }
     put_server(s, state, 0);
+    server_answer(a)
+}
+
+// Writes what a step for client c left, unless the frame was turned down.
+fn keep(a: Reply, x: Scope, c: usize, state: &mut [u8]) -> u64
+    requires { ⌜ (serverSize ≤ length (now state)) × (c ≤ 8) ⌝ }
+    ensures { λ r. ⌜ wrote r (now (state .exit)) ≡ wrote (serverAnswer a) (scopeAfter a x c (now (state .entry))) ⌝ }
+{
+    if is_turned_down(a) {
+        return server_answer(a);
+    }
+    put_scope(x, c, state);
     server_answer(a)
 }
 
@@ -66,7 +85,7 @@ pub extern "C" fn semduoli_server_fresh(
     let done = Server::fresh(g, me, value, area, initial);
     let reply = done.reply;
     let after = done.server;
-    keep(reply, after, state)
+    keep_fresh(reply, after, state)
 }
 
 // ---- a frame is handed in
@@ -96,9 +115,16 @@ pub extern "C" fn semduoli_server_deliver(
         return test_answer(short);
     }
     let from = sender_of(class, sender);
-    let s = server_at(state, 0);
-    let done = server_deliver::deliver(s, g, me, from, f, area, initial, out, to);
+    let opened = admit(g, me, f, area.len(), initial.len(), out.len(), to.len());
+    let Opened::Frame(h) = opened else {
+        let r = refusal(opened);
+        return server_answer(Reply::Refused(r));
+    };
+    let c = h.client as usize;
+    let x = scope_at(state, c);
+    let readers = readers_at(state, 2191);
+    let done = step_of_kind(x, readers, g, me, from, h, f, area, initial, out, to);
     let reply = done.reply;
-    let after = done.server;
-    keep(reply, after, state)
+    let after = done.scope;
+    keep(reply, after, c, state)
 }

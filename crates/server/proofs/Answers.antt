@@ -1,10 +1,10 @@
 -- From a test's verdict and a step's stages to the outcome of a frame. Assumes nothing.
-use Prim.Native.Nat.{ℕ, _+_, _≤_}
+use Prim.Native.Nat.{ℕ, _≤_}
 use native.Mathlib.Omega.{arith}
 use native.Mathlib.Nat.{zero-add}
 use borrow.Author.Tests.{ltb-false}
-use mathlib.Core.Path.{_≡_, refl, ap, sym, _∙_}
-use mathlib.Core.Bool.{Bool, true, false}
+use mathlib.Core.Path.{_≡_, ap, sym, _∙_}
+use mathlib.Core.Bool.{Bool, false}
 use mathlib.Core.List.{List, []}
 use lib.ListN.{length}
 use lib.Dec.{ltb}
@@ -21,37 +21,38 @@ use Rattle.frame.proofs.Outbox.{sent-none}
 use Rattle.frame.proofs.Verdicts.{fine-is, fine-not}
 use Rattle.server.specs.declared.Slot.{Slot}
 use Rattle.server.specs.declared.Server.{Server}
-use Rattle.server.specs.declared.Served.{Served}
+use Rattle.server.specs.declared.Scope.{Scope}
+use Rattle.server.specs.declared.Taken.{Taken}
 use Rattle.server.specs.declared.Moved.{Moved}
-use Rattle.server.specs.declared.Reply.{Reply}
 use Rattle.server.specs.declared.Reply.the-variants as Y
-use Rattle.server.specs.State.{withSlot, withTimes, timeSent}
+use Rattle.server.specs.State.{withSlot, scopeOf, withScope, withTimes, timeSent}
 use Rattle.server.specs.Tests.{fromOwner, openTest}
 use Rattle.server.specs.Steps.{Effect, sendOnly}
-use Rattle.server.specs.Delivery.{Outcome, outcome}
-use Rattle.server.specs.Stages.{Progress, progress, moved, stepped, answered}
+use Rattle.server.specs.Stages.{Progress, progress, moved, outcomeIn, stepped, answered}
 use Rattle.server.proofs.Senders.{server-number}
+use Rattle.server.proofs.Scopes.{as-it-was}
 
 -- turned down
-pub refused-is : (v u : Verdict) (r : Refusal) (s : Server) (a : List ℕ) (x : Effect) (out to : List ℕ) → v ≡ u → v ≡ J.Bad r
-    → outcome (record { reply = Y.Refused r; server = s }) a out to ≡ answered u s a x out to
+pub refused-is : (v u : Verdict) (r : Refusal) (w : Server) (c : ℕ) (s : Scope) (a : List ℕ) (x : Effect) (out to : List ℕ) → s ≡ scopeOf w c → v ≡ u → v ≡ J.Bad r
+    → outcomeIn w c (record { reply = Y.Refused r; scope = s }) a out to ≡ answered u w a x out to
 unfolding answered
-refused-is v u r s a x out to e f = ap (λ (z : Verdict). answered z s a x out to) (sym f ∙ e)
+refused-is v u r w c s a x out to h e f =
+    ap (λ (z : Server). answered (J.Bad r) z a x out to) (as-it-was w c s h) ∙ ap (λ (z : Verdict). answered z w a x out to) (sym f ∙ e)
 
 -- a step
-pub step-is : (v u : Verdict) (s : Server) (a a′ : List ℕ) (x : Effect) (out to out′ to′ : List ℕ) (m : Moved) (r : Served) → v ≡ u → v ≡ J.Fine
-    → progress (m .server) a′ (outbox out′ to′ (m .place)) ≡ moved x (outbox out to firstPlace)
-    → r .reply ≡ Y.Step (m .place .count) → r .server ≡ m .server
-    → outcome r a′ out′ to′ ≡ answered u s a x out to
+pub step-is : (v u : Verdict) (s : Server) (a a′ : List ℕ) (x : Effect) (out to out′ to′ : List ℕ) (c : ℕ) (m : Moved) (r : Taken) → v ≡ u → v ≡ J.Fine
+    → progress (withScope s c (m .scope)) a′ (outbox out′ to′ (m .place)) ≡ moved x (outbox out to firstPlace)
+    → r .reply ≡ Y.Step (m .place .count) → r .scope ≡ m .scope
+    → outcomeIn s c r a′ out′ to′ ≡ answered u s a x out to
 unfolding answered stepped moved sent
-step-is v u s a a′ x out to out′ to′ m r e f h i j =
+step-is v u s a a′ x out to out′ to′ c m r e f h i j =
     let k : m .place .count ≡ length (x .sends) = ap (λ (w : Progress). w .box .place .count) h ∙ zero-add (length (x .sends)) in
     let p : r .reply ≡ Y.Step (length (x .sends)) = i ∙ ap Y.Step k in
-    let q : r .server ≡ x .server = j ∙ ap (λ (w : Progress). w .server) h in
+    let q : withScope s c (r .scope) ≡ x .server = ap (withScope s c) j ∙ ap (λ (w : Progress). w .server) h in
     let b = ap (λ (w : Progress). w .area) h in
     let o = ap (λ (w : Progress). w .box .out) h in
     let t = ap (λ (w : Progress). w .box .to) h in
-    let z : outcome r a′ out′ to′ ≡ stepped x out to = λ l. record { reply = p l; server = q l; area = b l; out = o l; to = t l } in
+    let z : outcomeIn s c r a′ out′ to′ ≡ stepped x out to = λ l. record { reply = p l; server = q l; area = b l; out = o l; to = t l } in
     z ∙ ap (λ (w : Verdict). answered w s a x out to) (sym f ∙ e)
 
 -- the open write

@@ -1,8 +1,7 @@
 -- How the code takes a step: stage by stage, each with its server, its state area and its outbox. The entry points' promises (Delivery.antt) do not
 -- speak of stages. These are definitions.
 use Prim.Native.Nat.{ℕ, _+_, _≤_}
-use mathlib.Core.Path.{_≡_}
-use mathlib.Core.Bool.{Bool, true, false, not, _&&_}
+use mathlib.Core.Bool.{Bool, not, _&&_}
 use mathlib.Core.List.{List, [], _∷_}
 use lib.ListN.{length, set}
 use lib.Seq.{sets}
@@ -20,8 +19,10 @@ use Rattle.frame.specs.Outbox.{frames, receivers, Outbox, sent, Room}
 use Rattle.frame.specs.Chunks.{areaBytes}
 use Rattle.server.specs.declared.Reader.{Reader}
 use Rattle.server.specs.declared.Server.{Server}
+use Rattle.server.specs.declared.Scope.{Scope}
+use Rattle.server.specs.declared.Taken.{Taken}
 use Rattle.server.specs.declared.Reply.the-variants as Y
-use Rattle.server.specs.State.{freshSlot}
+use Rattle.server.specs.State.{freshSlot, withScope}
 use Rattle.server.specs.Steps.{Effect}
 use Rattle.server.specs.Delivery.{Outcome}
 
@@ -51,6 +52,10 @@ opensNext s c q newer x = record {
   readers = s .readers;
 }
 
+-- the same of that client's scope
+unfoldable pub opensIn : Scope → ℕ → Bool → Stamp → Scope
+opensIn x q newer y = record { stamp = pick newer y (x .stamp); slot = freshSlot (q + 1); reader = x .reader }
+
 -- what the stages ask: the state area is whole, c is a client, and m more frames have room
 pub record Lent (g : Params) (c area : ℕ) (p : Place) (m out to : ℕ) : Type 0 where
   pub bounded : Bounded g
@@ -60,6 +65,10 @@ pub record Lent (g : Params) (c area : ℕ) (p : Place) (m out to : ℕ) : Type 
   pub room : Room p m (largestFrame g) out to
 
 -- ---- a frame that opened, the lent areas being long enough
+
+-- the outcome for server s of a step that left r of client c's scope
+abbrev pub outcomeIn : Server → ℕ → Taken → List ℕ → List ℕ → List ℕ → Outcome
+outcomeIn s c r area out to = record { reply = r .reply; server = withScope s c (r .scope); area = area; out = out; to = to }
 
 -- the outcome of a step
 unfoldable pub stepped : Effect → List ℕ → List ℕ → Outcome

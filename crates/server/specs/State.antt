@@ -15,6 +15,7 @@ use Rattle.server.specs.declared.TimePart.{TimePart}
 use Rattle.server.specs.declared.Slot.{Slot}
 use Rattle.server.specs.declared.Reader.{Reader}
 use Rattle.server.specs.declared.Server.{Server}
+use Rattle.server.specs.declared.Scope.{Scope}
 use Rattle.server.specs.Broadcast.{Part, kept}
 
 -- ---- fresh
@@ -69,6 +70,29 @@ withSlot s c x = record { stamp = s .stamp; slots = set (s .slots) c x; readers 
 
 abbrev pub withReader : Server → ℕ → Reader → Server
 withReader s c x = record { stamp = s .stamp; slots = s .slots; readers = set (s .readers) c x }
+
+-- ---- client c's scope: what a step for it may change of a server, and the server with what the step left of it
+
+abbrev pub scopeOf : Server → ℕ → Scope
+scopeOf s c = record { stamp = s .stamp; slot = slotOf s c; reader = readerOf s c }
+
+abbrev pub withScope : Server → ℕ → Scope → Server
+withScope s c x = record { stamp = x .stamp; slots = set (s .slots) c (x .slot); readers = set (s .readers) c (x .reader) }
+
+abbrev pub slotIn : Scope → Slot → Scope
+slotIn x y = record { stamp = x .stamp; slot = y; reader = x .reader }
+
+abbrev pub readerIn : Scope → Reader → Scope
+readerIn x y = record { stamp = x .stamp; slot = x .slot; reader = y }
+
+-- a server of which only the stamp is known, and one of which only the readers are
+abbrev pub bare : Scope → Server
+bare x = record { stamp = x .stamp; slots = []; readers = [] }
+
+abbrev pub told : List Reader → Server
+told l = record { stamp = zeroStamp; slots = []; readers = l }
+
+-- ---- the parts of a slot changed
 
 abbrev pub withBlocks : Slot → BlockPart → Slot
 withBlocks x b = record { sequence = x .sequence; blocks = b; times = x .times }

@@ -1,6 +1,7 @@
 // Acceptance: the write of a client whose time is delivered and whose blocks are complete.
 use crate::Moved;
 use crate::Reader;
+use crate::Scope;
 use crate::Server;
 use crate::Slot;
 use crate::state::fresh_slot;
@@ -15,7 +16,6 @@ use frame::send::send_ack;
 use frame::send::send_value;
 use frame::stamps::is_older;
 ghost use mathlib.Core.Path.{_≡_};
-ghost use mathlib.Core.Bool.{_&&_};
 ghost use mathlib.Core.List.{[]};
 ghost use Prim.Native.Nat.{_+_, _*_, _≤_, _<_};
 ghost use lib.ListN.{length};
@@ -25,9 +25,10 @@ ghost use Rattle.frame.specs.Params.{Bounded};
 ghost use Rattle.frame.specs.Stamps.{older, lastTime};
 ghost use Rattle.frame.specs.Messages.{entry};
 ghost use Rattle.frame.specs.Outbox.{outbox, sent, Room};
-ghost use Rattle.frame.specs.Chunks.{entryAt, completeAt, presentAt, storeIf, storeEntry};
+ghost use Rattle.frame.specs.Chunks.{entryAt, completeAt, presentAt, storeIf};
+ghost use Rattle.server.specs.State.{told, scopeOf, withScope};
 ghost use Rattle.server.specs.Steps.{accept, settle, tellFrom};
-ghost use Rattle.server.specs.Stages.{progress, moved, toldTo, opensNext, Lent};
+ghost use Rattle.server.specs.Stages.{progress, moved, toldTo, opensIn, Lent};
 
 // Sends reader r, client c, a value if it listens and its noted stamp is smaller.
 fn tell_one(
@@ -54,7 +55,7 @@ fn tell_one(
 
 // The value goes to each listener whose noted stamp is smaller, by rising client number.
 fn tell(
-    s: Server,
+    readers: [Reader; 9],
     x: Stamp,
     digests: &[u8],
     block: &[u8],
@@ -63,12 +64,12 @@ fn tell(
     p: Place,
 ) -> Place
     requires { ⌜ Room p 8 (22 + (length (now digests) + length (now block))) (length (now out)) (length (now to)) ⌝ }
-    ensures { λ q. ⌜ outbox (now (out .exit)) (now (to .exit)) q ≡ sent (outbox (now (out .entry)) (now (to .entry)) p) (tellFrom s x (entry (now (digests .entry)) (now (block .entry))) 1 8) ⌝ }
+    ensures { λ q. ⌜ outbox (now (out .exit)) (now (to .exit)) q ≡ sent (outbox (now (out .entry)) (now (to .entry)) p) (tellFrom (told readers) x (entry (now (digests .entry)) (now (block .entry))) 1 8) ⌝ }
 {
     let mut q = p;
     let mut c: usize = 1;
     while c < 9 {
-        let r = s.readers[c];
+        let r = readers[c];
         q = tell_one(r, c as u8, x, digests, block, out, to, q);
         c += 1;
     }
@@ -109,21 +110,21 @@ fn newest(newer: bool, x: Stamp, y: Stamp) -> Stamp
 }
 
 // The next sequence opens, and the stamp is the larger one.
-fn opens_next(s: Server, c: usize, q: u32, newer: bool, x: Stamp) -> Server
-    requires { ⌜ c < 9 ⌝ }
-    ensures { λ r. ⌜ r ≡ opensNext s c q newer x ⌝ }
+fn opens_next(s: Scope, q: u32, newer: bool, x: Stamp) -> Scope
+    ensures { λ r. ⌜ r ≡ opensIn s q newer x ⌝ }
 {
     let stamp = newest(newer, x, s.stamp);
     let slot = fresh_slot(q as u64 + 1);
     let mut y = s;
     y.stamp = stamp;
-    y.slots[c] = slot;
+    y.slot = slot;
     y
 }
 
 // Client c's write q is accepted with this time, its entry being the completed one.
 pub fn accept(
-    s: Server,
+    s: Scope,
+    readers: [Reader; 9],
     g: Params,
     area: &mut [u8],
     c: u8,
@@ -134,7 +135,7 @@ pub fn accept(
     p: Place,
 ) -> Moved
     requires { ⌜ Lent g c (length (now area)) p 9 (length (now out)) (length (now to)) × (time < lastTime) ⌝ }
-    ensures { λ r. ⌜ progress (r .server) (now (area .exit)) (outbox (now (out .exit)) (now (to .exit)) (r .place)) ≡ moved (accept s (now (area .entry)) (record { client = c; sequence = q; time = time; entry = entryAt g (now (area .entry)) (completeAt c) }) [] []) (outbox (now (out .entry)) (now (to .entry)) p) ⌝ }
+    ensures { λ r. ⌜ ((w : Server) → s ≡ scopeOf w c → readers ≡ w .readers → progress (withScope w c (r .scope)) (now (area .exit)) (outbox (now (out .exit)) (now (to .exit)) (r .place)) ≡ moved (accept w (now (area .entry)) (record { client = c; sequence = q; time = time; entry = entryAt g (now (area .entry)) (completeAt c) }) [] []) (outbox (now (out .entry)) (now (to .entry)) p)) ⌝ }
 {
     let i = c as usize;
     let from = 21 * i - 20;
@@ -146,16 +147,17 @@ pub fn accept(
     let newer = is_older(s.stamp, x);
     let digests = digests_at(area, from, g);
     let block = block_at(area, from, g);
-    let told = tell(s, x, digests, block, out, to, p);
+    let told = tell(readers, x, digests, block, out, to, p);
     let place = send_ack(out, to, told, c, q);
     replace(newer, area, g, from);
-    let server = opens_next(s, i, q, newer, x);
-    Moved { server, place }
+    let scope = opens_next(s, q, newer, x);
+    Moved { scope, place }
 }
 
 // Client c's slot becomes x, and its write q is accepted if it can be.
 pub fn settle(
-    s: Server,
+    s: Scope,
+    readers: [Reader; 9],
     g: Params,
     area: &mut [u8],
     c: u8,
@@ -166,22 +168,21 @@ pub fn settle(
     p: Place,
 ) -> Moved
     requires { ⌜ Lent g c (length (now area)) p 9 (length (now out)) (length (now to)) × (x .sequence ≡ q) ⌝ }
-    ensures { λ r. ⌜ progress (r .server) (now (area .exit)) (outbox (now (out .exit)) (now (to .exit)) (r .place)) ≡ moved (settle g s (now (area .entry)) c x [] []) (outbox (now (out .entry)) (now (to .entry)) p) ⌝ }
+    ensures { λ r. ⌜ ((w : Server) → s ≡ scopeOf w c → readers ≡ w .readers → progress (withScope w c (r .scope)) (now (area .exit)) (outbox (now (out .exit)) (now (to .exit)) (r .place)) ≡ moved (settle g w (now (area .entry)) c x [] []) (outbox (now (out .entry)) (now (to .entry)) p)) ⌝ }
 {
-    let i = c as usize;
     let t = x.times;
     let b = x.blocks;
     if !t.delivered {
-        let server = with_slot(s, i, x);
-        return Moved { server, place: p };
+        let scope = with_slot(s, x);
+        return Moved { scope, place: p };
     }
     if !b.complete {
-        let server = with_slot(s, i, x);
-        return Moved { server, place: p };
+        let scope = with_slot(s, x);
+        return Moved { scope, place: p };
     }
     if Server::LAST_TIME <= t.time {
-        let server = with_slot(s, i, x);
-        return Moved { server, place: p };
+        let scope = with_slot(s, x);
+        return Moved { scope, place: p };
     }
-    accept(s, g, area, c, q, t.time, out, to, p)
+    accept(s, readers, g, area, c, q, t.time, out, to, p)
 }

@@ -2,10 +2,11 @@
 use crate::Moved;
 use crate::Reader;
 use crate::Reply;
-use crate::Served;
+use crate::Scope;
 use crate::Server;
+use crate::Taken;
 use crate::reads::send_present;
-use crate::replies::served;
+use crate::replies::taken;
 use crate::state::with_reader;
 use crate::tests::done_test;
 use crate::tests::from_owner;
@@ -30,11 +31,10 @@ ghost use Rattle.frame.specs.Messages.{message, sending, stampIs, getStamp, ask
 ghost use Rattle.frame.specs.Chunks.{areaBytes};
 ghost use Rattle.frame.specs.Outbox.{firstPlace, Room};
 ghost use Rattle.sha256.specs.Hash.{digestOf};
-ghost use Rattle.server.specs.State.{readerOf};
+ghost use Rattle.server.specs.State.{scopeOf};
 ghost use Rattle.server.specs.Tests.{fromOwner, readTest, doneTest, messageTest};
 ghost use Rattle.server.specs.Steps.{sendOnly, onRead, onReadComplete};
-ghost use Rattle.server.specs.Delivery.{outcome};
-ghost use Rattle.server.specs.Stages.{answered};
+ghost use Rattle.server.specs.Stages.{outcomeIn, answered};
 
 // 11 and 12 of a read.
 fn ask_test(from: Party, h: Header, r: Reader) -> Verdict
@@ -58,31 +58,31 @@ fn end_test(from: Party, h: Header, r: Reader) -> Verdict
 
 // 1: the present time, of any sequence, always.
 pub fn on_get_stamp(
-    s: Server,
+    s: Scope,
     g: Params,
     from: Party,
     h: Header,
     out: &mut [u8],
     to: &mut [u8],
-) -> Served
+) -> Taken
     requires { ⌜ Bounded g × Room firstPlace (g .n + 9) (largestFrame g) (length (now out)) (length (now to)) ⌝ }
-    ensures { λ r. ⌜ ((a : List ℕ) → outcome r a (now (out .exit)) (now (to .exit)) ≡ answered (messageTest digestOf g 0 s from (message (h .client) (h .sequence) getStamp)) s a (sendOnly s a (sending (P.Client (h .client)) (message (h .client) (h .sequence) (stampIs (s .stamp .time))) ∷ [])) (now (out .entry)) (now (to .entry))) ⌝ }
+    ensures { λ r. ⌜ ((w : Server) → s ≡ scopeOf w (h .client) → (a : List ℕ) → outcomeIn w (h .client) r a (now (out .exit)) (now (to .exit)) ≡ answered (messageTest digestOf g 0 w from (message (h .client) (h .sequence) getStamp)) w a (sendOnly w a (sending (P.Client (h .client)) (message (h .client) (h .sequence) (stampIs (w .stamp .time))) ∷ [])) (now (out .entry)) (now (to .entry))) ⌝ }
 {
     if !from_owner(from, h.client) {
-        return Served {
+        return Taken {
             reply: Reply::Refused(Refusal::Sender),
-            server: s,
+            scope: s,
         };
     }
     let p = Place { at: 0, count: 0 };
     let stamp = s.stamp;
     let place = send_stamp(out, to, p, h.client, h.sequence, stamp.time);
-    served(Moved { server: s, place })
+    taken(Moved { scope: s, place })
 }
 
 // 10: the reader is noted with the present stamp, and answered the present value.
 pub fn on_read<'a>(
-    s: Server,
+    s: Scope,
     g: Params,
     from: Party,
     h: Header,
@@ -90,17 +90,16 @@ pub fn on_read<'a>(
     initial: &'a [u8],
     out: &mut [u8],
     to: &mut [u8],
-) -> Served
-    requires { ⌜ Bounded g × (h .client ≤ 8) × (areaBytes ≤ length (now area)) × (width g ≤ length (now initial)) × Room firstPlace (g .n + 9) (largestFrame g) (length (now out)) (length (now to)) ⌝ }
-    ensures { λ r. ⌜ outcome r (now (area .entry)) (now (out .exit)) (now (to .exit)) ≡ answered (messageTest digestOf g 0 s from (message (h .client) (h .sequence) askRead)) s (now (area .entry)) (onRead digestOf g 0 s (now (area .entry)) (now (initial .entry)) (h .client) (h .sequence)) (now (out .entry)) (now (to .entry)) ⌝ }
+) -> Taken
+    requires { ⌜ Bounded g × (areaBytes ≤ length (now area)) × (width g ≤ length (now initial)) × Room firstPlace (g .n + 9) (largestFrame g) (length (now out)) (length (now to)) ⌝ }
+    ensures { λ r. ⌜ ((w : Server) → s ≡ scopeOf w (h .client) → outcomeIn w (h .client) r (now (area .entry)) (now (out .exit)) (now (to .exit)) ≡ answered (messageTest digestOf g 0 w from (message (h .client) (h .sequence) askRead)) w (now (area .entry)) (onRead digestOf g 0 w (now (area .entry)) (now (initial .entry)) (h .client) (h .sequence)) (now (out .entry)) (now (to .entry))) ⌝ }
 {
-    let c = h.client as usize;
-    let old = s.readers[c];
+    let old = s.reader;
     let v = ask_test(from, h, old);
     if let Verdict::Bad(r) = v {
-        return Served {
+        return Taken {
             reply: Reply::Refused(r),
-            server: s,
+            scope: s,
         };
     }
     let p = Place { at: 0, count: 0 };
@@ -111,22 +110,20 @@ pub fn on_read<'a>(
         listening: true,
         noted,
     };
-    let server = with_reader(s, c, x);
-    served(Moved { server, place })
+    let scope = with_reader(s, x);
+    taken(Moved { scope, place })
 }
 
 // 12: that read and older ones are ended; nothing is sent.
-pub fn on_read_complete(s: Server, g: Params, from: Party, h: Header) -> Served
-    requires { ⌜ h .client ≤ 8 ⌝ }
-    ensures { λ r. ⌜ ((a out to : List ℕ) → outcome r a out to ≡ answered (messageTest digestOf g 0 s from (message (h .client) (h .sequence) readComplete)) s a (onReadComplete digestOf g 0 s a (h .client) (h .sequence)) out to) ⌝ }
+pub fn on_read_complete(s: Scope, g: Params, from: Party, h: Header) -> Taken
+    ensures { λ r. ⌜ ((w : Server) → s ≡ scopeOf w (h .client) → (a out to : List ℕ) → outcomeIn w (h .client) r a out to ≡ answered (messageTest digestOf g 0 w from (message (h .client) (h .sequence) readComplete)) w a (onReadComplete digestOf g 0 w a (h .client) (h .sequence)) out to) ⌝ }
 {
-    let c = h.client as usize;
-    let old = s.readers[c];
+    let old = s.reader;
     let v = end_test(from, h, old);
     if let Verdict::Bad(r) = v {
-        return Served {
+        return Taken {
             reply: Reply::Refused(r),
-            server: s,
+            scope: s,
         };
     }
     let noted = old.noted;
@@ -135,7 +132,7 @@ pub fn on_read_complete(s: Server, g: Params, from: Party, h: Header) -> Served
         listening: false,
         noted,
     };
-    let server = with_reader(s, c, x);
+    let scope = with_reader(s, x);
     let place = Place { at: 0, count: 0 };
-    served(Moved { server, place })
+    taken(Moved { scope, place })
 }

@@ -87,6 +87,13 @@ impl Server {
     }
 }
 
+// What a step for one client may change of a server: the stamp, and that client's slot and reader.
+pub struct Scope {
+    pub stamp: Stamp,
+    pub slot: Slot,
+    pub reader: Reader,
+}
+
 // A step that sent so many frames, or the reason why there is none.
 pub enum Reply {
     Step(usize),
@@ -98,8 +105,14 @@ pub struct Served {
     pub server: Server,
 }
 
-// What a stage of a step leaves: the server, and where the next frame goes.
+// A reply, and what a step leaves of its scope.
+pub struct Taken {
+    pub reply: Reply,
+    pub scope: Scope,
+}
+
+// What a stage of a step leaves: the scope, and where the next frame goes.
 pub struct Moved {
-    pub server: Server,
+    pub scope: Scope,
     pub place: Place,
 }

@@ -1,6 +1,7 @@
 // The parts of a server's state: as they begin, and with one thing counted.
 use crate::BlockPart;
 use crate::Reader;
+use crate::Scope;
 use crate::Server;
 use crate::Slot;
 use crate::TimePart;
@@ -10,7 +11,7 @@ ghost use mathlib.Core.Path.{_≡_};
 ghost use Prim.Native.Nat.{_<_};
 ghost use mathlib.Core.Bool.{not, _&&_, _||_};
 ghost use Rattle.area.specs.Area.{pick};
-ghost use Rattle.server.specs.State.{freshBlocks, freshTimes, freshSlot, freshReader, freshServer, withSlot, withReader, withBlocks, withTimes, blockSent, blockEcho, blockReady, blockMarks, timeSent, timeEcho, timeReady, timeMarks};
+ghost use Rattle.server.specs.State.{freshBlocks, freshTimes, freshSlot, freshReader, freshServer, scopeOf, withScope, slotIn, readerIn, withBlocks, withTimes, blockSent, blockEcho, blockReady, blockMarks, timeSent, timeEcho, timeReady, timeMarks};
 
 // ---- fresh
 
@@ -83,21 +84,52 @@ pub fn fresh_server() -> Server
 
 // ---- one place of an array changed
 
-pub fn with_slot(s: Server, c: usize, x: Slot) -> Server
+// Client c's scope.
+pub fn scope_of(s: Server, c: usize) -> Scope
     requires { ⌜ c < 9 ⌝ }
-    ensures { λ r. ⌜ r ≡ withSlot s c x ⌝ }
+    ensures { λ r. ⌜ r ≡ scopeOf s c ⌝ }
+{
+    let slot = s.slots[c];
+    let reader = s.readers[c];
+    Scope {
+        stamp: s.stamp,
+        slot,
+        reader,
+    }
+}
+
+// The server with client c's scope put back.
+pub fn with_scope(s: Server, c: usize, x: Scope) -> Server
+    requires { ⌜ c < 9 ⌝ }
+    ensures { λ r. ⌜ r ≡ withScope s c x ⌝ }
+{
+    let stamp = x.stamp;
+    let slot = x.slot;
+    let reader = x.reader;
+    let mut slots = s.slots;
+    slots[c] = slot;
+    let mut readers = s.readers;
+    readers[c] = reader;
+    Server {
+        stamp,
+        slots,
+        readers,
+    }
+}
+
+pub fn with_slot(s: Scope, x: Slot) -> Scope
+    ensures { λ r. ⌜ r ≡ slotIn s x ⌝ }
 {
     let mut y = s;
-    y.slots[c] = x;
+    y.slot = x;
     y
 }
 
-pub fn with_reader(s: Server, c: usize, x: Reader) -> Server
-    requires { ⌜ c < 9 ⌝ }
-    ensures { λ r. ⌜ r ≡ withReader s c x ⌝ }
+pub fn with_reader(s: Scope, x: Reader) -> Scope
+    ensures { λ r. ⌜ r ≡ readerIn s x ⌝ }
 {
     let mut y = s;
-    y.readers[c] = x;
+    y.reader = x;
     y
 }
 

@@ -1,5 +1,7 @@
 // The time of a write: how many servers said it, and what is due then.
 use crate::Moved;
+use crate::Reader;
+use crate::Scope;
 use crate::Server;
 use crate::Slot;
 use crate::accept::settle;
@@ -21,7 +23,7 @@ ghost use Rattle.frame.specs.Messages.{message, toAll, timeIs, ready};
 ghost use Rattle.frame.specs.Outbox.{outbox, sent, firstPlace, Room};
 ghost use Rattle.sha256.specs.Hash.{digestOf};
 ghost use Rattle.server.specs.Broadcast.{due, full};
-ghost use Rattle.server.specs.State.{timeView};
+ghost use Rattle.server.specs.State.{timeView, scopeOf, withScope};
 ghost use Rattle.server.specs.Rules.{timeRules};
 ghost use Rattle.server.specs.Steps.{settleTimes};
 ghost use Rattle.server.specs.Stages.{progress, moved, Lent};
@@ -105,7 +107,8 @@ fn time_readies(
 
 // An echo or a ready of this time was counted in client c's slot x. (Nothing here hangs on the own number, 0 in the promise.)
 pub fn settle_times(
-    s: Server,
+    s: Scope,
+    readers: [Reader; 9],
     g: Params,
     area: &mut [u8],
     c: u8,
@@ -116,11 +119,11 @@ pub fn settle_times(
     to: &mut [u8],
 ) -> Moved
     requires { ⌜ Lent g c (length (now area)) firstPlace (g .n + 9) (length (now out)) (length (now to)) × (x .sequence ≡ q) ⌝ }
-    ensures { λ r. ⌜ progress (r .server) (now (area .exit)) (outbox (now (out .exit)) (now (to .exit)) (r .place)) ≡ moved (settleTimes digestOf g 0 s (now (area .entry)) c x time) (outbox (now (out .entry)) (now (to .entry)) firstPlace) ⌝ }
+    ensures { λ r. ⌜ ((w : Server) → s ≡ scopeOf w c → readers ≡ w .readers → progress (withScope w c (r .scope)) (now (area .exit)) (outbox (now (out .exit)) (now (to .exit)) (r .place)) ≡ moved (settleTimes digestOf g 0 w (now (area .entry)) c x time) (outbox (now (out .entry)) (now (to .entry)) firstPlace)) ⌝ }
 {
     let due = time_due(g, x, time);
     let full = time_full(g, x, time);
     let y = time_marks(x, due, full, time);
     let p = time_readies(due, g, c, q, time, out, to);
-    settle(s, g, area, c, q, y, out, to, p)
+    settle(s, readers, g, area, c, q, y, out, to, p)
 }

@@ -6,6 +6,8 @@ use frame::Place;
 use frame::entries::put_entry;
 use frame::send::block_all;
 use server::Moved;
+use server::Reader;
+use server::Scope;
 use server::Server;
 use server::Slot;
 use server::accept::settle;
@@ -19,6 +21,7 @@ ghost use Rattle.frame.specs.Params.{Bounded, listed, width};
 ghost use Rattle.frame.specs.Messages.{entry, message, toAll, blockIs, ready};
 ghost use Rattle.frame.specs.Outbox.{outbox, sent, firstPlace, Room};
 ghost use Rattle.frame.specs.Chunks.{areaBytes, storeIf, completeAt};
+ghost use Rattle.server.specs.State.{scopeOf, withScope};
 ghost use Rattle.server.specs.Stages.{progress, moved, Lent};
 ghost use Rattle.server_blocks.specs.Stage.{settledBy};
 
@@ -56,7 +59,8 @@ fn complete_if(test: bool, area: &mut [u8], c: u8, list: &[u8], block: &[u8])
 
 // Readies where due, the completed entry where full, and the write settled; block is the own block.
 pub fn answer(
-    s: Server,
+    s: Scope,
+    readers: [Reader; 9],
     g: Params,
     area: &mut [u8],
     c: u8,
@@ -70,12 +74,12 @@ pub fn answer(
     to: &mut [u8],
 ) -> Moved
     requires { ⌜ Lent g c (length (now area)) firstPlace (g .n + 9) (length (now out)) (length (now to)) × (x .sequence ≡ q) × (length (now list) ≡ listed g) × (length (now block) ≡ width g) ⌝ }
-    ensures { λ r. ⌜ progress (r .server) (now (area .exit)) (outbox (now (out .exit)) (now (to .exit)) (r .place)) ≡ moved (settledBy g s (now (area .entry)) c x due full (entry (now (list .entry)) (now (block .entry)))) (outbox (now (out .entry)) (now (to .entry)) firstPlace) ⌝ }
+    ensures { λ r. ⌜ ((w : Server) → s ≡ scopeOf w c → readers ≡ w .readers → progress (withScope w c (r .scope)) (now (area .exit)) (outbox (now (out .exit)) (now (to .exit)) (r .place)) ≡ moved (settledBy g w (now (area .entry)) c x due full (entry (now (list .entry)) (now (block .entry)))) (outbox (now (out .entry)) (now (to .entry)) firstPlace)) ⌝ }
 {
     let b = x.blocks;
     let y = block_marks(x, due, full);
     let test = both(!b.complete, full);
     let p = ready_if(due, g, c, q, list, block, out, to);
     complete_if(test, area, c, list, block);
-    settle(s, g, area, c, q, y, out, to, p)
+    settle(s, readers, g, area, c, q, y, out, to, p)
 }

@@ -6,6 +6,8 @@ use frame::Place;
 use frame::bounds::width;
 use group::matching::tally;
 use server::Moved;
+use server::Reader;
+use server::Scope;
 use server::Server;
 use server::Slot;
 use server::accept::settle;
@@ -24,6 +26,7 @@ ghost use Rattle.frame.specs.Params.{listed};
 ghost use Rattle.frame.specs.Messages.{entry};
 ghost use Rattle.frame.specs.Outbox.{outbox, firstPlace};
 ghost use Rattle.server.specs.Steps.{settleBlocks};
+ghost use Rattle.server.specs.State.{scopeOf, withScope};
 ghost use Rattle.server.specs.Stages.{progress, moved, Lent};
 ghost use Rattle.server_blocks.specs.Votes.{mattersBy, Counted};
 
@@ -33,7 +36,8 @@ mod votes;
 
 // The e echoes and r readies that have the list are enough for a comparison, and something hangs on it.
 fn compare_blocks(
-    s: Server,
+    s: Scope,
+    readers: [Reader; 9],
     g: Params,
     me: u8,
     area: &mut [u8],
@@ -49,7 +53,7 @@ fn compare_blocks(
     to: &mut [u8],
 ) -> Moved
     requires { ⌜ Lent g c (length (now area)) firstPlace (g .n + 9) (length (now out)) (length (now to)) × (x .sequence ≡ q) × (length (now list) ≡ listed g) × Counted g (now area) (now list) c x es rs e r × (e ≤ 10) × (mattersBy g (x .blocks .ready) (x .blocks .complete) e r ≡ true) ⌝ }
-    ensures { λ z. ⌜ ((b : List ℕ) → progress (z .server) (now (area .exit)) (outbox (now (out .exit)) (now (to .exit)) (z .place)) ≡ moved (settleBlocks digestOf g me s (now (area .entry)) c x (entry (now (list .entry)) b)) (outbox (now (out .entry)) (now (to .entry)) firstPlace)) ⌝ }
+    ensures { λ z. ⌜ ((w : Server) → s ≡ scopeOf w c → readers ≡ w .readers → (b : List ℕ) → progress (withScope w c (z .scope)) (now (area .exit)) (outbox (now (out .exit)) (now (to .exit)) (z .place)) ≡ moved (settleBlocks digestOf g me w (now (area .entry)) c x (entry (now (list .entry)) b)) (outbox (now (out .entry)) (now (to .entry)) firstPlace)) ⌝ }
 {
     let b = x.blocks;
     let w = width(g);
@@ -57,12 +61,27 @@ fn compare_blocks(
     let equal = own_block(g, me, es, rs, r, c, area, list, &mut block);
     let due = block_due(g, b.ready, equal, e, r);
     let full = block_full(g, equal, r);
-    answer(s, g, area, c, q, x, due, full, list, &block[..w], out, to)
+    answer(
+        s,
+        readers,
+        g,
+        area,
+        c,
+        q,
+        x,
+        due,
+        full,
+        list,
+        &block[..w],
+        out,
+        to,
+    )
 }
 
 // An echo or a ready was counted, and something may hang on it: the kept echoes and readies that have its list decide.
 fn settle_list(
-    s: Server,
+    s: Scope,
+    readers: [Reader; 9],
     g: Params,
     me: u8,
     area: &mut [u8],
@@ -74,7 +93,7 @@ fn settle_list(
     to: &mut [u8],
 ) -> Moved
     requires { ⌜ Lent g c (length (now area)) firstPlace (g .n + 9) (length (now out)) (length (now to)) × (x .sequence ≡ q) × (length (now list) ≡ listed g) × (1 ≤ me) × (me ≤ g .n) ⌝ }
-    ensures { λ r. ⌜ ((b : List ℕ) → progress (r .server) (now (area .exit)) (outbox (now (out .exit)) (now (to .exit)) (r .place)) ≡ moved (settleBlocks digestOf g me s (now (area .entry)) c x (entry (now (list .entry)) b)) (outbox (now (out .entry)) (now (to .entry)) firstPlace)) ⌝ }
+    ensures { λ r. ⌜ ((w : Server) → s ≡ scopeOf w c → readers ≡ w .readers → (b : List ℕ) → progress (withScope w c (r .scope)) (now (area .exit)) (outbox (now (out .exit)) (now (to .exit)) (r .place)) ≡ moved (settleBlocks digestOf g me w (now (area .entry)) c x (entry (now (list .entry)) b)) (outbox (now (out .entry)) (now (to .entry)) firstPlace)) ⌝ }
 {
     let b = x.blocks;
     let es = echo_votes(g, x, c, area, list);
@@ -82,16 +101,33 @@ fn settle_list(
     let e = tally(es, g.n);
     let r = tally(rs, g.n);
     if matters(g, b.ready, b.complete, e, r) {
-        return compare_blocks(s, g, me, area, c, q, x, es, rs, e, r, list, out, to);
+        return compare_blocks(
+            s,
+            readers,
+            g,
+            me,
+            area,
+            c,
+            q,
+            x,
+            es,
+            rs,
+            e,
+            r,
+            list,
+            out,
+            to,
+        );
     }
     let p = Place { at: 0, count: 0 };
-    settle(s, g, area, c, q, x, out, to, p)
+    settle(s, readers, g, area, c, q, x, out, to, p)
 }
 
 // An echo or a ready of a digest list was counted in client c's slot x, and kept in the state area.
 // The counted echoes and readies, whatever their list, are at least those that have it: where nothing hangs on their numbers, no list is compared.
 pub fn settle_blocks(
-    s: Server,
+    s: Scope,
+    readers: [Reader; 9],
     g: Params,
     me: u8,
     area: &mut [u8],
@@ -103,7 +139,7 @@ pub fn settle_blocks(
     to: &mut [u8],
 ) -> Moved
     requires { ⌜ Lent g c (length (now area)) firstPlace (g .n + 9) (length (now out)) (length (now to)) × (x .sequence ≡ q) × (length (now list) ≡ listed g) × (1 ≤ me) × (me ≤ g .n) ⌝ }
-    ensures { λ r. ⌜ ((b : List ℕ) → progress (r .server) (now (area .exit)) (outbox (now (out .exit)) (now (to .exit)) (r .place)) ≡ moved (settleBlocks digestOf g me s (now (area .entry)) c x (entry (now (list .entry)) b)) (outbox (now (out .entry)) (now (to .entry)) firstPlace)) ⌝ }
+    ensures { λ r. ⌜ ((w : Server) → s ≡ scopeOf w c → readers ≡ w .readers → (b : List ℕ) → progress (withScope w c (r .scope)) (now (area .exit)) (outbox (now (out .exit)) (now (to .exit)) (r .place)) ≡ moved (settleBlocks digestOf g me w (now (area .entry)) c x (entry (now (list .entry)) b)) (outbox (now (out .entry)) (now (to .entry)) firstPlace)) ⌝ }
 {
     let b = x.blocks;
     let echoes = b.echoes;
@@ -111,8 +147,8 @@ pub fn settle_blocks(
     let e = tally(echoes, g.n);
     let r = tally(readies, g.n);
     if matters(g, b.ready, b.complete, e, r) {
-        return settle_list(s, g, me, area, c, q, x, list, out, to);
+        return settle_list(s, readers, g, me, area, c, q, x, list, out, to);
     }
     let p = Place { at: 0, count: 0 };
-    settle(s, g, area, c, q, x, out, to, p)
+    settle(s, readers, g, area, c, q, x, out, to, p)
 }

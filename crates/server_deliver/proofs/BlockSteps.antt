@@ -23,8 +23,9 @@ use Rattle.frame.specs.Chunks.{storeEntry}
 use Rattle.frame.specs.Outbox.{Outbox, sent, Room}
 use Rattle.frame.proofs.Verdicts.{fine-both}
 use Rattle.server.specs.declared.Slot.{Slot}
+use Rattle.server.specs.declared.Scope.{Scope}
 use Rattle.server.specs.declared.Server.{Server}
-use Rattle.server.specs.State.{slotOf, withSlot, withBlocks, blockSent}
+use Rattle.server.specs.State.{slotOf, scopeOf, withSlot, withBlocks, blockSent}
 use Rattle.server.specs.Tests.{fromOwner, openTest, fitTest, senderRight, counted, orderTest, messageTest}
 use Rattle.server.specs.Steps.{sendOnly, settleBlocks}
 use Rattle.server.specs.Stages.{Progress, progress, moved}
@@ -47,25 +48,29 @@ unfolding pick
 split true r u w = refl
 split false r u w = refl
 
-pub sent-test : (H : List ℕ → List ℕ) (g : Params) (me : ℕ) (s : Server) (from : Party) (c q : ℕ) (e : Entry) (v : Verdict)
-    → v ≡ andThen (pick (fromOwner from c) (openTest (slotOf s c) q (slotOf s c .blocks .sent)) (J.Bad R.Sender)) (fitTest H e me)
+pub sent-test : (H : List ℕ → List ℕ) (g : Params) (me : ℕ) (s : Server) (x : Scope) (from : Party) (c q : ℕ) (e : Entry) (v : Verdict) → x ≡ scopeOf s c
+    → v ≡ andThen (pick (fromOwner from c) (openTest (x .slot) q (x .slot .blocks .sent)) (J.Bad R.Sender)) (fitTest H e me)
     → v ≡ messageTest H g me s from (message c q (blockIs send e))
 unfolding messageTest senderRight orderTest counted
-sent-test H g me s from c q e v p = p ∙ split (fromOwner from c) R.Sender (openTest (slotOf s c) q (slotOf s c .blocks .sent)) (fitTest H e me)
+sent-test H g me s x from c q e v i p =
+    p ∙ ap (λ (u : Scope). andThen (pick (fromOwner from c) (openTest (u .slot) q (u .slot .blocks .sent)) (J.Bad R.Sender)) (fitTest H e me)) i
+    ∙ split (fromOwner from c) R.Sender (openTest (slotOf s c) q (slotOf s c .blocks .sent)) (fitTest H e me)
 
-pub echo-test : (H : List ℕ → List ℕ) (g : Params) (me : ℕ) (s : Server) (from : Party) (c q : ℕ) (e : Entry) (v : Verdict)
-    → v ≡ andThen (pick (fromServer g from) (openTest (slotOf s c) q (getD (slotOf s c .blocks .echoes) (numberIn from) false)) (J.Bad R.Sender)) (fitTest H e (numberIn from))
+pub echo-test : (H : List ℕ → List ℕ) (g : Params) (me : ℕ) (s : Server) (x : Scope) (from : Party) (c q : ℕ) (e : Entry) (v : Verdict) → x ≡ scopeOf s c
+    → v ≡ andThen (pick (fromServer g from) (openTest (x .slot) q (getD (x .slot .blocks .echoes) (numberIn from) false)) (J.Bad R.Sender)) (fitTest H e (numberIn from))
     → v ≡ messageTest H g me s from (message c q (blockIs echo e))
 unfolding messageTest senderRight orderTest counted
-echo-test H g me s from c q e v p =
-    p ∙ split (fromServer g from) R.Sender (openTest (slotOf s c) q (getD (slotOf s c .blocks .echoes) (numberIn from) false)) (fitTest H e (numberIn from))
+echo-test H g me s x from c q e v i p =
+    p ∙ ap (λ (u : Scope). andThen (pick (fromServer g from) (openTest (u .slot) q (getD (u .slot .blocks .echoes) (numberIn from) false)) (J.Bad R.Sender)) (fitTest H e (numberIn from))) i
+    ∙ split (fromServer g from) R.Sender (openTest (slotOf s c) q (getD (slotOf s c .blocks .echoes) (numberIn from) false)) (fitTest H e (numberIn from))
 
-pub ready-test : (H : List ℕ → List ℕ) (g : Params) (me : ℕ) (s : Server) (from : Party) (c q : ℕ) (e : Entry) (v : Verdict)
-    → v ≡ andThen (pick (fromServer g from) (openTest (slotOf s c) q (getD (slotOf s c .blocks .readies) (numberIn from) false)) (J.Bad R.Sender)) (fitTest H e (numberIn from))
+pub ready-test : (H : List ℕ → List ℕ) (g : Params) (me : ℕ) (s : Server) (x : Scope) (from : Party) (c q : ℕ) (e : Entry) (v : Verdict) → x ≡ scopeOf s c
+    → v ≡ andThen (pick (fromServer g from) (openTest (x .slot) q (getD (x .slot .blocks .readies) (numberIn from) false)) (J.Bad R.Sender)) (fitTest H e (numberIn from))
     → v ≡ messageTest H g me s from (message c q (blockIs ready e))
 unfolding messageTest senderRight orderTest counted
-ready-test H g me s from c q e v p =
-    p ∙ split (fromServer g from) R.Sender (openTest (slotOf s c) q (getD (slotOf s c .blocks .readies) (numberIn from) false)) (fitTest H e (numberIn from))
+ready-test H g me s x from c q e v i p =
+    p ∙ ap (λ (u : Scope). andThen (pick (fromServer g from) (openTest (u .slot) q (getD (u .slot .blocks .readies) (numberIn from) false)) (J.Bad R.Sender)) (fitTest H e (numberIn from))) i
+    ∙ split (fromServer g from) R.Sender (openTest (slotOf s c) q (getD (slotOf s c .blocks .readies) (numberIn from) false)) (fitTest H e (numberIn from))
 
 -- what is known where nothing spoke against a frame
 pub kept-voted : (g : Params) (from : Party) (x : Slot) (q : ℕ) (again : Bool) (w v : Verdict)

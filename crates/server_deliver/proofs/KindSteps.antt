@@ -24,8 +24,11 @@ use Rattle.server.specs.declared.Reply.the-variants as Y
 use Rattle.server.specs.State.{slotOf}
 use Rattle.server.specs.Tests.{senderRight, orderTest, messageTest}
 use Rattle.server.specs.Steps.{sendOnly, settleTimes, onBlock, onTime, onRead, onReadComplete, onBody, effect}
-use Rattle.server.specs.Delivery.{Outcome, outcome}
-use Rattle.server.specs.Stages.{answered}
+use Rattle.server.specs.Delivery.{Outcome}
+use Rattle.server.specs.Stages.{outcomeIn, answered}
+use Rattle.server.specs.State.{scopeOf}
+use Rattle.server.specs.declared.Scope.{Scope}
+use Rattle.server.proofs.Scopes.{as-it-was}
 use Rattle.server_deliver.specs.Handed.{Carried, stepFor}
 
 -- ---- the lengths
@@ -120,29 +123,35 @@ module _ (H : List ℕ → List ℕ) (g : Params) (me : ℕ) (s : Server) (a ini
   unfolding bodyIn pick messageTest senderRight orderTest effect onBody onTime settleTimes
   is-time-ready e p = says 8 (timeIs ready (be8 f 9)) e refl p
 
--- 2, 9 and 11
-module _ (H : List ℕ → List ℕ) (g : Params) (me : ℕ) (s : Server) (a initial : List ℕ) (from : Party) (h : Header) (f out to : List ℕ) where
-  none-sends : (k : ℕ) (b : Body) → h .kind ≡ k → bodyIn g k f ≡ b → senderRight g from (h .client) b ≡ false
-      → outcome (record { reply = Y.Refused R.Sender; server = s }) a out to ≡ stepFor H g me s a initial from h f out to
-  unfolding messageTest answered pick
-  none-sends k b e m n = says H g me s a initial from h f out to _ k b e m (rw n)
+abbrev refusing : List ℕ → List ℕ → List ℕ → Server → Outcome
+refusing a out to s = record { reply = Y.Refused R.Sender; server = s; area = a; out = out; to = to }
 
-  pub is-stamp : h .kind ≡ 2 → outcome (record { reply = Y.Refused R.Sender; server = s }) a out to ≡ stepFor H g me s a initial from h f out to
+-- 2, 9 and 11
+module _ (H : List ℕ → List ℕ) (g : Params) (me : ℕ) (s : Server) (a initial : List ℕ) (from : Party) (h : Header) (f out to : List ℕ) (x : Scope)
+    (q : x ≡ scopeOf s (h .client)) where
+  none-sends : (k : ℕ) (b : Body) → h .kind ≡ k → bodyIn g k f ≡ b → senderRight g from (h .client) b ≡ false
+      → outcomeIn s (h .client) (record { reply = Y.Refused R.Sender; scope = x }) a out to ≡ stepFor H g me s a initial from h f out to
+  unfolding messageTest answered pick
+  none-sends k b e m n =
+      ap (refusing a out to) (as-it-was s (h .client) x q)
+      ∙ says H g me s a initial from h f out to _ k b e m (rw n)
+
+  pub is-stamp : h .kind ≡ 2 → outcomeIn s (h .client) (record { reply = Y.Refused R.Sender; scope = x }) a out to ≡ stepFor H g me s a initial from h f out to
   unfolding bodyIn pick senderRight
   is-stamp e = none-sends 2 _ e refl refl
 
-  is-ack : h .kind ≡ 9 → outcome (record { reply = Y.Refused R.Sender; server = s }) a out to ≡ stepFor H g me s a initial from h f out to
+  is-ack : h .kind ≡ 9 → outcomeIn s (h .client) (record { reply = Y.Refused R.Sender; scope = x }) a out to ≡ stepFor H g me s a initial from h f out to
   unfolding bodyIn pick senderRight
   is-ack e = none-sends 9 _ e refl refl
 
-  is-value : h .kind ≡ 11 → outcome (record { reply = Y.Refused R.Sender; server = s }) a out to ≡ stepFor H g me s a initial from h f out to
+  is-value : h .kind ≡ 11 → outcomeIn s (h .client) (record { reply = Y.Refused R.Sender; scope = x }) a out to ≡ stepFor H g me s a initial from h f out to
   unfolding bodyIn pick senderRight
   is-value e = none-sends 11 _ e refl refl
 
   pub to-client : 9 ≤ h .kind → h .kind ≤ 12 → (h .kind ≡ 10 → ⊥) → (h .kind ≡ 12 → ⊥)
-      → outcome (record { reply = Y.Refused R.Sender; server = s }) a out to ≡ stepFor H g me s a initial from h f out to
+      → outcomeIn s (h .client) (record { reply = Y.Refused R.Sender; scope = x }) a out to ≡ stepFor H g me s a initial from h f out to
   to-client l m n k = go (eqb (h .kind) 9) refl
     where
-      go : (b : Bool) → eqb (h .kind) 9 ≡ b → outcome (record { reply = Y.Refused R.Sender; server = s }) a out to ≡ stepFor H g me s a initial from h f out to
+      go : (b : Bool) → eqb (h .kind) 9 ≡ b → outcomeIn s (h .client) (record { reply = Y.Refused R.Sender; scope = x }) a out to ≡ stepFor H g me s a initial from h f out to
       go true e = is-ack (eqb-true (h .kind) 9 e)
       go false e = is-value (omega (arith, l, m, n, k, eqb-false (h .kind) 9 e))

@@ -1,3 +1,4 @@
 pub mod BlockSteps
 pub mod KindSteps
+pub mod OneClient
 pub mod Openings

@@ -10,12 +10,14 @@ use Rattle.frame.specs.declared.Opened.the-variants as O
 use Rattle.frame.specs.declared.Party.{Party}
 use Rattle.frame.specs.declared.Refusal.{Refusal}
 use Rattle.frame.specs.declared.Refusal.the-variants as R
-use Rattle.frame.specs.Params.{width, listed, Bounded}
+use Rattle.frame.specs.declared.Verdict.{Verdict}
+use Rattle.frame.specs.declared.Verdict.the-variants as J
+use Rattle.frame.specs.Params.{width, listed, paramsTest, Bounded}
 use Rattle.frame.specs.Messages.{Judged}
-use Rattle.frame.specs.Frames.{bodyAt, bodyLength, messageIn}
+use Rattle.frame.specs.Frames.{bodyAt, bodyLength, opened, messageIn}
 use Rattle.frame.specs.Outbox.{firstPlace}
 use Rattle.server.specs.declared.Server.{Server}
-use Rattle.server.specs.Tests.{messageTest}
+use Rattle.server.specs.Tests.{roomTest, messageTest}
 use Rattle.server.specs.Steps.{effect}
 use Rattle.server.specs.Delivery.{Outcome, effectBy, outcomeOf}
 use Rattle.server.specs.Stages.{answered, Lent}
@@ -44,6 +46,22 @@ pub record Handed (g : Params) (me : ℕ) (h : Header) (f area out to : ℕ) : T
 abbrev pub refusalIn : Opened → Refusal
 refusalIn (O.Frame h) = R.Framing
 refusalIn (O.Refused r) = r
+
+-- ---- 1 to 10: the header of a frame that is let in, or the lowest of these numbers; the server's state is not looked at
+
+-- turned down by the test v, or as it was
+abbrev pub unless : Verdict → Opened → Opened
+unless (J.Bad r) o = O.Refused r
+unless J.Fine o = o
+
+-- of a frame that opened the test v is asked
+abbrev pub admittedBy : Verdict → Opened → Opened
+admittedBy v (O.Refused r) = O.Refused r
+admittedBy v (O.Frame h) = unless v (O.Frame h)
+
+-- of the lent areas only the lengths count
+unfoldable pub admitted : Params → ℕ → List ℕ → ℕ → ℕ → ℕ → ℕ → Opened
+admitted g me f area initial out to = unless (paramsTest g me (g .n)) (admittedBy (roomTest g area initial out to) (opened g f))
 
 module _ (H : List ℕ → List ℕ) (g : Params) (me : ℕ) where
   -- the frame f opened with header h, and the lent areas are long enough

@@ -7,9 +7,11 @@ use frame::Header;
 use frame::Party;
 use frame::Refusal;
 use frame::bounds::width;
+use server::Reader;
 use server::Reply;
-use server::Served;
+use server::Scope;
 use server::Server;
+use server::Taken;
 use server::asking::on_get_stamp;
 use server::asking::on_read;
 use server::asking::on_read_complete;
@@ -22,12 +24,14 @@ ghost use mathlib.Core.List.{List};
 ghost use lib.ListN.{length};
 ghost use Rattle.frame.specs.Params.{width};
 ghost use Rattle.sha256.specs.Hash.{digestOf};
-ghost use Rattle.server.specs.Delivery.{outcome};
+ghost use Rattle.server.specs.State.{scopeOf};
+ghost use Rattle.server.specs.Stages.{outcomeIn};
 ghost use Rattle.server_deliver.specs.Handed.{Handed, stepFor};
 
 // Kinds 3 to 5, whose body is a digest list and a block.
 fn step_of_blocks(
-    s: Server,
+    s: Scope,
+    readers: [Reader; 9],
     g: Params,
     me: u8,
     from: Party,
@@ -36,9 +40,9 @@ fn step_of_blocks(
     area: &mut [u8],
     out: &mut [u8],
     to: &mut [u8],
-) -> Served
+) -> Taken
     requires { ⌜ Handed g me h (length (now f)) (length (now area)) (length (now out)) (length (now to)) × (3 ≤ h .kind) × (h .kind ≤ 5) ⌝ }
-    ensures { λ r. ⌜ ((i : List ℕ) → outcome r (now (area .exit)) (now (out .exit)) (now (to .exit)) ≡ stepFor digestOf g me s (now (area .entry)) i from h (now (f .entry)) (now (out .entry)) (now (to .entry))) ⌝ }
+    ensures { λ r. ⌜ ((w : Server) → s ≡ scopeOf w (h .client) → readers ≡ w .readers → (i : List ℕ) → outcomeIn w (h .client) r (now (area .exit)) (now (out .exit)) (now (to .exit)) ≡ stepFor digestOf g me w (now (area .entry)) i from h (now (f .entry)) (now (out .entry)) (now (to .entry))) ⌝ }
 {
     let middle = 9 + 32 * g.n;
     let end = middle + width(g);
@@ -48,14 +52,15 @@ fn step_of_blocks(
         return on_block_send(s, g, me, from, h, list, block, out, to);
     }
     if h.kind == 4 {
-        return on_block_echo(s, g, me, from, h, list, block, area, out, to);
+        return on_block_echo(s, readers, g, me, from, h, list, block, area, out, to);
     }
-    on_block_ready(s, g, me, from, h, list, block, area, out, to)
+    on_block_ready(s, readers, g, me, from, h, list, block, area, out, to)
 }
 
 // Kinds 3 to 8, of a write's two broadcasts.
 fn step_of_write(
-    s: Server,
+    s: Scope,
+    readers: [Reader; 9],
     g: Params,
     me: u8,
     from: Party,
@@ -64,25 +69,26 @@ fn step_of_write(
     area: &mut [u8],
     out: &mut [u8],
     to: &mut [u8],
-) -> Served
+) -> Taken
     requires { ⌜ Handed g me h (length (now f)) (length (now area)) (length (now out)) (length (now to)) × (3 ≤ h .kind) × (h .kind ≤ 8) ⌝ }
-    ensures { λ r. ⌜ ((i : List ℕ) → outcome r (now (area .exit)) (now (out .exit)) (now (to .exit)) ≡ stepFor digestOf g me s (now (area .entry)) i from h (now (f .entry)) (now (out .entry)) (now (to .entry))) ⌝ }
+    ensures { λ r. ⌜ ((w : Server) → s ≡ scopeOf w (h .client) → readers ≡ w .readers → (i : List ℕ) → outcomeIn w (h .client) r (now (area .exit)) (now (out .exit)) (now (to .exit)) ≡ stepFor digestOf g me w (now (area .entry)) i from h (now (f .entry)) (now (out .entry)) (now (to .entry))) ⌝ }
 {
     if h.kind < 6 {
-        return step_of_blocks(s, g, me, from, h, f, area, out, to);
+        return step_of_blocks(s, readers, g, me, from, h, f, area, out, to);
     }
     if h.kind == 6 {
         return on_time_send(s, g, from, h, f, out, to);
     }
     if h.kind == 7 {
-        return on_time_echo(s, g, from, h, f, area, out, to);
+        return on_time_echo(s, readers, g, from, h, f, area, out, to);
     }
-    on_time_ready(s, g, from, h, f, area, out, to)
+    on_time_ready(s, readers, g, from, h, f, area, out, to)
 }
 
 // Kinds 1 to 12; 2, 9 and 11 do not go to servers.
 pub fn step_of_kind(
-    s: Server,
+    s: Scope,
+    readers: [Reader; 9],
     g: Params,
     me: u8,
     from: Party,
@@ -92,9 +98,9 @@ pub fn step_of_kind(
     initial: &[u8],
     out: &mut [u8],
     to: &mut [u8],
-) -> Served
+) -> Taken
     requires { ⌜ Handed g me h (length (now f)) (length (now area)) (length (now out)) (length (now to)) × (width g ≤ length (now initial)) ⌝ }
-    ensures { λ r. ⌜ outcome r (now (area .exit)) (now (out .exit)) (now (to .exit)) ≡ stepFor digestOf g me s (now (area .entry)) (now (initial .entry)) from h (now (f .entry)) (now (out .entry)) (now (to .entry)) ⌝ }
+    ensures { λ r. ⌜ ((w : Server) → s ≡ scopeOf w (h .client) → readers ≡ w .readers → outcomeIn w (h .client) r (now (area .exit)) (now (out .exit)) (now (to .exit)) ≡ stepFor digestOf g me w (now (area .entry)) (now (initial .entry)) from h (now (f .entry)) (now (out .entry)) (now (to .entry))) ⌝ }
 {
     if h.kind == 1 {
         return on_get_stamp(s, g, from, h, out, to);
@@ -106,16 +112,16 @@ pub fn step_of_kind(
         return on_read_complete(s, g, from, h);
     }
     if h.kind == 2 {
-        return Served {
+        return Taken {
             reply: Reply::Refused(Refusal::Sender),
-            server: s,
+            scope: s,
         };
     }
     if 9 <= h.kind {
-        return Served {
+        return Taken {
             reply: Reply::Refused(Refusal::Sender),
-            server: s,
+            scope: s,
         };
     }
-    step_of_write(s, g, me, from, h, f, area, out, to)
+    step_of_write(s, readers, g, me, from, h, f, area, out, to)
 }

@@ -10,20 +10,22 @@ use frame::opener::open_frame;
 use server::Reply;
 use server::Served;
 use server::Server;
+use server::state::scope_of;
+use server::state::with_scope;
 use server::tests::room_test;
 ghost use mathlib.Core.Path.{_≡_};
-ghost use lib.ListN.{length};
 ghost use Rattle.frame.specs.Frames.{opened};
 ghost use Rattle.sha256.specs.Hash.{digestOf};
-ghost use Rattle.server.specs.Tests.{roomTest, judgeOpened};
+ghost use Rattle.frame.specs.Params.{Bounded};
+ghost use Rattle.server.specs.Tests.{roomTest};
 ghost use Rattle.server.specs.Delivery.{outcome, delivery};
-ghost use Rattle.server_deliver.specs.Handed.{Own, refusalIn, deliveryBy};
+ghost use Rattle.server_deliver.specs.Handed.{refusalIn, admittedBy, admitted};
 
 pub mod kinds;
 pub mod storing;
 
 // Why a frame did not open; of one that did it is not asked.
-fn refusal(o: Opened) -> Refusal
+pub fn refusal(o: Opened) -> Refusal
     ensures { λ r. ⌜ r ≡ refusalIn o ⌝ }
 {
     match o {
@@ -32,37 +34,39 @@ fn refusal(o: Opened) -> Refusal
     }
 }
 
-// 4 to 14, the parameters being within their bounds, and the step.
-fn open_step(
-    s: Server,
-    g: Params,
-    me: u8,
-    from: Party,
-    f: &[u8],
-    area: &mut [u8],
-    initial: &[u8],
-    out: &mut [u8],
-    to: &mut [u8],
-) -> Served
-    requires { ⌜ Own g me ⌝ }
-    ensures { λ r. ⌜ outcome r (now (area .exit)) (now (out .exit)) (now (to .exit)) ≡ deliveryBy digestOf g me (judgeOpened digestOf g me (opened g (now (f .entry))) (roomTest g (length (now (area .entry))) (length (now (initial .entry))) (length (now (out .entry))) (length (now (to .entry)))) s from (now (f .entry))) s (now (area .entry)) (now (initial .entry)) from (now (out .entry)) (now (to .entry)) ⌝ }
+// 4 to 10, the parameters being within their bounds.
+fn admit_frame(g: Params, f: &[u8], area: usize, initial: usize, out: usize, to: usize) -> Opened
+    requires { ⌜ Bounded g ⌝ }
+    ensures { λ r. ⌜ r ≡ admittedBy (roomTest g area initial out to) (opened g (now (f .entry))) ⌝ }
 {
     let opened = open_frame(g, f);
     let Opened::Frame(h) = opened else {
-        let r = refusal(opened);
-        return Served {
-            reply: Reply::Refused(r),
-            server: s,
-        };
+        return opened;
     };
-    let room = room_test(g, area.len(), initial.len(), out.len(), to.len());
+    let room = room_test(g, area, initial, out, to);
     if let Verdict::Bad(r) = room {
-        return Served {
-            reply: Reply::Refused(r),
-            server: s,
-        };
+        return Opened::Refused(r);
     }
-    step_of_kind(s, g, me, from, h, f, area, initial, out, to)
+    Opened::Frame(h)
+}
+
+// 1 to 10, for which no state is looked at; of the lent areas only the lengths count.
+pub fn admit(
+    g: Params,
+    me: u8,
+    f: &[u8],
+    area: usize,
+    initial: usize,
+    out: usize,
+    to: usize,
+) -> Opened
+    ensures { λ r. ⌜ r ≡ admitted g me (now (f .entry)) area initial out to ⌝ }
+{
+    let params = params_test(g, me as usize, g.n);
+    if let Verdict::Bad(r) = params {
+        return Opened::Refused(r);
+    }
+    admit_frame(g, f, area, initial, out, to)
 }
 
 // A frame f is handed in by party from: refused by the lowest number, or a step of the server.
@@ -79,12 +83,20 @@ pub fn deliver(
 ) -> Served
     ensures { λ r. ⌜ outcome r (now (area .exit)) (now (out .exit)) (now (to .exit)) ≡ delivery digestOf g me s (now (area .entry)) (now (initial .entry)) from (now (f .entry)) (now (out .entry)) (now (to .entry)) ⌝ }
 {
-    let params = params_test(g, me as usize, g.n);
-    if let Verdict::Bad(r) = params {
+    let opened = admit(g, me, f, area.len(), initial.len(), out.len(), to.len());
+    let Opened::Frame(h) = opened else {
+        let r = refusal(opened);
         return Served {
             reply: Reply::Refused(r),
             server: s,
         };
-    }
-    open_step(s, g, me, from, f, area, initial, out, to)
+    };
+    let c = h.client as usize;
+    let x = scope_of(s, c);
+    let readers = s.readers;
+    let done = step_of_kind(x, readers, g, me, from, h, f, area, initial, out, to);
+    let reply = done.reply;
+    let scope = done.scope;
+    let server = with_scope(s, c, scope);
+    Served { reply, server }
 }

@@ -11,11 +11,13 @@ use frame::entries::put_entry;
 use frame::parties::number_in;
 use frame::send::block_all;
 use server::Moved;
+use server::Reader;
 use server::Reply;
-use server::Served;
+use server::Scope;
 use server::Server;
 use server::Slot;
-use server::replies::served;
+use server::Taken;
+use server::replies::taken;
 use server::state::block_echo;
 use server::state::block_ready;
 use server::state::block_sent;
@@ -36,11 +38,10 @@ ghost use Rattle.frame.specs.Messages.{entry, message, blockIs, send, echo, rea
 ghost use Rattle.frame.specs.Outbox.{firstPlace, Room};
 ghost use Rattle.frame.specs.Params.{largestFrame, Bounded};
 ghost use Rattle.sha256.specs.Hash.{digestOf};
-ghost use Rattle.server.specs.State.{slotOf};
+ghost use Rattle.server.specs.State.{slotOf, scopeOf};
 ghost use Rattle.server.specs.Tests.{fromOwner, openTest, fitTest, messageTest};
 ghost use Rattle.server.specs.Steps.{onBlock};
-ghost use Rattle.server.specs.Delivery.{outcome};
-ghost use Rattle.server.specs.Stages.{answered, Lent};
+ghost use Rattle.server.specs.Stages.{outcomeIn, answered, Lent};
 ghost use Rattle.server_deliver.specs.Handed.{Carried};
 
 // 14: a block against the digest at place j of its list.
@@ -98,7 +99,7 @@ fn vote_test(
 
 // 3: the owner's digest list and block, echoed to all.
 pub fn on_block_send(
-    s: Server,
+    s: Scope,
     g: Params,
     me: u8,
     from: Party,
@@ -107,17 +108,16 @@ pub fn on_block_send(
     block: &[u8],
     out: &mut [u8],
     to: &mut [u8],
-) -> Served
+) -> Taken
     requires { ⌜ Bounded g × (1 ≤ h .client) × (h .client ≤ 8) × Room firstPlace (g .n + 9) (largestFrame g) (length (now out)) (length (now to)) × Carried g (length (now list)) (length (now block)) × (1 ≤ me) × (me ≤ g .n) ⌝ }
-    ensures { λ r. ⌜ ((a : List ℕ) → outcome r a (now (out .exit)) (now (to .exit)) ≡ answered (messageTest digestOf g me s from (message (h .client) (h .sequence) (blockIs send (entry (now (list .entry)) (now (block .entry)))))) s a (onBlock digestOf g me s a (h .client) (slotOf s (h .client)) (numberIn from) send (entry (now (list .entry)) (now (block .entry)))) (now (out .entry)) (now (to .entry))) ⌝ }
+    ensures { λ r. ⌜ ((w : Server) → s ≡ scopeOf w (h .client) → (a : List ℕ) → outcomeIn w (h .client) r a (now (out .exit)) (now (to .exit)) ≡ answered (messageTest digestOf g me w from (message (h .client) (h .sequence) (blockIs send (entry (now (list .entry)) (now (block .entry)))))) w a (onBlock digestOf g me w a (h .client) (slotOf w (h .client)) (numberIn from) send (entry (now (list .entry)) (now (block .entry)))) (now (out .entry)) (now (to .entry))) ⌝ }
 {
-    let c = h.client as usize;
-    let x = s.slots[c];
+    let x = s.slot;
     let v = send_test(g, me, from, h, x, list, block);
     if let Verdict::Bad(r) = v {
-        return Served {
+        return Taken {
             reply: Reply::Refused(r),
-            server: s,
+            scope: s,
         };
     }
     let p = Place { at: 0, count: 0 };
@@ -132,13 +132,14 @@ pub fn on_block_send(
         list,
         block,
     );
-    let server = with_slot(s, c, block_sent(x));
-    served(Moved { server, place })
+    let scope = with_slot(s, block_sent(x));
+    taken(Moved { scope, place })
 }
 
 // 4: a server's echo of the blocks, kept.
 pub fn on_block_echo(
-    s: Server,
+    s: Scope,
+    readers: [Reader; 9],
     g: Params,
     me: u8,
     from: Party,
@@ -148,31 +149,44 @@ pub fn on_block_echo(
     area: &mut [u8],
     out: &mut [u8],
     to: &mut [u8],
-) -> Served
+) -> Taken
     requires { ⌜ Lent g (h .client) (length (now area)) firstPlace (g .n + 9) (length (now out)) (length (now to)) × Carried g (length (now list)) (length (now block)) × (1 ≤ me) × (me ≤ g .n) ⌝ }
-    ensures { λ r. ⌜ outcome r (now (area .exit)) (now (out .exit)) (now (to .exit)) ≡ answered (messageTest digestOf g me s from (message (h .client) (h .sequence) (blockIs echo (entry (now (list .entry)) (now (block .entry)))))) s (now (area .entry)) (onBlock digestOf g me s (now (area .entry)) (h .client) (slotOf s (h .client)) (numberIn from) echo (entry (now (list .entry)) (now (block .entry)))) (now (out .entry)) (now (to .entry)) ⌝ }
+    ensures { λ r. ⌜ ((w : Server) → s ≡ scopeOf w (h .client) → readers ≡ w .readers → outcomeIn w (h .client) r (now (area .exit)) (now (out .exit)) (now (to .exit)) ≡ answered (messageTest digestOf g me w from (message (h .client) (h .sequence) (blockIs echo (entry (now (list .entry)) (now (block .entry)))))) w (now (area .entry)) (onBlock digestOf g me w (now (area .entry)) (h .client) (slotOf w (h .client)) (numberIn from) echo (entry (now (list .entry)) (now (block .entry)))) (now (out .entry)) (now (to .entry))) ⌝ }
 {
     let c = h.client as usize;
-    let x = s.slots[c];
+    let x = s.slot;
     let b = x.blocks;
     let echoes = b.echoes;
     let v = vote_test(g, from, h, x, echoes, list, block);
     if let Verdict::Bad(r) = v {
-        return Served {
+        return Taken {
             reply: Reply::Refused(r),
-            server: s,
+            scope: s,
         };
     }
     let j = number_in(from) as usize;
     put_entry(area, 21 * c - 20 + j, list, block);
     let y = block_echo(x, j);
-    let m = settle_blocks(s, g, me, area, h.client, h.sequence, y, list, out, to);
-    served(m)
+    let m = settle_blocks(
+        s,
+        readers,
+        g,
+        me,
+        area,
+        h.client,
+        h.sequence,
+        y,
+        list,
+        out,
+        to,
+    );
+    taken(m)
 }
 
 // 5: a server's ready of the blocks, kept.
 pub fn on_block_ready(
-    s: Server,
+    s: Scope,
+    readers: [Reader; 9],
     g: Params,
     me: u8,
     from: Party,
@@ -182,24 +196,36 @@ pub fn on_block_ready(
     area: &mut [u8],
     out: &mut [u8],
     to: &mut [u8],
-) -> Served
+) -> Taken
     requires { ⌜ Lent g (h .client) (length (now area)) firstPlace (g .n + 9) (length (now out)) (length (now to)) × Carried g (length (now list)) (length (now block)) × (1 ≤ me) × (me ≤ g .n) ⌝ }
-    ensures { λ r. ⌜ outcome r (now (area .exit)) (now (out .exit)) (now (to .exit)) ≡ answered (messageTest digestOf g me s from (message (h .client) (h .sequence) (blockIs ready (entry (now (list .entry)) (now (block .entry)))))) s (now (area .entry)) (onBlock digestOf g me s (now (area .entry)) (h .client) (slotOf s (h .client)) (numberIn from) ready (entry (now (list .entry)) (now (block .entry)))) (now (out .entry)) (now (to .entry)) ⌝ }
+    ensures { λ r. ⌜ ((w : Server) → s ≡ scopeOf w (h .client) → readers ≡ w .readers → outcomeIn w (h .client) r (now (area .exit)) (now (out .exit)) (now (to .exit)) ≡ answered (messageTest digestOf g me w from (message (h .client) (h .sequence) (blockIs ready (entry (now (list .entry)) (now (block .entry)))))) w (now (area .entry)) (onBlock digestOf g me w (now (area .entry)) (h .client) (slotOf w (h .client)) (numberIn from) ready (entry (now (list .entry)) (now (block .entry)))) (now (out .entry)) (now (to .entry))) ⌝ }
 {
     let c = h.client as usize;
-    let x = s.slots[c];
+    let x = s.slot;
     let b = x.blocks;
     let readies = b.readies;
     let v = vote_test(g, from, h, x, readies, list, block);
     if let Verdict::Bad(r) = v {
-        return Served {
+        return Taken {
             reply: Reply::Refused(r),
-            server: s,
+            scope: s,
         };
     }
     let j = number_in(from) as usize;
     put_entry(area, 21 * c - 10 + j, list, block);
     let y = block_ready(x, j);
-    let m = settle_blocks(s, g, me, area, h.client, h.sequence, y, list, out, to);
-    served(m)
+    let m = settle_blocks(
+        s,
+        readers,
+        g,
+        me,
+        area,
+        h.client,
+        h.sequence,
+        y,
+        list,
+        out,
+        to,
+    );
+    taken(m)
 }

@@ -126,6 +126,28 @@ impl Server {
         }
     }
 
+    /// What the frame says, or the lowest refusal up to 10, for which no state is looked at.
+    pub fn admit<'a>(
+        p: &Params,
+        own: usize,
+        initial: &[u8],
+        area: &[u8],
+        bytes: &'a [u8],
+        out: &[u8],
+        to: &[u8],
+    ) -> Result<Frame<'a>, Refusal> {
+        p.check_server(own)?;
+        let frame = open(p, bytes)?;
+        if out.len() < p.server_room()
+            || to.len() < 2 * (p.n + 9)
+            || area.len() < STATE_AREA
+            || initial.len() < p.block()
+        {
+            return Err(Refusal::Room);
+        }
+        Ok(frame)
+    }
+
     /// A frame handed in, named as `from`'s.
     #[allow(clippy::too_many_arguments)]
     pub fn deliver(
@@ -139,15 +161,23 @@ impl Server {
         out: &mut [u8],
         to: &mut [u8],
     ) -> Result<Done, Refusal> {
-        p.check_server(own)?;
-        let frame = open(p, bytes)?;
-        if out.len() < p.server_room()
-            || to.len() < 2 * (p.n + 9)
-            || area.len() < STATE_AREA
-            || initial.len() < p.block()
-        {
-            return Err(Refusal::Room);
-        }
+        let frame = Server::admit(p, own, initial, area, bytes, out, to)?;
+        self.step(p, own, initial, area, from, frame, out, to)
+    }
+
+    /// A frame that was let in.
+    #[allow(clippy::too_many_arguments)]
+    pub fn step(
+        &mut self,
+        p: &Params,
+        own: usize,
+        initial: &[u8],
+        area: &mut [u8],
+        from: Party,
+        frame: Frame,
+        out: &mut [u8],
+        to: &mut [u8],
+    ) -> Result<Done, Refusal> {
         let from = Server::sender(p, &frame, from)?;
         let mut out = Out { out, to, bytes: 0, frames: 0 };
         let c = frame.client as usize;

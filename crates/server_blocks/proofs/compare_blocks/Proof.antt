@@ -63,11 +63,11 @@ returns c =
     let P = z .pre in
     let a = z .args in
     let G = regaining _ _ _ _ _ _ _ _ _ _ _ _ _ (P .0) (P .3) _ _ (P .5) in
-    λ b.
-    compared digestOf (a .g) (P .0 .bounded) (a .area .now) (a .list .now) b (a .c) (a .x) (a .es) (a .rs) (a .e) (a .r) (P .3) (a .me) (a .s) _ _ _
+    λ v h k b.
+    compared digestOf (a .g) (P .0 .bounded) (a .area .now) (a .list .now) b (a .c) (a .x) (a .es) (a .rs) (a .e) (a .r) (P .3) (a .me) v _ _ _
     (c .before .before .before .before .before .before .before .before .before .before .before .before .before .before .own-block .result) (c .before .before .before .before .before .before .before .before .before .before .before .before .block-due .result) (c .before .before .before .before .before .before .before .before .before .before .before .block-full .result)
     (block-front _ _ _ _ _ _ G _ _ _ _ (c .before .before .before .before .before .before .before .before .before .before .before .before .before .before .before .before .before .width .ensures .0) (c .before .before .before .before .before .before .before .before .before .before .before .before .before .before .before .before .before .width .ensures .2) refl (c .before .before .before .before .before .before .before .before .before .before .before .before .before .before .own-block .ensures .1))
-    (c .before .before .before .before .before .before .before .before .before .before .before .before .before .before .own-block .ensures .0) (c .before .before .before .before .before .before .before .before .before .before .before .before .block-due .ensures) (c .before .before .before .before .before .before .before .before .before .before .before .block-full .ensures) (c .before .before .before .before .before .before .answer .ensures)
+    (c .before .before .before .before .before .before .before .before .before .before .before .before .before .before .own-block .ensures .0) (c .before .before .before .before .before .before .before .before .before .before .before .before .block-due .ensures) (c .before .before .before .before .before .before .before .before .before .before .before .block-full .ensures) (c .before .before .before .before .before .before .answer .ensures v h k)
 
 pub compare-blocks-spec : {M : Type 1} → statement M
 compare-blocks-spec =

@@ -3,7 +3,6 @@ use Rattle.server_blocks.proofs.Fewer.{unlisted}
 use Rattle.server_blocks.proofs.Rooms.{lent-none}
 use Rattle.sha256.specs.Hash.{digestOf}
 use mathlib.Core.Path.{sym, _∙_}
-use native.Mathlib.Omega.{arith}
 use borrow.Author.Needs.{needs}
 use Rattle.server_blocks.proofs.settle_blocks.Statement.{statement}
 use Rattle.server_blocks.proofs.settle_blocks.Tie as tie
@@ -49,11 +48,11 @@ returns-2 c =
     let z = c .before .before .before .before .before .before .before .before .before .before .before .before .before .before .before .before .before .before .before .before .before in
     let P = z .pre in
     let a = z .args in
-    λ b.
-    unlisted digestOf (a .g) (P .0 .bounded) (a .area .now) (a .list .now) b (a .c) (a .x) _ _ (a .me) (a .s) _ _
+    λ v h k b.
+    unlisted digestOf (a .g) (P .0 .bounded) (a .area .now) (a .list .now) b (a .c) (a .x) _ _ (a .me) v _ _
     (c .before .before .before .before .before .before .before .before .before .before .before .before .before .tally .ensures .0) (c .before .before .before .before .before .before .before .before .before .before .before .before .tally2 .ensures .0)
     (sym (c .before .before .before .before .before .before .before .before .before .before .before .matters .ensures) ∙ c .before .before .before .before .before .before .before .before .before .before .if1 .left)
-    (c .before .before .before .before .before .before .settle .ensures)
+    (c .before .before .before .before .before .before .settle .ensures v h k)
 
 pub settle-blocks-spec : {M : Type 1} → statement M
 settle-blocks-spec =

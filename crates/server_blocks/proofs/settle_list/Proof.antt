@@ -67,10 +67,10 @@ returns-2 c =
     let z = c .before .before .before .before .before .before .before .before .before .before .before .before .before .before .before .before .before .before .before .before .before .before .before in
     let P = z .pre in
     let a = z .args in
-    λ b.
+    λ v h k b.
     skipped digestOf (a .g) (P .0 .bounded) (a .area .now) (a .list .now) b (a .c) (a .x) _ _ _ _
     (record { echoes-are = c .before .before .before .before .before .before .before .before .before .before .before .before .before .before .before .before .echo-votes .ensures; readies-are = c .before .before .before .before .before .before .before .before .before .before .before .before .before .before .ready-votes .ensures; echo-number = c .before .before .before .before .before .before .before .before .before .before .before .before .before .tally .ensures .0; ready-number = c .before .before .before .before .before .before .before .before .before .before .before .before .tally2 .ensures .0 })
-    (a .me) (a .s) _ _ (sym (c .before .before .before .before .before .before .before .before .before .before .before .matters .ensures) ∙ c .before .before .before .before .before .before .before .before .before .before .if1 .left) (c .before .before .before .before .before .before .settle .ensures)
+    (a .me) v _ _ (sym (c .before .before .before .before .before .before .before .before .before .before .before .matters .ensures) ∙ c .before .before .before .before .before .before .before .before .before .before .if1 .left) (c .before .before .before .before .before .before .settle .ensures v h k)
 
 pub settle-list-spec : {M : Type 1} → statement M
 settle-list-spec =

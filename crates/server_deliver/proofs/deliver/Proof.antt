@@ -1,26 +1,43 @@
--- Parameters out of bounds are turned down; else the frame is opened. Assumes nothing.
-use borrow.Author.Needs.{needs}
+-- A frame that is not let in is turned down; one that is let in takes its step on its client's scope. Assumes nothing.
+use native.Mathlib.Omega.{arith}
+use mathlib.Core.Path.{refl}
 use Rattle.sha256.specs.Hash.{digestOf}
-use Rattle.server_deliver.proofs.Openings.{own-of, out-of-bounds, within-bounds}
+use Rattle.server_deliver.proofs.Openings.{let-in, refused-delivery, taken-delivery, put-back}
+use borrow.Author.Needs.{needs}
 use Rattle.server_deliver.proofs.deliver.Statement.{statement}
 use Rattle.server_deliver.proofs.deliver.Tie as tie
 
-params-test-requires : tie.Need-params-test-requires
-params-test-requires c κs = search needs
+admit-requires : tie.Need-admit-requires
+admit-requires c κs = search needs
 
-enum-known-params : tie.Need-enum-known-params
-enum-known-params c = search needs
-
-returns : tie.Need-returns
-returns c =
-    let a = c .before .before .before .before .before .before .before .before .before .args in
-    out-of-bounds digestOf (a .g) (a .me) (a .s) (a .area .now) (a .initial .now) (a .from) _ _ (a .f .now) _ _ (c .before .before .before .params-test .ensures) (c .before .params .given .1)
+enum-known-opened : tie.Need-enum-known-opened
+enum-known-opened c = search needs
 
 enum-told : tie.Need-enum-told
 enum-told c = search needs
 
-open-step-requires : tie.Need-open-step-requires
-open-step-requires c κs = let a = c .before .before .before .before .before .before .before .before .before .before .before .args in own-of (a .g) (a .me) _ (c .before .before .before .before .before .params-test .ensures) (c .before .before .before .enum-told .given .1)
+refusal-requires : tie.Need-refusal-requires
+refusal-requires c κs = search needs
+
+returns : tie.Need-returns
+returns c = let a = c .before .before .before .before .before .before .before .before .before .args in
+    refused-delivery digestOf (a .g) (a .me) (a .s) (a .area .now) (a .initial .now) (a .from) _ _ (a .f .now) _ _ _ (c .before .before .before .admit .ensures) (c .before .enum-told .given .1) (c .refusal .ensures)
+
+cast-c : tie.Need-cast-c
+cast-c c = search needs
+
+scope-of-requires : tie.Need-scope-of-requires
+scope-of-requires c κs = let a = c .before .before .before .before .before .before .before .before .before .before .args in
+    let P = let-in (a .g) (a .me) _ (a .f .now) _ _ _ _ _ (c .before .before .before .before .admit .ensures) (c .before .before .opened .given .1) in
+    omega (arith, P .0 .lent .client-high)
+
+step-of-kind-requires : tie.Need-step-of-kind-requires
+step-of-kind-requires c κs = let a = c .before .before .before .before .before .before .before .before .before .before .before .before .before .before .before .args in let-in (a .g) (a .me) _ (a .f .now) _ _ _ _ _ (c .before .before .before .before .before .before .before .before .before .admit .ensures) (c .before .before .before .before .before .before .before .opened .given .1)
+
+with-scope-requires : tie.Need-with-scope-requires
+with-scope-requires c κs = let a = c .before .before .before .before .before .before .before .before .before .before .before .before .before .before .before .before .before .before .before .before .before .before .before .args in
+    let P = let-in (a .g) (a .me) _ (a .f .now) _ _ _ _ _ (c .before .before .before .before .before .before .before .before .before .before .before .before .before .before .before .before .before .admit .ensures) (c .before .before .before .before .before .before .before .before .before .before .before .before .before .before .before .opened .given .1) in
+    omega (arith, P .0 .lent .client-high)
 
 same-length : tie.Need-same-length
 same-length c = search needs
@@ -32,19 +49,23 @@ same-length-3 : tie.Need-same-length-3
 same-length-3 c = search needs
 
 returns-2 : tie.Need-returns-2
-returns-2 c =
-    let a = c .before .before .before .before .before .before .before .before .before .before .before .before .before .before .before .before .before .before .args in
-    within-bounds digestOf (a .g) (a .me) (a .s) (a .area .now) (a .initial .now) (a .from) _ _ (a .f .now) _ _ (c .before .before .before .before .before .before .before .before .before .before .before .before .params-test .ensures) (c .before .before .before .before .before .before .before .before .before .before .enum-told .given .1) (c .before .before .before .before .before .before .open-step .ensures)
+returns-2 c = let a = c .before .before .before .before .before .before .before .before .before .before .before .before .before .before .before .before .before .before .before .before .before .before .before .before .args in
+    taken-delivery digestOf (a .g) (a .me) (a .s) (a .area .now) (a .initial .now) (a .from) _ _ (a .f .now) _ _ _ (c .before .before .before .before .before .before .before .before .before .before .before .before .before .before .before .before .before .before .admit .ensures) (c .before .before .before .before .before .before .before .before .before .before .before .before .before .before .before .before .opened .given .1)
+    (put-back (a .s) (c .before .before .before .before .before .before .before .before .before .before .before .before .before .before .before .before .opened .given .0 .0 .client) (c .before .before .before .before .before .before .before .before .step-of-kind .result) _ _ _ _ _ (c .with-scope .ensures) (c .before .before .before .before .before .before .before .before .step-of-kind .ensures (a .s) (c .before .before .before .before .before .before .before .before .before .before .before .before .before .scope-of .ensures) refl))
 
 pub deliver-spec : {M : Type 1} → statement M
 deliver-spec =
     tie.close
     (tie.spec
-    params-test-requires
-    enum-known-params
-    returns
+    admit-requires
+    enum-known-opened
     enum-told
-    open-step-requires
+    refusal-requires
+    returns
+    cast-c
+    scope-of-requires
+    step-of-kind-requires
+    with-scope-requires
     same-length
     same-length-2
     same-length-3

@@ -25,24 +25,24 @@ unfolding joined
 loop-holds c = (refl, omega arith, refl)
 
 -- src/fields.rt:83:32
-mul-write8 : tie.Need-mul-write8 Inv-loop μ-loop
-mul-write8 c = search needs
+mul-put-number : tie.Need-mul-put-number Inv-loop μ-loop
+mul-put-number c = search needs
 
 -- src/fields.rt:83:27
-add-write8 : tie.Need-add-write8 Inv-loop μ-loop
-add-write8 c = search needs
+add-put-number : tie.Need-add-put-number Inv-loop μ-loop
+add-put-number c = search needs
 
 -- src/fields.rt:83:39
-mul-write8-2 : tie.Need-mul-write8-2 Inv-loop μ-loop
-mul-write8-2 c = search needs
+mul-put-number-2 : tie.Need-mul-put-number-2 Inv-loop μ-loop
+mul-put-number-2 c = search needs
 
 -- src/fields.rt:83:39
-array-read-write8 : tie.Need-array-read-write8 Inv-loop μ-loop
-array-read-write8 c = search needs
+array-read-put-number : tie.Need-array-read-put-number Inv-loop μ-loop
+array-read-put-number c = search needs
 
 -- src/fields.rt:83:9
-write8-requires : tie.Need-write8-requires Inv-loop μ-loop
-write8-requires c κs = omega arith
+put-number-requires : tie.Need-put-number-requires Inv-loop μ-loop
+put-number-requires c κs = omega arith
 
 -- src/fields.rt:84:9
 add-j : tie.Need-add-j Inv-loop μ-loop
@@ -58,7 +58,7 @@ loop-again c =
     let l = c .before .before .before .before .before .loop in
     let a = c .before .before .before .before .before .before .before .args in
     let h : a .at + l .j * 8 ≡ a .at + l .j * 8 = refl in
-    let p = put-turn (λ (k : ℕ). bytes8 (getD (a .t1) k 0)) 8 (a .out .now) (l .out) _ (a .at) (l .j) _ (λ k. length-bytes8 (getD (a .t1) k 0)) h (l .inv .0) (c .before .before .write8 .ensures) in
+    let p = put-turn (λ (k : ℕ). bytes8 (getD (a .t1) k 0)) 8 (a .out .now) (l .out) _ (a .at) (l .j) _ (λ k. length-bytes8 (getD (a .t1) k 0)) h (l .inv .0) (c .before .before .put-number .ensures) in
     (p, omega arith, search needs)
 
 -- src/fields.rt:77:1
@@ -81,11 +81,11 @@ put-numbers-spec =
     Inv-loop
     μ-loop
     loop-holds
-    mul-write8
-    add-write8
-    mul-write8-2
-    array-read-write8
-    write8-requires
+    mul-put-number
+    array-read-put-number
+    mul-put-number-2
+    add-put-number
+    put-number-requires
     add-j
     loop-less
     loop-again

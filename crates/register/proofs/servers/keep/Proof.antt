@@ -1,5 +1,6 @@
 -- The whole outcome, by the laws of ServerCalls.antt. Assumes nothing.
 use borrow.Author.Needs.{needs}
+use Rattle.register.specs.ServerCalls.{scopeAfter}
 use Rattle.register.proofs.ServerCalls.{keep-old, keep-new}
 use Rattle.register.proofs.servers.keep.Statement.{statement}
 use Rattle.register.proofs.servers.keep.Tie as tie
@@ -11,10 +12,11 @@ server-answer-requires : tie.Need-server-answer-requires
 server-answer-requires c κs = search needs
 
 returns : tie.Need-returns
+unfolding scopeAfter
 returns c = keep-old _ _ _ _ _ (c .before .before .is-turned-down .ensures) (c .server-answer .ensures) (c .before .if1 .taken)
 
-put-server-requires : tie.Need-put-server-requires
-put-server-requires c κs = search needs
+put-scope-requires : tie.Need-put-scope-requires
+put-scope-requires c κs = search needs
 
 server-answer-requires-2 : tie.Need-server-answer-requires-2
 server-answer-requires-2 c κs = search needs
@@ -23,7 +25,8 @@ same-length : tie.Need-same-length
 same-length c = search needs
 
 returns-2 : tie.Need-returns-2
-returns-2 c = keep-new _ _ _ _ _ (c .before .before .before .before .before .before .is-turned-down .ensures) (c .server-answer2 .ensures) (c .before .before .before .before .before .if1 .left) _ (c .before .before .before .put-server .ensures)
+unfolding scopeAfter
+returns-2 c = keep-new _ _ _ _ _ (c .before .before .before .before .before .before .is-turned-down .ensures) (c .server-answer2 .ensures) (c .before .before .before .before .before .if1 .left) _ (c .before .before .before .put-scope .ensures)
 
 pub keep-spec : {M : Type 1} → statement M
 keep-spec =
@@ -32,7 +35,7 @@ keep-spec =
     is-turned-down-requires
     server-answer-requires
     returns
-    put-server-requires
+    put-scope-requires
     server-answer-requires-2
     same-length
     returns-2)

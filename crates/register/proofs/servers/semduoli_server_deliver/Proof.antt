@@ -1,6 +1,8 @@
 -- The whole outcome, by the laws of ServerCalls.antt. Assumes nothing.
+use native.Mathlib.Omega.{arith}
+use Rattle.server_deliver.proofs.Openings.{let-in}
+use Rattle.register.proofs.ServerCalls.{server-short, server-refused, server-done}
 use borrow.Author.Needs.{needs}
-use Rattle.register.proofs.ServerCalls.{server-short, server-done}
 use Rattle.register.proofs.servers.semduoli_server_deliver.Statement.{statement}
 use Rattle.register.proofs.servers.semduoli_server_deliver.Tie as tie
 
@@ -16,14 +18,38 @@ returns c = server-short _ _ _ _ _ _ _ _ _ _ _ (c .before .before .if1 .taken) (
 sender-of-requires : tie.Need-sender-of-requires
 sender-of-requires c κs = search needs
 
-server-at-requires : tie.Need-server-at-requires
-server-at-requires c κs = search needs
+admit-requires : tie.Need-admit-requires
+admit-requires c κs = search needs
 
-deliver-requires : tie.Need-deliver-requires
-deliver-requires c κs = search needs
+enum-known-opened : tie.Need-enum-known-opened
+enum-known-opened c = search needs
+
+enum-told : tie.Need-enum-told
+enum-told c = search needs
+
+refusal-requires : tie.Need-refusal-requires
+refusal-requires c κs = search needs
+
+server-answer-requires : tie.Need-server-answer-requires
+server-answer-requires c κs = search needs
+
+returns-2 : tie.Need-returns-2
+returns-2 c = server-refused _ _ _ _ _ _ _ _ _ _ _ (c .before .before .before .before .before .before .if1 .left) (c .before .before .before .before .before .sender-of .ensures) (c .before .before .before .before .admit .ensures) _ _ _ (c .before .before .enum-told .given .1) (c .before .refusal .ensures) (c .server-answer .ensures)
+
+cast-c : tie.Need-cast-c
+cast-c c = search needs
+
+scope-at-requires : tie.Need-scope-at-requires
+scope-at-requires c κs = let P = let-in _ _ _ _ _ _ _ _ _ (c .before .before .before .before .before .admit .ensures) (c .before .before .before .opened .given .1) in (omega (arith, c .before .before .before .before .before .before .before .if1 .left), P .0 .lent .client-high)
+
+readers-at-requires : tie.Need-readers-at-requires
+readers-at-requires c κs = omega (arith, c .before .before .before .before .before .before .before .before .before .if1 .left)
+
+step-of-kind-requires : tie.Need-step-of-kind-requires
+step-of-kind-requires c κs = let-in _ _ _ _ _ _ _ _ _ (c .before .before .before .before .before .before .before .before .before .before .before .admit .ensures) (c .before .before .before .before .before .before .before .before .before .opened .given .1)
 
 keep-requires : tie.Need-keep-requires
-keep-requires c κs = search needs
+keep-requires c κs = let P = let-in _ _ _ _ _ _ _ _ _ (c .before .before .before .before .before .before .before .before .before .before .before .before .before .before .before .before .before .before .before .before .admit .ensures) (c .before .before .before .before .before .before .before .before .before .before .before .before .before .before .before .before .before .before .opened .given .1) in (omega (arith, c .before .before .before .before .before .before .before .before .before .before .before .before .before .before .before .before .before .before .before .before .before .before .if1 .left), P .0 .lent .client-high)
 
 same-length : tie.Need-same-length
 same-length c = search needs
@@ -37,8 +63,8 @@ same-length-3 c = search needs
 same-length-4 : tie.Need-same-length-4
 same-length-4 c = search needs
 
-returns-2 : tie.Need-returns-2
-returns-2 c = server-done _ _ _ _ _ _ _ _ _ _ _ _ _ _ _ _ _ _ (c .before .before .before .before .before .before .before .before .before .before .before .before .before .before .before .before .before .before .if1 .left) (c .before .before .before .before .before .before .before .before .before .before .before .before .before .before .before .before .before .sender-of .ensures) (c .before .before .before .before .before .before .before .before .before .before .before .before .before .before .before .server-at .ensures) (c .before .before .before .before .before .before .before .before .before .before .before .deliver .ensures) (c .before .before .keep .ensures)
+returns-3 : tie.Need-returns-3
+returns-3 c = server-done _ _ _ _ _ _ _ _ _ _ _ (c .before .before .before .before .before .before .before .before .before .before .before .before .before .before .before .before .before .before .before .before .before .before .before .before .before .if1 .left) (c .before .before .before .before .before .before .before .before .before .before .before .before .before .before .before .before .before .before .before .before .before .before .before .before .sender-of .ensures) (c .before .before .before .before .before .before .before .before .before .before .before .before .before .before .before .before .before .before .before .before .before .before .before .admit .ensures) (c .before .before .before .before .before .before .before .before .before .before .before .before .before .before .before .before .before .before .before .before .before .opened .given .0 .0) _ _ (c .before .before .before .before .before .before .before .before .before .before .before .step-of-kind .result) _ _ _ _ _ (c .before .before .before .before .before .before .before .before .before .before .before .before .before .before .before .before .before .before .before .before .before .opened .given .1) (c .before .before .before .before .before .before .before .before .before .before .before .before .before .before .before .before .before .scope-at .ensures) (c .before .before .before .before .before .before .before .before .before .before .before .before .before .before .before .readers-at .ensures) (c .before .before .before .before .before .before .before .before .before .before .before .step-of-kind .ensures) (c .before .before .keep .ensures)
 
 pub semduoli-server-deliver-spec : {M : Type 1} → statement M
 semduoli-server-deliver-spec =
@@ -48,11 +74,19 @@ semduoli-server-deliver-spec =
     test-answer-requires
     returns
     sender-of-requires
-    server-at-requires
-    deliver-requires
+    admit-requires
+    enum-known-opened
+    enum-told
+    refusal-requires
+    server-answer-requires
+    returns-2
+    cast-c
+    scope-at-requires
+    readers-at-requires
+    step-of-kind-requires
     keep-requires
     same-length
     same-length-2
     same-length-3
     same-length-4
-    returns-2)
+    returns-3)

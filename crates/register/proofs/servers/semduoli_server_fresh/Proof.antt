@@ -16,8 +16,8 @@ returns c = make-short _ _ _ _ _ _ _ _ (c .before .before .if1 .taken) (c .test-
 fresh-requires : tie.Need-fresh-requires
 fresh-requires c κs = search needs
 
-keep-requires : tie.Need-keep-requires
-keep-requires c κs = search needs
+keep-fresh-requires : tie.Need-keep-fresh-requires
+keep-fresh-requires c κs = search needs
 
 same-length : tie.Need-same-length
 same-length c = search needs
@@ -29,7 +29,7 @@ same-length-3 : tie.Need-same-length-3
 same-length-3 c = search needs
 
 returns-2 : tie.Need-returns-2
-returns-2 c = make-done _ _ _ _ _ _ _ _ _ _ _ _ (c .before .before .before .before .before .before .before .before .before .before .before .before .if1 .left) (c .before .before .before .before .before .before .before .before .before .fresh .ensures) (c .before .before .keep .ensures)
+returns-2 c = make-done _ _ _ _ _ _ _ _ _ _ _ _ (c .before .before .before .before .before .before .before .before .before .before .before .before .if1 .left) (c .before .before .before .before .before .before .before .before .before .fresh .ensures) (c .before .before .keep-fresh .ensures)
 
 pub semduoli-server-fresh-spec : {M : Type 1} → statement M
 semduoli-server-fresh-spec =
@@ -39,7 +39,7 @@ semduoli-server-fresh-spec =
     test-answer-requires
     returns
     fresh-requires
-    keep-requires
+    keep-fresh-requires
     same-length
     same-length-2
     same-length-3

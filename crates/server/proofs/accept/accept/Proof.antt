@@ -1,20 +1,16 @@
 use Rattle.frame.specs.Chunks.{entryAt, completeAt}
-use Prim.Native.Nat.{_*_, _-_}
+use Prim.Native.Nat.{_+_, _*_, _-_}
 use Rattle.server.proofs.Sending.{value-size, tell-room, ack-room}
 use Rattle.server.proofs.Acceptance.{accepted-parts}
+use Rattle.server.proofs.Scopes.{tells, opens-set}
+use Rattle.server.specs.declared.Scope.{Scope}
+use Rattle.frame.specs.Stamps.{older}
+use Rattle.frame.specs.Outbox.{sent}
+use mathlib.Core.Path.{ap, _∙_}
 use native.Mathlib.Omega.{arith}
 use borrow.Author.Needs.{needs}
 use Rattle.server.proofs.accept.accept.Statement.{statement}
 use Rattle.server.proofs.accept.accept.Tie as tie
-use Rattle.server.proofs.accept.accept.Reads as reads
-use Rattle.server.proofs.accept.accept.Lts as lts
-use Rattle.frame.proofs.stamps.is_older.Reads as is-older-reads
-use Rattle.server.proofs.accept.opens_next.Reads as opens-next-reads
-use Rattle.server.proofs.accept.replace.Reads as replace-reads
-use Rattle.server.proofs.accept.tell.Reads as tell-reads
-use Rattle.frame.proofs.entries.block_at.Reads as block-at-reads
-use Rattle.frame.proofs.entries.digests_at.Reads as digests-at-reads
-use Rattle.frame.proofs.send.send_ack.Reads as send-ack-reads
 
 -- src/accept.rt:113:16
 mul-from : tie.Need-mul-from
@@ -25,8 +21,8 @@ sub-from : tie.Need-sub-from
 sub-from c = search needs
 
 -- src/accept.rt:115:15
-add-t20 : tie.Need-add-t20
-add-t20 c = search needs
+add-t21 : tie.Need-add-t21
+add-t21 c = search needs
 
 -- src/accept.rt:119:9
 is-older-requires : tie.Need-is-older-requires
@@ -75,7 +71,7 @@ same-length c = search needs
 
 -- src/accept.rt:108:1
 same-length-2 : tie.Need-same-length-2
-same-length-2 c = search needs
+same-length-2 c = c .before .before .before .before .before .before .before .before .before .send-ack .kept .0 ∙ c .before .before .before .before .before .before .before .before .before .before .before .before .before .before .before .before .tell .kept .1 .1 .1 .1 .0
 
 -- src/accept.rt:108:1
 same-length-3 : tie.Need-same-length-3
@@ -86,14 +82,14 @@ returns : tie.Need-returns
 returns c =
     let z = c .before .before .before .before .before .before .before .before .before .before .before .before .before .before .before .before .before .before .before .before .before .before .before .before .before .before in
     let a = z .args in
-    accepted-parts (a .s) (a .area .now) _ (record { client = a .c; sequence = a .q; time = a .time; entry = entryAt (a .g) (a .area .now) (completeAt (a .c)) }) _ _ _ _ _ _ _
+    λ w e k. accepted-parts w (a .area .now) _ (record { client = a .c; sequence = a .q; time = a .time; entry = entryAt (a .g) (a .area .now) (completeAt (a .c)) }) _ _ _ _ _ _ _
     (c .before .before .before .before .before .before .before .before .before .before .before .before .before .before .before .before .before .before .before .before .digests-at .ensures)
     (c .before .before .before .before .before .before .before .before .before .before .before .before .before .before .before .before .before .before .before .block-at .ensures)
-    (c .before .before .before .before .before .before .before .before .before .before .before .before .before .before .before .before .before .before .before .before .before .before .is-older .ensures)
-    (c .before .before .before .before .before .before .before .before .before .before .before .before .before .before .before .before .tell .ensures)
+    (c .before .before .before .before .before .before .before .before .before .before .before .before .before .before .before .before .before .before .before .before .before .before .is-older .ensures ∙ ap (λ (u : Scope). older (u .stamp) (record { time = a .time + 1; writer = a .c; sequence = a .q })) e)
+    (c .before .before .before .before .before .before .before .before .before .before .before .before .before .before .before .before .tell .ensures ∙ ap (sent _) (tells w (a .readers) k _ _))
     (c .before .before .before .before .before .before .before .before .before .send-ack .ensures)
     (c .before .before .before .replace .ensures)
-    (c .opens-next .ensures)
+    (opens-set w (a .c) (a .s) e _ (a .q) _ _ (c .opens-next .ensures))
 
 pub accept-spec : {M : Type 1} → statement M
 accept-spec =
@@ -101,7 +97,7 @@ accept-spec =
     (tie.spec
     mul-from
     sub-from
-    add-t20
+    add-t21
     is-older-requires
     digests-at-requires
     block-at-requires

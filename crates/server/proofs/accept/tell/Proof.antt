@@ -1,8 +1,9 @@
-use Prim.Native.Nat.{ℕ, _+_, _≤_, _-_}
-use mathlib.Core.Path.{_≡_, refl, sym, _∙_}
+use Prim.Native.Nat.{_+_, _≤_, _-_}
+use mathlib.Core.Path.{_≡_, refl}
 use lib.ListN.{length}
 use Rattle.frame.specs.Messages.{entry}
 use Rattle.frame.specs.Outbox.{outbox, sent, Room}
+use Rattle.server.specs.State.{told}
 use Rattle.server.specs.Steps.{tellFrom}
 use Rattle.server.proofs.Sending.{room-fewer, room-told}
 use Rattle.server.proofs.Acceptance.{tell-turn, tell-end}
@@ -10,13 +11,10 @@ use native.Mathlib.Omega.{arith}
 use borrow.Author.Needs.{needs}
 use Rattle.server.proofs.accept.tell.Statement.{statement}
 use Rattle.server.proofs.accept.tell.Tie as tie
-use Rattle.server.proofs.accept.tell.Reads as reads
-use Rattle.server.proofs.accept.tell.Lts as lts
-use Rattle.server.proofs.accept.tell_one.Reads as tell-one-reads
 
 abbrev Inv-loop : tie.InvT-loop
 Inv-loop x digests block out₀ to₀ s q₀ c₀ out to q c =
-    (sent (outbox out to q) (tellFrom s x (entry digests block) c (9 - c)) ≡ sent (outbox out₀ to₀ q₀) (tellFrom s x (entry digests block) 1 8))
+    (sent (outbox out to q) (tellFrom (told s) x (entry digests block) c (9 - c)) ≡ sent (outbox out₀ to₀ q₀) (tellFrom (told s) x (entry digests block) 1 8))
     × (1 ≤ c)
     × (c ≤ 9)
     × Room q (9 - c) (22 + (length digests + length block)) (length out) (length to)
@@ -35,8 +33,8 @@ mul-r : tie.Need-mul-r Inv-loop μ-loop
 mul-r c = search needs
 
 -- src/accept.rt:54:17
-element-copy-out-r : tie.Need-element-copy-out-r Inv-loop μ-loop
-element-copy-out-r c = search needs
+array-copy-out-r : tie.Need-array-copy-out-r Inv-loop μ-loop
+array-copy-out-r c = search needs
 
 -- src/accept.rt:55:25
 cast-tell-one : tie.Need-cast-tell-one Inv-loop μ-loop
@@ -63,7 +61,7 @@ loop-again c =
     let a = c .before .before .before .before .before .before .before .before .before .before .before .before .before .before .args in
     let h = c .before .before .before .before .before .before .before .before .loop-test .taken in
     let f = c .before .before .before .before .tell-one .ensures in (
-      tell-turn (a .t1) (a .x) (entry (a .digests .now) (a .block .now)) (l .loop .c) _ _ _ _ h refl f (l .loop .inv .0),
+      tell-turn (told (a .t1)) (a .x) (entry (a .digests .now) (a .block .now)) (l .loop .c) _ _ _ _ h refl f (l .loop .inv .0),
       omega arith,
       omega arith,
       room-told _ (a .x) (entry (a .digests .now) (a .block .now)) (l .loop .c) (l .loop .q) _ _ _ _ _ h f (l .loop .inv .3),
@@ -84,7 +82,7 @@ returns : tie.Need-returns Inv-loop μ-loop
 returns c =
     let a = c .before .before .before .before .before .before .args in
     let e : c .before .loop .c ≡ 9 = omega arith in
-    tell-end (a .t1) (a .x) (entry (a .digests .now) (a .block .now)) (c .before .loop .c) _ _ e (c .before .loop .inv .0)
+    tell-end (told (a .t1)) (a .x) (entry (a .digests .now) (a .block .now)) (c .before .loop .c) _ _ e (c .before .loop .inv .0)
 
 pub tell-spec : {M : Type 1} → statement M
 tell-spec =
@@ -94,7 +92,7 @@ tell-spec =
     μ-loop
     loop-holds
     mul-r
-    element-copy-out-r
+    array-copy-out-r
     cast-tell-one
     tell-one-requires
     add-c

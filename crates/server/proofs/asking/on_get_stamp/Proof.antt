@@ -5,7 +5,13 @@ use Rattle.server.specs.Tests.{messageTest, senderRight, orderTest}
 use Rattle.frame.proofs.Within.{stop-not, go-on}
 use Rattle.frame.specs.declared.Verdict.the-variants as J
 use Rattle.frame.specs.declared.Refusal.the-variants as R
-use mathlib.Core.Path.{refl}
+use Rattle.frame.specs.declared.Party.the-variants as P
+use Rattle.frame.specs.Messages.{message, sending, stampIs}
+use Rattle.frame.specs.Outbox.{outbox, sent, firstPlace}
+use Rattle.server.specs.declared.Scope.{Scope}
+use Rattle.server.proofs.Scopes.{as-it-was}
+use mathlib.Core.List.{_∷_, []}
+use mathlib.Core.Path.{refl, ap, _∙_}
 use native.Mathlib.Omega.{arith}
 use borrow.Author.Needs.{needs}
 use Rattle.server.proofs.asking.on_get_stamp.Statement.{statement}
@@ -18,15 +24,15 @@ returns : tie.Need-returns
 unfolding messageTest senderRight orderTest
 returns c =
     let a = c .before .before .before .before .args in
-    λ z. refused-is (J.Bad R.Sender) _ R.Sender (a .s) z _ _ _ (stop-not _ _ R.Sender J.Fine (c .before .from-owner .ensures) (c .if1 .taken)) refl
+    λ w e z. refused-is (J.Bad R.Sender) _ R.Sender w (a .h .client) (a .s) z _ _ _ e (stop-not _ _ R.Sender J.Fine (c .before .from-owner .ensures) (c .if1 .taken)) refl
 
 send-stamp-requires : tie.Need-send-stamp-requires
 send-stamp-requires c κs =
     let z = c .before .before .before .before .before .before .before in
     stamp-room (z .args .g) _ 9 _ _ (omega arith) (z .pre .1)
 
-served-requires : tie.Need-served-requires
-served-requires c κs = search needs
+taken-requires : tie.Need-taken-requires
+taken-requires c κs = search needs
 
 same-length : tie.Need-same-length
 same-length c = search needs
@@ -38,9 +44,9 @@ returns-2 : tie.Need-returns-2
 unfolding messageTest senderRight orderTest
 returns-2 c =
     let a = c .before .before .before .before .before .before .before .before .before .before .before .before .before .args in
-    λ z. step-is J.Fine _ (a .s) z z _ _ _ _ _ (record { server = a .s; place = c .before .before .before .before .before .send-stamp .result }) _
+    λ w e z. step-is J.Fine _ w z z _ _ _ _ _ (a .h .client) (record { scope = a .s; place = c .before .before .before .before .before .send-stamp .result }) _
     (go-on _ _ R.Sender J.Fine J.Fine (c .before .before .before .before .before .before .before .before .before .before .from-owner .ensures) (c .before .before .before .before .before .before .before .before .before .if1 .left) refl) refl
-    (only-sent (a .s) (a .s) z _ _ _ refl (c .before .before .before .before .before .send-stamp .ensures)) (c .served .ensures .0) (c .served .ensures .1)
+    (only-sent w _ z _ _ _ (as-it-was w (a .h .client) (a .s) e) (c .before .before .before .before .before .send-stamp .ensures ∙ ap (λ (u : Scope). sent (outbox (a .out .now) (a .to .now) firstPlace) (sending (P.Client (a .h .client)) (message (a .h .client) (a .h .sequence) (stampIs (u .stamp .time))) ∷ [])) e)) (c .taken .ensures .0) (c .taken .ensures .1)
 
 pub on-get-stamp-spec : {M : Type 1} → statement M
 on-get-stamp-spec =
@@ -49,7 +55,7 @@ on-get-stamp-spec =
     from-owner-requires
     returns
     send-stamp-requires
-    served-requires
+    taken-requires
     same-length
     same-length-2
     returns-2)

@@ -1,16 +1,13 @@
 use Rattle.server.proofs.Present.{present-sent}
+use Rattle.server.specs.State.{bare}
 use Rattle.frame.proofs.Writing.{room-of}
-use Rattle.server.proofs.Present.{present-parts, present-size}
-use mathlib.Core.Path.{_≡_, refl, ap, sym, _∙_}
+use Rattle.server.proofs.Present.{present-size}
+use mathlib.Core.Path.{sym}
 use native.Mathlib.Omega.{arith}
 use borrow.Author.Needs.{needs}
 use Rattle.server.proofs.reads.send_present.Statement.{statement}
 use Rattle.server.proofs.reads.send_present.Tie as tie
 use Rattle.server.proofs.reads.send_present.Reads as reads
-use Rattle.server.proofs.reads.send_present.Lts as lts
-use Rattle.frame.proofs.entries.digests_at.Reads as digests-at-reads
-use Rattle.frame.proofs.send.send_value.Reads as send-value-reads
-use Rattle.server.proofs.reads.present_block.Reads as present-block-reads
 
 -- src/reads.rt:49:9
 present-block-requires : tie.Need-present-block-requires
@@ -40,7 +37,7 @@ same-length-2 c = search needs
 returns : tie.Need-returns
 returns c =
     let a = c .before .before .before .before .before .before .before .before .before .before .before .before .before .args in
-    present-sent (a .g) (a .s) (a .area .now) (a .initial .now) _ _ _ _ _ _ (c .before .before .before .before .before .before .before .digests-at .ensures) (c .before .before .before .before .before .before .before .before .present-block .ensures .0) (c .before .before .before .before .send-value .ensures)
+    present-sent (a .g) (bare (a .s)) (a .area .now) (a .initial .now) _ _ _ _ _ _ (c .before .before .before .before .before .before .before .digests-at .ensures) (c .before .before .before .before .before .before .before .before .present-block .ensures .0) (c .before .before .before .before .send-value .ensures)
 
 pub send-present-spec : {M : Type 1} → statement M
 send-present-spec =

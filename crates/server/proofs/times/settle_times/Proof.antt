@@ -3,18 +3,10 @@ use Rattle.server.proofs.Sending.{all-room, time-room, time-small}
 use Rattle.server.specs.declared.Slot.{Slot}
 use Rattle.frame.specs.Messages.{ready}
 use Rattle.sha256.specs.Hash.{digestOf}
-use mathlib.Core.Path.{_≡_, refl, ap, sym, _∙_}
-use native.Mathlib.Omega.{arith}
+use mathlib.Core.Path.{ap, _∙_}
 use borrow.Author.Needs.{needs}
 use Rattle.server.proofs.times.settle_times.Statement.{statement}
 use Rattle.server.proofs.times.settle_times.Tie as tie
-use Rattle.server.proofs.times.settle_times.Reads as reads
-use Rattle.server.proofs.times.settle_times.Lts as lts
-use Rattle.server.proofs.accept.settle.Reads as settle-reads
-use Rattle.server.proofs.state.time_marks.Reads as time-marks-reads
-use Rattle.server.proofs.times.time_due.Reads as time-due-reads
-use Rattle.server.proofs.times.time_full.Reads as time-full-reads
-use Rattle.server.proofs.times.time_readies.Reads as time-readies-reads
 
 -- src/times.rt:103:9
 time-due-requires : tie.Need-time-due-requires
@@ -66,7 +58,7 @@ returns : tie.Need-returns
 returns c =
     let z = c .before .before .before .before .before .before .before .before .before .before .before .before .before .before .before .before .before .before .before .before .before .before .before in
     let a = z .args in
-    times-settled digestOf (a .g) (a .s) (a .area .now) (a .c) (a .q) (a .time) (a .x) _ _ _ _ _ _ (z .pre .1) (c .before .before .before .before .before .before .before .before .before .before .before .before .before .before .before .before .before .before .before .time-due .ensures) (c .before .before .before .before .before .before .before .before .before .before .before .before .before .before .before .before .before .before .time-full .ensures) (c .before .before .before .before .before .before .before .before .before .before .before .before .before .before .before .before .before .time-marks .ensures) (c .before .before .before .before .before .before .before .before .before .before .before .before .before .before .time-readies .ensures) (c .before .before .before .before .before .before .settle .ensures)
+    λ w e k. times-settled digestOf (a .g) w (a .area .now) (a .c) (a .q) (a .time) (a .x) _ _ _ _ _ _ (z .pre .1) (c .before .before .before .before .before .before .before .before .before .before .before .before .before .before .before .before .before .before .before .time-due .ensures) (c .before .before .before .before .before .before .before .before .before .before .before .before .before .before .before .before .before .before .time-full .ensures) (c .before .before .before .before .before .before .before .before .before .before .before .before .before .before .before .before .before .time-marks .ensures) (c .before .before .before .before .before .before .before .before .before .before .before .before .before .before .time-readies .ensures) (c .before .before .before .before .before .before .settle .ensures w e k)
 
 pub settle-times-spec : {M : Type 1} → statement M
 settle-times-spec =

@@ -2,25 +2,23 @@
 use Rattle.server.specs.Steps.{onTime}
 use Rattle.server.proofs.TimeStage.{times-voted}
 use Rattle.server.proofs.Answers.{refused-is, step-is, voted}
-use Rattle.server.specs.Tests.{messageTest, senderRight, orderTest, counted}
+use Rattle.server.specs.Tests.{messageTest, senderRight, orderTest, counted, openTest}
 use Rattle.server.specs.State.{slotOf, withTimes, timeReady}
 use Rattle.server.specs.declared.Slot.{Slot}
 use Rattle.sha256.specs.Hash.{digestOf}
+use Rattle.area.specs.Area.{pick}
+use Rattle.frame.specs.Messages.{fromServer, numberIn}
+use Rattle.frame.specs.declared.Refusal.the-variants as R
+use Rattle.frame.specs.declared.Verdict.the-variants as J
+use Rattle.server.specs.declared.Scope.{Scope}
+use lib.ListN.{getD}
+use mathlib.Core.Bool.{false}
 use Prim.Native.Nat.{ℕ}
 use mathlib.Core.Path.{ap, _∙_}
 use native.Mathlib.Omega.{arith}
 use borrow.Author.Needs.{needs}
 use Rattle.server.proofs.timing.on_time_ready.Statement.{statement}
 use Rattle.server.proofs.timing.on_time_ready.Tie as tie
-
-cast-c : tie.Need-cast-c
-cast-c c = search needs
-
-mul-x : tie.Need-mul-x
-mul-x c = search needs
-
-element-copy-out-x : tie.Need-element-copy-out-x
-element-copy-out-x c = search needs
 
 server-test-requires : tie.Need-server-test-requires
 server-test-requires c κs = search needs
@@ -31,8 +29,8 @@ enum-known-v c = search needs
 returns : tie.Need-returns
 unfolding messageTest senderRight orderTest counted onTime
 returns c =
-    let a = c .before .before .before .before .before .before .before .before .before .before .before .before .args in
-    refused-is _ _ _ (a .t1) (a .area .now) _ _ _ (c .before .before .before .server-test .ensures) (c .before .v .given .1)
+    let a = c .before .before .before .before .before .before .before .before .before .before .before .args in
+    λ w e k. refused-is _ _ _ w (a .h .client) (a .s) (a .area .now) _ _ _ e (c .before .before .before .server-test .ensures ∙ ap (λ (u : Scope). pick (fromServer (a .g) (a .from)) (openTest (u .slot) (a .h .sequence) (getD (u .slot .times .readies) (numberIn (a .from)) false)) (J.Bad R.Sender)) e) (c .before .v .given .1)
 
 enum-told : tie.Need-enum-told
 enum-told c = search needs
@@ -48,18 +46,18 @@ read8-requires c κs = search needs
 
 time-ready-requires : tie.Need-time-ready-requires
 time-ready-requires c κs =
-    let z = c .before .before .before .before .before .before .before .before .before .before .before .before .before in
-    let W = voted (z .args .g) (z .args .from) (slotOf (z .args .t1) (z .args .h .client)) (z .args .h .sequence) _ _ (c .before .before .before .before .server-test .ensures) (c .before .before .enum-told .given .1) in
+    let z = c .before .before .before .before .before .before .before .before .before .before .before .before in
+    let W = voted (z .args .g) (z .args .from) (z .args .s .slot) (z .args .h .sequence) _ _ (c .before .before .before .before .server-test .ensures) (c .before .before .enum-told .given .1) in
     omega (arith, W .high, c .before .number-in .ensures, z .pre .0 .bounded .servers-high)
 
 settle-times-requires : tie.Need-settle-times-requires
 settle-times-requires c κs =
-    let z = c .before .before .before .before .before .before .before .before .before .before .before .before .before .before .before .before .before in
-    let W = voted (z .args .g) (z .args .from) (slotOf (z .args .t1) (z .args .h .client)) (z .args .h .sequence) _ _ (c .before .before .before .before .before .before .before .before .server-test .ensures) (c .before .before .before .before .before .before .enum-told .given .1) in
+    let z = c .before .before .before .before .before .before .before .before .before .before .before .before .before .before .before .before in
+    let W = voted (z .args .g) (z .args .from) (z .args .s .slot) (z .args .h .sequence) _ _ (c .before .before .before .before .before .before .before .before .server-test .ensures) (c .before .before .before .before .before .before .enum-told .given .1) in
     (z .pre .0, ap (λ (y : Slot). y .sequence) (c .before .before .before .time-ready .ensures) ∙ W .at-open)
 
-served-requires : tie.Need-served-requires
-served-requires c κs = search needs
+taken-requires : tie.Need-taken-requires
+taken-requires c κs = search needs
 
 same-length : tie.Need-same-length
 same-length c = search needs
@@ -73,19 +71,15 @@ same-length-3 c = search needs
 returns-2 : tie.Need-returns-2
 unfolding messageTest senderRight orderTest counted onTime
 returns-2 c =
-    let a = c .before .before .before .before .before .before .before .before .before .before .before .before .before .before .before .before .before .before .before .before .before .before .before .before .before .args in
-    let x = slotOf (a .t1) (a .h .client) in
-    step-is _ _ (a .t1) (a .area .now) _ _ _ _ _ _ _ _ (c .before .before .before .before .before .before .before .before .before .before .before .before .before .before .before .before .server-test .ensures) (c .before .before .before .before .before .before .before .before .before .before .before .before .before .before .enum-told .given .1)
-    (times-voted digestOf (a .g) (a .t1) (a .area .now) (a .h .client) (λ (j T : ℕ). withTimes x (timeReady (x .times) j T)) _ _ _ _ _ _ _ (c .before .before .before .before .before .before .before .before .before .before .before .before .before .number-in .ensures) (c .before .before .before .before .before .before .before .before .before .before .before .before .read8 .ensures) (c .before .before .before .before .before .before .before .before .before .before .before .time-ready .ensures) (c .before .before .before .before .before .before .before .settle-times .ensures))
-    (c .served .ensures .0) (c .served .ensures .1)
+    let a = c .before .before .before .before .before .before .before .before .before .before .before .before .before .before .before .before .before .before .before .before .before .before .before .before .args in
+    λ w e k. step-is _ _ w (a .area .now) _ _ _ _ _ _ (a .h .client) _ _ (c .before .before .before .before .before .before .before .before .before .before .before .before .before .before .before .before .server-test .ensures ∙ ap (λ (u : Scope). pick (fromServer (a .g) (a .from)) (openTest (u .slot) (a .h .sequence) (getD (u .slot .times .readies) (numberIn (a .from)) false)) (J.Bad R.Sender)) e) (c .before .before .before .before .before .before .before .before .before .before .before .before .before .before .enum-told .given .1)
+    (times-voted digestOf (a .g) w (a .area .now) (a .h .client) (λ (j T : ℕ). withTimes (slotOf w (a .h .client)) (timeReady (slotOf w (a .h .client) .times) j T)) _ _ _ _ _ _ _ (c .before .before .before .before .before .before .before .before .before .before .before .before .before .number-in .ensures) (c .before .before .before .before .before .before .before .before .before .before .before .before .read8 .ensures) (c .before .before .before .before .before .before .before .before .before .before .before .time-ready .ensures ∙ ap (λ (u : Scope). withTimes (u .slot) (timeReady (u .slot .times) (c .before .before .before .before .before .before .before .before .before .before .before .before .before .number-in .result) (c .before .before .before .before .before .before .before .before .before .before .before .before .read8 .result))) e) (c .before .before .before .before .before .before .before .settle-times .ensures w e k))
+    (c .taken .ensures .0) (c .taken .ensures .1)
 
 pub on-time-ready-spec : {M : Type 1} → statement M
 on-time-ready-spec =
     tie.close
     (tie.spec
-    cast-c
-    mul-x
-    element-copy-out-x
     server-test-requires
     enum-known-v
     returns
@@ -95,7 +89,7 @@ on-time-ready-spec =
     read8-requires
     time-ready-requires
     settle-times-requires
-    served-requires
+    taken-requires
     same-length
     same-length-2
     same-length-3

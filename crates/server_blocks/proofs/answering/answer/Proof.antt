@@ -42,8 +42,8 @@ returns : tie.Need-returns
 returns c =
     let z = c .before .before .before .before .before .before .before .before .before .before .before .before .before .before .before .before .before .before .before .before .before .before .before .before .before .before .before .before .before .before in
     let a = z .args in
-    answered (a .g) (a .s) (a .area .now) _ (a .c) (a .q) (a .x) _ (a .due) (a .full) (c .before .before .before .before .before .before .before .before .before .before .before .before .before .before .before .before .before .before .before .before .before .both .result) (entry (a .list .now) (a .block .now)) _ _ _ (z .pre .1)
-    (c .before .before .before .before .before .before .before .before .before .before .before .before .before .before .before .before .before .before .before .before .before .both .ensures) (c .before .before .before .before .before .before .before .before .before .before .before .before .complete-if .ensures) (c .before .before .before .before .before .before .before .before .before .before .before .before .before .before .before .before .before .before .before .before .before .before .before .block-marks .ensures) (c .before .before .before .before .before .before .before .before .before .before .before .before .before .before .before .before .before .before .ready-if .ensures) (c .before .before .before .before .before .before .settle .ensures)
+    λ v h k. answered (a .g) v (a .area .now) _ (a .c) (a .q) (a .x) _ (a .due) (a .full) (c .before .before .before .before .before .before .before .before .before .before .before .before .before .before .before .before .before .before .before .before .before .both .result) (entry (a .list .now) (a .block .now)) _ _ _ (z .pre .1)
+    (c .before .before .before .before .before .before .before .before .before .before .before .before .before .before .before .before .before .before .before .before .before .both .ensures) (c .before .before .before .before .before .before .before .before .before .before .before .before .complete-if .ensures) (c .before .before .before .before .before .before .before .before .before .before .before .before .before .before .before .before .before .before .before .before .before .before .before .block-marks .ensures) (c .before .before .before .before .before .before .before .before .before .before .before .before .before .before .before .before .before .before .ready-if .ensures) (c .before .before .before .before .before .before .settle .ensures v h k)
 
 pub answer-spec : {M : Type 1} → statement M
 answer-spec =

@@ -64,7 +64,7 @@ returns : tie.Need-returns
 unfolding bodyIn pick
 returns c =
     let a = c .before .before .before .before .before .before .before .before .before .before .before .before .before .before .before .before .before .args in
-    λ i. is-block digestOf (a .g) (a .me) (a .s) (a .area .now) i (a .from) (a .h) (a .f .now) _ _ _ 3 send _ (c .before .before .before .before .before .before .before .if1 .taken) refl (entry-is (a .g) (a .f .now) _ (c .before .before .before .before .before .before .before .before .before .before .before .width .ensures .0)) (c .before .before .before .before .on-block-send .ensures (a .area .now))
+    λ w e r i. is-block digestOf (a .g) (a .me) w (a .area .now) i (a .from) (a .h) (a .f .now) _ _ _ 3 send _ (c .before .before .before .before .before .before .before .if1 .taken) refl (entry-is (a .g) (a .f .now) _ (c .before .before .before .before .before .before .before .before .before .before .before .width .ensures .0)) (c .before .before .before .before .on-block-send .ensures w e (a .area .now))
 
 on-block-echo-requires : tie.Need-on-block-echo-requires
 on-block-echo-requires c κs =
@@ -86,7 +86,7 @@ returns-2 : tie.Need-returns-2
 unfolding bodyIn pick
 returns-2 c =
     let a = c .before .before .before .before .before .before .before .before .before .before .before .before .before .before .before .before .before .before .before .before .before .before .args in
-    λ i. is-block digestOf (a .g) (a .me) (a .s) (a .area .now) i (a .from) (a .h) (a .f .now) _ _ _ 4 echo _ (c .before .before .before .before .before .before .before .before .before .before .if2 .taken) refl (entry-is (a .g) (a .f .now) _ (c .before .before .before .before .before .before .before .before .before .before .before .before .before .before .before .before .width .ensures .0)) (c .before .before .before .before .before .before .on-block-echo .ensures)
+    λ w e r i. is-block digestOf (a .g) (a .me) w (a .area .now) i (a .from) (a .h) (a .f .now) _ _ _ 4 echo _ (c .before .before .before .before .before .before .before .before .before .before .if2 .taken) refl (entry-is (a .g) (a .f .now) _ (c .before .before .before .before .before .before .before .before .before .before .before .before .before .before .before .before .width .ensures .0)) (c .before .before .before .before .before .before .on-block-echo .ensures w e r)
 
 on-block-ready-requires : tie.Need-on-block-ready-requires
 on-block-ready-requires c κs =
@@ -110,7 +110,7 @@ returns-3 c =
     let z = c .before .before .before .before .before .before .before .before .before .before .before .before .before .before .before .before .before .before .before .before .before .before in
     let a = z .args in
     let k : a .h .kind ≡ 5 = omega (arith, z .pre .1, z .pre .2, c .before .before .before .before .before .before .before .before .before .before .before .before .if1 .left, c .before .before .before .before .before .before .before .before .before .before .if2 .left) in
-    λ i. is-block digestOf (a .g) (a .me) (a .s) (a .area .now) i (a .from) (a .h) (a .f .now) _ _ _ 5 ready _ k refl (entry-is (a .g) (a .f .now) _ (c .before .before .before .before .before .before .before .before .before .before .before .before .before .before .before .before .width .ensures .0)) (c .before .before .before .before .before .before .on-block-ready .ensures)
+    λ w e r i. is-block digestOf (a .g) (a .me) w (a .area .now) i (a .from) (a .h) (a .f .now) _ _ _ 5 ready _ k refl (entry-is (a .g) (a .f .now) _ (c .before .before .before .before .before .before .before .before .before .before .before .before .before .before .before .before .width .ensures .0)) (c .before .before .before .before .before .before .on-block-ready .ensures w e r)
 
 pub step-of-blocks-spec : {M : Type 1} → statement M
 step-of-blocks-spec =

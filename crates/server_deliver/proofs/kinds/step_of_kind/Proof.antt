@@ -18,12 +18,12 @@ same-length-2 c = search needs
 returns : tie.Need-returns
 returns c =
     let a = c .before .before .before .before .before .before .before .before .before .before .before .before .before .before .args in
-    is-get-stamp digestOf (a .g) (a .me) (a .s) (a .area .now) (a .initial .now) (a .from) (a .h) (a .f .now) _ _ _ (c .before .before .before .before .before .before .before .if1 .taken) (c .before .before .before .before .on-get-stamp .ensures (a .area .now))
+    λ w e r. is-get-stamp digestOf (a .g) (a .me) w (a .area .now) (a .initial .now) (a .from) (a .h) (a .f .now) _ _ _ (c .before .before .before .before .before .before .before .if1 .taken) (c .before .before .before .before .on-get-stamp .ensures w e (a .area .now))
 
 on-read-requires : tie.Need-on-read-requires
 on-read-requires c κs =
     let P = c .before .before .before .before .before .before .before .before .before .before .before .before .pre .0 in
-    (P .lent .bounded, P .lent .client-high, P .lent .whole, c .before .before .before .before .before .before .before .before .before .before .before .before .pre .1, P .lent .room)
+    (P .lent .bounded, P .lent .whole, c .before .before .before .before .before .before .before .before .before .before .before .before .pre .1, P .lent .room)
 
 same-length-3 : tie.Need-same-length-3
 same-length-3 c = search needs
@@ -37,7 +37,7 @@ same-length-5 c = search needs
 returns-2 : tie.Need-returns-2
 returns-2 c =
     let a = c .before .before .before .before .before .before .before .before .before .before .before .before .before .before .before .before .before .args in
-    is-read digestOf (a .g) (a .me) (a .s) (a .area .now) (a .initial .now) (a .from) (a .h) (a .f .now) _ _ _ (c .before .before .before .before .before .before .before .before .if2 .taken) (c .before .before .before .before .on-read .ensures)
+    λ w e r. is-read digestOf (a .g) (a .me) w (a .area .now) (a .initial .now) (a .from) (a .h) (a .f .now) _ _ _ (c .before .before .before .before .before .before .before .before .if2 .taken) (c .before .before .before .before .on-read .ensures w e)
 
 on-read-complete-requires : tie.Need-on-read-complete-requires
 on-read-complete-requires c κs = search needs
@@ -45,18 +45,18 @@ on-read-complete-requires c κs = search needs
 returns-3 : tie.Need-returns-3
 returns-3 c =
     let a = c .before .before .before .before .before .before .before .before .before .before .before .before .args in
-    is-read-complete digestOf (a .g) (a .me) (a .s) (a .area .now) (a .initial .now) (a .from) (a .h) (a .f .now) _ _ _ (c .before .if3 .taken) (c .on-read-complete .ensures _ _ _)
+    λ w e r. is-read-complete digestOf (a .g) (a .me) w (a .area .now) (a .initial .now) (a .from) (a .h) (a .f .now) _ _ _ (c .before .if3 .taken) (c .on-read-complete .ensures w e _ _ _)
 
 returns-4 : tie.Need-returns-4
 returns-4 c =
     let a = c .before .before .before .before .before .before .before .before .before .before .before .before .before .args in
-    is-stamp digestOf (a .g) (a .me) (a .s) (a .area .now) (a .initial .now) (a .from) (a .h) (a .f .now) _ _ (c .if4 .taken)
+    λ w e r. is-stamp digestOf (a .g) (a .me) w (a .area .now) (a .initial .now) (a .from) (a .h) (a .f .now) _ _ (a .s) e (c .if4 .taken)
 
 returns-5 : tie.Need-returns-5
 returns-5 c =
     let z = c .before .before .before .before .before .before .before .before .before .before .before .before .before .before .before in
     let a = z .args in
-    to-client digestOf (a .g) (a .me) (a .s) (a .area .now) (a .initial .now) (a .from) (a .h) (a .f .now) _ _ (c .if5 .taken) (z .pre .0 .kind-high) (c .before .before .before .before .before .before .if2 .left) (c .before .before .before .before .if3 .left)
+    λ w e r. to-client digestOf (a .g) (a .me) w (a .area .now) (a .initial .now) (a .from) (a .h) (a .f .now) _ _ (a .s) e (c .if5 .taken) (z .pre .0 .kind-high) (c .before .before .before .before .before .before .if2 .left) (c .before .before .before .before .if3 .left)
 
 step-of-write-requires : tie.Need-step-of-write-requires
 step-of-write-requires c κs =
@@ -73,7 +73,7 @@ same-length-8 : tie.Need-same-length-8
 same-length-8 c = search needs
 
 returns-6 : tie.Need-returns-6
-returns-6 c = c .before .before .before .before .before .before .step-of-write .ensures (c .before .before .before .before .before .before .before .before .before .before .before .before .before .before .before .before .before .before .before .before .before .before .before .before .before .args .initial .now)
+returns-6 c = λ w e r. c .before .before .before .before .before .before .step-of-write .ensures w e r (c .before .before .before .before .before .before .before .before .before .before .before .before .before .before .before .before .before .before .before .before .before .before .before .before .before .args .initial .now)
 
 pub step-of-kind-spec : {M : Type 1} → statement M
 step-of-kind-spec =

@@ -39,7 +39,7 @@ same-length-5 c = search needs
 returns-2 : tie.Need-returns-2
 returns-2 c =
     let a = c .before .before .before .before .before .before .before .before .before .before .before .before .before .before .before .args in
-    λ i. is-time-send digestOf (a .g) (a .me) (a .s) (a .area .now) i (a .from) (a .h) (a .f .now) _ _ _ (c .before .before .before .before .before .before .before .if2 .taken) (c .before .before .before .before .on-time-send .ensures (a .area .now))
+    λ w e r i. is-time-send digestOf (a .g) (a .me) w (a .area .now) i (a .from) (a .h) (a .f .now) _ _ _ (c .before .before .before .before .before .before .before .if2 .taken) (c .before .before .before .before .on-time-send .ensures w e (a .area .now))
 
 on-time-echo-requires : tie.Need-on-time-echo-requires
 on-time-echo-requires c κs =
@@ -60,7 +60,7 @@ same-length-8 c = search needs
 returns-3 : tie.Need-returns-3
 returns-3 c =
     let a = c .before .before .before .before .before .before .before .before .before .before .before .before .before .before .before .before .before .before .before .before .args in
-    λ i. is-time-echo digestOf (a .g) (a .me) (a .s) (a .area .now) i (a .from) (a .h) (a .f .now) _ _ _ (c .before .before .before .before .before .before .before .before .before .before .if3 .taken) (c .before .before .before .before .before .before .on-time-echo .ensures)
+    λ w e r i. is-time-echo digestOf (a .g) (a .me) w (a .area .now) i (a .from) (a .h) (a .f .now) _ _ _ (c .before .before .before .before .before .before .before .before .before .before .if3 .taken) (c .before .before .before .before .before .before .on-time-echo .ensures w e r)
 
 on-time-ready-requires : tie.Need-on-time-ready-requires
 on-time-ready-requires c κs =
@@ -83,7 +83,7 @@ returns-4 c =
     let z = c .before .before .before .before .before .before .before .before .before .before .before .before .before .before .before .before .before .before .before .before in
     let a = z .args in
     let k : a .h .kind ≡ 8 = omega (arith, z .pre .2, c .before .before .before .before .before .before .before .before .before .before .before .before .before .before .if1 .left, c .before .before .before .before .before .before .before .before .before .before .before .before .if2 .left, c .before .before .before .before .before .before .before .before .before .before .if3 .left) in
-    λ i. is-time-ready digestOf (a .g) (a .me) (a .s) (a .area .now) i (a .from) (a .h) (a .f .now) _ _ _ k (c .before .before .before .before .before .before .on-time-ready .ensures)
+    λ w e r i. is-time-ready digestOf (a .g) (a .me) w (a .area .now) i (a .from) (a .h) (a .f .now) _ _ _ k (c .before .before .before .before .before .before .on-time-ready .ensures w e r)
 
 pub step-of-write-spec : {M : Type 1} → statement M
 step-of-write-spec =

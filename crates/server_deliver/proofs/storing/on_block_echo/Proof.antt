@@ -9,6 +9,7 @@ use Rattle.frame.proofs.Chunks.{length-store}
 use Rattle.frame.specs.Chunks.{echoAt}
 use Rattle.frame.specs.Messages.{entry}
 use Rattle.sha256.specs.Hash.{digestOf}
+use Rattle.server.specs.declared.Scope.{Scope}
 use Rattle.server.specs.declared.Slot.{Slot}
 use Rattle.server.specs.State.{slotOf, withBlocks, blockEcho}
 use Rattle.server.specs.Steps.{onBlock}
@@ -20,12 +21,6 @@ use Rattle.server_deliver.proofs.storing.on_block_echo.Tie as tie
 cast-c : tie.Need-cast-c
 cast-c c = search needs
 
-mul-x : tie.Need-mul-x
-mul-x c = search needs
-
-element-copy-out-x : tie.Need-element-copy-out-x
-element-copy-out-x c = search needs
-
 vote-test-requires : tie.Need-vote-test-requires
 vote-test-requires c κs = let P = c .before .before .before .before .before .before .before .before .before .pre in (P .0 .bounded, P .1)
 
@@ -36,7 +31,7 @@ returns : tie.Need-returns
 unfolding onBlock
 returns c =
     let a = c .before .before .before .before .before .before .before .before .before .before .before .before .before .args in
-    refused-is _ _ _ (a .t1) (a .area .now) _ _ _ (echo-test digestOf (a .g) (a .me) (a .t1) (a .from) (a .h .client) (a .h .sequence) (entry (a .list .now) (a .block .now)) _ (c .before .before .before .vote-test .ensures)) (c .before .v .given .1)
+    λ w e r. refused-is _ _ _ w (a .h .client) (a .s) (a .area .now) _ _ _ e (echo-test digestOf (a .g) (a .me) w (a .s) (a .from) (a .h .client) (a .h .sequence) (entry (a .list .now) (a .block .now)) _ e (c .before .before .before .vote-test .ensures)) (c .before .v .given .1)
 
 enum-told : tie.Need-enum-told
 enum-told c = search needs
@@ -61,20 +56,20 @@ put-entry-requires c κs =
     let z = c .before .before .before .before .before .before .before .before .before .before .before .before .before .before in
     let P = z .pre .0 in
     let M = small (z .args .g) (P .bounded) in
-    let W = kept-voted (z .args .g) (z .args .from) (slotOf (z .args .t1) (z .args .h .client)) (z .args .h .sequence) _ _ _ (c .before .before .before .before .vote-test .ensures) (c .before .before .enum-told .given .1) in
+    let W = kept-voted (z .args .g) (z .args .from) (z .args .s .slot) (z .args .h .sequence) _ _ _ (c .before .before .before .before .vote-test .ensures) (c .before .before .enum-told .given .1) in
     (omega (arith, P .client-high, P .whole, P .bounded .servers-high, W .high, c .before .number-in .ensures), omega (arith, M .list-room, z .pre .1 .list-is), omega (arith, M .block-room, z .pre .1 .block-is))
 
 block-echo-requires : tie.Need-block-echo-requires
 block-echo-requires c κs =
     let z = c .before .before .before .before .before .before .before .before .before .before .before .before .before .before .before .before .before in
-    let W = kept-voted (z .args .g) (z .args .from) (slotOf (z .args .t1) (z .args .h .client)) (z .args .h .sequence) _ _ _ (c .before .before .before .before .before .before .before .vote-test .ensures) (c .before .before .before .before .before .enum-told .given .1) in
+    let W = kept-voted (z .args .g) (z .args .from) (z .args .s .slot) (z .args .h .sequence) _ _ _ (c .before .before .before .before .before .before .before .vote-test .ensures) (c .before .before .before .before .before .enum-told .given .1) in
     omega (arith, W .high, c .before .before .before .before .number-in .ensures, z .pre .0 .bounded .servers-high)
 
 settle-blocks-requires : tie.Need-settle-blocks-requires
 settle-blocks-requires c κs =
     let z = c .before .before .before .before .before .before .before .before .before .before .before .before .before .before .before .before .before .before .before .before .before in
     let P = z .pre .0 in
-    let W = kept-voted (z .args .g) (z .args .from) (slotOf (z .args .t1) (z .args .h .client)) (z .args .h .sequence) _ _ _ (c .before .before .before .before .before .before .before .before .before .before .before .vote-test .ensures) (c .before .before .before .before .before .before .before .before .before .enum-told .given .1) in
+    let W = kept-voted (z .args .g) (z .args .from) (z .args .s .slot) (z .args .h .sequence) _ _ _ (c .before .before .before .before .before .before .before .before .before .before .before .vote-test .ensures) (c .before .before .before .before .before .before .before .before .before .enum-told .given .1) in
     let l = ap length (c .before .before .before .before .before .before .put-entry .ensures) ∙ length-store (z .args .area .now) _ (entry (z .args .list .now) (z .args .block .now)) in (
       record { bounded = P .bounded; client-low = P .client-low; client-high = P .client-high; whole = omega (arith, l, P .whole); room = P .room },
       ap (λ (y : Slot). y .sequence) (c .before .before .before .block-echo .ensures) ∙ W .at-open,
@@ -83,8 +78,8 @@ settle-blocks-requires c κs =
       z .pre .3,
     )
 
-served-requires : tie.Need-served-requires
-served-requires c κs = search needs
+taken-requires : tie.Need-taken-requires
+taken-requires c κs = search needs
 
 same-length : tie.Need-same-length
 same-length c = search needs
@@ -99,18 +94,15 @@ returns-2 : tie.Need-returns-2
 unfolding onBlock
 returns-2 c =
     let a = c .before .before .before .before .before .before .before .before .before .before .before .before .before .before .before .before .before .before .before .before .before .before .before .before .before .before .before .before .before .args in
-    let x = slotOf (a .t1) (a .h .client) in
-    step-is _ _ (a .t1) (a .area .now) _ _ _ _ _ _ _ _ (echo-test digestOf (a .g) (a .me) (a .t1) (a .from) (a .h .client) (a .h .sequence) (entry (a .list .now) (a .block .now)) _ (c .before .before .before .before .before .before .before .before .before .before .before .before .before .before .before .before .before .before .before .vote-test .ensures)) (c .before .before .before .before .before .before .before .before .before .before .before .before .before .before .before .before .before .enum-told .given .1)
-    (blocks-voted digestOf (a .g) (a .me) (a .t1) (a .area .now) _ (a .h .client) (λ (j : ℕ). echoAt (a .h .client) j) (λ (j : ℕ). withBlocks x (blockEcho (x .blocks) j)) _ _ _ _ _ _ (c .before .before .before .before .before .before .before .before .before .before .before .before .before .before .before .before .number-in .ensures) (c .before .before .before .before .before .before .before .before .before .before .before .before .before .before .put-entry .ensures) (c .before .before .before .before .before .before .before .before .before .before .before .block-echo .ensures) (c .before .before .before .before .before .before .before .settle-blocks .ensures (a .block .now)))
-    (c .served .ensures .0) (c .served .ensures .1)
+    λ w e r. step-is _ _ w (a .area .now) _ _ _ _ _ _ (a .h .client) _ _ (echo-test digestOf (a .g) (a .me) w (a .s) (a .from) (a .h .client) (a .h .sequence) (entry (a .list .now) (a .block .now)) _ e (c .before .before .before .before .before .before .before .before .before .before .before .before .before .before .before .before .before .before .before .vote-test .ensures)) (c .before .before .before .before .before .before .before .before .before .before .before .before .before .before .before .before .before .enum-told .given .1)
+    (blocks-voted digestOf (a .g) (a .me) w (a .area .now) _ (a .h .client) (λ (j : ℕ). echoAt (a .h .client) j) (λ (j : ℕ). withBlocks (slotOf w (a .h .client)) (blockEcho (slotOf w (a .h .client) .blocks) j)) _ _ _ _ _ _ (c .before .before .before .before .before .before .before .before .before .before .before .before .before .before .before .before .number-in .ensures) (c .before .before .before .before .before .before .before .before .before .before .before .before .before .before .put-entry .ensures) (c .before .before .before .before .before .before .before .before .before .before .before .block-echo .ensures ∙ ap (λ (u : Scope). withBlocks (u .slot) (blockEcho (u .slot .blocks) (c .before .before .before .before .before .before .before .before .before .before .before .before .before .before .before .before .number-in .result))) e) (c .before .before .before .before .before .before .before .settle-blocks .ensures w e r (a .block .now)))
+    (c .taken .ensures .0) (c .taken .ensures .1)
 
 pub on-block-echo-spec : {M : Type 1} → statement M
 on-block-echo-spec =
     tie.close
     (tie.spec
     cast-c
-    mul-x
-    element-copy-out-x
     vote-test-requires
     enum-known-v
     returns
@@ -123,7 +115,7 @@ on-block-echo-spec =
     put-entry-requires
     block-echo-requires
     settle-blocks-requires
-    served-requires
+    taken-requires
     same-length
     same-length-2
     same-length-3

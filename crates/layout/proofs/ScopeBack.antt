@@ -1,0 +1,251 @@
+-- After a step for one client its parts of the record read back, and all other parts read as before. Assumes nothing.
+use Prim.Native.Nat.{ℕ, suc, _+_, _*_, _<_, _≤_}
+use native.Mathlib.Omega.{arith}
+use native.Mathlib.Decide.{ℕ-discrete}
+use mathlib.Core.Path.{_≡_, refl, sym, ap, ap₂, _∙_}
+use mathlib.Core.Logic.{_≢_}
+use mathlib.Core.List.{List, [], _∷_}
+use lib.ListN.{length, getD, set, length-set}
+use lib.Seq.{sets, length-sets, getD-set-same, getD-set-other, ext-getD}
+use Rattle.area.specs.Numbers.{be2, be4, be8}
+use Rattle.area.proofs.Sets.{room}
+use Rattle.area.proofs.Fills.{length-table, table-agree}
+use Rattle.frame.specs.declared.Stamp.{Stamp}
+use Rattle.frame.specs.Frames.{stampBytes}
+use Rattle.frame.proofs.RoundTrip.{length-stamp}
+use Rattle.server.specs.declared.Slot.{Slot}
+use Rattle.server.specs.declared.Reader.{Reader}
+use Rattle.layout.specs.Fields.{flagIn, flagAt, stampAt, rowAt, flagsAt, numbersAt}
+use Rattle.layout.specs.Servers.{serverSize, blocksAt, timesAt, slotBytes, slotAt, slotsAt, readerBytes, readerAt, readersAt, serverAt, serverIn, scopeSets}
+use Rattle.layout.specs.Typed.{TypedStamp, TypedSlot, TypedReader}
+use Rattle.layout.proofs.Lengths.{length-slot, length-reader}
+use Rattle.layout.proofs.Reading.{stored, stamp-at, row-entry}
+use Rattle.layout.proofs.ServerBack.{slot-at, reader-at}
+
+-- ---- bytes that a store leaves
+
+-- the w bytes from index i on are the same in l and in m
+pub record Alike (l m : List ℕ) (i w : ℕ) : Type 0 where
+  pub same : (k : ℕ) → i ≤ k → k < i + w → getD l k 0 ≡ getD m k 0
+
+-- a byte that lies outside a store
+outside : (l : List ℕ) (j : ℕ) (a : List ℕ) (k : ℕ) → (j ≤ k → k < j + length a → ⊥) → getD (sets l j a) k 0 ≡ getD l k 0
+outside l j [] k h = refl
+outside l j (x ∷ a) k h =
+    outside (set l j x) (suc j) a k (λ p q. h (omega arith) (omega arith))
+    ∙ getD-set-other l j k x 0 (λ e. h (omega arith) (omega arith))
+
+-- the bytes before a store
+pub before : (l : List ℕ) (j : ℕ) (a : List ℕ) (i w : ℕ) → i + w ≤ j → Alike (sets l j a) l i w
+before l j a i w h = record { same = λ k p q. outside l j a k (λ u v. omega arith) }
+
+-- the bytes behind it
+pub behind : (l : List ℕ) (j : ℕ) (a : List ℕ) (i w : ℕ) → j + length a ≤ i → Alike (sets l j a) l i w
+behind l j a i w h = record { same = λ k p q. outside l j a k (λ u v. omega arith) }
+
+-- ---- what is read hangs on few bytes
+
+-- what g reads at an index hangs on the w bytes from there on
+pub record Spans {A : Type 0} (g : List ℕ → ℕ → A) (w : ℕ) : Type 0 where
+  pub reads : (l m : List ℕ) (i : ℕ) → Alike l m i w → g l i ≡ g m i
+
+-- it reads the same at j, within bytes that are the same
+within : {A : Type 0} {g : List ℕ → ℕ → A} {v : ℕ} {l m : List ℕ} {i w : ℕ} → Spans g v → Alike l m i w → (j : ℕ) → i ≤ j → j + v ≤ i + w → g l j ≡ g m j
+within {l = l} {m = m} s e j p q = s .reads l m j (record { same = λ k a b. e .same k (omega arith) (omega arith) })
+
+-- ---- flags, numbers and stamps
+
+byte-spans : Spans (λ l i. getD l i 0) 1
+byte-spans = record { reads = λ l m i e. e .same i (omega arith) (omega arith) }
+
+flag-spans : Spans flagAt 1
+unfolding flagAt
+flag-spans = record { reads = λ l m i e. ap flagIn (byte-spans .reads l m i e) }
+
+two-spans : Spans be2 2
+unfolding be2
+two-spans = record {
+  reads = λ l m i e. ap₂ (λ x y. x * 256 + y) (e .same i (omega arith) (omega arith)) (e .same (i + 1) (omega arith) (omega arith));
+}
+
+word-spans : Spans be4 4
+unfolding be4
+word-spans = record {
+  reads = λ l m i e. ap₂ (λ x y. x * 65536 + y) (within two-spans e i (omega arith) (omega arith)) (within two-spans e (i + 2) (omega arith) (omega arith));
+}
+
+long-spans : Spans be8 8
+unfolding be8
+long-spans = record {
+  reads = λ l m i e. ap₂ (λ x y. x * 4294967296 + y) (within word-spans e i (omega arith) (omega arith)) (within word-spans e (i + 4) (omega arith) (omega arith));
+}
+
+stamp-spans : Spans stampAt 13
+unfolding stampAt
+stamp-spans = record {
+  reads = λ l m i e.
+      let a = within long-spans e i (omega arith) (omega arith) in
+      let b = e .same (i + 8) (omega arith) (omega arith) in
+      let c = within word-spans e (i + 9) (omega arith) (omega arith) in
+      λ k. record { time = a k; writer = b k; sequence = c k };
+}
+
+-- ---- arrays of n elements of w bytes, each read by g
+
+-- elements c and j have no byte in common
+apart : (i c j w k : ℕ) → j ≢ c → i + c * w ≤ k → k < i + c * w + w → i + j * w ≤ k → k < i + j * w + w → ⊥
+apart i c j w k ne a b p q =
+    let u : j < c → ⊥ = λ h. omega (arith, room j c w h) in
+    let v : c < j → ⊥ = λ h. omega (arith, room c j w h) in
+    ne (omega (arith, u, v))
+
+module _ {A : Type 0} (g : List ℕ → ℕ → A) (n w : ℕ) (s : Spans g w) where
+  -- an array hangs on its elements' bytes
+  pub row-spans : Spans (rowAt g n w) (n * w)
+  unfolding rowAt
+  row-spans = record {
+    reads = λ l m i e. table-agree n (λ j. g l (i + j * w)) (λ j. g m (i + j * w)) (λ j h.
+        within s e (i + j * w) (omega arith) (omega (arith, room j n w h)));
+  }
+
+  length-row : (l : List ℕ) (i : ℕ) → length (rowAt g n w l i) ≡ n
+  unfolding rowAt
+  length-row l i = length-table n (λ j. g l (i + j * w))
+
+  -- after a store at element c the array reads with that element set, if it reads back itself
+  pub row-set : (l : List ℕ) (i c : ℕ) (a : List ℕ) (x : A) → c < n → length a ≡ w → g (sets l (i + c * w) a) (i + c * w) ≡ x
+      → rowAt g n w (sets l (i + c * w) a) i ≡ set (rowAt g n w l i) c x
+  row-set l i c a x h e b = ext-getD x (rowAt g n w m i) (set r c x) (length-row m i ∙ sym (length-set r c x ∙ length-row l i)) (λ j u.
+      each j (rw length-row at u) (ℕ-discrete j c))
+    where
+      m : List ℕ
+      m = sets l (i + c * w) a
+
+      r : List A
+      r = rowAt g n w l i
+
+      others : (j : ℕ) → j ≢ c → Alike m l (i + j * w) w
+      others j z = record { same = λ k p q. outside l (i + c * w) a k (λ u v. apart i c j w k z u (omega arith) p q) }
+
+      each : (j : ℕ) → j < n → Dec (j ≡ c) → getD (rowAt g n w m i) j x ≡ getD (set r c x) j x
+      each j u (yes z) =
+          row-entry g n w m i j x u
+          ∙ ap (λ t. g m (i + t * w)) z
+          ∙ b
+          ∙ sym (ap (λ t. getD (set r c x) t x) z ∙ getD-set-same r c x x (omega (arith, length-row l i)))
+      each j u (no z) =
+          row-entry g n w m i j x u
+          ∙ s .reads m l (i + j * w) (others j z)
+          ∙ sym (getD-set-other r c j x x z ∙ row-entry g n w l i j x u)
+
+-- ---- the parts of a server's record
+
+flags-spans : Spans flagsAt 11
+unfolding flagsAt
+flags-spans = record { reads = (row-spans flagAt 11 1 flag-spans) .reads }
+
+numbers-spans : Spans numbersAt 88
+unfolding numbersAt
+numbers-spans = record { reads = (row-spans be8 11 8 long-spans) .reads }
+
+blocks-spans : Spans blocksAt 25
+unfolding blocksAt
+blocks-spans = record {
+  reads = λ l m i e.
+      let a = within flag-spans e i (omega arith) (omega arith) in
+      let b = within flag-spans e (i + 1) (omega arith) (omega arith) in
+      let c = within flag-spans e (i + 2) (omega arith) (omega arith) in
+      let f = within flags-spans e (i + 3) (omega arith) (omega arith) in
+      let g = within flags-spans e (i + 14) (omega arith) (omega arith) in
+      λ k. record { sent = a k; ready = b k; complete = c k; echoes = f k; readies = g k };
+}
+
+times-spans : Spans timesAt 209
+unfolding timesAt
+times-spans = record {
+  reads = λ l m i e.
+      let a = within flag-spans e i (omega arith) (omega arith) in
+      let b = within flag-spans e (i + 1) (omega arith) (omega arith) in
+      let c = within flag-spans e (i + 2) (omega arith) (omega arith) in
+      let d = within long-spans e (i + 3) (omega arith) (omega arith) in
+      let f = within flags-spans e (i + 11) (omega arith) (omega arith) in
+      let g = within flags-spans e (i + 22) (omega arith) (omega arith) in
+      let x = within numbers-spans e (i + 33) (omega arith) (omega arith) in
+      let y = within numbers-spans e (i + 121) (omega arith) (omega arith) in
+      λ k. record { sent = a k; ready = b k; delivered = c k; time = d k; echoes = f k; readies = g k; echoed = x k; readied = y k };
+}
+
+-- a slot hangs on its own bytes
+pub slot-spans : Spans slotAt 242
+unfolding slotAt
+slot-spans = record {
+  reads = λ l m i e.
+      let a = within long-spans e i (omega arith) (omega arith) in
+      let b = within blocks-spans e (i + 8) (omega arith) (omega arith) in
+      let c = within times-spans e (i + 33) (omega arith) (omega arith) in
+      λ k. record { sequence = a k; blocks = b k; times = c k };
+}
+
+-- and so does a reader
+pub reader-spans : Spans readerAt 18
+unfolding readerAt
+reader-spans = record {
+  reads = λ l m i e.
+      let a = within word-spans e i (omega arith) (omega arith) in
+      let b = within flag-spans e (i + 4) (omega arith) (omega arith) in
+      let c = within stamp-spans e (i + 5) (omega arith) (omega arith) in
+      λ k. record { sequence = a k; listening = b k; noted = c k };
+}
+
+slots-spans : Spans slotsAt 2178
+unfolding slotsAt
+slots-spans = record { reads = (row-spans slotAt 9 242 slot-spans) .reads }
+
+readers-spans : Spans readersAt 162
+unfolding readersAt
+readers-spans = record { reads = (row-spans readerAt 9 18 reader-spans) .reads }
+
+-- ---- the record after a step
+
+-- slot c stored among the slots at i
+pub slots-set : (l : List ℕ) (i c : ℕ) (y : Slot) → TypedSlot y → c ≤ 8 → i + 2178 ≤ length l
+    → slotsAt (sets l (i + c * 242) (slotBytes y)) i ≡ set (slotsAt l i) c y
+unfolding slotsAt
+slots-set l i c y t h k =
+    let u : i + c * 242 + length (slotBytes y) ≤ length l = omega (arith, length-slot y) in
+    row-set slotAt 9 242 slot-spans l i c (slotBytes y) y (omega arith) (length-slot y) (slot-at _ _ y t (stored l (i + c * 242) (slotBytes y) u))
+
+-- reader c stored among the readers at i
+pub readers-set : (l : List ℕ) (i c : ℕ) (z : Reader) → TypedReader z → c ≤ 8 → i + 162 ≤ length l
+    → readersAt (sets l (i + c * 18) (readerBytes z)) i ≡ set (readersAt l i) c z
+unfolding readersAt
+readers-set l i c z t h k =
+    let u : i + c * 18 + length (readerBytes z) ≤ length l = omega (arith, length-reader z) in
+    row-set readerAt 9 18 reader-spans l i c (readerBytes z) z (omega arith) (length-reader z) (reader-at _ _ z t (stored l (i + c * 18) (readerBytes z) u))
+
+module _ (l : List ℕ) (c : ℕ) (x : Stamp) (y : Slot) (z : Reader) (h : serverSize ≤ length l) (few : c ≤ 8) where
+  -- what was written reads back, and the rest reads as before
+  pub scope-back : TypedStamp x → TypedSlot y → TypedReader z
+      → serverIn (scopeSets l c x y z) ≡ record { stamp = x; slots = set (serverIn l .slots) c y; readers = set (serverIn l .readers) c z }
+  unfolding serverIn serverAt scopeSets
+  scope-back tx ty tz =
+      let l₁ = sets l 0 (stampBytes x) in
+      let l₂ = sets l₁ (13 + c * 242) (slotBytes y) in
+      let l₃ = sets l₂ (2191 + c * 18) (readerBytes z) in
+      let n₁ : serverSize ≤ length l₁ = rw length-sets h in
+      let n₂ : serverSize ≤ length l₂ = rw length-sets n₁ in
+      let u : 0 + length (stampBytes x) ≤ length l = omega (arith, length-stamp x) in
+      let a =
+      stamp-spans .reads l₃ l₂ 0 (before l₂ (2191 + c * 18) (readerBytes z) 0 13 (omega arith))
+      ∙ stamp-spans .reads l₂ l₁ 0 (before l₁ (13 + c * 242) (slotBytes y) 0 13 (omega arith))
+      ∙ stamp-at l₁ 0 x tx (stored l 0 (stampBytes x) u) in
+      let b =
+      slots-spans .reads l₃ l₂ 13 (before l₂ (2191 + c * 18) (readerBytes z) 13 2178 (omega arith))
+      ∙ slots-set l₁ 13 c y ty few (omega arith)
+      ∙ ap (λ s. set s c y) (slots-spans .reads l₁ l 13 (behind l 0 (stampBytes x) 13 2178 (omega (arith, length-stamp x)))) in
+      let d =
+      readers-set l₂ 2191 c z tz few (omega arith)
+      ∙ ap (λ s. set s c z)
+      (readers-spans .reads l₂ l₁ 2191 (behind l₁ (13 + c * 242) (slotBytes y) 2191 162 (omega (arith, length-slot y)))
+      ∙ readers-spans .reads l₁ l 2191 (behind l 0 (stampBytes x) 2191 162 (omega (arith, length-stamp x)))) in
+      λ k. record { stamp = a k; slots = b k; readers = d k }

@@ -1,0 +1,206 @@
+/* stack: the stack that the library's calls use, in a table of docs/PERFORMANCE.md. A whole write and then a whole read, all parties honest and
+ * frames in the order sent. Each call is made on a thread of its own, whose stack is painted before; the lowest byte that is no longer paint says how
+ * deep the call went. What an empty thread uses is subtracted; it ends some 70 bytes deeper than it begins, and so much is missing from a figure, while
+ * the frame that makes the call is in it. Bytes below the lowest written one that a call reserves are not seen, nor are paths that this run does not take.
+ * Link with -z now: else the first calls of memcpy would count the linker's work. */
+#define _XOPEN_SOURCE 700
+#include <pthread.h>
+#include <stdio.h>
+#include <stdlib.h>
+#include <string.h>
+#include "semduoli.h"
+
+/* the larger of the two sets of parameters, for the areas */
+enum { N = 10, K = 4, SIZE = 256 };
+
+static const struct set {
+    size_t n, t, k, size;
+} sets[2] = {{N, 3, K, SIZE}, {4, 1, 2, 64}};
+static struct set p; /* that is being measured */
+
+/* the rows of the table; rows 1 to 12 are a server's deliveries by the frame's kind, of which 2, 9 and 11 go to clients */
+enum { SERVER_FRESH = 0, CLIENT_FRESH = 13, BEGIN_READ, BEGIN_WRITE, CLIENT_DELIVER, TABLE };
+
+static const char *const names[TABLE] = {
+    "server_fresh", "server_deliver, kind 1", NULL, "server_deliver, kind 3", "server_deliver, kind 4", "server_deliver, kind 5",
+    "server_deliver, kind 6", "server_deliver, kind 7", "server_deliver, kind 8", NULL, "server_deliver, kind 10", NULL,
+    "server_deliver, kind 12", "client_fresh", "begin_read", "begin_write", "client_deliver"};
+static size_t deepest[TABLE];
+
+/* ---- the parties: servers 1 to n, client 1, and the frames under way, first in, first out */
+
+enum { ME = 1, WAITING = 1024 };
+
+struct server {
+    uint8_t state[SEMDUOLI_SERVER], area[SEMDUOLI_AREA], initial[SIZE];
+};
+
+struct parcel {
+    uint8_t from[2], to[2], frame[SEMDUOLI_FRAME(N, K, SIZE)];
+    size_t length;
+};
+
+static struct server servers[N + 1];
+static uint8_t state[SEMDUOLI_CLIENT], rows[SEMDUOLI_ROWS], first[SIZE], value[SIZE], result[SIZE];
+static uint8_t out[SEMDUOLI_SERVER_OUT(N, K, SIZE) + SEMDUOLI_CLIENT_OUT(N, K, SIZE)], to[SEMDUOLI_SERVER_TO(N) + SEMDUOLI_CLIENT_TO(N)];
+static struct parcel waiting[WAITING];
+static size_t taken, added;
+static uint64_t answer; /* of the last call */
+
+static void fail(const char *why)
+{
+    fprintf(stderr, "stack: n = %zu: %s\n", p.n, why);
+    exit(1);
+}
+
+/* ---- the calls, each as the whole of a thread: its areas are not on the stack */
+
+static void *nothing(void *unused)
+{
+    return unused;
+}
+
+static void *server_fresh(void *number)
+{
+    const uint8_t *me = number;
+    struct server *s = &servers[*me];
+    answer = semduoli_server_fresh(p.n, p.t, p.k, p.size, *me, first, p.size, s->area, sizeof s->area, s->initial, sizeof s->initial, s->state,
+                                   sizeof s->state);
+    return NULL;
+}
+
+static void *client_fresh(void *unused)
+{
+    answer = semduoli_client_fresh(state, sizeof state);
+    return unused;
+}
+
+/* begins the write of a value, or a read */
+static void *begin(void *written)
+{
+    answer = written ? semduoli_begin_write(p.n, p.t, p.k, p.size, ME, state, sizeof state, value, p.size, out, sizeof out, to, sizeof to)
+                     : semduoli_begin_read(p.n, p.t, p.k, p.size, ME, state, sizeof state, out, sizeof out, to, sizeof to);
+    return NULL;
+}
+
+static void *server_deliver(void *parcel)
+{
+    const struct parcel *f = parcel;
+    struct server *s = &servers[f->to[1]];
+    answer = semduoli_server_deliver(p.n, p.t, p.k, p.size, f->to[1], f->from[0], f->from[1], f->frame, f->length, s->area, sizeof s->area,
+                                     s->initial, sizeof s->initial, s->state, sizeof s->state, out, sizeof out, to, sizeof to);
+    return NULL;
+}
+
+static void *client_deliver(void *parcel)
+{
+    const struct parcel *f = parcel;
+    answer = semduoli_client_deliver(p.n, p.t, p.k, p.size, ME, f->from[0], f->from[1], value, p.size, f->frame, f->length, rows, sizeof rows, result,
+                                     sizeof result, state, sizeof state, out, sizeof out, to, sizeof to);
+    return NULL;
+}
+
+/* ---- measuring */
+
+enum { STACK = 256 * 1024, PAINT = 0xa5 };
+
+static _Alignas(4096) uint8_t stack[STACK];
+
+/* how many bytes of its stack a thread uses that makes one call */
+static size_t used(void *(*call)(void *), void *of)
+{
+    pthread_attr_t attributes;
+    pthread_t thread;
+    size_t at = 0;
+    memset(stack, PAINT, STACK);
+    if (pthread_attr_init(&attributes) || pthread_attr_setstack(&attributes, stack, STACK) || pthread_create(&thread, &attributes, call, of) ||
+        pthread_join(thread, NULL) || pthread_attr_destroy(&attributes))
+        fail("no thread");
+    while (stack[at] == PAINT)
+        at++;
+    return STACK - at;
+}
+
+/* makes a call, and keeps its use if it is the deepest of its row */
+static void measure(size_t row, void *(*call)(void *), void *of)
+{
+    size_t empty = used(nothing, NULL), whole = used(call, of), own = whole > empty ? whole - empty : 0;
+    if (own > deepest[row])
+        deepest[row] = own;
+}
+
+/* ---- a run */
+
+/* puts the frames that the last call sent behind those that wait */
+static void add_sent(const uint8_t *sender)
+{
+    size_t at = 0;
+    for (unsigned i = 0; i < SEMDUOLI_COUNT(answer); i++) {
+        struct parcel *f = &waiting[added++ % WAITING];
+        if (added - taken > WAITING)
+            fail("too many frames wait");
+        memcpy(f->from, sender, 2);
+        memcpy(f->to, to + 2 * i, 2);
+        f->length = 2 + 256 * out[at] + out[at + 1];
+        memcpy(f->frame, out + at, f->length);
+        at += f->length;
+    }
+}
+
+/* an operation of the client, and the delivery of everything that it causes; it must end so */
+static void operate(size_t row, void *written, unsigned end)
+{
+    int ended = 0;
+    measure(row, begin, written);
+    if (SEMDUOLI_REFUSAL(answer))
+        fail("the operation is refused");
+    add_sent((const uint8_t[]){SEMDUOLI_CLASS_CLIENT, ME});
+    while (taken != added) {
+        struct parcel f = waiting[taken++ % WAITING];
+        int to_server = f.to[0] == SEMDUOLI_CLASS_SERVER;
+        measure(to_server ? f.frame[3] : CLIENT_DELIVER, to_server ? server_deliver : client_deliver, &f);
+        if (SEMDUOLI_REFUSAL(answer) == 13)
+            waiting[added++ % WAITING] = f;
+        ended |= !to_server && SEMDUOLI_OUTCOME(answer) == end;
+        add_sent(f.to);
+    }
+    if (!ended)
+        fail("the operation has not ended");
+}
+
+static void whole_run(void)
+{
+    for (size_t i = 0; i < p.size; i++) {
+        first[i] = (uint8_t)(7 * i + 1);
+        value[i] = (uint8_t)(11 * i + 5);
+        result[i] = 0;
+    }
+    for (uint8_t j = 1; j <= p.n; j++) {
+        measure(SERVER_FRESH, server_fresh, &j);
+        if (answer)
+            fail("a server is refused");
+    }
+    measure(CLIENT_FRESH, client_fresh, NULL);
+    operate(BEGIN_WRITE, value, SEMDUOLI_WRITTEN);
+    operate(BEGIN_READ, NULL, SEMDUOLI_VALUE);
+    if (memcmp(result, value, p.size))
+        fail("the value read is not the value written");
+}
+
+int main(void)
+{
+    printf("\n### Stack");
+    for (size_t i = 0; i < 2; i++) {
+        p = sets[i];
+        printf("%s n = %zu, t = %zu, k = %zu, L = %zu", i ? " and" : ",", p.n, p.t, p.k, p.size);
+        whole_run();
+    }
+    printf("\n\n| call | stack, bytes |\n|---|---|\n");
+    for (size_t row = 0; row < TABLE; row++) {
+        if (names[row] && !deepest[row])
+            fail("a row without a call");
+        if (names[row])
+            printf("| %s | %zu |\n", names[row], deepest[row]);
+    }
+    return 0;
+}

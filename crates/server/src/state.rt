@@ -82,7 +82,7 @@ pub fn fresh_server() -> Server
     }
 }
 
-// ---- one place of an array changed
+// ---- one client's scope
 
 // Client c's scope.
 pub fn scope_of(s: Server, c: usize) -> Scope

@@ -42,7 +42,7 @@ pub record Handed (g : Params) (me : ℕ) (h : Header) (f area out to : ℕ) : T
   pub kind-high : h .kind ≤ 12
   pub frame-is : f ≡ bodyAt + bodyLength g (h .kind)
 
--- why a frame did not open; of one that did it is not asked
+-- why a frame was not let in; of one that was it is not asked
 abbrev pub refusalIn : Opened → Refusal
 refusalIn (O.Frame h) = R.Framing
 refusalIn (O.Refused r) = r

@@ -24,7 +24,7 @@ ghost use Rattle.server_deliver.specs.Handed.{refusalIn, admittedBy, adm
 pub mod kinds;
 pub mod storing;
 
-// Why a frame did not open; of one that did it is not asked.
+// Why a frame was not let in; of one that was it is not asked.
 pub fn refusal(o: Opened) -> Refusal
     ensures { λ r. ⌜ r ≡ refusalIn o ⌝ }
 {

@@ -5,3 +5,4 @@ pub mod Reading
 pub mod ClientBack
 pub mod ServerBack
 pub mod ScopeBack
+pub mod TypedSteps

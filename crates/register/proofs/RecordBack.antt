@@ -1,12 +1,11 @@
 -- After a host's call of a server the record's bytes say the server that the delivery leaves. Assumes nothing.
 use Prim.Native.Nat.{ℕ, _≤_}
-use native.Mathlib.Omega.{arith}
 use mathlib.Core.Path.{_≡_, refl, sym, ap, _∙_}
 use mathlib.Core.Bool.{Bool, true, false}
 use mathlib.Core.List.{List}
 use lib.ListN.{length, getD}
 use Rattle.quorum.proofs.Logic.{impossible}
-use Rattle.area.specs.Area.{pick}
+use Rattle.area.specs.Area.{pick, Bytes}
 use Rattle.sha256.specs.Hash.{digestOf}
 use Rattle.blocks.specs.declared.Params.{Params}
 use Rattle.frame.specs.declared.Party.{Party}
@@ -17,14 +16,14 @@ use Rattle.frame.specs.Messages.{Judged, bad, good, after}
 use Rattle.frame.specs.Frames.{clientAt, headerIn, frameTest, openedBy, opened}
 use Rattle.frame.proofs.Opening.{opens-facts}
 use Rattle.server.specs.declared.Server.{Server}
-use Rattle.server.specs.State.{noSlot, noReader, slotOf, readerOf}
+use Rattle.server.specs.State.{slotOf, readerOf}
 use Rattle.server.specs.Tests.{roomTest, judgeOpened, judge}
 use Rattle.server.specs.Delivery.{Outcome, effectBy, delivered, replyOf, outcomeOf, delivery}
 use Rattle.server_deliver.proofs.OneClient.{one-client}
 use Rattle.layout.specs.Servers.{serverSize, serverIn, scopeSets}
-use Rattle.layout.specs.Typed.{TypedSlot, TypedReader, TypedServer}
-use Rattle.layout.proofs.Reading.{getD-every}
+use Rattle.layout.specs.Typed.{TypedServer}
 use Rattle.layout.proofs.ScopeBack.{scope-back}
+use Rattle.layout.proofs.TypedSteps.{typed-in, typed-delivery, slot-typed, reader-typed}
 use Rattle.register.specs.Answers.{testAnswer}
 use Rattle.register.specs.Short.{frameShort}
 use Rattle.register.specs.ServerCalls.{isTurnedDown, scopeAfter, serverGot, serverGotOf, serverCall}
@@ -55,15 +54,6 @@ module _ (H : List ℕ → List ℕ) (g : Params) (me : ℕ) (s : Server) (a ini
   unfolding delivery outcomeOf delivered judge opened
   few e = few-by (paramsTest g me (g .n)) (frameTest g f) (roomTest g (length a) (length initial) (length out) (length to)) _ refl e
 
--- ---- what types say of client c's parts
-
-module _ (s : Server) (t : TypedServer s) (c : ℕ) (h : c ≤ 8) where
-  typed-slot : TypedSlot (slotOf s c)
-  typed-slot = getD-every TypedSlot (s .slots) c noSlot (t .slots .1) (omega (arith, h, t .slots .0))
-
-  typed-reader : TypedReader (readerOf s c)
-  typed-reader = getD-every TypedReader (s .readers) c noReader (t .readers .1) (omega (arith, h, t .readers .0))
-
 -- ---- the call
 
 module _ (g : Params) (me : ℕ) (from : Party) (f area initial state out to : List ℕ) (long : serverSize ≤ length state) where
@@ -92,12 +82,14 @@ module _ (g : Params) (me : ℕ) (from : Party) (f area initial state out to : L
   says t true e = sym (stays digestOf g me (serverIn state) area initial from f out to e)
   says t false e =
       let h = few digestOf g me (serverIn state) area initial from f out to e in
-      scope-back state named _ _ _ long h (t .stamp) (typed-slot (handed .server) t named h) (typed-reader (handed .server) t named h)
+      scope-back state named _ _ _ long h (t .stamp) (slot-typed (handed .server) t named h) (reader-typed (handed .server) t named h)
       ∙ sym (one-client digestOf g me (serverIn state) area initial from f out to)
 
   -- after a call the record's bytes say the server that the delivery leaves, whether it was turned down or not
-  pub record-back : TypedServer (handed .server) → serverIn left ≡ handed .server
-  record-back t = ap serverIn left-is ∙ says t (isTurnedDown (handed .reply)) refl
+  pub record-back : Bytes state → Bytes f → serverIn left ≡ handed .server
+  record-back p q =
+      let t = typed-delivery digestOf g me (serverIn state) (typed-in state p) area initial from f out to q in
+      ap serverIn left-is ∙ says t (isTurnedDown (handed .reply)) refl
 
   -- a call that is turned down leaves the record's bytes as they were
   pub record-kept : isTurnedDown (handed .reply) ≡ true → left ≡ state

@@ -6,3 +6,4 @@ pub mod ClientBack
 pub mod ServerBack
 pub mod ScopeBack
 pub mod TypedSteps
+pub mod TypedCalls

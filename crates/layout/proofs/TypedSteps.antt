@@ -41,19 +41,19 @@ use Rattle.layout.proofs.Reading.{getD-every}
 -- ---- arrays, and one of two
 
 module _ {A : Type 0} (P : A → Type 0) where
-  every-set : (xs : List A) (i : ℕ) (x : A) → Every P xs → P x → Every P (set xs i x)
+  pub every-set : (xs : List A) (i : ℕ) (x : A) → Every P xs → P x → Every P (set xs i x)
   every-set [] i x e p = e
   every-set (y ∷ xs) zero x e p = (p, e .1)
   every-set (y ∷ xs) (suc i) x e p = (e .0, every-set xs i x (e .1) p)
 
-  array-set : (m : ℕ) (xs : List A) (i : ℕ) (x : A) → Array m P xs → P x → Array m P (set xs i x)
+  pub array-set : (m : ℕ) (xs : List A) (i : ℕ) (x : A) → Array m P xs → P x → Array m P (set xs i x)
   array-set m xs i x t p = (length-set xs i x ∙ t .0, every-set xs i x (t .1) p)
 
-  every-replicate : (m : ℕ) (x : A) → P x → Every P (replicate m x)
+  pub every-replicate : (m : ℕ) (x : A) → P x → Every P (replicate m x)
   every-replicate zero x p = tt
   every-replicate (suc m) x p = (p, every-replicate m x p)
 
-  every-table : (f : ℕ → A) (i m : ℕ) → ((j : ℕ) → P (f j)) → Every P (tableFrom f i m)
+  pub every-table : (f : ℕ → A) (i m : ℕ) → ((j : ℕ) → P (f j)) → Every P (tableFrom f i m)
   unfolding tableFrom
   every-table f i zero p = tt
   every-table f i (suc m) p = (p i, every-table f (suc i) m p)

@@ -1,0 +1,226 @@
+-- A client's record that bytes say has its numbers within their widths, and a client's calls keep them there. Assumes nothing.
+use Prim.Native.Nat.{ℕ, zero, suc, _+_, _*_}
+use native.Mathlib.Omega.{arith}
+use borrow.Author.Tests.{ltb-true, leb-false}
+use mathlib.Core.Path.{_≡_, refl, ap, _∙_}
+use mathlib.Core.Bool.{Bool, true, false, not}
+use mathlib.Core.Option.{Option, none, some}
+use mathlib.Core.List.{List, [], _∷_}
+use lib.ListN.{length, getD, set, replicate, length-set}
+use lib.Dec.{leb, ltb}
+use Rattle.area.specs.Area.{pick, Bytes, table}
+use Rattle.area.specs.Numbers.{be8}
+use Rattle.area.proofs.Numbers.{getD-Bytes, be4-range, be8-range}
+use Rattle.area.proofs.Fills.{length-table}
+use Rattle.blocks.specs.declared.Params.{Params}
+use Rattle.frame.specs.declared.Stamp.{Stamp}
+use Rattle.frame.specs.declared.Party.{Party}
+use Rattle.frame.specs.declared.Refusal.the-variants as R
+use Rattle.frame.specs.declared.Verdict.{Verdict}
+use Rattle.frame.specs.declared.Verdict.the-variants as J
+use Rattle.frame.specs.Refusals.{andThen}
+use Rattle.frame.specs.Params.{paramsTest}
+use Rattle.frame.specs.Stamps.{zeroStamp, lastSequence, lastClient}
+use Rattle.frame.specs.Messages.{Entry, Body, getStamp, ack, askRead, readComplete, stampIs, blockIs, timeIs, valueIs, FormedBody, Message, numberIn, judgedBy, after}
+use Rattle.frame.specs.Frames.{headerIn, frameTest, openedBy, opened, messageIn}
+use Rattle.frame.proofs.Verdicts.{fine-not, fine-both}
+use Rattle.frame.proofs.Converse.{formed-opened}
+use Rattle.client.specs.declared.Phase.{Phase}
+use Rattle.client.specs.declared.Row.{Row}
+use Rattle.client.specs.declared.Client.{Client}
+use Rattle.client.specs.State.{freshRow, freshClient, idle, rowOf, inPhase, noRow, withRow}
+use Rattle.client.specs.Rows.{placeFor, rowWith, Found, search, rowView}
+use Rattle.client.specs.Tests.{sendRoom, roomTest, valueTest, messageTest, judgeOpened, judge}
+use Rattle.client.specs.Steps.{Effect, sendBelow, gatherBy, onStamp, endBy, onAck, completeBy, settle, keepBy, onValue, onBody, effect}
+use Rattle.client.specs.Beginning.{idleTest, closedTest, lengthTest, readTest, writeTest, openRead, openWrite, beginBy, readBegun, writeBegun, begunOf, readBeginning, writeBeginning}
+use Rattle.client.specs.Delivery.{effectBy, delivered, outcomeOf, delivery}
+use Rattle.layout.specs.Fields.{flagAt, stampAt, rowAt, flagsAt, numbersAt}
+use Rattle.layout.specs.Clients.{stampsAt, keptAt, rowsAt, clientAt, clientIn}
+use Rattle.layout.specs.Typed.{Word, Long, Every, Array, TypedStamp, TypedRow, TypedClient}
+use Rattle.layout.proofs.TypedSteps.{array-set, every-replicate, every-table}
+
+-- ---- what bytes say
+
+-- an array that is read, each element by r
+all-read : {A : Type 0} (P : A → Type 0) (r : List ℕ → ℕ → A) (m w : ℕ) (l : List ℕ) → ((i : ℕ) → P (r l i)) → (i : ℕ) → Array m P (rowAt r m w l i)
+unfolding rowAt table
+all-read P r m w l p i = (length-table m (λ j. r l (i + j * w)), every-table P (λ j. r l (i + j * w)) 0 m (λ j. p (i + j * w)))
+
+module _ (l : List ℕ) (p : Bytes l) where
+  kept-stamp : (i : ℕ) → TypedStamp (stampAt l i)
+  unfolding stampAt
+  kept-stamp i = record { time = be8-range l i p; writer = getD-Bytes l (i + 8) p; sequence = be4-range l (i + 9) p }
+
+  row-in : (i : ℕ) → TypedRow (keptAt l i)
+  unfolding keptAt stampsAt
+  row-in i = record { count = be8-range l i p; stamps = all-read TypedStamp stampAt 4 13 l kept-stamp (i + 8) }
+
+  -- the record that bytes say has its numbers within their widths
+  pub typed-client-in : TypedClient (clientIn l)
+  unfolding clientIn clientAt flagsAt numbersAt rowsAt
+  typed-client-in = record {
+    writes = be4-range l 0 p;
+    reads = be4-range l 4 p;
+    heard = all-read (λ b. Unit {0}) flagAt 11 1 l (λ i. tt) 10 .0;
+    times = all-read Long be8 11 8 l (λ i. be8-range l i p) 21;
+    rows = all-read TypedRow keptAt 11 60 l row-in 109;
+  }
+
+-- ---- a fresh client
+
+fresh-times : Array 11 Long (replicate 11 0)
+fresh-times = (refl, every-replicate Long 11 0 (omega arith))
+
+fresh-row : TypedRow freshRow
+unfolding freshRow zeroStamp
+fresh-row =
+    let z : TypedStamp zeroStamp = record { time = omega arith; writer = omega arith; sequence = omega arith } in
+    record { count = omega arith; stamps = (refl, every-replicate TypedStamp 4 zeroStamp z) }
+
+fresh-rows : Array 11 TypedRow (replicate 11 freshRow)
+fresh-rows = (refl, every-replicate TypedRow 11 freshRow fresh-row)
+
+-- a fresh client's numbers are within their widths
+pub typed-client-fresh : TypedClient freshClient
+unfolding freshClient
+typed-client-fresh = record { writes = omega arith; reads = omega arith; heard = refl; times = fresh-times; rows = fresh-rows }
+
+-- ---- beginnings
+
+-- an operation begins only where a number is left
+number-left : (s : Client) (last : ℕ) → idleTest s last ≡ J.Fine → Word (last + 1)
+unfolding idleTest
+number-left s last e =
+    let u = fine-not (not (idle (s .phase))) R.Busy _ e .1 in
+    let h = leb-false lastSequence last (fine-not (leb lastSequence last) R.Exhausted J.Fine u .0) in
+    omega (arith, h)
+
+module _ (g : Params) (me : ℕ) (s : Client) (t : TypedClient s) where
+  typed-begun : (v : Verdict) (x : Effect) → (v ≡ J.Fine → TypedClient (x .client)) → TypedClient (beginBy g me v s x .client)
+  unfolding beginBy
+  typed-begun J.Fine x h = h refl
+  typed-begun (J.Bad r) x h = t
+
+  read-open : idleTest s (s .reads) ≡ J.Fine → TypedClient (openRead g me s .client)
+  unfolding openRead
+  read-open e = record { writes = t .writes; reads = number-left s (s .reads) e; heard = t .heard; times = t .times; rows = fresh-rows }
+
+  write-open : idleTest s (s .writes) ≡ J.Fine → TypedClient (openWrite g me s .client)
+  unfolding openWrite
+  write-open e = record { writes = number-left s (s .writes) e; reads = t .reads; heard = refl; times = fresh-times; rows = t .rows }
+
+  read-left : (out to : List ℕ) → readTest g me s out to ≡ J.Fine → idleTest s (s .reads) ≡ J.Fine
+  unfolding readTest
+  read-left out to e = fine-both (sendRoom g (length out) (length to)) _ (fine-both (paramsTest g me lastClient) _ e .1) .1
+
+  write-left : (v out to : List ℕ) → writeTest g me s v out to ≡ J.Fine → idleTest s (s .writes) ≡ J.Fine
+  unfolding writeTest
+  write-left v out to e =
+      let a = fine-both (paramsTest g me lastClient) _ e .1 in
+      let b = fine-both (lengthTest g (length v)) _ a .1 in
+      let c = fine-both (sendRoom g (length out) (length to)) _ b .1 in
+      fine-both (idleTest s (s .writes)) (closedTest s) c .0
+
+  -- the beginning of a read keeps a client's numbers within their widths
+  pub typed-read : (out to : List ℕ) → TypedClient (readBeginning g me s out to .client)
+  unfolding readBeginning begunOf readBegun
+  typed-read out to = typed-begun (readTest g me s out to) (openRead g me s) (λ e. read-open (read-left out to e))
+
+  -- and so does the beginning of a write
+  pub typed-write : (v out to : List ℕ) → TypedClient (writeBeginning g me s v out to .client)
+  unfolding writeBeginning begunOf writeBegun
+  typed-write v out to = typed-begun (writeTest g me s v out to) (openWrite g me s) (λ e. write-open (write-left v out to e))
+
+-- ---- a client with a part changed
+
+-- an element is replaced by one that has P if the old one had; past the array's end nothing is replaced
+every-turned : {A : Type 0} (P : A → Type 0) (xs : List A) (i : ℕ) (d x : A) → Every P xs → (P (getD xs i d) → P x) → Every P (set xs i x)
+every-turned P [] i d x e f = e
+every-turned P (y ∷ xs) zero d x e f = (f (e .0), e .1)
+every-turned P (y ∷ xs) (suc i) d x e f = (e .0, every-turned P xs i d x (e .1) f)
+
+phase-kept : (s : Client) (p : Phase) (h : List Bool) (ts : List ℕ) → TypedClient s → length h ≡ 11 → Array 11 Long ts → TypedClient (inPhase s p h ts)
+phase-kept s p h ts t u v = record { writes = t .writes; reads = t .reads; heard = u; times = v; rows = t .rows }
+
+row-kept : (s : Client) (j : ℕ) (r : Row) → TypedClient s → (TypedRow (rowOf s j) → TypedRow r) → TypedClient (withRow s j r)
+row-kept s j r t f = record {
+  writes = t .writes;
+  reads = t .reads;
+  heard = t .heard;
+  times = t .times;
+  rows = (length-set (s .rows) j r ∙ t .rows .0, every-turned TypedRow (s .rows) j noRow r (t .rows .1) f);
+}
+
+count-kept : (b : Bool) (n : ℕ) → ltb n 4 ≡ b → Long n → Long (pick b (n + 1) n)
+unfolding pick
+count-kept true n e h = omega (arith, ltb-true n 4 e)
+count-kept false n e h = h
+
+row-with : (r : Row) (i : ℕ) (x : Stamp) → TypedStamp x → TypedRow r → TypedRow (rowWith r i x)
+row-with r i x y t = record { count = count-kept (ltb (r .count) 4) (r .count) refl (t .count); stamps = array-set TypedStamp 4 (r .stamps) i x (t .stamps) y }
+
+-- ---- any frame
+
+module _ (H : List ℕ → List ℕ) (g : Params) (me : ℕ) where
+  typed-below : (b : Bool) (s : Client) (a v : List ℕ) (M : ℕ) → TypedClient s → TypedClient (sendBelow H g me b s a v M .client)
+  unfolding sendBelow
+  typed-below true s a v M t = phase-kept s _ _ _ t refl (t .times)
+  typed-below false s a v M t = record { writes = t .writes; reads = t .reads; heard = t .heard; times = t .times; rows = t .rows }
+
+  typed-gather : (b : Bool) (s : Client) (a v : List ℕ) → TypedClient s → TypedClient (gatherBy H g me b s a v .client)
+  unfolding gatherBy
+  typed-gather true s a v t = typed-below _ s a v _ t
+  typed-gather false s a v t = t
+
+  typed-end : (b : Bool) (s : Client) (a : List ℕ) (h : List Bool) → TypedClient s → length h ≡ 11 → TypedClient (endBy H g me b s a h .client)
+  unfolding endBy
+  typed-end true s a h t u = phase-kept s _ h (s .times) t u (t .times)
+  typed-end false s a h t u = phase-kept s _ h (s .times) t u (t .times)
+
+  typed-complete : (o : Option Found) (s : Client) (a : List ℕ) → TypedClient s → TypedClient (completeBy H g me o s a .client)
+  unfolding completeBy
+  typed-complete none s a t = t
+  typed-complete (some x) s a t = phase-kept s _ (s .heard) (s .times) t (t .heard) (t .times)
+
+  typed-keep : (o : Option ℕ) (s : Client) (a : List ℕ) (j : ℕ) (x : Stamp) (e : Entry) → TypedStamp x → TypedClient s → TypedClient (keepBy H g me o s a j x e .client)
+  unfolding keepBy settle
+  typed-keep none s a j x e y t = typed-complete (search g (rowView g s a)) s a t
+  typed-keep (some i) s a j x e y t = typed-complete _ _ _ (row-kept s j _ t (row-with (rowOf s j) i x y))
+
+  typed-body : (s : Client) (a v : List ℕ) (j : ℕ) (b : Body) → FormedBody g b → TypedClient s → TypedClient (onBody H g me s a v j b .client)
+  unfolding onBody onAck onStamp onValue
+  typed-body s a v j getStamp h t = t
+  typed-body s a v j ack h t = typed-end _ s a _ t (length-set (s .heard) j true ∙ t .heard)
+  typed-body s a v j askRead h t = t
+  typed-body s a v j readComplete h t = t
+  typed-body s a v j (stampIs T) h t =
+      typed-gather _ _ a v (phase-kept s _ _ _ t (length-set (s .heard) j true ∙ t .heard) (array-set Long 11 (s .times) j T (t .times) h))
+  typed-body s a v j (blockIs z e) h t = t
+  typed-body s a v j (timeIs z T) h t = t
+  typed-body s a v j (valueIs x e) h t =
+      let w = h .2 in
+      typed-keep (placeFor (rowOf s j) x) s a j x e (record { time = h .1; writer = omega (arith, w); sequence = h .3 }) t
+
+  module _ (s : Client) (t : TypedClient s) (a value : List ℕ) (from : Party) where
+    -- the verdict is of 10 to 14; a frame that is turned down changes nothing
+    typed-judged : (v : Verdict) (m : Message) → FormedBody g (m .body) → TypedClient (effectBy H g me (judgedBy v m) s a value from .client)
+    unfolding effectBy effect
+    typed-judged J.Fine m h = typed-body s a value (numberIn from) (m .body) h t
+    typed-judged (J.Bad r) m h = t
+
+    -- p is of 1 to 3, u of 4 to 9, v of 10
+    typed-after : (f : List ℕ) (p u v : Verdict) → Bytes f → frameTest g f ≡ u
+        → TypedClient (effectBy H g me (after p (judgeOpened H g me (openedBy u (headerIn f)) v s from f)) s a value from .client)
+    unfolding effectBy judgeOpened opened
+    typed-after f (J.Bad r) u v i e = t
+    typed-after f J.Fine (J.Bad r) v i e = t
+    typed-after f J.Fine J.Fine v i e =
+        let o = formed-opened g f (headerIn f) i (ap (λ (z : Verdict). openedBy z (headerIn f)) e) in
+        typed-judged (andThen v (messageTest H g me s from (messageIn g (headerIn f) f))) (messageIn g (headerIn f) f) (o .body)
+
+    -- a delivery of bytes keeps a client's numbers within their widths
+    pub typed-client-delivery : (f result out to : List ℕ) → Bytes f → TypedClient (delivery H g me s a value from f result out to .client)
+    unfolding delivery outcomeOf delivered judge opened
+    typed-client-delivery f result out to i =
+        typed-after f (andThen (paramsTest g me lastClient) (valueTest g s (length value))) (frameTest g f)
+        (roomTest g (length a) (length result) (length out) (length to)) i refl

@@ -1,5 +1,5 @@
 -- A client's record that bytes say has its numbers within their widths, and a client's calls keep them there. Assumes nothing.
-use Prim.Native.Nat.{ℕ, zero, suc, _+_, _*_}
+use Prim.Native.Nat.{ℕ, zero, suc, _+_}
 use native.Mathlib.Omega.{arith}
 use borrow.Author.Tests.{ltb-true, leb-false}
 use mathlib.Core.Path.{_≡_, refl, ap, _∙_}
@@ -8,10 +8,9 @@ use mathlib.Core.Option.{Option, none, some}
 use mathlib.Core.List.{List, [], _∷_}
 use lib.ListN.{length, getD, set, replicate, length-set}
 use lib.Dec.{leb, ltb}
-use Rattle.area.specs.Area.{pick, Bytes, table}
+use Rattle.area.specs.Area.{pick, Bytes}
 use Rattle.area.specs.Numbers.{be8}
-use Rattle.area.proofs.Numbers.{getD-Bytes, be4-range, be8-range}
-use Rattle.area.proofs.Fills.{length-table}
+use Rattle.area.proofs.Numbers.{be4-range, be8-range}
 use Rattle.blocks.specs.declared.Params.{Params}
 use Rattle.frame.specs.declared.Stamp.{Stamp}
 use Rattle.frame.specs.declared.Party.{Party}
@@ -34,26 +33,17 @@ use Rattle.client.specs.Tests.{sendRoom, roomTest, valueTest, messageTest, judg
 use Rattle.client.specs.Steps.{Effect, sendBelow, gatherBy, onStamp, endBy, onAck, completeBy, settle, keepBy, onValue, onBody, effect}
 use Rattle.client.specs.Beginning.{idleTest, closedTest, lengthTest, readTest, writeTest, openRead, openWrite, beginBy, readBegun, writeBegun, begunOf, readBeginning, writeBeginning}
 use Rattle.client.specs.Delivery.{effectBy, delivered, outcomeOf, delivery}
-use Rattle.layout.specs.Fields.{flagAt, stampAt, rowAt, flagsAt, numbersAt}
+use Rattle.layout.specs.Fields.{flagAt, stampAt, flagsAt, numbersAt}
 use Rattle.layout.specs.Clients.{stampsAt, keptAt, rowsAt, clientAt, clientIn}
 use Rattle.layout.specs.Typed.{Word, Long, Every, Array, TypedStamp, TypedRow, TypedClient}
-use Rattle.layout.proofs.TypedSteps.{array-set, every-replicate, every-table}
+use Rattle.layout.proofs.TypedSteps.{array-set, every-replicate, array-row, stamp-in}
 
 -- ---- what bytes say
 
--- an array that is read, each element by r
-all-read : {A : Type 0} (P : A → Type 0) (r : List ℕ → ℕ → A) (m w : ℕ) (l : List ℕ) → ((i : ℕ) → P (r l i)) → (i : ℕ) → Array m P (rowAt r m w l i)
-unfolding rowAt table
-all-read P r m w l p i = (length-table m (λ j. r l (i + j * w)), every-table P (λ j. r l (i + j * w)) 0 m (λ j. p (i + j * w)))
-
 module _ (l : List ℕ) (p : Bytes l) where
-  kept-stamp : (i : ℕ) → TypedStamp (stampAt l i)
-  unfolding stampAt
-  kept-stamp i = record { time = be8-range l i p; writer = getD-Bytes l (i + 8) p; sequence = be4-range l (i + 9) p }
-
   row-in : (i : ℕ) → TypedRow (keptAt l i)
   unfolding keptAt stampsAt
-  row-in i = record { count = be8-range l i p; stamps = all-read TypedStamp stampAt 4 13 l kept-stamp (i + 8) }
+  row-in i = record { count = be8-range l i p; stamps = array-row TypedStamp stampAt 4 13 l (stamp-in l p) (i + 8) }
 
   -- the record that bytes say has its numbers within their widths
   pub typed-client-in : TypedClient (clientIn l)
@@ -61,9 +51,9 @@ module _ (l : List ℕ) (p : Bytes l) where
   typed-client-in = record {
     writes = be4-range l 0 p;
     reads = be4-range l 4 p;
-    heard = all-read (λ b. Unit {0}) flagAt 11 1 l (λ i. tt) 10 .0;
-    times = all-read Long be8 11 8 l (λ i. be8-range l i p) 21;
-    rows = all-read TypedRow keptAt 11 60 l row-in 109;
+    heard = array-row (λ b. Unit {0}) flagAt 11 1 l (λ i. tt) 10 .0;
+    times = array-row Long be8 11 8 l (λ i. be8-range l i p) 21;
+    rows = array-row TypedRow keptAt 11 60 l row-in 109;
   }
 
 -- ---- a fresh client

@@ -53,7 +53,7 @@ module _ {A : Type 0} (P : A → Type 0) where
   every-replicate zero x p = tt
   every-replicate (suc m) x p = (p, every-replicate m x p)
 
-  pub every-table : (f : ℕ → A) (i m : ℕ) → ((j : ℕ) → P (f j)) → Every P (tableFrom f i m)
+  every-table : (f : ℕ → A) (i m : ℕ) → ((j : ℕ) → P (f j)) → Every P (tableFrom f i m)
   unfolding tableFrom
   every-table f i zero p = tt
   every-table f i (suc m) p = (p i, every-table f (suc i) m p)
@@ -64,7 +64,8 @@ module _ {A : Type 0} (P : A → Type 0) where
   either false x y p q = q
 
 module _ {A : Type 0} (P : A → Type 0) (g : List ℕ → ℕ → A) (m w : ℕ) (l : List ℕ) (p : (i : ℕ) → P (g l i)) where
-  array-row : (i : ℕ) → Array m P (rowAt g m w l i)
+  -- an array is typed where all that may be read for an element is
+  pub array-row : (i : ℕ) → Array m P (rowAt g m w l i)
   unfolding rowAt table
   array-row i = (length-table m (λ j. g l (i + j * w)), every-table P (λ j. g l (i + j * w)) 0 m (λ j. p (i + j * w)))
 
@@ -75,7 +76,7 @@ unfolding flagsAt rowAt
 length-flags-at l i = length-table 11 (λ j. flagAt l (i + j * 1))
 
 module _ (l : List ℕ) (p : Bytes l) where
-  stamp-in : (i : ℕ) → TypedStamp (stampAt l i)
+  pub stamp-in : (i : ℕ) → TypedStamp (stampAt l i)
   unfolding stampAt
   stamp-in i = record { time = be8-range l i p; writer = getD-Bytes l (i + 8) p; sequence = be4-range l (i + 9) p }
 

@@ -50,16 +50,23 @@ def mul(a, b):
     return product
 
 
-def inverse(a):
-    return next((x for x in range(256) if mul(a, x) == 1), 0)
+# by one product after the other: no table, no halving of the exponent
+def power(a, exponent):
+    result = 1
+    for _ in range(exponent):
+        result = mul(result, a)
+    return result
 
 
-comment('The byte field: the products of FIPS 197, then others, and inverses')
+comment('The byte field: the products of FIPS 197, then others')
 assert (mul(0x57, 0x83), mul(0x57, 0x13)) == (0xc1, 0xfe)
 for a, b in ((0x57, 0x83), (0x57, 0x13), (0x57, 0x02), (0x57, 0x04), (0x57, 0x08), (0x57, 0x10), (0, 0x83), (0x83, 0), (0xff, 0xff), (1, 0xa5), (3, 0xf6)):
     case('product', [f'{a:02x}', f'{b:02x}'], f'{mul(a, b):02x}')
-for a in (0x53, 0x01, 0x02, 0x03, 0xff, 0x00):
-    case('inverse', [f'{a:02x}'], f'{inverse(a):02x}')
+
+comment('The inverse of each of the 256 bytes, 00 too: its 254th power')
+for a in range(256):
+    assert mul(a, power(a, 254)) == (1 if a else 0)
+    case('inverse', [f'{a:02x}'], f'{power(a, 254):02x}')
 
 
 # ---- the block code: the answer's number (00: not turned down) and every byte of the lent area, whose bytes are ee before the call
@@ -255,11 +262,12 @@ for stamp in ((0, 0, 0), (1, 8, 1), (1, 9, 1), (0, 1, 1), (1, 0, 0), (0, 0, 1), 
 
 # ---- the comparison itself
 
-comment('Wrong expectations are seen: the next five must differ')
+comment('Wrong expectations are seen: the next six must differ')
 case('digest', ['616263'], hashlib.sha256(b'abc').hexdigest(), hashlib.sha256(b'abd').hexdigest())
 case('product', ['57', '83'], 'c1', 'c2')
 case('product', ['57', '83'], 'c1', 'c1c1')
 case('inverse', ['02'], '8d', '8')
+case('inverse', ['02'], '8d', f'{power(2, 253):02x}')
 case('encode', ['4', '1', '2', '3', '8', '010203'], '00 0303050307030903', '00 0303050307030904')
 
 with open('stdin', 'w') as file:

@@ -9,68 +9,101 @@ mod single;
 
 use register::flat::{Done, Outcome};
 use register::Refusal;
+use simulate::progress::Progress;
 
 /// What differed, in words.
 pub type Difference = String;
 
-/// Which answers came: bit r of refusal r, bit 20 + o of outcome o.
+/// How often each refusal and each outcome came.
 #[derive(Clone, Copy, Debug, Default, PartialEq, Eq)]
-pub struct Seen(pub u32);
+pub struct Seen {
+    pub refusals: [u64; 20],
+    pub outcomes: [u64; 4],
+}
 
 impl Seen {
     pub fn of(answer: u64) -> Seen {
+        let mut seen = Seen::default();
         match answer & 0xff {
-            0 => Seen(1 << (20 + (answer >> 8 & 0xff))),
-            refusal => Seen(1 << refusal),
+            0 => seen.outcomes[(answer >> 8 & 0xff) as usize] = 1,
+            refusal => seen.refusals[refusal as usize] = 1,
         }
+        seen
     }
 
-    pub fn and(self, other: Seen) -> Seen {
-        Seen(self.0 | other.0)
+    pub fn and(mut self, other: Seen) -> Seen {
+        for (a, b) in self.refusals.iter_mut().zip(other.refusals) {
+            *a += b;
+        }
+        for (a, b) in self.outcomes.iter_mut().zip(other.outcomes) {
+            *a += b;
+        }
+        self
     }
 
-    /// Whether these refusals and outcomes all came.
-    pub fn has(self, refusals: &[u32], outcomes: &[u32]) -> bool {
-        refusals.iter().all(|r| self.0 >> r & 1 == 1) && outcomes.iter().all(|o| self.0 >> (20 + o) & 1 == 1)
+    /// Whether these refusals all came, and every outcome that has a name.
+    pub fn has(self, refusals: &[usize], outcomes: &[&str]) -> bool {
+        let named = |o: &usize| !outcomes[*o].is_empty();
+        refusals.iter().all(|&r| self.refusals[r] > 0)
+            && (0..outcomes.len()).filter(named).all(|o| self.outcomes[o] > 0)
     }
 }
 
-/// A kind of comparison: its name, how many cases the gate tries, what they must reach, and the case of a seed.
+/// A kind of comparison: its name, how many cases the gate tries, the refusals that they must reach, what each outcome is
+/// called (all with a name must be reached), and the case of a seed.
 pub struct Kind {
     pub name: &'static str,
     pub usual: u64,
-    pub refusals: &'static [u32],
-    pub outcomes: &'static [u32],
+    pub refusals: &'static [usize],
+    pub outcomes: &'static [&'static str],
     pub case: fn(u64) -> Result<Seen, Difference>,
 }
+
+impl Kind {
+    /// What came in the cases of this kind, in words.
+    pub fn words(&self, seen: &Seen) -> String {
+        let came = |(count, name): (&u64, &&str)| (!name.is_empty()).then(|| format!("{count} {name}"));
+        let mut words: Vec<String> = seen.outcomes.iter().zip(self.outcomes).filter_map(came).collect();
+        words.push(format!("{} refused", seen.refusals.iter().sum::<u64>()));
+        words.join(", ")
+    }
+}
+
+const ENDS: &[&str] =
+    &["steps that end nothing", "that end a write", "that close one as out of stamps", "that end a read"];
 
 /// Seeds from 0 on: `usual` cases of digest and of coding go through all lengths and all parameter sets.
 #[rustfmt::skip]
 pub const KINDS: &[Kind] = &[
-    Kind { name: "digest", usual: 4 * 260, refusals: &[3, 10], outcomes: &[0], case: coding::digest },
-    Kind { name: "coding", usual: 57 * 256, refusals: &[], outcomes: &[0], case: coding::coding },
-    Kind { name: "encode", usual: 20_000, refusals: &[1, 2, 3, 10], outcomes: &[0], case: coding::any_encode },
-    Kind { name: "decode", usual: 20_000, refusals: &[1, 2, 3, 9, 10], outcomes: &[0], case: coding::any_decode },
-    Kind { name: "history", usual: 20_000, refusals: &[10, 18, 19], outcomes: &[0, 1], case: histories::history },
-    Kind { name: "fresh", usual: 5_000, refusals: &[1, 2, 3, 10], outcomes: &[0], case: single::fresh },
+    Kind { name: "digest", usual: 4 * 260, refusals: &[3, 10], outcomes: &["digests"], case: coding::digest },
+    Kind { name: "coding", usual: 57 * 256, refusals: &[], outcomes: &["values cut and rebuilt"], case: coding::coding },
+    Kind { name: "encode", usual: 20_000, refusals: &[1, 2, 3, 10], outcomes: &["encoded"], case: coding::any_encode },
+    Kind { name: "decode", usual: 20_000, refusals: &[1, 2, 3, 9, 10], outcomes: &["decoded"], case: coding::any_decode },
+    Kind {
+        name: "history", usual: 20_000, case: histories::history,
+        refusals: &[10, 18, 19], outcomes: &["with an order", "with an offending pair"],
+    },
+    Kind { name: "fresh", usual: 5_000, refusals: &[1, 2, 3, 10], outcomes: &["servers made"], case: single::fresh },
     Kind {
         name: "server", usual: 60_000, case: single::server,
-        refusals: &[1, 2, 3, 4, 5, 6, 7, 8, 9, 10, 11, 12, 13, 14], outcomes: &[0],
+        refusals: &[1, 2, 3, 4, 5, 6, 7, 8, 9, 10, 11, 12, 13, 14], outcomes: &["steps"],
     },
     Kind {
         name: "client", usual: 200_000, case: single::client,
-        refusals: &[1, 2, 3, 4, 5, 6, 7, 8, 9, 10, 11, 12, 14, 15, 16, 17], outcomes: &[0, 1, 2, 3],
+        refusals: &[1, 2, 3, 4, 5, 6, 7, 8, 9, 10, 11, 12, 14, 15, 16, 17], outcomes: ENDS,
     },
     Kind {
         name: "run", usual: 500, case: runs::lockstep,
-        refusals: &[3, 4, 5, 6, 7, 8, 10, 11, 12, 13, 14, 15], outcomes: &[0, 1, 3],
+        refusals: &[3, 4, 5, 6, 7, 8, 10, 11, 12, 13, 14, 15], outcomes: &["steps", "writes ended", "", "reads ended"],
     },
 ];
 
 /// The cases of `count` seeds from `first` on, and which answers came. A failure says what reproduces it.
 pub fn try_seeds(kind: &Kind, first: u64, count: u64) -> Result<Seen, String> {
     let mut seen = Seen::default();
-    for seed in first..first.saturating_add(count) {
+    let mut progress = Progress::new(kind.name, count);
+    for (done, seed) in (0..).zip(first..first.saturating_add(count)) {
+        progress.at(done);
         match (kind.case)(seed) {
             Ok(more) => seen = seen.and(more),
             Err(difference) => {
@@ -82,7 +115,7 @@ pub fn try_seeds(kind: &Kind, first: u64, count: u64) -> Result<Seen, String> {
         }
     }
     if count >= kind.usual && !seen.has(kind.refusals, kind.outcomes) {
-        return Err(format!("{}: the cases reach too little, {seen:?}", kind.name));
+        return Err(format!("{}: the cases reach too little: {}, {seen:?}", kind.name, kind.words(&seen)));
     }
     Ok(seen)
 }

@@ -1,7 +1,8 @@
 //! linked [KIND [COUNT [SEED]]]: the comparison with the proved library, COUNT cases from SEED (0) on. KIND `all` is every kind.
 //! COUNT xN is N times as many as the gate tries, which is x1.
 
-use linked::{try_seeds, KINDS};
+use linked::{try_seeds, Seen, KINDS};
+use simulate::progress::refusal_lines;
 use std::process::ExitCode;
 use std::time::Instant;
 
@@ -21,20 +22,22 @@ fn main() -> ExitCode {
         return ExitCode::from(2);
     };
     let mut code = ExitCode::SUCCESS;
+    let mut total = Seen::default();
     for kind in kinds {
         let count = if times { count.saturating_mul(kind.usual) } else { count };
         let begun = Instant::now();
         match try_seeds(kind, first, count) {
-            Ok(_) => println!(
-                "{}: {count} cases from seed {first} agree, {:.1} s",
-                kind.name,
-                begun.elapsed().as_secs_f64()
-            ),
+            Ok(seen) => {
+                let (name, words, seconds) = (kind.name, kind.words(&seen), begun.elapsed().as_secs_f64());
+                println!("{name}: {count} cases from seed {first} agree, {seconds:.1} s: {words}");
+                total = total.and(seen);
+            }
             Err(failure) => {
                 println!("{failure}");
                 code = ExitCode::FAILURE;
             }
         }
     }
+    print!("{}", refusal_lines(&total.refusals));
     code
 }

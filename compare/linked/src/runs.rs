@@ -170,13 +170,5 @@ pub fn lockstep(seed: u64) -> Result<Seen, Difference> {
     let options = Options { style: Some(LINKED), ..Options::RIGHT };
     let summary =
         run(seed, options).map_err(|violation| format!("{:?}: {violation}", parameters_of(seed)))?;
-    let mut seen = Seen::default();
-    for number in (1..20).filter(|&number| summary.refusals[number] > 0) {
-        seen = seen.and(Seen::of(number as u64));
-    }
-    let ends = [(0, summary.steps), (1, summary.writes), (3, summary.reads)];
-    for (outcome, _) in ends.iter().filter(|(_, count)| *count > 0) {
-        seen = seen.and(Seen::of(outcome << 8));
-    }
-    Ok(seen)
+    Ok(Seen { refusals: summary.refusals, outcomes: [summary.steps, summary.writes, 0, summary.reads] })
 }

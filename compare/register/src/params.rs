@@ -55,6 +55,30 @@ impl Refusal {
         ];
         all.into_iter().find(|refusal| refusal.number() == number)
     }
+
+    pub fn words(self) -> &'static str {
+        match self {
+            Refusal::Parties => "n, t or the own number out of bounds",
+            Refusal::Threshold => "k out of bounds",
+            Refusal::ValueLength => "L out of bounds, or a value not L long",
+            Refusal::FrameLength => "a frame under 9 bytes, or its length field wrong",
+            Refusal::Version => "version not 1",
+            Refusal::Kind => "kind not 1 to 12",
+            Refusal::Operation => "client not 1 to 8, or sequence 0",
+            Refusal::BodyLength => "body length wrong for the kind",
+            Refusal::Parts => "stamp parts mixed, or blocks that cannot be decoded",
+            Refusal::Room => "a lent area short",
+            Refusal::Sender => "not from this sender to this receiver",
+            Refusal::Old => "old, repeated or not awaited",
+            Refusal::Early => "above the open sequence",
+            Refusal::Digest => "a block against its digest",
+            Refusal::Open => "an operation is open",
+            Refusal::UsedUp => "sequences used up",
+            Refusal::OutOfStamps => "a write after one that closed as out of stamps",
+            Refusal::Record => "a history's record malformed",
+            Refusal::Unlisted => "a history reads a stamp that is not listed",
+        }
+    }
 }
 
 /// A server or a client with its number, as the host names it; the number may be anything.

@@ -3,14 +3,26 @@
 //! written as input of the hall program with the expected output, SEED.in and SEED.out.
 
 use register::Variant;
+use simulate::progress::{refusal_lines, Progress};
 use simulate::run::{parameters_of, run, Options, Summary};
 use simulate::style::FLAT;
 use std::process::ExitCode;
-use std::time::Instant;
 
 fn usage() -> ExitCode {
     eprintln!("simulate [COUNT [SEED]] [--both] [--variant NAME] [--scripts FOLDER]");
     ExitCode::from(2)
+}
+
+/// What is asked beside the right rules in the clear style.
+fn in_words(options: &Options) -> String {
+    let mut words = String::new();
+    if let Some(style) = options.style {
+        words += &format!(", {style:?} beside the clear style");
+    }
+    if options.variant != Variant::Right {
+        words += &format!(", with a wrong rule: {:?}", options.variant);
+    }
+    words
 }
 
 fn write_script(folder: &str, seed: u64, lines: &[String]) -> std::io::Result<()> {
@@ -53,11 +65,12 @@ fn main() -> ExitCode {
     }
     let count = numbers.first().copied().unwrap_or(1000);
     let seed = numbers.get(1).copied().unwrap_or(1);
-    println!("{count} runs from seed {seed}, {options:?}");
-    let begun = Instant::now();
+    println!("simulate: {count} runs from seed {seed}{}", in_words(&options));
+    let mut progress = Progress::new("simulate", count);
     let mut total = Summary::default();
     let mut failures = 0;
-    for seed in seed..seed.saturating_add(count) {
+    for (done, seed) in (0..).zip(seed..seed.saturating_add(count)) {
+        progress.at(done);
         match run(seed, options) {
             Ok(summary) => {
                 total.add(&summary);
@@ -79,9 +92,10 @@ fn main() -> ExitCode {
         }
     }
     let Summary { reads, writes, foreign, steps, refusals, overflows, .. } = total;
-    println!("{steps} steps; reads {reads}, writes {writes}, false writes accepted {foreign}, rows overflown {overflows}");
-    println!("refusals by number {:?}", &refusals[1..]);
-    println!("{failures} failures, {:.1} s", begun.elapsed().as_secs_f64());
+    println!("{steps} steps; honest clients ended {reads} reads and {writes} writes");
+    println!("{foreign} writes of false clients accepted; {overflows} values came to a row that had four");
+    print!("{}", refusal_lines(&refusals));
+    println!("simulate: {failures} of {count} runs fail, {:.1} s", progress.seconds());
     if failures == 0 {
         ExitCode::SUCCESS
     } else {

@@ -10,12 +10,12 @@ use Rattle.area.specs.Numbers.{bytes4, bytes8}
 use Rattle.area.proofs.Numbers.{length-bytes4, length-bytes8}
 use Rattle.frame.specs.Frames.{stampBytes}
 use Rattle.frame.proofs.RoundTrip.{length-stamp}
-use Rattle.server.specs.declared.BlockPart.{BlockPart}
-use Rattle.server.specs.declared.TimePart.{TimePart}
-use Rattle.server.specs.declared.Slot.{Slot}
-use Rattle.server.specs.declared.Reader.{Reader}
-use Rattle.server.specs.declared.Server.{Server}
-use Rattle.server.specs.State.{noSlot, noReader}
+use Rattle.server_rules.specs.declared.BlockPart.{BlockPart}
+use Rattle.server_rules.specs.declared.TimePart.{TimePart}
+use Rattle.server_rules.specs.declared.Slot.{Slot}
+use Rattle.server_rules.specs.declared.Reader.{Reader}
+use Rattle.server_rules.specs.declared.Server.{Server}
+use Rattle.server_rules.specs.State.{noSlot, noReader}
 use Rattle.layout.specs.Fields.{flagByte, flagAt, flagsBytes, flagsAt, numbersBytes}
 use Rattle.layout.specs.Servers.{serverSize, marksBytes, votesBytes, blocksBytes, blocksAt, timesBytes, timesAt, slotBytes, slotAt, slotsBytes, slotsAt, readerBytes, readerAt, readersBytes, readersAt, serverBytes, serverAt, serverIn}
 use Rattle.layout.specs.Typed.{Array, TypedBlocks, TypedTimes, TypedSlot, TypedReader, TypedServer}

@@ -24,15 +24,15 @@ use Rattle.frame.specs.Messages.{Entry, Body, getStamp, ack, askRead, readCompl
 use Rattle.frame.specs.Frames.{headerIn, frameTest, openedBy, opened, messageIn}
 use Rattle.frame.proofs.Verdicts.{fine-not, fine-both}
 use Rattle.frame.proofs.Converse.{formed-opened}
-use Rattle.client.specs.declared.Phase.{Phase}
-use Rattle.client.specs.declared.Row.{Row}
-use Rattle.client.specs.declared.Client.{Client}
-use Rattle.client.specs.State.{freshRow, freshClient, idle, rowOf, inPhase, noRow, withRow}
-use Rattle.client.specs.Rows.{placeFor, rowWith, Found, search, rowView}
-use Rattle.client.specs.Tests.{sendRoom, roomTest, valueTest, messageTest, judgeOpened, judge}
-use Rattle.client.specs.Steps.{Effect, sendBelow, gatherBy, onStamp, endBy, onAck, completeBy, settle, keepBy, onValue, onBody, effect}
-use Rattle.client.specs.Beginning.{idleTest, closedTest, lengthTest, readTest, writeTest, openRead, openWrite, beginBy, readBegun, writeBegun, begunOf, readBeginning, writeBeginning}
-use Rattle.client.specs.Delivery.{effectBy, delivered, outcomeOf, delivery}
+use Rattle.client_rules.specs.declared.Phase.{Phase}
+use Rattle.client_rules.specs.declared.Row.{Row}
+use Rattle.client_rules.specs.declared.Client.{Client}
+use Rattle.client_rules.specs.State.{freshRow, freshClient, idle, rowOf, inPhase, noRow, withRow}
+use Rattle.client_rules.specs.Rows.{placeFor, rowWith, Found, search, rowView}
+use Rattle.client_rules.specs.Tests.{sendRoom, roomTest, valueTest, messageTest, judgeOpened, judge}
+use Rattle.client_rules.specs.Steps.{Effect, sendBelow, gatherBy, onStamp, endBy, onAck, completeBy, settle, keepBy, onValue, onBody, effect}
+use Rattle.client_rules.specs.Beginning.{idleTest, closedTest, lengthTest, readTest, writeTest, openRead, openWrite, beginBy, readBegun, writeBegun, begunOf, readBeginning, writeBeginning}
+use Rattle.client_rules.specs.Delivery.{effectBy, delivered, outcomeOf, delivery}
 use Rattle.layout.specs.Fields.{flagAt, stampAt, flagsAt, numbersAt}
 use Rattle.layout.specs.Clients.{stampsAt, keptAt, rowsAt, clientAt, clientIn}
 use Rattle.layout.specs.Typed.{Word, Long, Every, Array, TypedStamp, TypedRow, TypedClient}

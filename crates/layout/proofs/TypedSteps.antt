@@ -24,15 +24,15 @@ use Rattle.frame.specs.Messages.{Entry, Stage, send, echo, ready, Body, getStam
 use Rattle.frame.specs.Frames.{sequenceAt, bodyAt, headerIn, frameTest, openedBy, opened, bodyIn, messageIn}
 use Rattle.frame.proofs.Verdicts.{fine-not, fine-is, fine-both}
 use Rattle.frame.proofs.Opening.{opens-facts}
-use Rattle.server.specs.declared.BlockPart.{BlockPart}
-use Rattle.server.specs.declared.TimePart.{TimePart}
-use Rattle.server.specs.declared.Slot.{Slot}
-use Rattle.server.specs.declared.Reader.{Reader}
-use Rattle.server.specs.declared.Server.{Server}
-use Rattle.server.specs.State.{freshBlocks, freshTimes, freshSlot, noSlot, noReader, slotOf, readerOf, withSlot, withReader, withBlocks, withTimes, blockView, timeView, timeEcho, timeReady, timeMarks}
-use Rattle.server.specs.Tests.{counted, openTest, fitTest, placeIn, orderTest, senderRight, messageTest, roomTest, judgeOpened, judge}
-use Rattle.server.specs.Steps.{accept, acceptBelow, acceptDone, settle, settleBlocks, onBlock, settleTimes, onTime, onRead, onReadComplete, onBody, effect}
-use Rattle.server.specs.Delivery.{effectBy, delivered, outcomeOf, delivery}
+use Rattle.server_rules.specs.declared.BlockPart.{BlockPart}
+use Rattle.server_rules.specs.declared.TimePart.{TimePart}
+use Rattle.server_rules.specs.declared.Slot.{Slot}
+use Rattle.server_rules.specs.declared.Reader.{Reader}
+use Rattle.server_rules.specs.declared.Server.{Server}
+use Rattle.server_rules.specs.State.{freshBlocks, freshTimes, freshSlot, noSlot, noReader, slotOf, readerOf, withSlot, withReader, withBlocks, withTimes, blockView, timeView, timeEcho, timeReady, timeMarks}
+use Rattle.server_rules.specs.Tests.{counted, openTest, fitTest, placeIn, orderTest, senderRight, messageTest, roomTest, judgeOpened, judge}
+use Rattle.server_rules.specs.Steps.{accept, acceptBelow, acceptDone, settle, settleBlocks, onBlock, settleTimes, onTime, onRead, onReadComplete, onBody, effect}
+use Rattle.server_rules.specs.Delivery.{effectBy, delivered, outcomeOf, delivery}
 use Rattle.layout.specs.Fields.{stampAt, rowAt, flagAt, flagsAt, numbersAt}
 use Rattle.layout.specs.Servers.{blocksAt, timesAt, slotAt, slotsAt, readerAt, readersAt, serverAt, serverIn}
 use Rattle.layout.specs.Typed.{Word, Long, Every, Array, TypedStamp, TypedBlocks, TypedTimes, TypedSlot, TypedReader, TypedServer}

@@ -4,13 +4,13 @@ use mathlib.Core.Path.{_≡_}
 use mathlib.Core.List.{List, [], _∷_}
 use lib.ListN.{length}
 use Rattle.frame.specs.declared.Stamp.{Stamp}
-use Rattle.client.specs.declared.Row.{Row}
-use Rattle.client.specs.declared.Client.{Client}
-use Rattle.server.specs.declared.BlockPart.{BlockPart}
-use Rattle.server.specs.declared.TimePart.{TimePart}
-use Rattle.server.specs.declared.Slot.{Slot}
-use Rattle.server.specs.declared.Reader.{Reader}
-use Rattle.server.specs.declared.Server.{Server}
+use Rattle.client_rules.specs.declared.Row.{Row}
+use Rattle.client_rules.specs.declared.Client.{Client}
+use Rattle.server_rules.specs.declared.BlockPart.{BlockPart}
+use Rattle.server_rules.specs.declared.TimePart.{TimePart}
+use Rattle.server_rules.specs.declared.Slot.{Slot}
+use Rattle.server_rules.specs.declared.Reader.{Reader}
+use Rattle.server_rules.specs.declared.Server.{Server}
 
 -- numbers of 32 and of 64 bits
 abbrev pub Word : ℕ → Type 0

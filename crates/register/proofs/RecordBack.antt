@@ -15,10 +15,10 @@ use Rattle.frame.specs.Params.{paramsTest}
 use Rattle.frame.specs.Messages.{Judged, bad, good, after}
 use Rattle.frame.specs.Frames.{clientAt, headerIn, frameTest, openedBy, opened}
 use Rattle.frame.proofs.Opening.{opens-facts}
-use Rattle.server.specs.declared.Server.{Server}
-use Rattle.server.specs.State.{slotOf, readerOf}
-use Rattle.server.specs.Tests.{roomTest, judgeOpened, judge}
-use Rattle.server.specs.Delivery.{Outcome, effectBy, delivered, replyOf, outcomeOf, delivery}
+use Rattle.server_rules.specs.declared.Server.{Server}
+use Rattle.server_rules.specs.State.{slotOf, readerOf}
+use Rattle.server_rules.specs.Tests.{roomTest, judgeOpened, judge}
+use Rattle.server_rules.specs.Delivery.{Outcome, effectBy, delivered, replyOf, outcomeOf, delivery}
 use Rattle.server_deliver.proofs.OneClient.{one-client}
 use Rattle.layout.specs.Servers.{serverSize, serverIn, scopeSets}
 use Rattle.layout.specs.Typed.{TypedServer}

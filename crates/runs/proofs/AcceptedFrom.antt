@@ -19,23 +19,23 @@ use Rattle.frame.specs.declared.Party.{Party}
 use Rattle.frame.specs.declared.Verdict.{Verdict}
 use Rattle.frame.specs.declared.Verdict.the-variants as J
 use Rattle.frame.specs.Chunks.{storeEntry, echoAt, readyAt, areaBytes}
-use Rattle.frame.specs.Coded.{pieces, numbers, joinedBytes, hasList, digestsOf, decoded}
+use Rattle.group_rules.specs.Coded.{pieces, numbers, joinedBytes, hasList, digestsOf, decoded}
 use Rattle.frame.specs.Messages.{Entry, Stage, send, echo, ready, Body, getStamp, ack, askRead, readComplete, stampIs, blockIs, timeIs, valueIs, Message, message, Sending, toAll, numberIn, Sized}
 use Rattle.frame.specs.Params.{quota}
 use Rattle.frame.specs.Stamps.{lastTime}
 use Rattle.frame.proofs.Chunks.{length-store}
 use Rattle.frame.proofs.Sizes.{Small}
-use Rattle.server.specs.declared.TimePart.{TimePart}
-use Rattle.server.specs.declared.Slot.{Slot}
-use Rattle.server.specs.declared.Server.{Server}
-use Rattle.server.specs.Broadcast.{Rules, Part, votes, enough, full, kept, matters, undone}
-use Rattle.server.specs.Rules.{chosen, regained, blockRules}
-use Rattle.server.specs.State.{freshSlot, freshServer, noSlot, slotOf, withBlocks, withTimes, blockView, timeView, blockSent, blockEcho, blockReady, timeSent, timeEcho, timeReady}
-use Rattle.server.specs.Delivery as SD
-use Rattle.server.specs.Steps as S
-use Rattle.server.specs.Tests as ST
-use Rattle.server.proofs.Parts.{firstOf, noPart, settled}
-use Rattle.server.proofs.Views as SV
+use Rattle.server_rules.specs.declared.TimePart.{TimePart}
+use Rattle.server_rules.specs.declared.Slot.{Slot}
+use Rattle.server_rules.specs.declared.Server.{Server}
+use Rattle.server_rules.specs.Broadcast.{Rules, Part, votes, enough, full, kept, matters, undone}
+use Rattle.server_rules.specs.Rules.{chosen, regained, blockRules}
+use Rattle.server_rules.specs.State.{freshSlot, freshServer, noSlot, slotOf, withBlocks, withTimes, blockView, timeView, blockSent, blockEcho, blockReady, timeSent, timeEcho, timeReady}
+use Rattle.server_rules.specs.Delivery as SD
+use Rattle.server_rules.specs.Steps as S
+use Rattle.server_rules.specs.Tests as ST
+use Rattle.server_rules.proofs.Parts.{firstOf, noPart, settled}
+use Rattle.server_rules.proofs.Views as SV
 use Rattle.steps.proofs.Decoding.{decoded-size, votes-are, coded, quota-blocks}
 use Rattle.steps.proofs.ServerFacts.{mem-all, mem-pick, ServerShape, this-slot, other-slot, settle-slot}
 use Rattle.blocks.proofs.RoundTrip.{Bytes-valueOf}

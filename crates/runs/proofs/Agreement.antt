@@ -17,11 +17,11 @@ use Rattle.frame.specs.declared.Verdict.the-variants as J
 use Rattle.frame.specs.Messages.{Entry, Stage, send, blockIs, timeIs, Message, message, Formed}
 use Rattle.frame.proofs.Sizes.{Small}
 use Rattle.frame.proofs.Sizes as Sizes
-use Rattle.server.specs.State.{freshSlot, freshServer, noSlot, slotOf, blockView, timeView}
-use Rattle.server.specs.Delivery as SD
-use Rattle.server.specs.Steps as S
-use Rattle.server.proofs.Parts.{noPart}
-use Rattle.server.proofs.Views as SV
+use Rattle.server_rules.specs.State.{freshSlot, freshServer, noSlot, slotOf, blockView, timeView}
+use Rattle.server_rules.specs.Delivery as SD
+use Rattle.server_rules.specs.Steps as S
+use Rattle.server_rules.proofs.Parts.{noPart}
+use Rattle.server_rules.proofs.Views as SV
 use Rattle.steps.proofs.Decoding.{coded}
 use Rattle.steps.proofs.ServerFacts.{BroadcastFacts}
 use Rattle.steps.proofs.ServerTaken.{sane-blocks, sane-times}

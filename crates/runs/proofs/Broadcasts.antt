@@ -23,13 +23,13 @@ use Rattle.frame.specs.Frames.{build, opened, messageIn, headerFor}
 use Rattle.frame.specs.Messages.{Entry, Stage, send, echo, ready, Body, ack, valueIs, Message, message, Sending, sending, Sized, Formed}
 use Rattle.frame.proofs.RoundTrip.{opened-build}
 use Rattle.frame.proofs.Sizes.{Small}
-use Rattle.server.specs.declared.Slot.{Slot}
-use Rattle.server.specs.declared.Server.{Server}
-use Rattle.server.specs.Broadcast.{Part}
-use Rattle.server.specs.State.{freshSlot, slotOf, blockView, timeView}
-use Rattle.server.specs.Steps as S
-use Rattle.server.proofs.Parts.{put-same, noPart, put-cases}
-use Rattle.server.proofs.Views as SV
+use Rattle.server_rules.specs.declared.Slot.{Slot}
+use Rattle.server_rules.specs.declared.Server.{Server}
+use Rattle.server_rules.specs.Broadcast.{Part}
+use Rattle.server_rules.specs.State.{freshSlot, slotOf, blockView, timeView}
+use Rattle.server_rules.specs.Steps as S
+use Rattle.server_rules.proofs.Parts.{put-same, noPart, put-cases}
+use Rattle.server_rules.proofs.Views as SV
 use Rattle.steps.proofs.PartFacts.{Heard}
 use Rattle.steps.proofs.ServerFacts.{ServerShape, BroadcastFacts, New}
 use Rattle.steps.proofs.ServerFits.{Delivered, refused, taken, delivered, shape-delivered, shape-fresh}

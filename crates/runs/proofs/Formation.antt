@@ -16,9 +16,9 @@ use Rattle.frame.specs.Messages.{Entry, send, blockIs, timeIs, Message, message
 use Rattle.frame.specs.Params.{width}
 use Rattle.frame.proofs.Converse.{formed-opened}
 use Rattle.frame.proofs.Sizes.{Small}
-use Rattle.server.specs.declared.Server.{Server}
-use Rattle.server.specs.Delivery as SD
-use Rattle.server.specs.Steps as S
+use Rattle.server_rules.specs.declared.Server.{Server}
+use Rattle.server_rules.specs.Delivery as SD
+use Rattle.server_rules.specs.Steps as S
 use Rattle.steps.proofs.ClientTaken.{delivered-formed, read-formed, write-formed}
 use Rattle.steps.proofs.ServerRanges.{WriteInBounds, InBounds, in-bounds-fresh, Good, effect-good}
 use Rattle.runs.specs.Admissible.{Honest, Proper, Admissible}

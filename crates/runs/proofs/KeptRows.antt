@@ -18,26 +18,26 @@ use Rattle.frame.specs.declared.Refusal.the-variants as R
 use Rattle.frame.specs.declared.Verdict.the-variants as J
 use Rattle.frame.specs.declared.Opened.the-variants as O
 use Rattle.frame.specs.Chunks.{storeEntry, rowsBytes, placeAt}
-use Rattle.frame.specs.Coded.{fits}
+use Rattle.group_rules.specs.Coded.{fits}
 use Rattle.frame.specs.Frames.{messageIn, opened}
 use Rattle.frame.specs.Messages.{Entry, Body, getStamp, ack, askRead, readComplete, stampIs, blockIs, timeIs, valueIs, numberIn, Carries, Sized}
 use Rattle.frame.specs.Stamps.{lastTime}
 use Rattle.frame.proofs.Chunks.{length-store}
 use Rattle.frame.proofs.Sizes.{Small}
 use Rattle.frame.proofs.Verdicts.{fine-both, fine-is}
-use Rattle.server.proofs.Parts.{put-cases}
-use Rattle.client.specs.declared.Client.{Client}
-use Rattle.client.specs.declared.Phase.the-variants as F
-use Rattle.client.specs.Rows.{used, Kept, placesFrom, rowView, hasStamp, placeFor, rowWith, Found, search}
-use Rattle.client.specs.State.{freshRow, freshClient, noRow, rowOf, inPhase, withRow, largest}
-use Rattle.client.specs.Beginning as CB
-use Rattle.client.specs.Delivery as CD
-use Rattle.client.specs.State as CS
-use Rattle.client.specs.Steps as C
-use Rattle.client.specs.Tests as CT
-use Rattle.client.proofs.Views as CV
+use Rattle.server_rules.proofs.Parts.{put-cases}
+use Rattle.client_rules.specs.declared.Client.{Client}
+use Rattle.client_rules.specs.declared.Phase.the-variants as F
+use Rattle.client_rules.specs.Rows.{used, Kept, placesFrom, rowView, hasStamp, placeFor, rowWith, Found, search}
+use Rattle.client_rules.specs.State.{freshRow, freshClient, noRow, rowOf, inPhase, withRow, largest}
+use Rattle.client_rules.specs.Beginning as CB
+use Rattle.client_rules.specs.Delivery as CD
+use Rattle.client_rules.specs.State as CS
+use Rattle.client_rules.specs.Steps as C
+use Rattle.client_rules.specs.Tests as CT
+use Rattle.client_rules.proofs.Views as CV
 use Rattle.steps.proofs.ClientTaken.{passed, Delivered, refused, taken, delivered}
-use Rattle.client.proofs.CallFacts.{row-shaped, rows-shaped, no-rows}
+use Rattle.client_rules.proofs.CallFacts.{row-shaped, rows-shaped, no-rows}
 use Rattle.steps.proofs.BlockFacts.{SizedIn, is-server}
 use Rattle.steps.proofs.ServerTaken.{message-sized}
 use Rattle.runs.specs.Admissible.{Admissible}

@@ -8,9 +8,9 @@ use mathlib.Core.List.{List, [], _∷_, _++_, List·Memᴰ·head, List·Memᴰ·
 use lib.ListN.{length}
 use Rattle.quorum.proofs.Logic.{impossible}
 use Rattle.frame.specs.declared.Stamp.{Stamp}
-use Rattle.server.specs.Steps as S
-use Rattle.client.specs.Rows.{Found}
-use Rattle.client.specs.Steps as C
+use Rattle.server_rules.specs.Steps as S
+use Rattle.client_rules.specs.Rows.{Found}
+use Rattle.client_rules.specs.Steps as C
 use Rattle.runs.specs.Events.{Event, At, Accepts, CompletesRead}
 use Rattle.runs.specs.World.{Setup, Call, toServer, toClient, beginRead, beginWrite, run, serverEffect, clientEffect}
 use Rattle.runs.proofs.Sorting.{Item, Mem}

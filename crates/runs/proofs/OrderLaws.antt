@@ -19,13 +19,13 @@ use Rattle.blocks.proofs.Parameters.{parties-yes, threshold-yes, length-yes}
 use Rattle.frame.specs.declared.Verdict.{Verdict}
 use Rattle.frame.specs.declared.Verdict.the-variants as J
 use Rattle.frame.specs.Chunks.{areaBytes}
-use Rattle.frame.specs.Coded.{digestsOf}
+use Rattle.group_rules.specs.Coded.{digestsOf}
 use Rattle.frame.specs.Params.{listed, Bounded, paramsTest, ownTest, codeTest}
 use Rattle.frame.specs.Stamps.{zeroStamp}
 use Rattle.frame.proofs.Sizes.{Small}
-use Rattle.server.specs.State.{noReader, freshReader, freshServer, readerOf, presentEntry}
-use Rattle.server.specs.Delivery as SD
-use Rattle.client.specs.State.{freshClient}
+use Rattle.server_rules.specs.State.{noReader, freshReader, freshServer, readerOf, presentEntry}
+use Rattle.server_rules.specs.Delivery as SD
+use Rattle.client_rules.specs.State.{freshClient}
 use Rattle.steps.proofs.ClientTaken.{digests-size}
 use Rattle.runs.specs.Admissible.{Proper, Admissible}
 use Rattle.runs.specs.World.{Setup, Call, start, run}

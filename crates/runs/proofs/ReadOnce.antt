@@ -22,16 +22,16 @@ use Rattle.frame.specs.Messages.{Entry, Body, getStamp, ack, askRead, readCompl
 use Rattle.frame.specs.Params.{paramsTest}
 use Rattle.frame.specs.Stamps.{lastTime}
 use Rattle.frame.proofs.Verdicts.{fine-both, fine-is}
-use Rattle.server.proofs.Parts.{put-same, put-cases}
-use Rattle.client.specs.declared.Client.{Client}
-use Rattle.client.specs.declared.Phase.the-variants as F
-use Rattle.client.specs.Rows.{Found, rowView, search, placeFor, rowWith}
-use Rattle.client.specs.State.{largest, rowOf, withRow, inPhase}
-use Rattle.client.specs.Beginning as CB
-use Rattle.client.specs.Delivery as CD
-use Rattle.client.specs.State as CS
-use Rattle.client.specs.Steps as C
-use Rattle.client.specs.Tests as CT
+use Rattle.server_rules.proofs.Parts.{put-same, put-cases}
+use Rattle.client_rules.specs.declared.Client.{Client}
+use Rattle.client_rules.specs.declared.Phase.the-variants as F
+use Rattle.client_rules.specs.Rows.{Found, rowView, search, placeFor, rowWith}
+use Rattle.client_rules.specs.State.{largest, rowOf, withRow, inPhase}
+use Rattle.client_rules.specs.Beginning as CB
+use Rattle.client_rules.specs.Delivery as CD
+use Rattle.client_rules.specs.State as CS
+use Rattle.client_rules.specs.Steps as C
+use Rattle.client_rules.specs.Tests as CT
 use Rattle.steps.proofs.ClientTaken.{awaited-true, took}
 use Rattle.steps.proofs.ClientTaken as Passing
 use Rattle.runs.specs.Admissible.{Admissible}

@@ -19,9 +19,9 @@ use Rattle.frame.specs.declared.Party.{Party}
 use Rattle.frame.specs.declared.Party.the-variants as A
 use Rattle.frame.specs.Messages.{getStamp, askRead, Message, message}
 use Rattle.frame.proofs.Sizes.{Small}
-use Rattle.server.specs.declared.Server.{Server}
-use Rattle.server.specs.State.{readerOf, presentEntry}
-use Rattle.server.specs.Steps as S
+use Rattle.server_rules.specs.declared.Server.{Server}
+use Rattle.server_rules.specs.State.{readerOf, presentEntry}
+use Rattle.server_rules.specs.Steps as S
 use Rattle.steps.proofs.Decoding.{coded}
 use Rattle.steps.proofs.ServerStamps.{StampFacts, order-facts}
 use Rattle.steps.proofs.Keys.{key}

@@ -11,16 +11,16 @@ use Rattle.area.specs.Area.{pick}
 use Rattle.frame.specs.declared.Stamp.{Stamp}
 use Rattle.frame.specs.declared.Party.{Party}
 use Rattle.frame.specs.declared.Party.the-variants as A
-use Rattle.frame.specs.Coded.{digestsOf}
+use Rattle.group_rules.specs.Coded.{digestsOf}
 use Rattle.frame.specs.Messages.{Entry, send, getStamp, ack, askRead, stampIs, timeIs, valueIs, message}
 use Rattle.frame.specs.Stamps.{zeroStamp}
 use Rattle.frame.proofs.Sizes.{Small}
-use Rattle.server.specs.State.{readerOf, presentEntry}
-use Rattle.server.specs.Steps as S
-use Rattle.client.specs.declared.Phase.the-variants as F
-use Rattle.client.specs.Rows.{Found, Kept, rowView}
-use Rattle.client.specs.State.{heardOf}
-use Rattle.client.proofs.CallFacts.{timeOf}
+use Rattle.server_rules.specs.State.{readerOf, presentEntry}
+use Rattle.server_rules.specs.Steps as S
+use Rattle.client_rules.specs.declared.Phase.the-variants as F
+use Rattle.client_rules.specs.Rows.{Found, Kept, rowView}
+use Rattle.client_rules.specs.State.{heardOf}
+use Rattle.client_rules.proofs.CallFacts.{timeOf}
 use Rattle.steps.proofs.Keys.{key, key-time}
 use Rattle.runs.specs.Events.{At, Accepts, CompletesRead, EndsWrite}
 use Rattle.runs.specs.World.{Setup, Call, ClientSide, initialOf, run}

@@ -16,20 +16,20 @@ use Rattle.frame.specs.declared.Verdict.{Verdict}
 use Rattle.frame.specs.declared.Party.the-variants as A
 use Rattle.frame.specs.declared.Verdict.the-variants as J
 use Rattle.frame.specs.Chunks.{storeEntry, placeAt}
-use Rattle.frame.specs.Coded.{digestsOf, entryOf}
+use Rattle.group_rules.specs.Coded.{digestsOf, entryOf}
 use Rattle.frame.specs.Messages.{Entry, send, Body, getStamp, ack, askRead, readComplete, stampIs, blockIs, timeIs, valueIs, Message, message, Sending, sending, toAll, Judged, bad, good, numberIn}
 use Rattle.frame.specs.Stamps.{lastTime}
 use Rattle.frame.proofs.Sizes.{Small}
-use Rattle.server.specs.Steps.{Write}
-use Rattle.server.proofs.Parts.{put-same, put-cases}
-use Rattle.client.specs.declared.Client.{Client}
-use Rattle.client.specs.declared.Phase.the-variants as F
-use Rattle.client.specs.Rows.{Found, rowView, search, placeFor, rowWith}
-use Rattle.client.specs.State.{largest, rowOf, withRow, inPhase}
-use Rattle.client.specs.Beginning as CB
-use Rattle.client.specs.Delivery as CD
-use Rattle.client.specs.Steps as C
-use Rattle.client.specs.Tests as CT
+use Rattle.server_rules.specs.Steps.{Write}
+use Rattle.server_rules.proofs.Parts.{put-same, put-cases}
+use Rattle.client_rules.specs.declared.Client.{Client}
+use Rattle.client_rules.specs.declared.Phase.the-variants as F
+use Rattle.client_rules.specs.Rows.{Found, rowView, search, placeFor, rowWith}
+use Rattle.client_rules.specs.State.{largest, rowOf, withRow, inPhase}
+use Rattle.client_rules.specs.Beginning as CB
+use Rattle.client_rules.specs.Delivery as CD
+use Rattle.client_rules.specs.Steps as C
+use Rattle.client_rules.specs.Tests as CT
 use Rattle.steps.proofs.ServerFacts.{mem-all}
 use Rattle.runs.specs.Admissible.{Admissible}
 use Rattle.runs.specs.Events.{At, Accepts, OpensWrite}

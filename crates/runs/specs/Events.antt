@@ -6,10 +6,10 @@ use mathlib.Core.Option.{some}
 use mathlib.Core.List.{List, [], _∷_, List·Memᴰ}
 use lib.ListN.{length}
 use Rattle.frame.specs.declared.Verdict.the-variants as J
-use Rattle.server.specs.Steps.{Write}
-use Rattle.client.specs.Rows.{Found}
-use Rattle.client.specs.Steps as C
-use Rattle.client.specs.Beginning as CB
+use Rattle.server_rules.specs.Steps.{Write}
+use Rattle.client_rules.specs.Rows.{Found}
+use Rattle.client_rules.specs.Steps as C
+use Rattle.client_rules.specs.Beginning as CB
 use Rattle.runs.specs.World.{Setup, Call, toServer, toClient, beginRead, beginWrite, run, serverEffect, clientEffect}
 
 -- what may happen in the call k after the calls ks

@@ -22,12 +22,12 @@ use Rattle.frame.specs.Messages.{Entry, entry, message, Sending, sending, value
 use Rattle.frame.specs.Outbox.{Outbox, outbox, sent, Room}
 use Rattle.frame.specs.Chunks.{chunkAt, blockPlace, entryAt, storeEntry, storeIf, presentAt, completeAt}
 use Rattle.frame.proofs.Outbox.{sent-append, sent-none}
-use Rattle.server.specs.declared.Reader.{Reader}
-use Rattle.server.specs.declared.Slot.{Slot}
-use Rattle.server.specs.declared.Server.{Server}
-use Rattle.server.specs.Broadcast.{kept}
-use Rattle.server.specs.State.{readerOf, freshSlot, withSlot, timeView, blockView}
-use Rattle.server.specs.Steps.{Write, stampOf, Effect, tellFrom, accept, wait, acceptBelow, acceptDone, settle}
+use Rattle.server_rules.specs.declared.Reader.{Reader}
+use Rattle.server_rules.specs.declared.Slot.{Slot}
+use Rattle.server_rules.specs.declared.Server.{Server}
+use Rattle.server_rules.specs.Broadcast.{kept}
+use Rattle.server_rules.specs.State.{readerOf, freshSlot, withSlot, timeView, blockView}
+use Rattle.server_rules.specs.Steps.{Write, stampOf, Effect, tellFrom, accept, wait, acceptBelow, acceptDone, settle}
 use Rattle.server.specs.Stages.{Progress, progress, moved, toldTo, opensNext}
 
 -- ---- values to listeners

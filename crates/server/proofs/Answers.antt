@@ -19,15 +19,15 @@ use Rattle.frame.specs.Messages.{fromServer, numberIn, message, timeIs, echo, t
 use Rattle.frame.specs.Outbox.{Outbox, outbox, sent, firstPlace}
 use Rattle.frame.proofs.Outbox.{sent-none}
 use Rattle.frame.proofs.Verdicts.{fine-is, fine-not}
-use Rattle.server.specs.declared.Slot.{Slot}
-use Rattle.server.specs.declared.Server.{Server}
-use Rattle.server.specs.declared.Scope.{Scope}
+use Rattle.server_rules.specs.declared.Slot.{Slot}
+use Rattle.server_rules.specs.declared.Server.{Server}
+use Rattle.server_rules.specs.declared.Scope.{Scope}
 use Rattle.server.specs.declared.Taken.{Taken}
 use Rattle.server.specs.declared.Moved.{Moved}
-use Rattle.server.specs.declared.Reply.the-variants as Y
-use Rattle.server.specs.State.{withSlot, scopeOf, withScope, withTimes, timeSent}
-use Rattle.server.specs.Tests.{fromOwner, openTest}
-use Rattle.server.specs.Steps.{Effect, sendOnly}
+use Rattle.server_rules.specs.declared.Reply.the-variants as Y
+use Rattle.server_rules.specs.State.{withSlot, scopeOf, withScope, withTimes, timeSent}
+use Rattle.server_rules.specs.Tests.{fromOwner, openTest}
+use Rattle.server_rules.specs.Steps.{Effect, sendOnly}
 use Rattle.server.specs.Stages.{Progress, progress, moved, outcomeIn, stepped, answered}
 use Rattle.server.proofs.Senders.{server-number}
 use Rattle.server.proofs.Scopes.{as-it-was}

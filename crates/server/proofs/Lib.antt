@@ -1,5 +1,3 @@
-pub mod Parts
-pub mod Views
 pub mod TimeVotes
 pub mod Senders
 pub mod Sending
@@ -9,4 +7,3 @@ pub mod TimeStage
 pub mod Present
 pub mod Answers
 pub mod Constructing
-pub mod Settling

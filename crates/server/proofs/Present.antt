@@ -18,8 +18,8 @@ use Rattle.frame.specs.Messages.{Entry, entry, message, sending, valueIs}
 use Rattle.frame.specs.Outbox.{Outbox, sent}
 use Rattle.frame.specs.Chunks.{entryAt}
 use Rattle.frame.proofs.Sizes.{small}
-use Rattle.server.specs.declared.Server.{Server}
-use Rattle.server.specs.State.{presentBlock, presentEntry}
+use Rattle.server_rules.specs.declared.Server.{Server}
+use Rattle.server_rules.specs.State.{presentBlock, presentEntry}
 
 module _ (g : Params) (s : Server) (a i : List ℕ) (w : ℕ) (e : w ≡ width g) where
   pub from-initial : s .stamp .time ≡ 0 → w ≤ length i → (take w i ≡ presentBlock g s a i) × (length (take w i) ≡ width g)

@@ -11,12 +11,12 @@ use Rattle.frame.specs.declared.Stamp.{Stamp}
 use Rattle.frame.specs.declared.Party.the-variants as P
 use Rattle.frame.specs.Stamps.{older}
 use Rattle.frame.specs.Messages.{Entry, Sending, sending, message, valueIs}
-use Rattle.server.specs.declared.Slot.{Slot}
-use Rattle.server.specs.declared.Reader.{Reader}
-use Rattle.server.specs.declared.Scope.{Scope}
-use Rattle.server.specs.declared.Server.{Server}
-use Rattle.server.specs.State.{noSlot, noReader, freshSlot, readerOf, withSlot, withReader, scopeOf, withScope, slotIn, readerIn, bare, told, presentEntry, presentBlock}
-use Rattle.server.specs.Steps.{tellFrom}
+use Rattle.server_rules.specs.declared.Slot.{Slot}
+use Rattle.server_rules.specs.declared.Reader.{Reader}
+use Rattle.server_rules.specs.declared.Scope.{Scope}
+use Rattle.server_rules.specs.declared.Server.{Server}
+use Rattle.server_rules.specs.State.{noSlot, noReader, freshSlot, readerOf, withSlot, withReader, scopeOf, withScope, slotIn, readerIn, bare, told, presentEntry, presentBlock}
+use Rattle.server_rules.specs.Steps.{tellFrom}
 use Rattle.server.specs.Stages.{opensNext, opensIn}
 
 abbrev made : Server → List Slot → List Reader → Server

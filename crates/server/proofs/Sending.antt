@@ -22,10 +22,10 @@ use Rattle.frame.specs.Messages.{Entry, entry, message, Message, Sending, sendi
 use Rattle.frame.specs.Frames.{kindOf, entryBytes, stampBytes, bodyBytes, frameOf, build}
 use Rattle.frame.specs.Outbox.{frames, receivers, Outbox, outbox, sent, Room}
 use Rattle.frame.proofs.RoundTrip.{length-frame, length-stamp}
-use Rattle.server.specs.declared.Reader.{Reader}
-use Rattle.server.specs.declared.Server.{Server}
-use Rattle.server.specs.State.{readerOf}
-use Rattle.server.specs.Steps.{tellFrom}
+use Rattle.server_rules.specs.declared.Reader.{Reader}
+use Rattle.server_rules.specs.declared.Server.{Server}
+use Rattle.server_rules.specs.State.{readerOf}
+use Rattle.server_rules.specs.Steps.{tellFrom}
 use Rattle.server.specs.Stages.{toldTo}
 
 -- after at most k of k + m frames there is room for m

@@ -13,12 +13,12 @@ use Rattle.frame.specs.Messages.{message, toAll, timeIs, ready, Sending}
 use Rattle.frame.specs.Frames.{kindOf, bodyBytes, build}
 use Rattle.frame.specs.Outbox.{Outbox, outbox, sent, firstPlace, Room}
 use Rattle.frame.proofs.Outbox.{sent-none}
-use Rattle.server.specs.declared.Slot.{Slot}
-use Rattle.server.specs.declared.Server.{Server}
-use Rattle.server.specs.Broadcast.{due, full}
-use Rattle.server.specs.State.{withTimes, timeMarks, timeView}
-use Rattle.server.specs.Rules.{timeRules}
-use Rattle.server.specs.Steps.{settle, settleTimes}
+use Rattle.server_rules.specs.declared.Slot.{Slot}
+use Rattle.server_rules.specs.declared.Server.{Server}
+use Rattle.server_rules.specs.Broadcast.{due, full}
+use Rattle.server_rules.specs.State.{withTimes, timeMarks, timeView}
+use Rattle.server_rules.specs.Rules.{timeRules}
+use Rattle.server_rules.specs.Steps.{settle, settleTimes}
 use Rattle.server.specs.Stages.{Progress, moved}
 use Rattle.server.proofs.Acceptance.{settle-after}
 

@@ -12,10 +12,10 @@ use borrow.Author.Tests.{le-leb, lt-leb}
 use Rattle.quorum.specs.Quorum.{bit, count}
 use Rattle.quorum.proofs.Counting.{count-suc}
 use Rattle.blocks.specs.declared.Params.{Params}
-use Rattle.server.specs.declared.Slot.{Slot}
-use Rattle.server.specs.Broadcast.{kept, isLike, votes, enough, due, full}
-use Rattle.server.specs.State.{timeView}
-use Rattle.server.specs.Rules.{timeRules}
+use Rattle.server_rules.specs.declared.Slot.{Slot}
+use Rattle.server_rules.specs.Broadcast.{kept, isLike, votes, enough, due, full}
+use Rattle.server_rules.specs.State.{timeView}
+use Rattle.server_rules.specs.Rules.{timeRules}
 
 -- one more server is counted
 pub count-turn : (p : ℕ → Bool) (j v r : ℕ) → v ≡ count p j → r ≡ bit (p (j + 1)) → v + r ≡ count p (j + 1)

@@ -17,14 +17,14 @@ use Rattle.frame.specs.Stamps.{older}
 use Rattle.frame.specs.Messages.{Entry, message, Sending, sending, valueIs}
 use Rattle.frame.specs.Outbox.{frames, receivers, Outbox, sent, Room}
 use Rattle.frame.specs.Chunks.{areaBytes}
-use Rattle.server.specs.declared.Reader.{Reader}
-use Rattle.server.specs.declared.Server.{Server}
-use Rattle.server.specs.declared.Scope.{Scope}
+use Rattle.server_rules.specs.declared.Reader.{Reader}
+use Rattle.server_rules.specs.declared.Server.{Server}
+use Rattle.server_rules.specs.declared.Scope.{Scope}
 use Rattle.server.specs.declared.Taken.{Taken}
-use Rattle.server.specs.declared.Reply.the-variants as Y
-use Rattle.server.specs.State.{freshSlot, withScope}
-use Rattle.server.specs.Steps.{Effect}
-use Rattle.server.specs.Delivery.{Outcome}
+use Rattle.server_rules.specs.declared.Reply.the-variants as Y
+use Rattle.server_rules.specs.State.{freshSlot, withScope}
+use Rattle.server_rules.specs.Steps.{Effect}
+use Rattle.server_rules.specs.Delivery.{Outcome}
 
 -- what a stage leaves
 pub record Progress : Type 0 where

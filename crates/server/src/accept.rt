@@ -1,10 +1,5 @@
 // Acceptance: the write of a client whose time is delivered and whose blocks are complete.
 use crate::Moved;
-use crate::Reader;
-use crate::Scope;
-use crate::Server;
-use crate::Slot;
-use crate::state::fresh_slot;
 use crate::state::with_slot;
 use blocks::Params;
 use frame::Place;
@@ -15,6 +10,11 @@ use frame::entries::digests_at;
 use frame::send::send_ack;
 use frame::send::send_value;
 use frame::stamps::is_older;
+use server_rules::Reader;
+use server_rules::Scope;
+use server_rules::Server;
+use server_rules::Slot;
+use server_rules::fresh::fresh_slot;
 ghost use mathlib.Core.Path.{_≡_};
 ghost use mathlib.Core.List.{[]};
 ghost use Prim.Native.Nat.{_+_, _*_, _≤_, _<_};
@@ -26,8 +26,8 @@ ghost use Rattle.frame.specs.Stamps.{older, lastTime};
 ghost use Rattle.frame.specs.Messages.{entry};
 ghost use Rattle.frame.specs.Outbox.{outbox, sent, Room};
 ghost use Rattle.frame.specs.Chunks.{entryAt, completeAt, presentAt, storeIf};
-ghost use Rattle.server.specs.State.{told, scopeOf, withScope};
-ghost use Rattle.server.specs.Steps.{accept, settle, tellFrom};
+ghost use Rattle.server_rules.specs.State.{told, scopeOf, withScope};
+ghost use Rattle.server_rules.specs.Steps.{accept, settle, tellFrom};
 ghost use Rattle.server.specs.Stages.{progress, moved, toldTo, opensIn, Lent};
 
 // Sends reader r, client c, a value if it listens and its noted stamp is smaller.

@@ -1,9 +1,5 @@
 // Frames of a client that ask: get-stamp, read and read-complete, kinds 1, 10 and 12.
 use crate::Moved;
-use crate::Reader;
-use crate::Reply;
-use crate::Scope;
-use crate::Server;
 use crate::Taken;
 use crate::reads::send_present;
 use crate::replies::taken;
@@ -18,6 +14,10 @@ use frame::Place;
 use frame::Refusal;
 use frame::Verdict;
 use frame::send::send_stamp;
+use server_rules::Reader;
+use server_rules::Reply;
+use server_rules::Scope;
+use server_rules::Server;
 ghost use mathlib.Core.Path.{_≡_};
 ghost use Prim.Native.Nat.{ℕ, _+_, _≤_};
 ghost use mathlib.Core.List.{List, _∷_, []};
@@ -31,9 +31,9 @@ ghost use Rattle.frame.specs.Messages.{message, sending, stampIs, getStamp, ask
 ghost use Rattle.frame.specs.Chunks.{areaBytes};
 ghost use Rattle.frame.specs.Outbox.{firstPlace, Room};
 ghost use Rattle.sha256.specs.Hash.{digestOf};
-ghost use Rattle.server.specs.State.{scopeOf};
-ghost use Rattle.server.specs.Tests.{fromOwner, readTest, doneTest, messageTest};
-ghost use Rattle.server.specs.Steps.{sendOnly, onRead, onReadComplete};
+ghost use Rattle.server_rules.specs.State.{scopeOf};
+ghost use Rattle.server_rules.specs.Tests.{fromOwner, readTest, doneTest, messageTest};
+ghost use Rattle.server_rules.specs.Steps.{sendOnly, onRead, onReadComplete};
 ghost use Rattle.server.specs.Stages.{outcomeIn, answered};
 
 // 11 and 12 of a read.

@@ -1,10 +1,10 @@
 // Reads: what a server answers from, and the reader that it notes.
-use crate::Scope;
 use blocks::Params;
 use frame::Place;
 use frame::bounds::width;
 use frame::entries::digests_at;
 use frame::send::send_value;
+use server_rules::Scope;
 ghost use mathlib.Core.Path.{_≡_};
 ghost use mathlib.Core.List.{_∷_, []};
 ghost use Prim.Native.Nat.{_+_, _≤_};
@@ -14,7 +14,7 @@ ghost use Rattle.frame.specs.Params.{width, largestFrame, Bounded};
 ghost use Rattle.frame.specs.Messages.{message, sending, valueIs};
 ghost use Rattle.frame.specs.Outbox.{outbox, sent, Room};
 ghost use Rattle.frame.specs.Chunks.{areaBytes};
-ghost use Rattle.server.specs.State.{bare, presentBlock, presentEntry};
+ghost use Rattle.server_rules.specs.State.{bare, presentBlock, presentEntry};
 
 // The present block: a part of the initial area that the host lends until the first accepted write, then of the state area.
 pub fn present_block<'a>(g: Params, s: Scope, area: &'a [u8], initial: &'a [u8]) -> &'a [u8]

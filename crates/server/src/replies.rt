@@ -1,9 +1,9 @@
 // The reply of a step that was taken.
 use crate::Moved;
-use crate::Reply;
 use crate::Taken;
+use server_rules::Reply;
 ghost use mathlib.Core.Path.{_≡_};
-ghost use Rattle.server.specs.declared.Reply.the-variants as Y;
+ghost use Rattle.server_rules.specs.declared.Reply.the-variants as Y;
 
 // So many frames as stand before the next place.
 pub fn taken(m: Moved) -> Taken

@@ -1,15 +1,15 @@
 // The time of a write: how many servers said it, and what is due then.
 use crate::Moved;
-use crate::Reader;
-use crate::Scope;
-use crate::Server;
-use crate::Slot;
 use crate::accept::settle;
 use crate::state::time_marks;
 use blocks::Params;
 use frame::Broadcast;
 use frame::Place;
 use frame::send::time_all;
+use server_rules::Reader;
+use server_rules::Scope;
+use server_rules::Server;
+use server_rules::Slot;
 ghost use mathlib.Core.Path.{_≡_};
 ghost use Prim.Native.Nat.{_+_, _≤_};
 ghost use mathlib.Core.Bool.{false, _&&_};
@@ -22,10 +22,10 @@ ghost use Rattle.frame.specs.Params.{Bounded};
 ghost use Rattle.frame.specs.Messages.{message, toAll, timeIs, ready};
 ghost use Rattle.frame.specs.Outbox.{outbox, sent, firstPlace, Room};
 ghost use Rattle.sha256.specs.Hash.{digestOf};
-ghost use Rattle.server.specs.Broadcast.{due, full};
-ghost use Rattle.server.specs.State.{timeView, scopeOf, withScope};
-ghost use Rattle.server.specs.Rules.{timeRules};
-ghost use Rattle.server.specs.Steps.{settleTimes};
+ghost use Rattle.server_rules.specs.Broadcast.{due, full};
+ghost use Rattle.server_rules.specs.State.{timeView, scopeOf, withScope};
+ghost use Rattle.server_rules.specs.Rules.{timeRules};
+ghost use Rattle.server_rules.specs.Steps.{settleTimes};
 ghost use Rattle.server.specs.Stages.{progress, moved, Lent};
 
 // 1 where a time is kept and is this one, else 0.

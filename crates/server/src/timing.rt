@@ -1,9 +1,5 @@
 // Frames of a write's time: kinds 6 to 8.
 use crate::Moved;
-use crate::Reader;
-use crate::Reply;
-use crate::Scope;
-use crate::Server;
 use crate::Taken;
 use crate::replies::taken;
 use crate::state::time_echo;
@@ -21,6 +17,10 @@ use frame::Place;
 use frame::Verdict;
 use frame::parties::number_in;
 use frame::send::time_all;
+use server_rules::Reader;
+use server_rules::Reply;
+use server_rules::Scope;
+use server_rules::Server;
 ghost use mathlib.Core.Path.{_≡_};
 ghost use Prim.Native.Nat.{ℕ, _+_, _≤_};
 ghost use mathlib.Core.List.{List};
@@ -30,9 +30,9 @@ ghost use Rattle.frame.specs.Messages.{message, timeIs, send, echo, ready, numb
 ghost use Rattle.frame.specs.Outbox.{firstPlace, Room};
 ghost use Rattle.frame.specs.Params.{largestFrame, Bounded};
 ghost use Rattle.sha256.specs.Hash.{digestOf};
-ghost use Rattle.server.specs.State.{slotOf, scopeOf};
-ghost use Rattle.server.specs.Tests.{messageTest};
-ghost use Rattle.server.specs.Steps.{onTime};
+ghost use Rattle.server_rules.specs.State.{slotOf, scopeOf};
+ghost use Rattle.server_rules.specs.Tests.{messageTest};
+ghost use Rattle.server_rules.specs.Steps.{onTime};
 ghost use Rattle.server.specs.Stages.{outcomeIn, answered, Lent};
 
 // 6: the owner's time, echoed to all.

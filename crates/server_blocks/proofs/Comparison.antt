@@ -16,7 +16,7 @@ use Rattle.blocks.specs.Code.{blockLength, blockOf}
 use Rattle.blocks.proofs.Values.{length-valueOf}
 use Rattle.blocks.proofs.Stripes.{length-blockOf}
 use Rattle.frame.specs.Params.{quota, width, listed}
-use Rattle.frame.specs.Coded.{digestsOf}
+use Rattle.group_rules.specs.Coded.{digestsOf}
 use Rattle.group.specs.Entries.{marked, placesFrom}
 use Rattle.group.specs.Choice.{lowest, blocksIn, valueFrom}
 use Rattle.group.specs.Needs.{Decoding, Encoding}

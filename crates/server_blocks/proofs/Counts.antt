@@ -17,17 +17,17 @@ use Rattle.frame.specs.declared.Place.{Place}
 use Rattle.frame.specs.Params.{Bounded, quota}
 use Rattle.frame.specs.Messages.{Entry, entry}
 use Rattle.frame.specs.Chunks.{chunkAt, entryAt}
-use Rattle.frame.specs.Coded.{hasList, digestsOf, decoded}
+use Rattle.group_rules.specs.Coded.{hasList, digestsOf, decoded}
 use Rattle.group.specs.Entries as E
 use Rattle.group.specs.Entries.{marked, entries, sentList, flags, placesFrom}
 use Rattle.group.specs.Choice.{valueFrom}
 use Rattle.group.specs.Needs.{Comparing}
 use Rattle.group.proofs.Matched.{count-agree, place-law, entry-law, matched-count, matched-value, within-places}
-use Rattle.server.specs.declared.Slot.{Slot}
-use Rattle.server.specs.Broadcast.{kept, undone, isLike, votes, enough, due, full}
-use Rattle.server.specs.State.{blockView}
+use Rattle.server_rules.specs.declared.Slot.{Slot}
+use Rattle.server_rules.specs.Broadcast.{kept, undone, isLike, votes, enough, due, full}
+use Rattle.server_rules.specs.State.{blockView}
 use Rattle.server.specs.Stages.{Lent}
-use Rattle.server.specs.Rules.{chosen, regained, blockRules}
+use Rattle.server_rules.specs.Rules.{chosen, regained, blockRules}
 use Rattle.server_blocks.specs.Votes.{enoughBy, mattersBy, dueBy, fullBy, Counted}
 use Rattle.server_blocks.specs.Group.{groupValue, groupEqual, Regaining}
 

@@ -14,12 +14,12 @@ use Rattle.frame.specs.Params.{Bounded, quota}
 use Rattle.frame.specs.Messages.{Entry, entry}
 use Rattle.frame.specs.Outbox.{Outbox}
 use Rattle.frame.specs.Chunks.{entryAt}
-use Rattle.frame.specs.Coded.{hasList}
+use Rattle.group_rules.specs.Coded.{hasList}
 use Rattle.group.specs.Entries.{kept, marked, entries, sentList, flags, placesFrom}
 use Rattle.group.proofs.Matched.{count-flags}
-use Rattle.server.specs.declared.Slot.{Slot}
-use Rattle.server.specs.declared.Server.{Server}
-use Rattle.server.specs.Steps.{settle, settleBlocks}
+use Rattle.server_rules.specs.declared.Slot.{Slot}
+use Rattle.server_rules.specs.declared.Server.{Server}
+use Rattle.server_rules.specs.Steps.{settle, settleBlocks}
 use Rattle.server.specs.Stages.{Progress, moved}
 use Rattle.server_blocks.specs.Votes.{enoughBy, mattersBy}
 use Rattle.server_blocks.proofs.Settling.{skipped}

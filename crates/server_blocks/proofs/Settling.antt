@@ -12,12 +12,12 @@ use Rattle.frame.specs.Params.{Bounded, quota}
 use Rattle.frame.specs.Messages.{Entry, entry, message, toAll, blockIs, ready, Sending}
 use Rattle.frame.specs.Outbox.{Outbox, sent}
 use Rattle.frame.specs.Chunks.{storeIf, completeAt}
-use Rattle.server.specs.declared.Slot.{Slot}
-use Rattle.server.specs.declared.Server.{Server}
-use Rattle.server.specs.Broadcast.{due, full}
-use Rattle.server.specs.State.{blockView, withBlocks, blockMarks}
-use Rattle.server.specs.Rules.{blockRules}
-use Rattle.server.specs.Steps.{settle, settleBlocks}
+use Rattle.server_rules.specs.declared.Slot.{Slot}
+use Rattle.server_rules.specs.declared.Server.{Server}
+use Rattle.server_rules.specs.Broadcast.{due, full}
+use Rattle.server_rules.specs.State.{blockView, withBlocks, blockMarks}
+use Rattle.server_rules.specs.Rules.{blockRules}
+use Rattle.server_rules.specs.Steps.{settle, settleBlocks}
 use Rattle.server.specs.Stages.{Progress, moved}
 use Rattle.server.proofs.Acceptance.{settle-after}
 use Rattle.server_blocks.specs.Votes.{enoughBy, mattersBy, dueBy, fullBy, Counted}

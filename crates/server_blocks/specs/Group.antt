@@ -9,7 +9,7 @@ use Rattle.blocks.specs.declared.Params.{Params}
 use Rattle.quorum.specs.Quorum.{count}
 use Rattle.frame.specs.Params.{Bounded, quota}
 use Rattle.frame.specs.Chunks.{areaBytes}
-use Rattle.frame.specs.Coded.{digestsOf}
+use Rattle.group_rules.specs.Coded.{digestsOf}
 use Rattle.group.specs.Entries.{marked, placesFrom}
 use Rattle.group.specs.Choice.{valueFrom}
 

@@ -6,10 +6,10 @@ use Rattle.area.specs.Area.{pick}
 use Rattle.blocks.specs.declared.Params.{Params}
 use Rattle.frame.specs.Messages.{Entry, message, toAll, blockIs, ready}
 use Rattle.frame.specs.Chunks.{storeIf, completeAt}
-use Rattle.server.specs.declared.Slot.{Slot}
-use Rattle.server.specs.declared.Server.{Server}
-use Rattle.server.specs.State.{withBlocks, blockMarks}
-use Rattle.server.specs.Steps.{Effect, settle}
+use Rattle.server_rules.specs.declared.Slot.{Slot}
+use Rattle.server_rules.specs.declared.Server.{Server}
+use Rattle.server_rules.specs.State.{withBlocks, blockMarks}
+use Rattle.server_rules.specs.Steps.{Effect, settle}
 
 -- Where r, readies of the own entry go out; where f, it is the completed one, unless there is one. (The decoded values are left out.)
 unfoldable pub settledBy : Params → Server → List ℕ → ℕ → Slot → Bool → Bool → Entry → Effect

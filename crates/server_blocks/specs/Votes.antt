@@ -9,7 +9,7 @@ use Rattle.blocks.specs.declared.Params.{Params}
 use Rattle.frame.specs.Params.{Bounded, listed, quota}
 use Rattle.frame.specs.Chunks.{areaBytes}
 use Rattle.group.specs.Entries.{marked, sentList, flags, placesFrom}
-use Rattle.server.specs.declared.Slot.{Slot}
+use Rattle.server_rules.specs.declared.Slot.{Slot}
 
 -- "n - t echoes or q readies"
 unfoldable pub enoughBy : Params → ℕ → ℕ → Bool

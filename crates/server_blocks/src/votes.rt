@@ -3,7 +3,7 @@ use blocks::Params;
 use frame::bounds::quota;
 use group::matching::matching;
 use group::matching::places;
-use server::Slot;
+use server_rules::Slot;
 ghost use mathlib.Core.Path.{_≡_};
 ghost use mathlib.Core.Bool.{_&&_, _||_};
 ghost use Prim.Native.Nat.{_*_, _-_, _≤_};

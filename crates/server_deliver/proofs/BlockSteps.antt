@@ -18,16 +18,16 @@ use Rattle.frame.specs.declared.Verdict.the-variants as J
 use Rattle.frame.specs.Refusals.{andThen}
 use Rattle.frame.specs.Params.{width, listed, largestFrame}
 use Rattle.frame.specs.Messages.{Entry, message, send, echo, ready, blockIs, toAll, numberIn, fromServer}
-use Rattle.frame.specs.Coded.{fits}
+use Rattle.group_rules.specs.Coded.{fits}
 use Rattle.frame.specs.Chunks.{storeEntry}
 use Rattle.frame.specs.Outbox.{Outbox, sent, Room}
 use Rattle.frame.proofs.Verdicts.{fine-both}
-use Rattle.server.specs.declared.Slot.{Slot}
-use Rattle.server.specs.declared.Scope.{Scope}
-use Rattle.server.specs.declared.Server.{Server}
-use Rattle.server.specs.State.{slotOf, scopeOf, withSlot, withBlocks, blockSent}
-use Rattle.server.specs.Tests.{fromOwner, openTest, fitTest, senderRight, counted, orderTest, messageTest}
-use Rattle.server.specs.Steps.{sendOnly, settleBlocks}
+use Rattle.server_rules.specs.declared.Slot.{Slot}
+use Rattle.server_rules.specs.declared.Scope.{Scope}
+use Rattle.server_rules.specs.declared.Server.{Server}
+use Rattle.server_rules.specs.State.{slotOf, scopeOf, withSlot, withBlocks, blockSent}
+use Rattle.server_rules.specs.Tests.{fromOwner, openTest, fitTest, senderRight, counted, orderTest, messageTest}
+use Rattle.server_rules.specs.Steps.{sendOnly, settleBlocks}
 use Rattle.server.specs.Stages.{Progress, progress, moved}
 use Rattle.server.proofs.Sending.{room-fewer, room-smaller}
 use Rattle.server.proofs.Answers.{Voted, voted, owned, only-sent}

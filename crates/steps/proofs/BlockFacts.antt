@@ -24,16 +24,16 @@ use Rattle.frame.specs.Messages.{Entry, Stage, send, echo, ready, Body, getStam
 use Rattle.frame.proofs.Chunks.{length-store}
 use Rattle.frame.proofs.Sizes.{Small}
 use Rattle.frame.proofs.Verdicts.{fine-both}
-use Rattle.server.specs.declared.TimePart.{TimePart}
-use Rattle.server.specs.declared.Slot.{Slot}
-use Rattle.server.specs.declared.Server.{Server}
-use Rattle.server.specs.Broadcast.{Rules, Part, due, full}
-use Rattle.server.specs.Rules.{blockRules}
-use Rattle.server.specs.State.{freshSlot, slotOf, withBlocks, withTimes, blockView, timeView, blockSent, blockEcho, blockReady, blockMarks, timeSent, timeEcho, timeReady}
-use Rattle.server.specs.Steps as S
-use Rattle.server.specs.Tests as ST
-use Rattle.server.proofs.Parts.{noPart, withSent, withEcho, withReady, settled}
-use Rattle.server.proofs.Views as SV
+use Rattle.server_rules.specs.declared.TimePart.{TimePart}
+use Rattle.server_rules.specs.declared.Slot.{Slot}
+use Rattle.server_rules.specs.declared.Server.{Server}
+use Rattle.server_rules.specs.Broadcast.{Rules, Part, due, full}
+use Rattle.server_rules.specs.Rules.{blockRules}
+use Rattle.server_rules.specs.State.{freshSlot, slotOf, withBlocks, withTimes, blockView, timeView, blockSent, blockEcho, blockReady, blockMarks, timeSent, timeEcho, timeReady}
+use Rattle.server_rules.specs.Steps as S
+use Rattle.server_rules.specs.Tests as ST
+use Rattle.server_rules.proofs.Parts.{noPart, withSent, withEcho, withReady, settled}
+use Rattle.server_rules.proofs.Views as SV
 use Rattle.steps.proofs.PartFacts.{Sane, PartFacts, rest-facts, sent-facts, echo-facts, ready-facts}
 use Rattle.steps.proofs.ServerFacts.{length-if, mem-all, mem-pick, ServerShape, this-slot, other-slot, SlotFacts, settle-slot, BroadcastFacts, idle-facts, facts-of}
 

@@ -24,7 +24,7 @@ use Rattle.frame.specs.declared.Refusal.the-variants as R
 use Rattle.frame.specs.declared.Verdict.the-variants as J
 use Rattle.frame.specs.declared.Opened.the-variants as O
 use Rattle.frame.specs.Chunks.{storeEntry, placeAt}
-use Rattle.frame.specs.Coded.{digestsOf, entryOf, blockAt}
+use Rattle.group_rules.specs.Coded.{digestsOf, entryOf, blockAt}
 use Rattle.frame.specs.Frames.{opened, messageIn}
 use Rattle.frame.specs.Messages.{Entry, send, Body, getStamp, ack, askRead, readComplete, stampIs, blockIs, timeIs, valueIs, Message, message, Sending, numberIn, fromServer, Judged, bad, good, judgedBy, after, Sized, Formed, FormedBody}
 use Rattle.frame.specs.Params.{paramsTest, listed}
@@ -32,17 +32,17 @@ use Rattle.frame.specs.Refusals.{andThen}
 use Rattle.frame.specs.Stamps.{lastTime, lastSequence}
 use Rattle.frame.proofs.Verdicts.{fine-both, fine-not}
 use Rattle.frame.proofs.Converse.{formed-opened}
-use Rattle.client.specs.declared.Phase.{Phase}
-use Rattle.client.specs.declared.Client.{Client}
-use Rattle.client.specs.declared.Phase.the-variants as F
-use Rattle.client.specs.Rows.{rowView, rowWith, placeFor, Found, search}
-use Rattle.client.specs.State.{rowOf, withRow, writing, inPhase, largest}
-use Rattle.client.specs.Beginning as CB
-use Rattle.client.specs.Delivery as CD
-use Rattle.client.specs.State as CS
-use Rattle.client.specs.Steps as C
-use Rattle.client.specs.Tests as CT
-pub use Rattle.client.proofs.CallFacts.{awaited-true}
+use Rattle.client_rules.specs.declared.Phase.{Phase}
+use Rattle.client_rules.specs.declared.Client.{Client}
+use Rattle.client_rules.specs.declared.Phase.the-variants as F
+use Rattle.client_rules.specs.Rows.{rowView, rowWith, placeFor, Found, search}
+use Rattle.client_rules.specs.State.{rowOf, withRow, writing, inPhase, largest}
+use Rattle.client_rules.specs.Beginning as CB
+use Rattle.client_rules.specs.Delivery as CD
+use Rattle.client_rules.specs.State as CS
+use Rattle.client_rules.specs.Steps as C
+use Rattle.client_rules.specs.Tests as CT
+pub use Rattle.client_rules.proofs.CallFacts.{awaited-true}
 use Rattle.steps.proofs.ServerRanges.{AllFormed, formed-all}
 use Rattle.steps.proofs.Decoding.{block-width}
 

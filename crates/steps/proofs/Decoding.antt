@@ -15,11 +15,11 @@ use Rattle.blocks.specs.declared.Params.{Params}
 use Rattle.blocks.specs.Code.{blockOf, blockLength}
 use Rattle.blocks.proofs.Stripes.{length-blockOf}
 use Rattle.blocks.proofs.Values.{length-valueOf}
-use Rattle.frame.specs.Coded.{Piece, hasList, pieceOf, pieces, numbers, decoded}
+use Rattle.group_rules.specs.Coded.{Piece, hasList, pieceOf, pieces, numbers, decoded}
 use Rattle.frame.specs.Messages.{Entry, Sized}
 use Rattle.frame.specs.Params.{width, quota}
-use Rattle.server.specs.Broadcast.{Part, isLike, votes, full}
-use Rattle.server.specs.Rules.{chosen, regained, blockRules}
+use Rattle.server_rules.specs.Broadcast.{Part, isLike, votes, full}
+use Rattle.server_rules.specs.Rules.{chosen, regained, blockRules}
 
 piece-size : (o : Option Entry) (d : List ℕ) (j : ℕ) (l : List Piece) → length (pieceOf o d j l) ≡ bit (hasList o d) + length l
 unfolding pick

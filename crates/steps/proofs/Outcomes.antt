@@ -19,23 +19,23 @@ use Rattle.frame.specs.Chunks.{storeEntry, storeIf, presentAt, completeAt, echo
 use Rattle.frame.specs.Messages.{Entry, send, echo, ready, Body, getStamp, ack, askRead, readComplete, stampIs, blockIs, timeIs, valueIs, Sending, numberIn, Judged, bad, good}
 use Rattle.frame.specs.Outbox.{frames, receivers}
 use Rattle.frame.proofs.Chunks.{length-store}
-use Rattle.server.specs.declared.Slot.{Slot}
-use Rattle.server.specs.declared.Server.{Server}
-use Rattle.server.specs.declared.Reply.the-variants as Y
-use Rattle.server.specs.Broadcast.{full}
-use Rattle.server.specs.State.{blockView}
-use Rattle.server.specs.Rules.{blockRules}
-use Rattle.server.specs.Steps as S
-use Rattle.server.specs.Tests as ST
-use Rattle.server.specs.Delivery as SD
-use Rattle.server.proofs.Settling.{Settling, waits, accepts, settling}
-use Rattle.client.specs.declared.Client.{Client}
-use Rattle.client.specs.declared.Answer.the-variants as Z
-use Rattle.client.specs.State.{largest}
-use Rattle.client.specs.Rows as CR
-use Rattle.client.specs.Steps as C
-use Rattle.client.specs.Tests as CT
-use Rattle.client.specs.Delivery as CD
+use Rattle.server_rules.specs.declared.Slot.{Slot}
+use Rattle.server_rules.specs.declared.Server.{Server}
+use Rattle.server_rules.specs.declared.Reply.the-variants as Y
+use Rattle.server_rules.specs.Broadcast.{full}
+use Rattle.server_rules.specs.State.{blockView}
+use Rattle.server_rules.specs.Rules.{blockRules}
+use Rattle.server_rules.specs.Steps as S
+use Rattle.server_rules.specs.Tests as ST
+use Rattle.server_rules.specs.Delivery as SD
+use Rattle.server_rules.proofs.Settling.{Settling, waits, accepts, settling}
+use Rattle.client_rules.specs.declared.Client.{Client}
+use Rattle.client_rules.specs.declared.Answer.the-variants as Z
+use Rattle.client_rules.specs.State.{largest}
+use Rattle.client_rules.specs.Rows as CR
+use Rattle.client_rules.specs.Steps as C
+use Rattle.client_rules.specs.Tests as CT
+use Rattle.client_rules.specs.Delivery as CD
 use Rattle.steps.proofs.ServerFacts.{length-if}
 
 -- ---- a server's step

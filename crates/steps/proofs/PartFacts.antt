@@ -11,8 +11,8 @@ use borrow.Author.Tests.{leb-true}
 use Rattle.quorum.proofs.Logic.{impossible, and-split, or-split}
 use Rattle.quorum.proofs.Quorums.{AtLeast}
 use Rattle.frame.specs.Messages.{Stage, echo, ready}
-use Rattle.server.specs.Broadcast.{Rules, Part, isLike, votes, enough, due, full, kept}
-use Rattle.server.proofs.Parts.{put, firstOf, withSent, withEcho, withReady, settled, put-cases}
+use Rattle.server_rules.specs.Broadcast.{Rules, Part, isLike, votes, enough, due, full, kept}
+use Rattle.server_rules.proofs.Parts.{put, firstOf, withSent, withEcho, withReady, settled, put-cases}
 
 -- π is what counts of a payload: the time itself, or the digest list of an entry
 pub record Sane {P D : Type 0} (R : Rules P) (t : ℕ) (π : P → D) : Type 0 where

@@ -16,16 +16,16 @@ use Rattle.frame.specs.declared.Verdict.{Verdict}
 use Rattle.frame.specs.declared.Verdict.the-variants as J
 use Rattle.frame.specs.Stamps.{older, lastTime}
 use Rattle.frame.specs.Messages.{Entry, Stage, send, echo, ready, Body, getStamp, ack, askRead, readComplete, stampIs, blockIs, timeIs, valueIs, Message, message, Sending, sending, toFrom, toAll, numberIn}
-use Rattle.server.specs.declared.Slot.{Slot}
-use Rattle.server.specs.declared.Server.{Server}
-use Rattle.server.specs.State.{readerOf}
-use Rattle.server.specs.Steps as S
-use Rattle.client.specs.declared.Client.{Client}
-use Rattle.client.specs.Rows.{Found, rowView, placeFor, search}
-use Rattle.client.specs.State.{largest, rowOf}
-use Rattle.client.specs.Steps as C
-use Rattle.client.specs.Beginning as CB
-use Rattle.server.proofs.Settling.{Settling, waits, accepts, settling}
+use Rattle.server_rules.specs.declared.Slot.{Slot}
+use Rattle.server_rules.specs.declared.Server.{Server}
+use Rattle.server_rules.specs.State.{readerOf}
+use Rattle.server_rules.specs.Steps as S
+use Rattle.client_rules.specs.declared.Client.{Client}
+use Rattle.client_rules.specs.Rows.{Found, rowView, placeFor, search}
+use Rattle.client_rules.specs.State.{largest, rowOf}
+use Rattle.client_rules.specs.Steps as C
+use Rattle.client_rules.specs.Beginning as CB
+use Rattle.server_rules.proofs.Settling.{Settling, waits, accepts, settling}
 
 from-length : (f : ℕ → Message) (j m : ℕ) → length (toFrom f j m) ≡ m
 unfolding toFrom

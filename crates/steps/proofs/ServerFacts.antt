@@ -24,15 +24,15 @@ use Rattle.frame.specs.Params.{width, listed}
 use Rattle.frame.specs.Stamps.{older}
 use Rattle.frame.proofs.Chunks.{length-store}
 use Rattle.frame.proofs.Sizes.{Small}
-use Rattle.server.specs.declared.Slot.{Slot}
-use Rattle.server.specs.declared.Server.{Server}
-use Rattle.server.specs.Broadcast.{Part}
-use Rattle.server.specs.State.{freshSlot, noSlot, slotOf, readerOf, withSlot, blockView, timeView}
-use Rattle.server.specs.Steps as S
-use Rattle.server.proofs.Parts.{noPart, kept-some}
-use Rattle.server.proofs.Views as SV
-pub use Rattle.client.proofs.Sends.{mem-all}
-use Rattle.server.proofs.Settling.{Settling, waits, accepts, settling}
+use Rattle.server_rules.specs.declared.Slot.{Slot}
+use Rattle.server_rules.specs.declared.Server.{Server}
+use Rattle.server_rules.specs.Broadcast.{Part}
+use Rattle.server_rules.specs.State.{freshSlot, noSlot, slotOf, readerOf, withSlot, blockView, timeView}
+use Rattle.server_rules.specs.Steps as S
+use Rattle.server_rules.proofs.Parts.{noPart, kept-some}
+use Rattle.server_rules.proofs.Views as SV
+pub use Rattle.client_rules.proofs.Sends.{mem-all}
+use Rattle.server_rules.proofs.Settling.{Settling, waits, accepts, settling}
 use Rattle.steps.proofs.PartFacts.{Heard, PartFacts}
 
 -- ---- small laws

@@ -17,16 +17,16 @@ use Rattle.frame.specs.Messages.{Entry, send, echo, ready, Body, getStamp, ack,
 use Rattle.frame.specs.Stamps.{older}
 use Rattle.frame.proofs.Chunks.{length-store}
 use Rattle.frame.proofs.Sizes.{Small}
-use Rattle.server.specs.declared.Slot.{Slot}
-use Rattle.server.specs.declared.Server.{Server}
-use Rattle.server.specs.State.{freshSlot, freshServer, noSlot, slotOf, withSlot, withTimes, timeMarks}
-use Rattle.server.specs.Delivery as SD
-use Rattle.server.specs.Steps as S
-use Rattle.server.specs.Tests as ST
-use Rattle.server.proofs.Views as SV
+use Rattle.server_rules.specs.declared.Slot.{Slot}
+use Rattle.server_rules.specs.declared.Server.{Server}
+use Rattle.server_rules.specs.State.{freshSlot, freshServer, noSlot, slotOf, withSlot, withTimes, timeMarks}
+use Rattle.server_rules.specs.Delivery as SD
+use Rattle.server_rules.specs.Steps as S
+use Rattle.server_rules.specs.Tests as ST
+use Rattle.server_rules.proofs.Views as SV
 use Rattle.steps.proofs.BlockFacts.{is-server, test-split}
 use Rattle.steps.proofs.ServerFacts.{ServerShape, this-slot, other-slot, length-if}
-use Rattle.server.proofs.Settling.{Settling, waits, accepts, settling}
+use Rattle.server_rules.proofs.Settling.{Settling, waits, accepts, settling}
 use Rattle.steps.proofs.ServerTaken.{Taken, took}
 
 pub shape-slot : (s : Server) (a a′ : List ℕ) → ServerShape s a → (c : ℕ) → Among 8 c → (x : Slot) → SV.Shaped x → areaBytes ≤ length a′ → ServerShape (withSlot s c x) a′

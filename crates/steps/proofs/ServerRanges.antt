@@ -20,25 +20,25 @@ use Rattle.frame.specs.declared.Party.{Party}
 use Rattle.frame.specs.declared.Party.the-variants as A
 use Rattle.frame.specs.declared.Verdict.the-variants as J
 use Rattle.frame.specs.Chunks.{storeEntry, echoAt, readyAt, areaBytes}
-use Rattle.frame.specs.Coded.{hasList, decoded}
+use Rattle.group_rules.specs.Coded.{hasList, decoded}
 use Rattle.frame.specs.Messages.{Entry, send, echo, ready, Body, getStamp, ack, askRead, readComplete, stampIs, blockIs, timeIs, valueIs, Message, message, Sending, sending, toAll, numberIn, Sized, Formed, FormedBody}
 use Rattle.frame.specs.Params.{width, listed, quota}
 use Rattle.frame.specs.Stamps.{older, zeroStamp, lastTime, partsAgree}
 use Rattle.frame.proofs.Chunks.{length-store}
 use Rattle.frame.proofs.Sizes.{Small}
 use Rattle.frame.proofs.Verdicts.{fine-both}
-use Rattle.server.specs.declared.Slot.{Slot}
-use Rattle.server.specs.declared.Reader.{Reader}
-use Rattle.server.specs.declared.Server.{Server}
-use Rattle.server.specs.Broadcast.{Part, votes, enough, due}
-use Rattle.server.specs.Rules.{chosen, regained, blockRules}
-use Rattle.server.specs.State.{presentBlock, noReader, freshReader, freshServer, slotOf, readerOf, withReader, withBlocks, withTimes, blockView, presentEntry, blockEcho, blockReady, timeEcho, timeReady}
-use Rattle.server.specs.Steps as S
-use Rattle.server.specs.Tests as ST
+use Rattle.server_rules.specs.declared.Slot.{Slot}
+use Rattle.server_rules.specs.declared.Reader.{Reader}
+use Rattle.server_rules.specs.declared.Server.{Server}
+use Rattle.server_rules.specs.Broadcast.{Part, votes, enough, due}
+use Rattle.server_rules.specs.Rules.{chosen, regained, blockRules}
+use Rattle.server_rules.specs.State.{presentBlock, noReader, freshReader, freshServer, slotOf, readerOf, withReader, withBlocks, withTimes, blockView, presentEntry, blockEcho, blockReady, timeEcho, timeReady}
+use Rattle.server_rules.specs.Steps as S
+use Rattle.server_rules.specs.Tests as ST
 use Rattle.steps.proofs.BlockFacts.{open-passed, test-split}
 use Rattle.steps.proofs.Decoding.{quota-blocks, block-width, decoded-size, votes-are}
 use Rattle.steps.proofs.ServerFacts.{mem-all, mem-pick, ServerShape, length-if, done-sized}
-use Rattle.server.proofs.Settling.{Settling, waits, accepts, settling}
+use Rattle.server_rules.proofs.Settling.{Settling, waits, accepts, settling}
 
 -- ---- stamps in range
 

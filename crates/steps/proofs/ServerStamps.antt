@@ -25,18 +25,18 @@ use Rattle.frame.specs.Stamps.{older}
 use Rattle.frame.proofs.Chunks.{length-store, entry-same, entry-other}
 use Rattle.frame.proofs.Sizes.{Small}
 use Rattle.frame.proofs.Verdicts.{fine-both}
-use Rattle.server.specs.declared.Slot.{Slot}
-use Rattle.server.specs.declared.Reader.{Reader}
-use Rattle.server.specs.declared.Server.{Server}
-use Rattle.server.specs.Broadcast.{Part, full}
-use Rattle.server.specs.Rules.{blockRules}
-use Rattle.server.specs.State.{noReader, slotOf, readerOf, withReader, withBlocks, withTimes, blockView, presentEntry, blockEcho, blockReady, timeEcho, timeReady}
-use Rattle.server.specs.Steps as S
-use Rattle.server.specs.Tests as ST
+use Rattle.server_rules.specs.declared.Slot.{Slot}
+use Rattle.server_rules.specs.declared.Reader.{Reader}
+use Rattle.server_rules.specs.declared.Server.{Server}
+use Rattle.server_rules.specs.Broadcast.{Part, full}
+use Rattle.server_rules.specs.Rules.{blockRules}
+use Rattle.server_rules.specs.State.{noReader, slotOf, readerOf, withReader, withBlocks, withTimes, blockView, presentEntry, blockEcho, blockReady, timeEcho, timeReady}
+use Rattle.server_rules.specs.Steps as S
+use Rattle.server_rules.specs.Tests as ST
 use Rattle.steps.proofs.BlockFacts.{open-passed, is-owner, is-server, test-split}
 use Rattle.steps.proofs.ServerFacts.{mem-all, mem-pick, ServerShape, length-if, done-sized}
 use Rattle.steps.proofs.ServerRanges.{StampInBounds, WriteInBounds, write-stamp-in-bounds, InBounds}
-use Rattle.server.proofs.Settling.{Settling, waits, accepts, settling}
+use Rattle.server_rules.proofs.Settling.{Settling, waits, accepts, settling}
 use Rattle.steps.proofs.Keys.{key, older-key, not-older}
 
 -- ---- frames of the two broadcasts

@@ -25,9 +25,9 @@ use Rattle.frame.specs.Params.{width, listed, paramsTest}
 use Rattle.frame.specs.Refusals.{andThen}
 use Rattle.frame.proofs.Opening.{opens-facts}
 use Rattle.frame.proofs.Verdicts.{fine-both}
-use Rattle.server.specs.declared.Server.{Server}
-use Rattle.server.specs.Rules.{blockRules, timeRules}
-use Rattle.server.specs.Tests as ST
+use Rattle.server_rules.specs.declared.Server.{Server}
+use Rattle.server_rules.specs.Rules.{blockRules, timeRules}
+use Rattle.server_rules.specs.Tests as ST
 use Rattle.steps.proofs.Decoding.{quota-faults}
 use Rattle.steps.proofs.BlockFacts.{SizedIn}
 use Rattle.steps.proofs.PartFacts.{Sane}

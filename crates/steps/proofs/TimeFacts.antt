@@ -19,16 +19,16 @@ use Rattle.frame.specs.Chunks.{storeEntry, storeIf, echoAt, readyAt, areaBytes}
 use Rattle.frame.specs.Messages.{Entry, Stage, send, echo, ready, Body, getStamp, ack, askRead, readComplete, stampIs, blockIs, timeIs, valueIs, Message, message, sending, toAll, toFrom, numberIn, Sized}
 use Rattle.frame.proofs.Chunks.{length-store}
 use Rattle.frame.proofs.Sizes.{Small}
-use Rattle.server.specs.declared.BlockPart.{BlockPart}
-use Rattle.server.specs.declared.Slot.{Slot}
-use Rattle.server.specs.declared.Server.{Server}
-use Rattle.server.specs.Broadcast.{Rules, Part, due, full}
-use Rattle.server.specs.Rules.{timeRules}
-use Rattle.server.specs.State.{freshSlot, slotOf, withBlocks, withTimes, blockView, timeView, blockSent, blockEcho, blockReady, timeSent, timeEcho, timeReady, timeMarks}
-use Rattle.server.specs.Steps as S
-use Rattle.server.specs.Tests as ST
-use Rattle.server.proofs.Parts.{noPart, withSent, settled}
-use Rattle.server.proofs.Views as SV
+use Rattle.server_rules.specs.declared.BlockPart.{BlockPart}
+use Rattle.server_rules.specs.declared.Slot.{Slot}
+use Rattle.server_rules.specs.declared.Server.{Server}
+use Rattle.server_rules.specs.Broadcast.{Rules, Part, due, full}
+use Rattle.server_rules.specs.Rules.{timeRules}
+use Rattle.server_rules.specs.State.{freshSlot, slotOf, withBlocks, withTimes, blockView, timeView, blockSent, blockEcho, blockReady, timeSent, timeEcho, timeReady, timeMarks}
+use Rattle.server_rules.specs.Steps as S
+use Rattle.server_rules.specs.Tests as ST
+use Rattle.server_rules.proofs.Parts.{noPart, withSent, settled}
+use Rattle.server_rules.proofs.Views as SV
 use Rattle.steps.proofs.BlockFacts.{open-passed, is-owner, is-server, test-split}
 use Rattle.steps.proofs.PartFacts.{Sane, PartFacts, rest-facts, sent-facts, echo-facts, ready-facts}
 use Rattle.steps.proofs.ServerFacts.{length-if, mem-all, mem-pick, ServerShape, this-slot, other-slot, SlotFacts, settle-slot, BroadcastFacts, idle-facts, facts-of}

@@ -17,15 +17,15 @@ use Rattle.frame.specs.Frames.{opened}
 use Rattle.frame.specs.Messages.{Entry, Sized, Body, getStamp, ack, askRead, readComplete, stampIs, blockIs, timeIs, valueIs, Sending, numberIn, Judged, bad, good, after}
 use Rattle.frame.specs.Chunks.{entryAt, storeEntry, placeAt, rowsBytes}
 use Rattle.frame.proofs.Sizes.{Small}
-use Rattle.client.specs.declared.Row.{Row}
-use Rattle.client.specs.declared.Client.{Client}
-use Rattle.client.specs.Rows.{Kept, used, placesFrom, rowView, placeFor, rowWith, Found, search}
-use Rattle.client.specs.State.{noStamp, rowOf, inPhase, withRow, largest}
-use Rattle.client.specs.declared.Phase.the-variants as F
-use Rattle.client.specs.Steps as C
-use Rattle.client.specs.Tests as CT
-use Rattle.client.specs.Delivery as CD
-use Rattle.client.proofs.Views as CV
+use Rattle.client_rules.specs.declared.Row.{Row}
+use Rattle.client_rules.specs.declared.Client.{Client}
+use Rattle.client_rules.specs.Rows.{Kept, used, placesFrom, rowView, placeFor, rowWith, Found, search}
+use Rattle.client_rules.specs.State.{noStamp, rowOf, inPhase, withRow, largest}
+use Rattle.client_rules.specs.declared.Phase.the-variants as F
+use Rattle.client_rules.specs.Steps as C
+use Rattle.client_rules.specs.Tests as CT
+use Rattle.client_rules.specs.Delivery as CD
+use Rattle.client_rules.proofs.Views as CV
 use Rattle.steps.proofs.BlockFacts.{SizedIn, is-server}
 use Rattle.steps.proofs.ClientTaken.{took, passed}
 use Rattle.steps.proofs.ServerTaken.{message-sized}

@@ -22,15 +22,15 @@ use Rattle.frame.specs.Messages.{Sending, numberIn}
 use Rattle.frame.specs.Frames.{build}
 use Rattle.frame.specs.Chunks.{entryAt, areaBytes, rowsBytes}
 use Rattle.frame.proofs.Sizes.{Small, small}
-use Rattle.server.specs.declared.Server.{Server}
-use Rattle.server.specs.State.{freshServer}
-use Rattle.server.specs.Delivery as SD
-use Rattle.client.specs.declared.Client.{Client}
-use Rattle.client.specs.Steps as C
-use Rattle.client.specs.Beginning as CB
+use Rattle.server_rules.specs.declared.Server.{Server}
+use Rattle.server_rules.specs.State.{freshServer}
+use Rattle.server_rules.specs.Delivery as SD
+use Rattle.client_rules.specs.declared.Client.{Client}
+use Rattle.client_rules.specs.Steps as C
+use Rattle.client_rules.specs.Beginning as CB
 use Rattle.runs.specs.World.{Setup, Call, toServer, toClient, beginRead, beginWrite, caller, ServerSide, ClientSide, World, put, initialOf, start, lentBy, step, run, sends, serverEffect, clientEffect}
-use Rattle.server.specs.Steps.{Write}
-use Rattle.client.specs.Rows.{Found}
+use Rattle.server_rules.specs.Steps.{Write}
+use Rattle.client_rules.specs.Rows.{Found}
 use Rattle.runs.specs.Events.{Event, At, Accepts, CompletesRead, EndsWrite, OpensRead, OpensWrite}
 use Rattle.runs.specs.Admissible.{Sent, Honest, Proper, Admissible}
 use Rattle.witness.proofs.Areas.{Shows}

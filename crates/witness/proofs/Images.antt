@@ -11,14 +11,14 @@ use Rattle.frame.specs.declared.Party.the-variants as P
 use Rattle.frame.specs.Messages.{Entry, Sending}
 use Rattle.frame.specs.Frames.{build}
 use Rattle.frame.specs.Chunks.{entryAt}
-use Rattle.server.specs.declared.Server.{Server}
-use Rattle.server.specs.State.{freshServer}
-use Rattle.client.specs.declared.Client.{Client}
-use Rattle.client.specs.State.{freshClient}
-use Rattle.client.specs.Steps as C
-use Rattle.client.specs.Beginning as CB
+use Rattle.server_rules.specs.declared.Server.{Server}
+use Rattle.server_rules.specs.State.{freshServer}
+use Rattle.client_rules.specs.declared.Client.{Client}
+use Rattle.client_rules.specs.State.{freshClient}
+use Rattle.client_rules.specs.Steps as C
+use Rattle.client_rules.specs.Beginning as CB
 use Rattle.runs.specs.World.{Setup, Call, toServer, toClient, beginRead, beginWrite, put, initialOf, start, lentBy, run, sends}
-use Rattle.server.specs.Steps.{Write}
+use Rattle.server_rules.specs.Steps.{Write}
 use Rattle.runs.specs.Events.{Event}
 use Rattle.witness.proofs.Served.{Seen, served}
 use Rattle.witness.proofs.Asked.{Heard, asked}

@@ -20,14 +20,14 @@ use Rattle.frame.specs.Frames.{opened}
 use Rattle.frame.specs.Messages.{Entry, entry, Sized, send, echo, ready, Body, getStamp, ack, askRead, readComplete, stampIs, blockIs, timeIs, valueIs, message, Sending, sending, toAll, numberIn, Judged, bad, good, after}
 use Rattle.frame.specs.Chunks.{entryAt, completeAt, echoAt, readyAt, areaBytes}
 use Rattle.frame.proofs.Sizes.{Small}
-use Rattle.server.specs.declared.Slot.{Slot}
-use Rattle.server.specs.declared.Server.{Server}
-use Rattle.server.specs.Broadcast.{Part, kept, due, full}
-use Rattle.server.specs.Rules.{blockRules, timeRules}
-use Rattle.server.specs.State.{slotOf, withReader, withBlocks, withTimes, blockView, timeView, presentBlock, presentEntry, blockEcho, blockReady, blockMarks, timeEcho, timeReady, timeMarks}
-use Rattle.server.specs.Steps as S
-use Rattle.server.specs.Tests as ST
-use Rattle.server.specs.Delivery as SD
+use Rattle.server_rules.specs.declared.Slot.{Slot}
+use Rattle.server_rules.specs.declared.Server.{Server}
+use Rattle.server_rules.specs.Broadcast.{Part, kept, due, full}
+use Rattle.server_rules.specs.Rules.{blockRules, timeRules}
+use Rattle.server_rules.specs.State.{slotOf, withReader, withBlocks, withTimes, blockView, timeView, presentBlock, presentEntry, blockEcho, blockReady, blockMarks, timeEcho, timeReady, timeMarks}
+use Rattle.server_rules.specs.Steps as S
+use Rattle.server_rules.specs.Tests as ST
+use Rattle.server_rules.specs.Delivery as SD
 use Rattle.steps.proofs.BlockFacts.{SizedIn, is-server, test-split}
 use Rattle.steps.proofs.Decoding.{coded}
 use Rattle.steps.proofs.ServerFacts.{done-sized}

@@ -12,7 +12,7 @@ use Rattle.frame.specs.declared.Verdict.the-variants as J
 use Rattle.frame.specs.Params.{width, clientFrames, outRoom, toRoom, Bounded}
 use Rattle.frame.specs.Messages.{ready}
 use Rattle.frame.specs.Chunks.{areaBytes, rowsBytes}
-use Rattle.client.specs.Steps.{written, completed}
+use Rattle.client_rules.specs.Steps.{written, completed}
 use Rattle.runs.specs.Admissible.{Admissible}
 use Rattle.runs.specs.Events.{At, Accepts, CompletesRead, EndsWrite, OpensRead, OpensWrite}
 use Rattle.runs.specs.Demand.{Theorem, Demand3, Stands}
@@ -26,21 +26,21 @@ use Rattle.field.specs.Field.{_⊗_}
 use Rattle.blocks.specs.Code as BlCode
 use Rattle.blocks.specs.Params as BlParams
 use Rattle.blocks.specs.Poly as BlPoly
-use Rattle.frame.specs.Coded as FrCoded
+use Rattle.group_rules.specs.Coded as FrCoded
 use Rattle.frame.specs.Frames as FrFrames
 use Rattle.frame.specs.Messages as FrMessages
 use Rattle.frame.specs.Params as FrParams
 use Rattle.frame.specs.Stamps as FrStamps
-use Rattle.server.specs.Broadcast as SeBroadcast
-use Rattle.server.specs.Rules as SeRules
-use Rattle.server.specs.State as SeState
-use Rattle.server.specs.Steps as SeSteps
-use Rattle.server.specs.Tests as SeTests
-use Rattle.client.specs.Beginning as CB
-use Rattle.client.specs.Rows as ClRows
-use Rattle.client.specs.State as ClState
-use Rattle.client.specs.Steps as ClSteps
-use Rattle.client.specs.Tests as ClTests
+use Rattle.server_rules.specs.Broadcast as SeBroadcast
+use Rattle.server_rules.specs.Rules as SeRules
+use Rattle.server_rules.specs.State as SeState
+use Rattle.server_rules.specs.Steps as SeSteps
+use Rattle.server_rules.specs.Tests as SeTests
+use Rattle.client_rules.specs.Beginning as CB
+use Rattle.client_rules.specs.Rows as ClRows
+use Rattle.client_rules.specs.State as ClState
+use Rattle.client_rules.specs.Steps as ClSteps
+use Rattle.client_rules.specs.Tests as ClTests
 use Rattle.runs.specs.World.{Sound, DigestSize}
 use Rattle.witness.specs.Toy as Toy
 use Rattle.witness.specs.WriteRead.{g, initial, value, Z, entryFor, stamp, stampAsked, stampFrom, blockTo, timeTo, block, time, ackFrom, readAsked, valueFrom, asking, blocks, times, accepting, reading, calls, writeAt, found, write, read}

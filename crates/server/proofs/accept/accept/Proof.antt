@@ -3,7 +3,7 @@ use Prim.Native.Nat.{_+_, _*_, _-_}
 use Rattle.server.proofs.Sending.{value-size, tell-room, ack-room}
 use Rattle.server.proofs.Acceptance.{accepted-parts}
 use Rattle.server.proofs.Scopes.{tells, opens-set}
-use Rattle.server.specs.declared.Scope.{Scope}
+use Rattle.server_rules.specs.declared.Scope.{Scope}
 use Rattle.frame.specs.Stamps.{older}
 use Rattle.frame.specs.Outbox.{sent}
 use mathlib.Core.Path.{ap, _∙_}

@@ -3,8 +3,8 @@ use mathlib.Core.Path.{_≡_, refl}
 use lib.ListN.{length}
 use Rattle.frame.specs.Messages.{entry}
 use Rattle.frame.specs.Outbox.{outbox, sent, Room}
-use Rattle.server.specs.State.{told}
-use Rattle.server.specs.Steps.{tellFrom}
+use Rattle.server_rules.specs.State.{told}
+use Rattle.server_rules.specs.Steps.{tellFrom}
 use Rattle.server.proofs.Sending.{room-fewer, room-told}
 use Rattle.server.proofs.Acceptance.{tell-turn, tell-end}
 use native.Mathlib.Omega.{arith}

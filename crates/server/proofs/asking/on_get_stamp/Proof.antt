@@ -1,14 +1,14 @@
 -- The step of one kind: refused as the tests say, or its whole outcome. Assumes nothing.
 use Rattle.server.proofs.Answers.{refused-is, step-is, only-sent}
 use Rattle.server.proofs.Sending.{stamp-room}
-use Rattle.server.specs.Tests.{messageTest, senderRight, orderTest}
+use Rattle.server_rules.specs.Tests.{messageTest, senderRight, orderTest}
 use Rattle.frame.proofs.Within.{stop-not, go-on}
 use Rattle.frame.specs.declared.Verdict.the-variants as J
 use Rattle.frame.specs.declared.Refusal.the-variants as R
 use Rattle.frame.specs.declared.Party.the-variants as P
 use Rattle.frame.specs.Messages.{message, sending, stampIs}
 use Rattle.frame.specs.Outbox.{outbox, sent, firstPlace}
-use Rattle.server.specs.declared.Scope.{Scope}
+use Rattle.server_rules.specs.declared.Scope.{Scope}
 use Rattle.server.proofs.Scopes.{as-it-was}
 use mathlib.Core.List.{_∷_, []}
 use mathlib.Core.Path.{refl, ap, _∙_}

@@ -1,9 +1,9 @@
 -- The step of one kind: refused as the tests say, or its whole outcome. Assumes nothing.
 use Rattle.server.proofs.Answers.{refused-is, step-is, only-sent}
-use Rattle.server.specs.Steps.{onRead}
-use Rattle.server.specs.Tests.{messageTest, senderRight, orderTest, fromOwner, readTest}
-use Rattle.server.specs.State.{withReader, bare, presentEntry}
-use Rattle.server.specs.declared.Scope.{Scope}
+use Rattle.server_rules.specs.Steps.{onRead}
+use Rattle.server_rules.specs.Tests.{messageTest, senderRight, orderTest, fromOwner, readTest}
+use Rattle.server_rules.specs.State.{withReader, bare, presentEntry}
+use Rattle.server_rules.specs.declared.Scope.{Scope}
 use Rattle.server.proofs.Scopes.{reader-set, presents}
 use Rattle.area.specs.Area.{pick}
 use Rattle.frame.specs.declared.Party.the-variants as P

@@ -1,9 +1,9 @@
 -- The step of one kind: refused as the tests say, or its whole outcome. Assumes nothing.
 use Rattle.server.proofs.Answers.{refused-is, step-is, none-sent}
-use Rattle.server.specs.Steps.{onReadComplete}
-use Rattle.server.specs.Tests.{messageTest, senderRight, orderTest, fromOwner, doneTest}
-use Rattle.server.specs.State.{withReader}
-use Rattle.server.specs.declared.Scope.{Scope}
+use Rattle.server_rules.specs.Steps.{onReadComplete}
+use Rattle.server_rules.specs.Tests.{messageTest, senderRight, orderTest, fromOwner, doneTest}
+use Rattle.server_rules.specs.State.{withReader}
+use Rattle.server_rules.specs.declared.Scope.{Scope}
 use Rattle.server.proofs.Scopes.{reader-set}
 use Rattle.area.specs.Area.{pick}
 use Rattle.frame.specs.declared.Refusal.the-variants as R

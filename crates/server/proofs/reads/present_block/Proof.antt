@@ -1,7 +1,7 @@
 use lib.ListN.{length}
 use Prim.Native.Nat.{_+_, _≤_}
 use Rattle.server.proofs.Present.{from-initial, from-state}
-use Rattle.server.specs.State.{bare}
+use Rattle.server_rules.specs.State.{bare}
 use lib.Seq.{length-take-le}
 use mathlib.Core.Path.{sym}
 use native.Mathlib.Omega.{arith}

@@ -1,5 +1,5 @@
 use Rattle.server.proofs.Present.{present-sent}
-use Rattle.server.specs.State.{bare}
+use Rattle.server_rules.specs.State.{bare}
 use Rattle.frame.proofs.Writing.{room-of}
 use Rattle.server.proofs.Present.{present-size}
 use mathlib.Core.Path.{sym}

@@ -1,6 +1,6 @@
 use Rattle.server.proofs.TimeStage.{times-settled}
 use Rattle.server.proofs.Sending.{all-room, time-room, time-small}
-use Rattle.server.specs.declared.Slot.{Slot}
+use Rattle.server_rules.specs.declared.Slot.{Slot}
 use Rattle.frame.specs.Messages.{ready}
 use Rattle.sha256.specs.Hash.{digestOf}
 use mathlib.Core.Path.{ap, _∙_}

@@ -1,16 +1,16 @@
 -- The step of one kind: refused as the tests say, or its whole outcome. Assumes nothing.
-use Rattle.server.specs.Steps.{onTime}
+use Rattle.server_rules.specs.Steps.{onTime}
 use Rattle.server.proofs.TimeStage.{times-voted}
 use Rattle.server.proofs.Answers.{refused-is, step-is, voted}
-use Rattle.server.specs.Tests.{messageTest, senderRight, orderTest, counted, openTest}
-use Rattle.server.specs.State.{slotOf, withTimes, timeEcho}
-use Rattle.server.specs.declared.Slot.{Slot}
+use Rattle.server_rules.specs.Tests.{messageTest, senderRight, orderTest, counted, openTest}
+use Rattle.server_rules.specs.State.{slotOf, withTimes, timeEcho}
+use Rattle.server_rules.specs.declared.Slot.{Slot}
 use Rattle.sha256.specs.Hash.{digestOf}
 use Rattle.area.specs.Area.{pick}
 use Rattle.frame.specs.Messages.{fromServer, numberIn}
 use Rattle.frame.specs.declared.Refusal.the-variants as R
 use Rattle.frame.specs.declared.Verdict.the-variants as J
-use Rattle.server.specs.declared.Scope.{Scope}
+use Rattle.server_rules.specs.declared.Scope.{Scope}
 use lib.ListN.{getD}
 use mathlib.Core.Bool.{false}
 use Prim.Native.Nat.{ℕ}

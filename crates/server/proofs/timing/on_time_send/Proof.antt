@@ -1,15 +1,15 @@
 -- The step of one kind: refused as the tests say, or its whole outcome. Assumes nothing.
-use Rattle.server.specs.Steps.{onTime}
+use Rattle.server_rules.specs.Steps.{onTime}
 use Rattle.server.proofs.Answers.{refused-is, step-is, owned, time-echoed}
 use Rattle.server.proofs.Sending.{time-room}
 use Rattle.server.proofs.Scopes.{slot-set}
 use Rattle.area.specs.Area.{pick}
 use Rattle.frame.specs.declared.Refusal.the-variants as R
 use Rattle.frame.specs.declared.Verdict.the-variants as J
-use Rattle.server.specs.declared.Scope.{Scope}
+use Rattle.server_rules.specs.declared.Scope.{Scope}
 use mathlib.Core.Path.{ap, sym, _∙_}
-use Rattle.server.specs.Tests.{messageTest, senderRight, orderTest, counted, fromOwner, openTest}
-use Rattle.server.specs.State.{slotOf, withTimes, timeSent}
+use Rattle.server_rules.specs.Tests.{messageTest, senderRight, orderTest, counted, fromOwner, openTest}
+use Rattle.server_rules.specs.State.{slotOf, withTimes, timeSent}
 use borrow.Author.Needs.{needs}
 use Rattle.server.proofs.timing.on_time_send.Statement.{statement}
 use Rattle.server.proofs.timing.on_time_send.Tie as tie

@@ -1,7 +1,7 @@
 -- The parts of the stage one after the other. Assumes nothing.
 use Rattle.server_blocks.proofs.Settling.{answered}
 use Rattle.server_blocks.proofs.Rooms.{ready-room, entry-fits, lent-after}
-use Rattle.server.specs.declared.Slot.{Slot}
+use Rattle.server_rules.specs.declared.Slot.{Slot}
 use Rattle.frame.specs.Messages.{entry}
 use mathlib.Core.Path.{ap, _∙_}
 use borrow.Author.Needs.{needs}

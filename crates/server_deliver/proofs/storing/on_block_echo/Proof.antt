@@ -9,10 +9,10 @@ use Rattle.frame.proofs.Chunks.{length-store}
 use Rattle.frame.specs.Chunks.{echoAt}
 use Rattle.frame.specs.Messages.{entry}
 use Rattle.sha256.specs.Hash.{digestOf}
-use Rattle.server.specs.declared.Scope.{Scope}
-use Rattle.server.specs.declared.Slot.{Slot}
-use Rattle.server.specs.State.{slotOf, withBlocks, blockEcho}
-use Rattle.server.specs.Steps.{onBlock}
+use Rattle.server_rules.specs.declared.Scope.{Scope}
+use Rattle.server_rules.specs.declared.Slot.{Slot}
+use Rattle.server_rules.specs.State.{slotOf, withBlocks, blockEcho}
+use Rattle.server_rules.specs.Steps.{onBlock}
 use Rattle.server_deliver.proofs.BlockSteps.{echo-test, kept-voted, blocks-voted}
 use Rattle.server.proofs.Answers.{refused-is, step-is}
 use Rattle.server_deliver.proofs.storing.on_block_echo.Statement.{statement}

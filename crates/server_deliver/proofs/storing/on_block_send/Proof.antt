@@ -3,9 +3,9 @@ use borrow.Author.Needs.{needs}
 use Rattle.frame.specs.Messages.{entry}
 use Rattle.sha256.specs.Hash.{digestOf}
 use mathlib.Core.Path.{ap, sym, _∙_}
-use Rattle.server.specs.declared.Scope.{Scope}
-use Rattle.server.specs.State.{slotOf, withBlocks, blockSent}
-use Rattle.server.specs.Steps.{onBlock}
+use Rattle.server_rules.specs.declared.Scope.{Scope}
+use Rattle.server_rules.specs.State.{slotOf, withBlocks, blockSent}
+use Rattle.server_rules.specs.Steps.{onBlock}
 use Rattle.server_deliver.proofs.BlockSteps.{sent-test, kept-owned, block-room, block-echoed}
 use Rattle.server.proofs.Answers.{refused-is, step-is}
 use Rattle.server.proofs.Scopes.{slot-set}

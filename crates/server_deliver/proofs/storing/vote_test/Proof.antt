@@ -5,7 +5,7 @@ use native.Mathlib.Omega.{arith}
 use borrow.Author.Needs.{needs}
 use Rattle.sha256.specs.Hash.{digestOf}
 use Rattle.frame.specs.Messages.{entry}
-use Rattle.server.specs.Tests.{fitTest}
+use Rattle.server_rules.specs.Tests.{fitTest}
 use Rattle.server.proofs.Answers.{voted}
 use Rattle.frame.proofs.Within.{stop-first, go-second}
 use Rattle.server_deliver.proofs.storing.vote_test.Statement.{statement}

@@ -1,0 +1,498 @@
+-- What one call does to a client: what it has counted, sent and ended, as the record ClientFacts, which is all that runs need of a call here.
+-- Assumes nothing.
+use Prim.Native.Nat.{ℕ, zero, suc, _+_, _-_, _≤_, _<_, max, min}
+use native.Mathlib.Omega.{arith}
+use native.Mathlib.Decide.{ℕ-discrete}
+use mathlib.Core.Bool.{Bool, true, false}
+use mathlib.Core.Path.{_≡_, refl, ap, sym, _∙_, subst}
+use mathlib.Core.Logic.{_⊎_, inl, inr, ⊎-elim}
+use mathlib.Core.Option.{Option, none, some}
+use mathlib.Core.List.{List, [], List·Memᴰ, List·Memᴰ·not-nil, List·Memᴰ·append-cases}
+use lib.ListN.{length, getD, set, replicate, length-set, length-replicate, getD-replicate}
+use lib.Seq.{getD-set-same, getD-set-other}
+use lib.Dec.{eqb}
+use borrow.Author.Tests.{leb-true, eqb-true}
+use Rattle.quorum.specs.Quorum.{count, Among}
+use Rattle.quorum.proofs.Logic.{impossible, and-split}
+use Rattle.quorum.proofs.Quorums.{AtLeast, at-least-map}
+use Rattle.area.specs.Area.{pick}
+use Rattle.blocks.specs.declared.Params.{Params}
+use Rattle.frame.specs.declared.Stamp.{Stamp}
+use Rattle.frame.specs.declared.Party.{Party}
+use Rattle.frame.specs.declared.Verdict.{Verdict}
+use Rattle.frame.specs.declared.Party.the-variants as A
+use Rattle.frame.specs.declared.Verdict.the-variants as J
+use Rattle.frame.specs.Chunks.{storeEntry, rowsBytes, placeAt}
+use Rattle.group_rules.specs.Coded.{entryOf}
+use Rattle.frame.specs.Messages.{Entry, send, Body, getStamp, ack, askRead, readComplete, stampIs, blockIs, timeIs, valueIs, Message, message, Sending, sending, toAll, Sized, FormedBody}
+use Rattle.frame.proofs.Chunks.{length-store}
+use Rattle.frame.proofs.Sizes.{Small}
+use Rattle.frame.proofs.Verdicts.{fine-both}
+use Rattle.client_rules.specs.declared.Phase.{Phase}
+use Rattle.client_rules.specs.declared.Client.{Client}
+use Rattle.client_rules.specs.declared.Phase.the-variants as F
+use Rattle.client_rules.specs.Rows.{used, Kept, placesFrom, rowView, placeFor, rowWith, Found, search}
+use Rattle.client_rules.specs.State.{freshRow, freshClient, noRow, rowOf, inPhase, withRow, heardOf, largest}
+use Rattle.client_rules.specs.Beginning as CB
+use Rattle.client_rules.specs.State as CS
+use Rattle.client_rules.specs.Steps as C
+use Rattle.client_rules.specs.Tests as CT
+use Rattle.client_rules.proofs.Views as CV
+use Rattle.client_rules.proofs.Agreed.{finds}
+use Rattle.client_rules.proofs.Sends.{mem-all}
+
+-- ---- small laws
+
+pub awaited-true : (H : List ℕ → List ℕ) (g : Params) (me : ℕ) (b : Bool) → CT.awaited b ≡ J.Fine → b ≡ true
+unfolding CT.awaited pick
+awaited-true H g me true e = refl
+awaited-true H g me false e = impossible (cc)
+
+-- a time beside its flag
+abbrev kept : Bool → ℕ → Option ℕ
+kept true T = some T
+kept false T = none
+
+no-flag : (n j : ℕ) → getD (replicate n false) j false ≡ false
+no-flag zero j = refl
+no-flag (suc n) zero = refl
+no-flag (suc n) (suc j) = no-flag n j
+
+kept-some : (b : Bool) (v y : ℕ) → kept b v ≡ some y → (b ≡ true) × (v ≡ y)
+kept-some true v y e = (refl, cc)
+kept-some false v y e = impossible (cc)
+
+kept-true : (b : Bool) (v : ℕ) → b ≡ true → kept b v ≡ some v
+kept-true true v e = refl
+kept-true false v e = impossible (cc)
+
+le-largest : (f : ℕ → ℕ) (n j : ℕ) → Among n j → f j ≤ largest f n
+unfolding largest
+le-largest f zero j i = absurd (omega (arith, i .0, i .1))
+le-largest f (suc k) j i = go (λ l. le-largest f k j (i .0, l)) (ℕ-discrete j (suc k))
+  where
+    go : (j ≤ k → f j ≤ largest f k) → Dec (j ≡ suc k) → f j ≤ max (f (suc k)) (largest f k)
+    go h (yes z) = let w : f j ≡ f (suc k) = ap f z in omega (arith, w)
+    go h (no z) = let w = h (omega (arith, z, i .1)) in omega (arith, w)
+
+-- ---- a client's state that calls find
+
+pub record ClientShape (s : Client) (a : List ℕ) : Type 0 where
+  pub shaped : CV.Shaped s
+  pub heard-many : length (s .heard) ≡ 11
+  pub times-many : length (s .times) ≡ 11
+  pub room : rowsBytes ≤ length a
+
+pub set-cases : {A : Type 0} (l : List A) (i : ℕ) (v d : A) → i < length l → (j : ℕ) → ((j ≡ i) × (getD (set l i v) j d ≡ v)) ⊎ (getD (set l i v) j d ≡ getD l j d)
+set-cases l i v d h j = go (ℕ-discrete j i)
+  where
+    go : Dec (j ≡ i) → ((j ≡ i) × (getD (set l i v) j d ≡ v)) ⊎ (getD (set l i v) j d ≡ getD l j d)
+    go (yes z) = inl (z, ap (λ y. getD (set l i v) y d) z ∙ getD-set-same l i v d h)
+    go (no z) = inr (getD-set-other l i j v d z)
+
+pub row-shaped : (s : Client) → CV.Shaped s → (j : ℕ) → j ≤ 10 → (i : ℕ) (x : Stamp) → CV.Shaped (withRow s j (rowWith (rowOf s j) i x))
+row-shaped s S j hj i x = record {
+  rows-many = length-set (s .rows) j _ ∙ S .rows-many;
+  stamps-many = λ m hm. ⊎-elim
+      (λ w. ap (λ r. length (r .stamps)) (w .1) ∙ length-set (rowOf s j .stamps) i x ∙ S .stamps-many j hj)
+      (λ w. ap (λ r. length (r .stamps)) w ∙ S .stamps-many m hm)
+      (set-cases (s .rows) j (rowWith (rowOf s j) i x) noRow (omega (arith, S .rows-many)) m);
+}
+
+fresh-row : (n m : ℕ) → (getD (replicate n freshRow) m noRow .count ≡ 0)
+unfolding freshRow
+fresh-row zero m = refl
+fresh-row (suc n) zero = refl
+fresh-row (suc n) (suc m) = fresh-row n m
+
+pub rows-shaped : (s : Client) → s .rows ≡ replicate 11 freshRow → CV.Shaped s
+unfolding freshRow
+rows-shaped s e = record {
+  rows-many = ap length e ∙ length-replicate 11 freshRow;
+  stamps-many = λ j h. ap (λ l. length (getD l j noRow .stamps)) e ∙ ap (λ r. length (r .stamps)) (getD-replicate 11 j freshRow noRow (omega arith));
+}
+
+pub no-rows : (g : Params) (s : Client) (a : List ℕ) (j : ℕ) (k : Kept) → s .rows ≡ replicate 11 freshRow → List·Memᴰ k (rowView g s a j) → ⊥
+unfolding rowView placesFrom
+no-rows g s a j k e u =
+    let c : used (rowOf s j) ≡ 0 = ap (λ l. used (getD l j noRow)) e ∙ ap (λ m. min m 4) (fresh-row 11 j) in
+    List·Memᴰ·not-nil (subst (λ n. List·Memᴰ k (placesFrom g a j (rowOf s j) 0 n)) c u)
+
+pub client-shape-fresh : (a : List ℕ) → rowsBytes ≤ length a → ClientShape freshClient a
+unfolding freshClient
+client-shape-fresh a R = record { shaped = rows-shaped freshClient refl; heard-many = refl; times-many = refl; room = R }
+
+-- ---- the facts
+
+-- the time of server j that was counted
+abbrev pub timeOf : Client → ℕ → Option ℕ
+timeOf s j = kept (getD (s .heard) j false) (getD (s .times) j 0)
+
+module _ (H : List ℕ → List ℕ) (g : Params) (M : Small g) (few : g .n ≤ 10) (me : ℕ) where
+  -- N j m: the call brought m of server j
+  module _ (s : Client) (a : List ℕ) (N : ℕ → Message → Type 0) where
+    abbrev pub KnowsT : ℕ → ℕ → Type 0
+    KnowsT j T = ((s .phase ≡ F.Asking) × (timeOf s j ≡ some T)) ⊎ N j (message me (s .writes) (stampIs T))
+
+    abbrev pub KnowsA : ℕ → Type 0
+    KnowsA j = ((s .phase ≡ F.Acking) × (heardOf s j ≡ true)) ⊎ N j (message me (s .writes) ack)
+
+    abbrev pub KnowsV : ℕ → Kept → Type 0
+    KnowsV j k = ((s .phase ≡ F.Reading) × List·Memᴰ k (rowView g s a j)) ⊎ N j (message me (s .reads) (valueIs (k .stamp) (k .entry)))
+
+    pub record ClientFacts (s′ : Client) (a′ : List ℕ) (l : List Sending) (ev : C.Event) : Type 0 where
+      pub client-shape : ClientShape s′ a′
+      pub writes-up : s .writes ≤ s′ .writes
+      pub reads-up : s .reads ≤ s′ .reads
+      pub t-kept : (j T : ℕ) → Among (g .n) j → s′ .phase ≡ F.Asking → timeOf s′ j ≡ some T → (s′ .writes ≡ s .writes) × KnowsT j T
+      pub a-kept : (j : ℕ) → Among (g .n) j → s′ .phase ≡ F.Acking → heardOf s′ j ≡ true → (s′ .writes ≡ s .writes) × KnowsA j
+      pub v-kept : (j : ℕ) (k : Kept) → Among (g .n) j → s′ .phase ≡ F.Reading → List·Memᴰ k (rowView g s′ a′ j) → (s′ .reads ≡ s .reads) × KnowsV j k
+      pub t-sent : (b : Party) (d q T : ℕ) → List·Memᴰ (sending b (message d q (timeIs send T))) l
+          → (q ≡ s .writes) × AtLeast (g .n) (g .n - g .t) (λ j. (T′ : ℕ) × (T′ ≤ T) × KnowsT j T′)
+      pub g-sent : (b : Party) (d q : ℕ) → List·Memᴰ (sending b (message d q getStamp)) l → q ≤ s′ .writes
+      pub r-sent : (b : Party) (d q : ℕ) → List·Memᴰ (sending b (message d q askRead)) l → q ≤ s′ .reads
+      pub write-why : ev ≡ C.written → AtLeast (g .n) (g .n - g .t) KnowsA
+      pub read-why : (v : Found) → ev ≡ C.completed v → AtLeast (g .n) (g .n - g .t) (λ j. (k : Kept) × (k .stamp ≡ v .stamp) × (k .entry .digests ≡ v .digests) × KnowsV j k)
+
+    -- a move that sends nothing and ends nothing
+    turn-facts : (s′ : Client) (a′ : List ℕ) → ClientShape s′ a′ → s′ .writes ≡ s .writes → s′ .reads ≡ s .reads
+        → ((j T : ℕ) → Among (g .n) j → s′ .phase ≡ F.Asking → timeOf s′ j ≡ some T → KnowsT j T)
+        → ((j : ℕ) → Among (g .n) j → s′ .phase ≡ F.Acking → heardOf s′ j ≡ true → KnowsA j)
+        → ((j : ℕ) (k : Kept) → Among (g .n) j → s′ .phase ≡ F.Reading → List·Memᴰ k (rowView g s′ a′ j) → KnowsV j k)
+        → ClientFacts s′ a′ [] C.nothing
+    turn-facts s′ a′ X ew er ft fa fv = record {
+      client-shape = X;
+      writes-up = omega (arith, ew);
+      reads-up = omega (arith, er);
+      t-kept = λ j T i p e. (ew, ft j T i p e);
+      a-kept = λ j i p e. (ew, fa j i p e);
+      v-kept = λ j k i p e. (er, fv j k i p e);
+      t-sent = λ b d q T u. absurd (List·Memᴰ·not-nil u);
+      g-sent = λ b d q u. absurd (List·Memᴰ·not-nil u);
+      r-sent = λ b d q u. absurd (List·Memᴰ·not-nil u);
+      write-why = λ e. impossible (cc);
+      read-why = λ v e. impossible (cc);
+    }
+
+    pub quiet-facts : ClientShape s a → ClientFacts s a [] C.nothing
+    quiet-facts X = turn-facts s a X refl refl (λ j T i p e. inl (p, e)) (λ j i p e. inl (p, e)) (λ j k i p e. inl (p, e))
+
+    -- ---- stamps
+
+    abbrev heardNow : ℕ → List Bool
+    heardNow j = set (s .heard) j true
+
+    abbrev timesNow : ℕ → ℕ → List ℕ
+    timesNow j T = set (s .times) j T
+
+    stamp-knows : ClientShape s a → s .phase ≡ F.Asking → (j T : ℕ) → Among (g .n) j → N j (message me (s .writes) (stampIs T))
+        → (i T′ : ℕ) → kept (getD (heardNow j) i false) (getD (timesNow j T) i 0) ≡ some T′ → KnowsT i T′
+    stamp-knows X p j T ij new i T′ e = go (ℕ-discrete i j)
+      where
+        go : Dec (i ≡ j) → KnowsT i T′
+        go (yes z) =
+            let w = kept-some (getD (heardNow j) i false) (getD (timesNow j T) i 0) T′ e in
+            let t : T ≡ T′ = sym (getD-set-same (s .times) j T 0 (omega (arith, X .times-many, few, ij .1))) ∙ ap (λ y. getD (timesNow j T) y 0) (sym z) ∙ w .1 in
+            inr (subst (λ y. N i (message me (s .writes) (stampIs y))) t (subst (λ y. N y (message me (s .writes) (stampIs T))) (sym z) new))
+        go (no z) =
+            let u : kept (getD (heardNow j) i false) (getD (timesNow j T) i 0) ≡ timeOf s i =
+            λ d. kept (getD-set-other (s .heard) j i true false z d) (getD-set-other (s .times) j i T 0 z d) in
+            inl (p, sym u ∙ e)
+
+    abbrev asked : ℕ → ℕ → Client
+    asked j T = inPhase s F.Asking (heardNow j) (timesNow j T)
+
+    asked-trim : ClientShape s a → (j T : ℕ) → ClientShape (asked j T) a
+    asked-trim X j T = record {
+      shaped = record { rows-many = X .shaped .rows-many; stamps-many = X .shaped .stamps-many };
+      heard-many = length-set (s .heard) j true ∙ X .heard-many;
+      times-many = length-set (s .times) j T ∙ X .times-many;
+      room = X .room;
+    }
+
+    phase-trim : ClientShape s a → (p : Phase) (h : List Bool) (ts : List ℕ) → length h ≡ 11 → length ts ≡ 11 → ClientShape (inPhase s p h ts) a
+    phase-trim X p h ts eh et = record {
+      shaped = record { rows-many = X .shaped .rows-many; stamps-many = X .shaped .stamps-many };
+      heard-many = eh;
+      times-many = et;
+      room = X .room;
+    }
+
+    body-all : (f : ℕ → Message) (b : Party) (m : Message) → List·Memᴰ (sending b m) (toAll g f) → (j : ℕ) × (m .body ≡ f j .body) × (m .sequence ≡ f j .sequence)
+    unfolding toAll
+    body-all f b m u = let w = mem-all f 1 (g .n) (sending b m) u in (w .0, ap (λ z. z .body) (w .1), ap (λ z. z .sequence) (w .1))
+
+    -- all counted times are at most U
+    abbrev Above : ℕ → ℕ → ℕ → Type 0
+    Above j T U = (i : ℕ) → Among (g .n) i → getD (timesNow j T) i 0 ≤ U
+
+    abbrev Of : C.Effect → Type 0
+    Of r = ClientFacts (r .client) (r .area) (r .sends) (r .event)
+
+    module _ (X : ClientShape s a) (p : s .phase ≡ F.Asking) (v : List ℕ) (j T : ℕ) (ij : Among (g .n) j) (new : N j (message me (s .writes) (stampIs T))) where
+      quorum : C.quorate g (heardNow j) ≡ true → (U : ℕ) → Above j T U → (T₁ : ℕ) → T₁ ≡ U → AtLeast (g .n) (g .n - g .t) (λ i. (T′ : ℕ) × (T′ ≤ T₁) × KnowsT i T′)
+      unfolding C.quorate
+      quorum e U above T₁ eT = record {
+        member = λ i. getD (heardNow j) i false;
+        many = let h = leb-true (g .n) _ e in omega (arith, h);
+        each = λ i is b. (
+          getD (timesNow j T) i 0,
+          subst (λ y. getD (timesNow j T) i 0 ≤ y) (sym eT) (above i is),
+          stamp-knows X p j T ij new i (getD (timesNow j T) i 0) (kept-true _ _ b),
+        );
+      }
+
+      time-same : (T₁ T₂ : ℕ) → timeIs send T₁ ≡ timeIs send T₂ → T₁ ≡ T₂
+      time-same T₁ T₂ e = cc
+
+      send-by : (b : Bool) (U : ℕ) → Above j T U → C.quorate g (heardNow j) ≡ true → Of (C.sendBelow H g me b (asked j T) a v U)
+      unfolding C.sendBelow
+      send-by true U above e = record {
+        client-shape = phase-trim X F.Acking (replicate 11 false) (timesNow j T) refl (length-set (s .times) j T ∙ X .times-many);
+        writes-up = omega arith;
+        reads-up = omega arith;
+        t-kept = λ i T′ is q z. impossible (cc);
+        a-kept = λ i is q z. impossible (cc (no-flag 11 i, z));
+        v-kept = λ i k is q z. impossible (cc);
+        t-sent = λ b d q T₁ u. ⊎-elim
+            (λ y. impossible (cc (body-all (λ j. message me (s .writes) (blockIs send (entryOf H g v j))) b _ y .1)))
+            (λ y. (body-all _ b _ y .2, quorum e U above T₁ (time-same T₁ _ (body-all _ b _ y .1))))
+            (List·Memᴰ·append-cases (toAll g (λ j. message me (s .writes) (blockIs send (entryOf H g v j)))) u);
+        g-sent = λ b d q u. ⊎-elim
+            (λ y. impossible (cc (body-all (λ j. message me (s .writes) (blockIs send (entryOf H g v j))) b _ y .1)))
+            (λ y. impossible (cc (body-all _ b _ y .1)))
+            (List·Memᴰ·append-cases (toAll g (λ j. message me (s .writes) (blockIs send (entryOf H g v j)))) u);
+        r-sent = λ b d q u. ⊎-elim
+            (λ y. impossible (cc (body-all (λ j. message me (s .writes) (blockIs send (entryOf H g v j))) b _ y .1)))
+            (λ y. impossible (cc (body-all _ b _ y .1)))
+            (List·Memᴰ·append-cases (toAll g (λ j. message me (s .writes) (blockIs send (entryOf H g v j)))) u);
+        write-why = λ z. impossible (cc);
+        read-why = λ v z. impossible (cc);
+      }
+      send-by false U above e = record {
+        client-shape = record {
+          shaped = record { rows-many = X .shaped .rows-many; stamps-many = X .shaped .stamps-many };
+          heard-many = length-set (s .heard) j true ∙ X .heard-many;
+          times-many = length-set (s .times) j T ∙ X .times-many;
+          room = X .room;
+        };
+        writes-up = omega arith;
+        reads-up = omega arith;
+        t-kept = λ i T′ is q z. impossible (cc);
+        a-kept = λ i is q z. impossible (cc);
+        v-kept = λ i k is q z. impossible (cc);
+        t-sent = λ b d q T u. absurd (List·Memᴰ·not-nil u);
+        g-sent = λ b d q u. absurd (List·Memᴰ·not-nil u);
+        r-sent = λ b d q u. absurd (List·Memᴰ·not-nil u);
+        write-why = λ z. impossible (cc);
+        read-why = λ v z. impossible (cc);
+      }
+
+      -- the time that is sent is the largest of them, so at least each
+      gather : (b : Bool) → C.quorate g (heardNow j) ≡ b → Of (C.gatherBy H g me b (asked j T) a v)
+      unfolding C.gatherBy
+      gather true e = send-by _ _ (λ i is. le-largest (λ m. getD (timesNow j T) m 0) (g .n) i is) e
+      gather false e = turn-facts (asked j T) a (asked-trim X j T) refl refl (λ i T′ is q z. stamp-knows X p j T ij new i T′ z) (λ i is q z. impossible (cc)) (λ i k is q z. impossible (cc))
+
+      stamp-facts : Of (C.onStamp H g me s a v j T)
+      unfolding C.onStamp
+      stamp-facts = gather (C.quorate g (heardNow j)) refl
+
+    -- ---- acks
+
+    ack-facts : ClientShape s a → s .phase ≡ F.Acking → (j : ℕ) → Among (g .n) j → N j (message me (s .writes) ack)
+        → ClientFacts (C.onAck H g me s a j .client) (C.onAck H g me s a j .area) (C.onAck H g me s a j .sends) (C.onAck H g me s a j .event)
+    unfolding C.onAck C.quorate C.endBy
+    ack-facts X p j ij new = go (C.quorate g (heardNow j)) refl
+      where
+        Of : C.Effect → Type 0
+        Of r = ClientFacts (r .client) (r .area) (r .sends) (r .event)
+
+        knows : (i : ℕ) → getD (heardNow j) i false ≡ true → KnowsA i
+        knows i e = ⊎-elim
+            (λ w. inr (subst (λ y. N y (message me (s .writes) ack)) (sym (w .0)) new))
+            (λ w. inl (p, sym w ∙ e))
+            (set-cases (s .heard) j true false (omega (arith, X .heard-many, few, ij .1)) i)
+
+        go : (b : Bool) → C.quorate g (heardNow j) ≡ b → Of (C.endBy H g me b s a (heardNow j))
+        go true e = record {
+          client-shape = phase-trim X F.Idle (heardNow j) (s .times) (length-set (s .heard) j true ∙ X .heard-many) (X .times-many);
+          writes-up = omega arith;
+          reads-up = omega arith;
+          t-kept = λ i T′ is q z. impossible (cc);
+          a-kept = λ i is q z. impossible (cc);
+          v-kept = λ i k is q z. impossible (cc);
+          t-sent = λ b d q T u. absurd (List·Memᴰ·not-nil u);
+          g-sent = λ b d q u. absurd (List·Memᴰ·not-nil u);
+          r-sent = λ b d q u. absurd (List·Memᴰ·not-nil u);
+          write-why = λ z. record {
+            member = λ i. getD (heardNow j) i false;
+            many = omega (arith, leb-true (g .n) (count (λ i. getD (heardNow j) i false) (g .n) + g .t) e);
+            each = λ i is b. knows i b;
+          };
+          read-why = λ v z. impossible (cc);
+        }
+        go false e = turn-facts (inPhase s F.Acking (heardNow j) (s .times)) a
+            (phase-trim X F.Acking (heardNow j) (s .times) (length-set (s .heard) j true ∙ X .heard-many) (X .times-many)) refl refl
+            (λ i T′ is q z. impossible (cc)) (λ i is q z. knows i z) (λ i k is q z. impossible (cc))
+
+    -- ---- values
+
+    settle-facts : (s′ : Client) (a′ : List ℕ) → ClientShape s′ a′ → s′ .writes ≡ s .writes → s′ .reads ≡ s .reads → s′ .phase ≡ F.Reading
+        → ((i : ℕ) (k : Kept) → Among (g .n) i → List·Memᴰ k (rowView g s′ a′ i) → KnowsV i k)
+        → ClientFacts (C.settle H g me s′ a′ .client) (C.settle H g me s′ a′ .area) (C.settle H g me s′ a′ .sends) (C.settle H g me s′ a′ .event)
+    unfolding C.settle C.completeBy
+    settle-facts s′ a′ X ew er p f = go (search g (rowView g s′ a′)) refl
+      where
+        Of : C.Effect → Type 0
+        Of r = ClientFacts (r .client) (r .area) (r .sends) (r .event)
+
+        go : (o : Option Found) → search g (rowView g s′ a′) ≡ o → Of (C.completeBy H g me o s′ a′)
+        go none e = turn-facts s′ a′ X ew er (λ i T′ is q z. impossible (cc)) (λ i is q z. impossible (cc)) (λ i k is q z. f i k is z)
+        go (some y) e = record {
+          client-shape = record {
+            shaped = record { rows-many = X .shaped .rows-many; stamps-many = X .shaped .stamps-many };
+            heard-many = X .heard-many;
+            times-many = X .times-many;
+            room = X .room;
+          };
+          writes-up = omega (arith, ew);
+          reads-up = omega (arith, er);
+          t-kept = λ i T′ is q z. impossible (cc);
+          a-kept = λ i is q z. impossible (cc);
+          v-kept = λ i k is q z. impossible (cc);
+          t-sent = λ b d q T u. impossible (cc (body-all _ b _ u .1));
+          g-sent = λ b d q u. impossible (cc (body-all _ b _ u .1));
+          r-sent = λ b d q u. impossible (cc (body-all _ b _ u .1));
+          write-why = λ z. impossible (cc);
+          read-why = λ v z.
+              let w : y ≡ v = cc in
+              at-least-map (λ i is h. (h .it, h .stamp, h .digests, f i (h .it) is (h .in-row))) (finds H g (rowView g s′ a′) v (e ∙ ap some w));
+        }
+
+    value-facts : ClientShape s a → s .phase ≡ F.Reading → (j : ℕ) (x : Stamp) (e : Entry) → Sized g e → Among (g .n) j → N j (message me (s .reads) (valueIs x e))
+        → ClientFacts (C.onValue H g me s a j x e .client) (C.onValue H g me s a j x e .area) (C.onValue H g me s a j x e .sends) (C.onValue H g me s a j x e .event)
+    unfolding C.onValue C.keepBy
+    value-facts X p j x e Q ij new = go (placeFor (rowOf s j) x) refl
+      where
+        Of : C.Effect → Type 0
+        Of r = ClientFacts (r .client) (r .area) (r .sends) (r .event)
+
+        go : (o : Option ℕ) → placeFor (rowOf s j) x ≡ o → Of (C.keepBy H g me o s a j x e)
+        go none z = settle-facts s a X refl refl p (λ i k is u. inl (p, u))
+        go (some i) z = settle-facts (withRow s j (rowWith (rowOf s j) i x)) (storeEntry a (placeAt j i) e)
+            (record {
+              shaped = row-shaped s (X .shaped) j (omega (arith, few, ij .1)) i x;
+              heard-many = X .heard-many;
+              times-many = X .times-many;
+              room = rw length-store (X .room);
+            })
+            refl refl p
+            (λ m k is u. ⊎-elim
+            (λ w. inr (subst (λ y. N m (message me (s .reads) (valueIs (y .stamp) (y .entry)))) (sym (w .1)) (subst (λ y. N y (message me (s .reads) (valueIs x e))) (sym (w .0)) new)))
+            (λ w. inl (p, w))
+            (CV.row-kept g M s (X .shaped) a (X .room) j (ij .0, omega (arith, few, ij .1)) x e Q i (CV.goes (rowOf s j) x i z) m (is .0) k u))
+
+  asking-is : (p : Phase) → CS.asking p ≡ true → p ≡ F.Asking
+  asking-is F.Idle e = impossible (cc)
+  asking-is F.Asking e = refl
+  asking-is F.Acking e = impossible (cc)
+  asking-is F.Reading e = impossible (cc)
+
+  acking-is : (p : Phase) → CS.acking p ≡ true → p ≡ F.Acking
+  acking-is F.Idle e = impossible (cc)
+  acking-is F.Asking e = impossible (cc)
+  acking-is F.Acking e = refl
+  acking-is F.Reading e = impossible (cc)
+
+  reading-is : (p : Phase) → CS.reading p ≡ true → p ≡ F.Reading
+  reading-is F.Idle e = impossible (cc)
+  reading-is F.Asking e = impossible (cc)
+  reading-is F.Acking e = impossible (cc)
+  reading-is F.Reading e = refl
+
+  -- a frame of server j with the message m
+  abbrev pub Brought : ℕ → Message → ℕ → Message → Type 0
+  Brought j m i m′ = (j ≡ i) × (m ≡ m′)
+
+  body-facts : (s : Client) (a v : List ℕ) → ClientShape s a → (j q : ℕ) (b : Body) → Among (g .n) j → FormedBody g b → CT.orderTest H g me s j q b ≡ J.Fine
+      → ClientFacts s a (Brought j (message me q b)) (C.onBody H g me s a v j b .client) (C.onBody H g me s a v j b .area) (C.onBody H g me s a v j b .sends) (C.onBody H g me s a v j b .event)
+  unfolding CT.orderTest C.onBody
+  body-facts s a v X j q getStamp ij f o = quiet-facts s a _ X
+  body-facts s a v X j q ack ij f o =
+      let w = and-split (CS.acking (s .phase)) _ (awaited-true H g me _ o) in
+      let z : q ≡ s .writes = eqb-true q (s .writes) (and-split (eqb q (s .writes)) _ (w .1) .0) in
+      ack-facts s a _ X (acking-is (s .phase) (w .0)) j ij (refl, ap (λ y. message me y ack) z)
+  body-facts s a v X j q askRead ij f o = quiet-facts s a _ X
+  body-facts s a v X j q readComplete ij f o = quiet-facts s a _ X
+  body-facts s a v X j q (stampIs T) ij f o =
+      let w = and-split (CS.asking (s .phase)) _ (awaited-true H g me _ o) in
+      let z : q ≡ s .writes = eqb-true q (s .writes) (and-split (eqb q (s .writes)) _ (w .1) .0) in
+      stamp-facts s a _ X (asking-is (s .phase) (w .0)) v j T ij (refl, ap (λ y. message me y (stampIs T)) z)
+  body-facts s a v X j q (blockIs z e) ij f o = quiet-facts s a _ X
+  body-facts s a v X j q (timeIs z T) ij f o = quiet-facts s a _ X
+  body-facts s a v X j q (valueIs x e) ij f o =
+      let w = and-split (CS.reading (s .phase)) _ (awaited-true H g me _ (fine-both _ _ o .0)) in
+      let z : q ≡ s .reads = eqb-true q (s .reads) (and-split (eqb q (s .reads)) _ (w .1) .0) in
+      value-facts s a _ X (reading-is (s .phase) (w .0)) j x e (f .0) ij (refl, ap (λ y. message me y (valueIs x e)) z)
+
+  pub effect-facts : (s : Client) (a v : List ℕ) → ClientShape s a → (j q : ℕ) (b : Body) → Among (g .n) j → FormedBody g b → CT.orderTest H g me s j q b ≡ J.Fine
+      → ClientFacts s a (Brought j (message me q b)) (C.effect H g me s a v (A.Server j) (message me q b) .client) (C.effect H g me s a v (A.Server j) (message me q b) .area)
+      (C.effect H g me s a v (A.Server j) (message me q b) .sends) (C.effect H g me s a v (A.Server j) (message me q b) .event)
+  unfolding C.effect CT.orderTest C.onBody
+  effect-facts s a v X j q b ij f o = body-facts s a v X j q b ij f o
+
+  -- ---- beginnings
+
+  abbrev pub Nought : ℕ → Message → Type 0
+  Nought i m = ⊥
+
+  pub read-facts : (s : Client) (a : List ℕ) → ClientShape s a → (out to : List ℕ)
+      → ClientFacts s a Nought (CB.readBegun g me s out to .client) a (CB.readBegun g me s out to .sends) (CB.readBegun g me s out to .event)
+  unfolding CB.readBegun CB.openRead CB.beginBy
+  read-facts s a X out to = go (CB.readTest g me s out to)
+    where
+      go : (y : Verdict) → ClientFacts s a Nought (CB.beginBy g me y s (CB.openRead g me s) .client) a (CB.beginBy g me y s (CB.openRead g me s) .sends) (CB.beginBy g me y s (CB.openRead g me s) .event)
+      go (J.Bad r) = quiet-facts s a _ X
+      go J.Fine = record {
+        client-shape = record { shaped = rows-shaped _ refl; heard-many = X .heard-many; times-many = X .times-many; room = X .room };
+        writes-up = omega arith;
+        reads-up = omega arith;
+        t-kept = λ i T′ is q z. impossible (cc);
+        a-kept = λ i is q z. impossible (cc);
+        v-kept = λ i k is q z. absurd (no-rows g _ a i k refl z);
+        t-sent = λ b d q T u. impossible (cc (body-all s a Nought _ b _ u .1));
+        g-sent = λ b d q u. impossible (cc (body-all s a Nought _ b _ u .1));
+        r-sent = λ b d q u. let w = body-all s a Nought (λ j. message me (s .reads + 1) askRead) b _ u .2 in omega (arith, w);
+        write-why = λ z. impossible (cc);
+        read-why = λ v z. impossible (cc);
+      }
+
+  no-time : (i T : ℕ) → kept (getD (replicate 11 false) i false) (getD (replicate 11 0) i 0) ≡ some T → ⊥
+  no-time i T e = let w = kept-some (getD (replicate 11 false) i false) (getD (replicate 11 0) i 0) T e in impossible (cc (no-flag 11 i, w .0))
+
+  pub write-facts : (s : Client) (a : List ℕ) → ClientShape s a → (v out to : List ℕ)
+      → ClientFacts s a Nought (CB.writeBegun g me s v out to .client) a (CB.writeBegun g me s v out to .sends) (CB.writeBegun g me s v out to .event)
+  unfolding CB.writeBegun CB.openWrite CB.beginBy
+  write-facts s a X v out to = go (CB.writeTest g me s v out to)
+    where
+      go : (y : Verdict) → ClientFacts s a Nought (CB.beginBy g me y s (CB.openWrite g me s) .client) a (CB.beginBy g me y s (CB.openWrite g me s) .sends) (CB.beginBy g me y s (CB.openWrite g me s) .event)
+      go (J.Bad r) = quiet-facts s a _ X
+      go J.Fine = record {
+        client-shape = record {
+          shaped = record { rows-many = X .shaped .rows-many; stamps-many = X .shaped .stamps-many };
+          heard-many = refl;
+          times-many = refl;
+          room = X .room;
+        };
+        writes-up = omega arith;
+        reads-up = omega arith;
+        t-kept = λ i T′ is q z. absurd (no-time i T′ z);
+        a-kept = λ i is q z. impossible (cc);
+        v-kept = λ i k is q z. impossible (cc);
+        t-sent = λ b d q T u. impossible (cc (body-all s a Nought _ b _ u .1));
+        g-sent = λ b d q u. let w = body-all s a Nought (λ j. message me (s .writes + 1) getStamp) b _ u .2 in omega (arith, w);
+        r-sent = λ b d q u. impossible (cc (body-all s a Nought _ b _ u .1));
+        write-why = λ z. impossible (cc);
+        read-why = λ v z. impossible (cc);
+      }

@@ -1,0 +1,4 @@
+pub mod Views
+pub mod Sends
+pub mod Agreed
+pub mod CallFacts

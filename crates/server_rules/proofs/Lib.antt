@@ -1,3 +1,4 @@
 pub mod Parts
 pub mod Views
-pub mod Settling
+pub mod Accepting
+pub mod Shapes

@@ -1,5 +1,6 @@
 pub mod Broadcast
 pub mod State
+pub mod Scopes
 pub mod Rules
 pub mod Tests
 pub mod Steps

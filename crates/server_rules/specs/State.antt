@@ -6,6 +6,7 @@ use lib.ListN.{getD, set, take, replicate}
 use lib.Dec.{eqb}
 use Rattle.area.specs.Area.{pick, part}
 use Rattle.blocks.specs.declared.Params.{Params}
+use Rattle.frame.specs.declared.Stamp.{Stamp}
 use Rattle.frame.specs.Params.{width, listed}
 use Rattle.frame.specs.Stamps.{zeroStamp}
 use Rattle.frame.specs.Messages.{Entry, entry}
@@ -15,7 +16,6 @@ use Rattle.server_rules.specs.declared.TimePart.{TimePart}
 use Rattle.server_rules.specs.declared.Slot.{Slot}
 use Rattle.server_rules.specs.declared.Reader.{Reader}
 use Rattle.server_rules.specs.declared.Server.{Server}
-use Rattle.server_rules.specs.declared.Scope.{Scope}
 use Rattle.server_rules.specs.Broadcast.{Part, kept}
 
 -- ---- fresh
@@ -62,35 +62,17 @@ noReader = record { sequence = 0; listening = false; noted = record { time = 0; 
 abbrev pub slotOf : Server → ℕ → Slot
 slotOf s c = getD (s .slots) c noSlot
 
+abbrev pub readerAt : List Reader → ℕ → Reader
+readerAt rs c = getD rs c noReader
+
 abbrev pub readerOf : Server → ℕ → Reader
-readerOf s c = getD (s .readers) c noReader
+readerOf s c = readerAt (s .readers) c
 
 abbrev pub withSlot : Server → ℕ → Slot → Server
 withSlot s c x = record { stamp = s .stamp; slots = set (s .slots) c x; readers = s .readers }
 
 abbrev pub withReader : Server → ℕ → Reader → Server
 withReader s c x = record { stamp = s .stamp; slots = s .slots; readers = set (s .readers) c x }
-
--- ---- client c's scope: what a step for it may change of a server, and the server with what the step left of it
-
-abbrev pub scopeOf : Server → ℕ → Scope
-scopeOf s c = record { stamp = s .stamp; slot = slotOf s c; reader = readerOf s c }
-
-abbrev pub withScope : Server → ℕ → Scope → Server
-withScope s c x = record { stamp = x .stamp; slots = set (s .slots) c (x .slot); readers = set (s .readers) c (x .reader) }
-
-abbrev pub slotIn : Scope → Slot → Scope
-slotIn x y = record { stamp = x .stamp; slot = y; reader = x .reader }
-
-abbrev pub readerIn : Scope → Reader → Scope
-readerIn x y = record { stamp = x .stamp; slot = x .slot; reader = y }
-
--- a server of which only the stamp is known, and one of which only the readers are
-abbrev pub bare : Scope → Server
-bare x = record { stamp = x .stamp; slots = []; readers = [] }
-
-abbrev pub told : List Reader → Server
-told l = record { stamp = zeroStamp; slots = []; readers = l }
 
 -- ---- the parts of a slot changed
 
@@ -122,13 +104,13 @@ timeView x = record {
   done = kept (x .times .delivered) (x .times .time);
 }
 
--- "Until its first accepted write a server answers from the initial block its host lends"
-unfoldable pub presentBlock : Params → Server → List ℕ → List ℕ → List ℕ
-presentBlock g s a initial = pick (eqb (s .stamp .time) 0) (take (width g) initial) (part a (blockPlace presentAt) (width g))
+-- x is the present stamp. "Until its first accepted write a server answers from the initial block its host lends"
+unfoldable pub presentBlock : Params → Stamp → List ℕ → List ℕ → List ℕ
+presentBlock g x a initial = pick (eqb (x .time) 0) (take (width g) initial) (part a (blockPlace presentAt) (width g))
 
 -- what a read is answered with
-unfoldable pub presentEntry : Params → Server → List ℕ → List ℕ → Entry
-presentEntry g s a initial = entry (part a (chunkAt presentAt) (listed g)) (presentBlock g s a initial)
+unfoldable pub presentEntry : Params → Stamp → List ℕ → List ℕ → Entry
+presentEntry g x a initial = entry (part a (chunkAt presentAt) (listed g)) (presentBlock g x a initial)
 
 -- ---- the stores: a part of the record after a frame was counted
 

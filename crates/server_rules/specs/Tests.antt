@@ -104,15 +104,22 @@ placeIn me echo j = j
 placeIn me ready j = j
 
 module _ (H : List ℕ → List ℕ) (g : Params) (me : ℕ) where
-  -- of a frame from party j whose sender is right; "Get-stamp is never 12"
+  -- of a frame of a write from party j whose sender is right, the client's slot being x
+  abbrev pub blockTest : Slot → ℕ → ℕ → Stage → Entry → Verdict
+  blockTest x j q z e = andThen (openTest x q (counted x j (blockIs z e))) (fitTest H e (placeIn me z j))
+
+  abbrev pub timeTest : Slot → ℕ → ℕ → Stage → ℕ → Verdict
+  timeTest x j q z T = openTest x q (counted x j (timeIs z T))
+
+  -- of any frame whose sender is right; "Get-stamp is never 12"
   unfoldable pub orderTest : Server → ℕ → ℕ → ℕ → Body → Verdict
   orderTest s j c q getStamp = J.Fine
   orderTest s j c q ack = J.Fine
   orderTest s j c q askRead = readTest (readerOf s c) q
   orderTest s j c q readComplete = doneTest (readerOf s c) q
   orderTest s j c q (stampIs T) = J.Fine
-  orderTest s j c q (blockIs z e) = andThen (openTest (slotOf s c) q (counted (slotOf s c) j (blockIs z e))) (fitTest H e (placeIn me z j))
-  orderTest s j c q (timeIs z T) = openTest (slotOf s c) q (counted (slotOf s c) j (timeIs z T))
+  orderTest s j c q (blockIs z e) = blockTest (slotOf s c) j q z e
+  orderTest s j c q (timeIs z T) = timeTest (slotOf s c) j q z T
   orderTest s j c q (valueIs x e) = J.Fine
 
   -- 11 to 14

@@ -1,9 +1,6 @@
-pub mod TimeVotes
 pub mod Senders
 pub mod Sending
-pub mod Acceptance
 pub mod Scopes
-pub mod TimeStage
 pub mod Present
 pub mod Answers
 pub mod Constructing

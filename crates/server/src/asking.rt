@@ -1,5 +1,4 @@
 // Frames of a client that ask: get-stamp, read and read-complete, kinds 1, 10 and 12.
-use crate::Moved;
 use crate::Taken;
 use crate::reads::send_present;
 use crate::replies::taken;
@@ -31,7 +30,7 @@ ghost use Rattle.frame.specs.Messages.{message, sending, stampIs, getStamp, ask
 ghost use Rattle.frame.specs.Chunks.{areaBytes};
 ghost use Rattle.frame.specs.Outbox.{firstPlace, Room};
 ghost use Rattle.sha256.specs.Hash.{digestOf};
-ghost use Rattle.server_rules.specs.State.{scopeOf};
+ghost use Rattle.server_rules.specs.Scopes.{scopeOf};
 ghost use Rattle.server_rules.specs.Tests.{fromOwner, readTest, doneTest, messageTest};
 ghost use Rattle.server_rules.specs.Steps.{sendOnly, onRead, onReadComplete};
 ghost use Rattle.server.specs.Stages.{outcomeIn, answered};
@@ -77,7 +76,7 @@ pub fn on_get_stamp(
     let p = Place { at: 0, count: 0 };
     let stamp = s.stamp;
     let place = send_stamp(out, to, p, h.client, h.sequence, stamp.time);
-    taken(Moved { scope: s, place })
+    taken(s, place)
 }
 
 // 10: the reader is noted with the present stamp, and answered the present value.
@@ -103,15 +102,15 @@ pub fn on_read<'a>(
         };
     }
     let p = Place { at: 0, count: 0 };
-    let place = send_present(g, s, h.client, h.sequence, area, initial, out, to, p);
     let noted = s.stamp;
+    let place = send_present(g, noted, h.client, h.sequence, area, initial, out, to, p);
     let x = Reader {
         sequence: h.sequence,
         listening: true,
         noted,
     };
     let scope = with_reader(s, x);
-    taken(Moved { scope, place })
+    taken(scope, place)
 }
 
 // 12: that read and older ones are ended; nothing is sent.
@@ -134,5 +133,5 @@ pub fn on_read_complete(s: Scope, g: Params, from: Party, h: Header) -> Taken
     };
     let scope = with_reader(s, x);
     let place = Place { at: 0, count: 0 };
-    taken(Moved { scope, place })
+    taken(scope, place)
 }

@@ -10,7 +10,9 @@ ghost use mathlib.Core.Path.{_≡_};
 ghost use Prim.Native.Nat.{_<_};
 ghost use mathlib.Core.Bool.{not, _&&_, _||_};
 ghost use Rattle.area.specs.Area.{pick};
-ghost use Rattle.server_rules.specs.State.{scopeOf, withScope, slotIn, readerIn, withBlocks, withTimes, blockSent, blockEcho, blockReady, blockMarks, timeSent, timeEcho, timeReady, timeMarks};
+ghost use Rattle.server_rules.specs.Scopes.{scopeOf, withScope};
+ghost use Rattle.server.specs.Stages.{slotIn, readerIn};
+ghost use Rattle.server_rules.specs.State.{withBlocks, withTimes, blockSent, blockEcho, blockReady, blockMarks, timeSent, timeEcho, timeReady, timeMarks};
 
 // ---- one client's scope
 

@@ -44,7 +44,7 @@ returns-2 : tie.Need-returns-2
 unfolding messageTest senderRight orderTest
 returns-2 c =
     let a = c .before .before .before .before .before .before .before .before .before .before .before .before .before .args in
-    λ w e z. step-is J.Fine _ w z z _ _ _ _ _ (a .h .client) (record { scope = a .s; place = c .before .before .before .before .before .send-stamp .result }) _
+    λ w e z. step-is J.Fine _ w z z _ _ _ _ _ (a .h .client) (a .s) (c .before .before .before .before .before .send-stamp .result) _
     (go-on _ _ R.Sender J.Fine J.Fine (c .before .before .before .before .before .before .before .before .before .before .from-owner .ensures) (c .before .before .before .before .before .before .before .before .before .if1 .left) refl) refl
     (only-sent w _ z _ _ _ (as-it-was w (a .h .client) (a .s) e) (c .before .before .before .before .before .send-stamp .ensures ∙ ap (λ (u : Scope). sent (outbox (a .out .now) (a .to .now) firstPlace) (sending (P.Client (a .h .client)) (message (a .h .client) (a .h .sequence) (stampIs (u .stamp .time))) ∷ [])) e)) (c .taken .ensures .0) (c .taken .ensures .1)
 

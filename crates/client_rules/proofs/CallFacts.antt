@@ -22,7 +22,7 @@ use Rattle.frame.specs.declared.Party.{Party}
 use Rattle.frame.specs.declared.Verdict.{Verdict}
 use Rattle.frame.specs.declared.Party.the-variants as A
 use Rattle.frame.specs.declared.Verdict.the-variants as J
-use Rattle.frame.specs.Chunks.{storeEntry, rowsBytes, placeAt}
+use Rattle.frame.specs.Chunks.{rowsBytes}
 use Rattle.group_rules.specs.Coded.{entryOf}
 use Rattle.frame.specs.Messages.{Entry, send, Body, getStamp, ack, askRead, readComplete, stampIs, blockIs, timeIs, valueIs, Message, message, Sending, sending, toAll, Sized, FormedBody}
 use Rattle.frame.proofs.Chunks.{length-store}
@@ -31,7 +31,7 @@ use Rattle.frame.proofs.Verdicts.{fine-both}
 use Rattle.client_rules.specs.declared.Phase.{Phase}
 use Rattle.client_rules.specs.declared.Client.{Client}
 use Rattle.client_rules.specs.declared.Phase.the-variants as F
-use Rattle.client_rules.specs.Rows.{used, Kept, placesFrom, rowView, placeFor, rowWith, Found, search}
+use Rattle.client_rules.specs.Rows.{used, Kept, placesFrom, rowView, rowWith, Found, search}
 use Rattle.client_rules.specs.State.{freshRow, freshClient, noRow, rowOf, inPhase, shut, withRow, heardOf, largest}
 use Rattle.client_rules.specs.Beginning as CB
 use Rattle.client_rules.specs.State as CS

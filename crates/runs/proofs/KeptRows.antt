@@ -1,13 +1,13 @@
 -- Each entry in a client's rows has the digest at its server's place, and its block came in a frame. Assumes nothing.
 use Prim.Native.Nat.{ℕ, _≤_}
 use native.Mathlib.Omega.{arith}
-use mathlib.Core.Bool.{Bool, true, false, not, _&&_}
+use mathlib.Core.Bool.{true, not, _&&_}
 use mathlib.Core.Path.{_≡_, refl, ap, sym, _∙_, subst}
 use mathlib.Core.Logic.{inl, inr, ⊎-elim}
-use mathlib.Core.Option.{Option, none, some}
+use mathlib.Core.Option.{some}
 use mathlib.Core.List.{List, [], _∷_, List·Memᴰ}
-use lib.ListN.{length, getD, set, replicate}
-use lib.Dec.{ltb, eqb}
+use lib.ListN.{length, getD, replicate}
+use lib.Dec.{eqb}
 use Rattle.quorum.specs.Quorum.{Among}
 use Rattle.blocks.specs.declared.Params.{Params}
 use Rattle.frame.specs.declared.Stamp.{Stamp}
@@ -20,16 +20,14 @@ use Rattle.frame.specs.declared.Opened.the-variants as O
 use Rattle.frame.specs.Chunks.{storeEntry, rowsBytes, placeAt}
 use Rattle.group_rules.specs.Coded.{fits}
 use Rattle.frame.specs.Frames.{messageIn, opened}
-use Rattle.frame.specs.Messages.{Entry, Body, getStamp, ack, askRead, readComplete, stampIs, blockIs, timeIs, valueIs, Message, numberIn, Carries, Sized}
-use Rattle.frame.specs.Stamps.{lastTime}
+use Rattle.frame.specs.Messages.{Entry, Body, valueIs, Message, numberIn, Carries, Sized}
 use Rattle.frame.proofs.Chunks.{length-store}
 use Rattle.frame.proofs.Sizes.{Small}
 use Rattle.frame.proofs.Verdicts.{fine-both, fine-is}
 use Rattle.server_rules.proofs.Parts.{put-cases}
 use Rattle.client_rules.specs.declared.Client.{Client}
-use Rattle.client_rules.specs.declared.Phase.the-variants as F
-use Rattle.client_rules.specs.Rows.{used, Kept, placesFrom, rowView, hasStamp, placeFor, rowWith, Found, search}
-use Rattle.client_rules.specs.State.{freshRow, freshClient, noRow, rowOf, inPhase, withRow, largest}
+use Rattle.client_rules.specs.Rows.{used, Kept, placesFrom, rowView, hasStamp, placeFor, rowWith, Found}
+use Rattle.client_rules.specs.State.{freshRow, freshClient, noRow, rowOf, withRow}
 use Rattle.client_rules.specs.Beginning as CB
 use Rattle.client_rules.specs.Delivery as CD
 use Rattle.client_rules.specs.State as CS

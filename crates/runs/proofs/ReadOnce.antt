@@ -5,10 +5,10 @@ use native.Mathlib.Decide.{decLe}
 use mathlib.Core.Bool.{Bool, true, false}
 use mathlib.Core.Path.{_≡_, refl, ap, sym, _∙_, subst}
 use mathlib.Core.Logic.{_⊎_, inl, inr, ⊎-elim}
-use mathlib.Core.Option.{Option, none, some}
+use mathlib.Core.Option.{some}
 use mathlib.Core.List.{List, [], _∷_}
-use lib.ListN.{length, getD, set}
-use lib.Dec.{ltb, eqb}
+use lib.ListN.{length}
+use lib.Dec.{eqb}
 use borrow.Author.Tests.{eqb-true}
 use Rattle.quorum.proofs.Logic.{impossible, and-split}
 use Rattle.area.specs.Area.{Bytes}
@@ -17,16 +17,12 @@ use Rattle.frame.specs.declared.Stamp.{Stamp}
 use Rattle.frame.specs.declared.Party.{Party}
 use Rattle.frame.specs.declared.Verdict.{Verdict}
 use Rattle.frame.specs.declared.Verdict.the-variants as J
-use Rattle.frame.specs.Chunks.{storeEntry, placeAt}
-use Rattle.frame.specs.Messages.{Entry, Body, getStamp, ack, askRead, readComplete, stampIs, blockIs, timeIs, valueIs, Judged, bad, good, numberIn}
+use Rattle.frame.specs.Messages.{Entry, Body, valueIs, numberIn}
 use Rattle.frame.specs.Params.{paramsTest}
-use Rattle.frame.specs.Stamps.{lastTime}
 use Rattle.frame.proofs.Verdicts.{fine-both, fine-is}
 use Rattle.server_rules.proofs.Parts.{put-same, put-cases}
 use Rattle.client_rules.specs.declared.Client.{Client}
-use Rattle.client_rules.specs.declared.Phase.the-variants as F
-use Rattle.client_rules.specs.Rows.{Found, rowView, search, placeFor, rowWith}
-use Rattle.client_rules.specs.State.{largest, rowOf, withRow, inPhase}
+use Rattle.client_rules.specs.Rows.{Found, rowView, search}
 use Rattle.client_rules.specs.Beginning as CB
 use Rattle.client_rules.specs.Delivery as CD
 use Rattle.client_rules.specs.State as CS

@@ -1,13 +1,9 @@
 -- What is accepted of an honest client's write has the digests of the value that it opened. Assumes nothing.
 use Prim.Native.Nat.{ℕ, _+_, _≤_}
 use native.Mathlib.Omega.{arith}
-use mathlib.Core.Bool.{Bool, true, false}
 use mathlib.Core.Path.{_≡_, refl, ap, sym, _∙_, subst}
 use mathlib.Core.Logic.{_⊎_, inl, inr, ⊎-elim}
-use mathlib.Core.Option.{Option, none, some}
 use mathlib.Core.List.{List, [], _∷_, List·Memᴰ, List·Memᴰ·not-nil, List·Memᴰ·append-cases}
-use lib.ListN.{getD, set}
-use lib.Dec.{ltb}
 use Rattle.quorum.proofs.Logic.{impossible}
 use Rattle.blocks.specs.declared.Params.{Params}
 use Rattle.frame.specs.declared.Stamp.{Stamp}
@@ -15,23 +11,17 @@ use Rattle.frame.specs.declared.Party.{Party}
 use Rattle.frame.specs.declared.Verdict.{Verdict}
 use Rattle.frame.specs.declared.Party.the-variants as A
 use Rattle.frame.specs.declared.Verdict.the-variants as J
-use Rattle.frame.specs.Chunks.{storeEntry, placeAt}
 use Rattle.group_rules.specs.Coded.{digestsOf, entryOf}
-use Rattle.frame.specs.Messages.{Entry, send, Body, getStamp, ack, askRead, readComplete, stampIs, blockIs, timeIs, valueIs, Message, message, Sending, sending, toAll, Judged, bad, good, numberIn}
-use Rattle.frame.specs.Stamps.{lastTime}
+use Rattle.frame.specs.Messages.{Entry, send, Body, getStamp, askRead, readComplete, blockIs, timeIs, Message, message, Sending, sending, toAll, Judged, numberIn}
 use Rattle.frame.proofs.Sizes.{Small}
 use Rattle.server_rules.specs.Steps.{Write}
 use Rattle.server_rules.proofs.Parts.{put-same, put-cases}
 use Rattle.client_rules.specs.declared.Client.{Client}
-use Rattle.client_rules.specs.declared.Phase.the-variants as F
-use Rattle.client_rules.specs.Rows.{Found, rowView, search, placeFor, rowWith}
-use Rattle.client_rules.specs.State.{largest, rowOf, withRow, inPhase}
 use Rattle.client_rules.specs.Beginning as CB
 use Rattle.client_rules.specs.Delivery as CD
 use Rattle.client_rules.specs.Steps as C
 use Rattle.client_rules.proofs.Shapes.{Keeps, drops, keeps, Shape, idle, hears, shuts, counts, ends, waits, completes, Delivery, refused, taken, shape-delivered}
 use Rattle.client_rules.proofs.Shapes.{sends as disperses}
-use Rattle.client_rules.specs.Tests as CT
 use Rattle.steps.proofs.ServerFacts.{mem-all}
 use Rattle.runs.specs.Admissible.{Admissible}
 use Rattle.runs.specs.Events.{At, Accepts, OpensWrite}

@@ -3,10 +3,8 @@ use Prim.Native.Nat.{ℕ}
 use mathlib.Core.Bool.{Bool, true, false, not, _&&_}
 use mathlib.Core.Path.{_≡_, refl, ap, _∙_}
 use mathlib.Core.Logic.{_⊎_, inl, inr}
-use mathlib.Core.Option.{Option, none, some}
 use mathlib.Core.List.{List}
-use lib.ListN.{length, getD}
-use lib.Dec.{ltb}
+use lib.ListN.{length}
 use lib.Seq.{length-sets}
 use Rattle.quorum.proofs.Logic.{impossible}
 use Rattle.area.specs.Area.{pick}
@@ -14,8 +12,8 @@ use Rattle.blocks.specs.declared.Params.{Params}
 use Rattle.frame.specs.declared.Stamp.{Stamp}
 use Rattle.frame.specs.declared.Party.{Party}
 use Rattle.frame.specs.declared.Refusal.{Refusal}
-use Rattle.frame.specs.Stamps.{older, lastTime}
-use Rattle.frame.specs.Chunks.{storeEntry, storeIf, presentAt, completeAt, echoAt, readyAt, placeAt}
+use Rattle.frame.specs.Stamps.{older}
+use Rattle.frame.specs.Chunks.{storeEntry, storeIf, presentAt, completeAt, echoAt, readyAt}
 use Rattle.frame.specs.Messages.{Entry, send, echo, ready, Body, getStamp, ack, askRead, readComplete, stampIs, blockIs, timeIs, valueIs, Sending, numberIn, Judged, bad, good}
 use Rattle.frame.specs.Outbox.{frames, receivers}
 use Rattle.frame.proofs.Chunks.{length-store}
@@ -31,9 +29,8 @@ use Rattle.server_rules.specs.Delivery as SD
 use Rattle.server_rules.proofs.Settling.{Settling, waits, accepts, settling}
 use Rattle.client_rules.specs.declared.Client.{Client}
 use Rattle.client_rules.specs.declared.Answer.the-variants as Z
-use Rattle.client_rules.specs.State.{largest}
-use Rattle.client_rules.specs.Rows as CR
 use Rattle.client_rules.specs.Steps as C
+use Rattle.client_rules.proofs.Shapes.{shape-of, shape-length}
 use Rattle.client_rules.specs.Tests as CT
 use Rattle.client_rules.specs.Delivery as CD
 use Rattle.steps.proofs.ServerFacts.{length-if}
@@ -152,44 +149,6 @@ module _ (H : List ℕ → List ℕ) (g : Params) (me : ℕ) where
   event-answers C.outOfStamps c r e = impossible (cc e)
   event-answers (C.completed x) c r e = impossible (cc e)
 
-  same-settle : (s : Client) (a : List ℕ) → C.settle H g me s a .area ≡ a
-  unfolding C.settle C.completeBy
-  same-settle s a = go (CR.search g (CR.rowView g s a))
-    where
-      go : (o : Option CR.Found) → C.completeBy H g me o s a .area ≡ a
-      go none = refl
-      go (some x) = refl
-
-  length-kept : (s : Client) (a : List ℕ) (j : ℕ) (x : Stamp) (e : Entry) (o : Option ℕ) → length (C.keepBy H g me o s a j x e .area) ≡ length a
-  unfolding C.keepBy
-  length-kept s a j x e none = ap length (same-settle s a)
-  length-kept s a j x e (some i) = ap length (same-settle _ (storeEntry a (placeAt j i) e)) ∙ length-store a (placeAt j i) e
-
-  same-gather : (s : Client) (a v : List ℕ) (b : Bool) → C.gatherBy H g me b s a v .area ≡ a
-  unfolding C.gatherBy C.sendBelow
-  same-gather s a v true = go (ltb (largest (λ j. getD (s .times) j 0) (g .n)) lastTime)
-    where
-      go : (b : Bool) → C.sendBelow H g me b s a v (largest (λ j. getD (s .times) j 0) (g .n)) .area ≡ a
-      go true = refl
-      go false = refl
-  same-gather s a v false = refl
-
-  same-end : (s : Client) (a : List ℕ) (h : List Bool) (b : Bool) → C.endBy H g me b s a h .area ≡ a
-  unfolding C.endBy
-  same-end s a h true = refl
-  same-end s a h false = refl
-
-  length-body : (s : Client) (a v : List ℕ) (j : ℕ) (m : Body) → length (C.onBody H g me s a v j m .area) ≡ length a
-  unfolding C.onBody C.onAck C.onStamp C.onValue
-  length-body s a v j getStamp = refl
-  length-body s a v j ack = ap length (same-end s a _ _)
-  length-body s a v j askRead = refl
-  length-body s a v j readComplete = refl
-  length-body s a v j (stampIs T) = ap length (same-gather _ a v _)
-  length-body s a v j (blockIs z e) = refl
-  length-body s a v j (timeIs z T) = refl
-  length-body s a v j (valueIs x e) = length-kept s a j x e _
-
   length-result : (x : C.Event) (l : List ℕ) → length (CD.resultOf x l) ≡ length l
   unfolding CD.resultOf
   length-result C.nothing l = refl
@@ -199,12 +158,12 @@ module _ (H : List ℕ → List ℕ) (g : Params) (me : ℕ) where
 
   module _ (s : Client) (a v : List ℕ) (from : Party) (f result out to : List ℕ) where
     length-rows : length (CD.delivered H g me s a v from f result out to .area) ≡ length a
-    unfolding CD.delivered CD.effectBy C.effect
+    unfolding CD.delivered CD.effectBy
     length-rows = go (CT.judge H g me s a v from f result out to)
       where
         go : (j : Judged) → length (CD.effectBy H g me j s a v from .area) ≡ length a
         go (bad r) = refl
-        go (good m) = length-body s a v (numberIn from) (m .body)
+        go (good m) = shape-length H g me s a v (numberIn from) (shape-of H g me s a v from m)
 
     -- lengths stay
     pub client-lengths : (length (CD.delivery H g me s a v from f result out to .area) ≡ length a)

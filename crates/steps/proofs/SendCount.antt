@@ -1,29 +1,26 @@
 -- How many frames a step sends: a server at most n + 9, a client at most 2n. Assumes nothing.
 use Prim.Native.Nat.{ℕ, zero, suc, _+_, _*_, _≤_}
 use native.Mathlib.Omega.{arith}
-use mathlib.Core.Bool.{Bool, true, false, not, _&&_}
-use mathlib.Core.Path.{_≡_, refl, _∙_}
-use mathlib.Core.Option.{Option, none, some}
+use mathlib.Core.Bool.{Bool, true, false, _&&_}
+use mathlib.Core.Path.{_≡_, refl}
 use mathlib.Core.List.{List, [], _∷_, _++_}
-use lib.ListN.{length, getD, set, length-append}
-use lib.Dec.{ltb}
+use lib.ListN.{length, length-append}
 use Rattle.area.specs.Area.{pick}
 use Rattle.blocks.specs.declared.Params.{Params}
 use Rattle.frame.specs.declared.Stamp.{Stamp}
 use Rattle.frame.specs.declared.Party.{Party}
 use Rattle.frame.specs.declared.Party.the-variants as P
-use Rattle.frame.specs.declared.Verdict.{Verdict}
-use Rattle.frame.specs.declared.Verdict.the-variants as J
-use Rattle.frame.specs.Stamps.{older, lastTime}
-use Rattle.frame.specs.Messages.{Entry, Stage, send, echo, ready, Body, getStamp, ack, askRead, readComplete, stampIs, blockIs, timeIs, valueIs, Message, message, Sending, sending, toFrom, toAll, numberIn}
+use Rattle.frame.specs.Stamps.{older}
+use Rattle.frame.specs.Messages.{Entry, send, echo, ready, Body, getStamp, ack, askRead, readComplete, stampIs, blockIs, timeIs, valueIs, Message, message, Sending, sending, toFrom, toAll, numberIn}
 use Rattle.server_rules.specs.declared.Slot.{Slot}
 use Rattle.server_rules.specs.declared.Server.{Server}
 use Rattle.server_rules.specs.State.{readerOf}
 use Rattle.server_rules.specs.Steps as S
 use Rattle.client_rules.specs.declared.Client.{Client}
-use Rattle.client_rules.specs.Rows.{Found, rowView, placeFor, search}
-use Rattle.client_rules.specs.State.{largest, rowOf}
+use Rattle.client_rules.specs.State.{largest}
 use Rattle.client_rules.specs.Steps as C
+use Rattle.client_rules.proofs.Shapes.{Shape, idle, hears, shuts, counts, ends, waits, completes, shape-of}
+use Rattle.client_rules.proofs.Shapes.{sends as disperses}
 use Rattle.client_rules.specs.Beginning as CB
 use Rattle.server_rules.proofs.Settling.{Settling, waits, accepts, settling}
 
@@ -125,51 +122,19 @@ module _ (H : List ℕ → List ℕ) (g : Params) (me : ℕ) where
   none-sent : (s : Client) (a : List ℕ) → Sends (C.quiet s a)
   none-sent s a = record { few = omega arith; event = refl }
 
-  gather-sends : (s : Client) (a v : List ℕ) (b : Bool) → Sends (C.gatherBy H g me b s a v)
-  unfolding C.gatherBy C.sendBelow
-  gather-sends s a v false = none-sent s a
-  gather-sends s a v true = go (ltb (largest (λ j. getD (s .times) j 0) (g .n)) lastTime) (largest (λ j. getD (s .times) j 0) (g .n))
-    where
-      go : (b : Bool) (M : ℕ) → Sends (C.sendBelow H g me b s a v M)
-      go true M = record {
-        few = both-few g _ _;
-        event = refl;
-      }
-      go false M = record { few = omega arith; event = refl }
-
-  end-sends : (s : Client) (a : List ℕ) (h : List Bool) (b : Bool) → Sends (C.endBy H g me b s a h)
-  unfolding C.endBy
-  end-sends s a h true = record { few = omega arith; event = refl }
-  end-sends s a h false = record { few = omega arith; event = refl }
-
-  settle-sends : (s : Client) (a : List ℕ) → Sends (C.settle H g me s a)
-  unfolding C.settle C.completeBy
-  settle-sends s a = go (search g (rowView g s a))
-    where
-      go : (o : Option Found) → Sends (C.completeBy H g me o s a)
-      go none = none-sent s a
-      go (some x) = let w = all-length g (λ j. message me (s .reads) readComplete) in record { few = omega (arith, w); event = omega (arith, w) }
-
-  keep-sends : (s : Client) (a : List ℕ) (j : ℕ) (x : Stamp) (e : Entry) (o : Option ℕ) → Sends (C.keepBy H g me o s a j x e)
-  unfolding C.keepBy
-  keep-sends s a j x e none = settle-sends s a
-  keep-sends s a j x e (some i) = settle-sends _ _
-
-  client-body-sends : (s : Client) (a v : List ℕ) (j : ℕ) (b : Body) → Sends (C.onBody H g me s a v j b)
-  unfolding C.onBody C.onAck C.onStamp C.onValue
-  client-body-sends s a v j getStamp = none-sent s a
-  client-body-sends s a v j ack = end-sends s a (set (s .heard) j true) (C.quorate g (set (s .heard) j true))
-  client-body-sends s a v j askRead = none-sent s a
-  client-body-sends s a v j readComplete = none-sent s a
-  client-body-sends s a v j (stampIs T) = gather-sends _ a v (C.quorate g (set (s .heard) j true))
-  client-body-sends s a v j (blockIs z e) = none-sent s a
-  client-body-sends s a v j (timeIs z T) = none-sent s a
-  client-body-sends s a v j (valueIs x e) = keep-sends s a j x e (placeFor (rowOf s j) x)
+  shape-sends : (s : Client) (a v : List ℕ) (j : ℕ) {b : Body} {r : C.Effect} → Shape H g me s a v j b r → Sends r
+  shape-sends s a v j (idle b) = none-sent s a
+  shape-sends s a v j (hears T z) = none-sent _ a
+  shape-sends s a v j (disperses T z l) = record { few = both-few g _ _; event = refl }
+  shape-sends s a v j (shuts T z l) = record { few = omega arith; event = refl }
+  shape-sends s a v j (counts z) = none-sent _ a
+  shape-sends s a v j (ends z) = record { few = omega arith; event = refl }
+  shape-sends s a v j (waits x e {s′} {a′} k z) = none-sent s′ a′
+  shape-sends s a v j (completes x e {s′} k y z) = let w = all-length g (λ i. message me (s′ .reads) readComplete) in record { few = omega (arith, w); event = omega (arith, w) }
 
   -- "2n (client)"
   pub client-sends : (s : Client) (a v : List ℕ) (from : Party) (m : Message) → Sends (C.effect H g me s a v from m)
-  unfolding C.effect
-  client-sends s a v from m = client-body-sends s a v (numberIn from) (m .body)
+  client-sends s a v from m = shape-sends s a v (numberIn from) (shape-of H g me s a v from m)
 
   pub read-sends : (s : Client) → length (CB.openRead g me s .sends) ≤ 2 * g .n
   unfolding CB.openRead

@@ -43,7 +43,7 @@ use Rattle.client_rules.proofs.Shapes.{sends as disperses}
 use Rattle.client_rules.specs.Tests as CT
 pub use Rattle.client_rules.proofs.CallFacts.{awaited-true}
 use Rattle.steps.proofs.ServerRanges.{AllFormed, formed-all}
-use Rattle.steps.proofs.Decoding.{block-width}
+use Rattle.server_rules.proofs.Decoding.{block-width}
 
 module _ (H : List ℕ → List ℕ) (g : Params) (me : ℕ) where
   pub record Taken (s : Client) (v : List ℕ) (from : Party) (f : List ℕ) (m : Message) : Type 0 where

@@ -1,10 +1,7 @@
 pub mod PartFacts
-pub mod ServerFacts
-pub mod BlockFacts
-pub mod TimeFacts
 pub mod ServerTaken
 pub mod ServerFits
-pub mod Decoding
+pub mod CastFacts
 pub mod ServerRanges
 pub mod Keys
 pub mod ServerStamps

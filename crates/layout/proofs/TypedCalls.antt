@@ -36,8 +36,10 @@ use Rattle.client_rules.specs.Beginning.{idleTest, closedTest, lengthTest, read
 use Rattle.client_rules.specs.Delivery.{effectBy, delivered, outcomeOf, delivery}
 use Rattle.layout.specs.Fields.{flagAt, stampAt, flagsAt, numbersAt}
 use Rattle.layout.specs.Clients.{stampsAt, keptAt, rowsAt, clientAt, clientIn}
-use Rattle.layout.specs.Typed.{Word, Long, Every, Array, TypedStamp, TypedRow, TypedClient}
-use Rattle.layout.proofs.TypedSteps.{array-set, every-replicate, array-row, stamp-in}
+use Rattle.layout.specs.Typed.{Word, Long, TypedStamp, TypedRow, TypedClient}
+use Rattle.server_rules.specs.WellFormed.{Every, Array}
+use Rattle.layout.proofs.TypedSteps.{array-row, stamp-in}
+use Rattle.server_rules.proofs.Within.{array-set, every-replicate}
 
 -- ---- what bytes say
 

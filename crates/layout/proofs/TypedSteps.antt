@@ -112,11 +112,10 @@ body-in g kind f p =
 
 module _ (H : List ℕ → List ℕ) (g : Params) (me : ℕ) (s : Server) (t : TypedServer s) (a initial : List ℕ) (from : Party) where
   -- what a step asks of the widths, for an operation whose number a frame can hold
-  granted : (j c q : ℕ) (b : Body) → c ≤ 8 → Word q → TimeIn widths b → Grants widths s j c q b
+  granted : (j c q : ℕ) (b : Body) → c ≤ 8 → Word q → TimeIn widths b → Grants widths H g me s a initial j c q b
   granted j c q b few w h = record {
     empty = record { flags = refl; time = omega arith };
-    setting = λ l e. length-set l j true ∙ e;
-    time = h;
+    counts = λ k. (λ l e. length-set l j true ∙ e, h);
     noted = λ x. record { sequence = w; noted = x };
     ended = λ r. record { sequence = w; noted = r .noted };
     leaves = λ k e z l. (record { time = omega (arith, l); writer = omega (arith, e); sequence = omega (arith, z) }, omega (arith, z));
@@ -128,7 +127,7 @@ module _ (H : List ℕ → List ℕ) (g : Params) (me : ℕ) (s : Server) (t : T
   unfolding effectBy messageTest
   typed-judged J.Fine room m few w h e =
       let o = fine-is (senderRight g from (m .client) (m .body)) R.Sender _ (fine-both room _ e .1) .1 in
-      step-within widths H g me s a initial (numberIn from) (m .client) t few (m .sequence) (shape-of H g me s a initial from m) o (granted (numberIn from) (m .client) (m .sequence) (m .body) few w h)
+      step-within widths H g me s a initial (numberIn from) (m .client) (m .sequence) t few (shape-of H g me s a initial from m) o (granted (numberIn from) (m .client) (m .sequence) (m .body) few w h)
   typed-judged (J.Bad r) room m few w h e = t
 
   -- p is of 1 to 3, u of 4 to 9, v of 10

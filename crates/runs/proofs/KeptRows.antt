@@ -38,7 +38,7 @@ use Rattle.client_rules.specs.Tests as CT
 use Rattle.client_rules.proofs.Views as CV
 use Rattle.steps.proofs.ClientTaken.{passed, Delivered, refused, taken, delivered}
 use Rattle.client_rules.proofs.CallFacts.{row-shaped, rows-shaped, no-rows}
-use Rattle.steps.proofs.BlockFacts.{SizedIn, is-server}
+use Rattle.server_rules.proofs.Passing.{SizedIn, is-server}
 use Rattle.steps.proofs.ServerTaken.{message-sized}
 use Rattle.runs.specs.Admissible.{Admissible}
 use Rattle.runs.specs.Blocks.{InFrame}
@@ -138,7 +138,7 @@ module _ (H : List ℕ → List ℕ) (g : Params) (me : ℕ) where
     body-holds s a v from c q (timeIs y T) t z new X = X
     body-holds s a v from c q (valueIs x e) t z new X =
         let w = passed H g me s from _ t in
-        let (j, ej, is) = is-server H g me from (w .server) in
+        let (j, ej, is) = is-server g from (w .server) in
         let at : Among (g .n) (numberIn from) = rw ej is in
         let y = CT.awaited (CS.reading (s .phase) && (eqb q (s .reads) && not (hasStamp (rowOf s (numberIn from) .stamps) (used (rowOf s (numberIn from))) x))) in
         let o = fine-is (fits H e (numberIn from)) R.Digest J.Fine (fine-both y (CT.fitTest H e (numberIn from)) (w .order) .1) .0 in

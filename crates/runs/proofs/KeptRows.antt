@@ -37,7 +37,7 @@ use Rattle.client_rules.specs.Tests as CT
 use Rattle.client_rules.proofs.Views as CV
 use Rattle.steps.proofs.ClientTaken.{passed, took}
 use Rattle.client_rules.proofs.CallFacts.{row-shaped, rows-shaped, no-rows}
-use Rattle.steps.proofs.BlockFacts.{SizedIn, is-server}
+use Rattle.server_rules.proofs.Passing.{SizedIn, is-server}
 use Rattle.steps.proofs.ServerTaken.{message-sized}
 use Rattle.runs.specs.Admissible.{Admissible}
 use Rattle.runs.specs.Blocks.{InFrame}
@@ -115,7 +115,7 @@ module _ (H : List ℕ → List ℕ) (g : Params) (me : ℕ) where
     unfolding CT.fitTest CT.orderTest
     value-fits s from m t x e p =
         let w = passed H g me s from _ t in
-        let (j, ej, is) = is-server H g me from (w .server) in
+        let (j, ej, is) = is-server g from (w .server) in
         let at : Among (g .n) (numberIn from) = rw ej is in
         let y = CT.awaited (CS.reading (s .phase) && (eqb (m .sequence) (s .reads) && not (hasStamp (rowOf s (numberIn from) .stamps) (used (rowOf s (numberIn from))) x))) in
         let o = ap (CT.orderTest H g me s (numberIn from) (m .sequence)) (sym p) ∙ w .order in

@@ -20,9 +20,8 @@ use Rattle.client_rules.specs.declared.Client.{Client}
 use Rattle.client_rules.specs.Beginning as CB
 use Rattle.client_rules.specs.Delivery as CD
 use Rattle.client_rules.specs.Steps as C
-use Rattle.client_rules.proofs.Shapes.{Keeps, drops, keeps, Shape, idle, hears, shuts, counts, ends, waits, completes, Delivery, refused, taken, shape-delivered}
-use Rattle.client_rules.proofs.Shapes.{sends as disperses}
-use Rattle.steps.proofs.ServerFacts.{mem-all}
+use Rattle.client_rules.proofs.Shapes.{Keeps, drops, keeps, Shape, idle, hears, shuts, counts, ends, waits, completes, Delivery, refused, taken, shape-delivered, sends as disperses}
+use Rattle.server_rules.proofs.Casts.{mem-all}
 use Rattle.runs.specs.Admissible.{Admissible}
 use Rattle.runs.specs.Events.{At, Accepts, OpensWrite}
 use Rattle.runs.specs.World.{Setup, Call, toServer, toClient, beginRead, beginWrite, caller, ClientSide, clientLeft, lentBy, run, step, sends, put, clientEffect, readEffect, writeEffect}

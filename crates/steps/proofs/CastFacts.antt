@@ -207,13 +207,13 @@ module _ {H : List ℕ → List ℕ} {g : Params} {P D : Type 0} (K : Cast H g P
 
   module _ (few : g .n ≤ 10) (M : Small g) (kk : 1 ≤ g .k) (me : ℕ) (s : Server) (a initial : List ℕ) (F : ServerShape s a) (from : Party) (c q : ℕ) (is : Among 8 c)
       (b : Body) (Q : SizedIn g b) (right : ST.senderRight g from c b ≡ true) (o : ST.orderTest H g me s (numberIn from) c q b ≡ J.Fine) where
-    abbrev j : ℕ
+    abbrev pub j : ℕ
     j = numberIn from
 
     abbrev m : Message
     m = message c q b
 
-    X : Shaped (slotOf s c)
+    pub X : Shaped (slotOf s c)
     X = slot-within shapes (F .within) c (is .1)
 
     -- the open write's own frame is new
@@ -228,13 +228,13 @@ module _ {H : List ℕ → List ℕ} {g : Params} {P D : Type 0} (K : Cast H g P
 
     module _ {p : S.Counting} (k : Counted H g me s a initial j c b p) {r : S.Effect} (f : Freed g (withSlot s c (p .slot)) (p .area) c r) where
       -- the server behind the count, and the parts that it shows
-      abbrev s₁ : Server
+      abbrev pub s₁ : Server
       s₁ = withSlot s c (p .slot)
 
-      abbrev w : ℕ → Part P
+      abbrev pub w : ℕ → Part P
       w d = view (p .area) d (slotOf s₁ d)
 
-      at : Among 10 j
+      pub at : Among 10 j
       at = counted-from g from c is few k right
 
       shape : ServerShape s₁ (p .area)
@@ -253,35 +253,48 @@ module _ {H : List ℕ → List ℕ} {g : Params} {P D : Type 0} (K : Cast H g P
           go (yes e) = ap (λ y. slotOf s₁ y .sequence) e ∙ ap (λ x. x .sequence) here ∙ counted-sequence H g me s a initial j c k ∙ ap (λ y. slotOf s y .sequence) (sym e)
           go (no ne) = ap (λ x. x .sequence) (there d ne)
 
+      -- each part stays, or its write is accepted
+      pub stays : (d : ℕ) → ((slotOf (r .server) d .sequence ≡ slotOf s d .sequence) × (Among 8 d → view (r .area) d (slotOf (r .server) d) ≡ w d))
+          ⊎ ((slotOf (r .server) d .sequence ≡ slotOf s d .sequence + 1) × (view (r .area) d (slotOf (r .server) d) ≡ noPart) × (k : S.Write) × List·Memᴰ k (r .accepted) × (k .client ≡ d))
+      stays d = ⊎-elim
+          (λ e. inl (
+            ap (λ x. x .sequence) e ∙ same-sequence d,
+            λ i. ap (view (r .area) d) e ∙ by-blocks (p .area) (r .area) d (slotOf s₁ d) (freed-blocks M (shape .room) is f d i (slotOf s₁ d) (slot-within shapes (shape .within) d (i .1))),
+          ))
+          (λ (k, u, e, z). inr (ap (λ x. x .sequence) z ∙ fresh-sequence _ ∙ ap (λ n. n + 1) (same-sequence d), ap (view (r .area) d) z ∙ fresh (r .area) d _, k, u, e))
+          (freed-slots (shape .within) is f d)
+
+      pub took : (k : S.Write) → List·Memᴰ k (r .accepted) → Among 8 (k .client) × (k .sequence ≡ slotOf s (k .client) .sequence) × (w (k .client) .done ≡ some (sel k))
+      took k u = let (i, R) = freed-ripe is f k u in (i, R .sequence ∙ same-sequence (k .client), ripe s₁ (p .area) k R)
+
       slots : (Said : ℕ → Stage → P → Type 0)
           → ((to : Party) (d n : ℕ) (z : Stage) (y : P) → List·Memᴰ (sending to (message d n (wrap z y))) (p .sends) → (d ≡ c) × (n ≡ slotOf s c .sequence) × Said d z y)
           → SlotFacts s a w Said (S.behind p r)
       slots Said said = record {
-        this = λ d. ⊎-elim
-            (λ e. inl (
-              ap (λ x. x .sequence) e ∙ same-sequence d,
-              λ i. ap (view (r .area) d) e ∙ by-blocks (p .area) (r .area) d (slotOf s₁ d) (freed-blocks M (shape .room) is f d i (slotOf s₁ d) (slot-within shapes (shape .within) d (i .1))),
-            ))
-            (λ (k, u, e, z). inr (ap (λ x. x .sequence) z ∙ fresh-sequence _ ∙ ap (λ n. n + 1) (same-sequence d), ap (view (r .area) d) z ∙ fresh (r .area) d _, k, u, e))
-            (freed-slots (shape .within) is f d);
+        this = stays;
         says = λ to d n z y u. ⊎-elim
             (λ v. let (e, m, h) = said to d n z y v in (subst (Among 8) (sym e) is, m ∙ ap (λ y. slotOf s y .sequence) (sym e), h))
             (λ v. absurd (freed-none f _ v (is-cast z y)))
             (List·Memᴰ·append-cases (p .sends) u);
-        took = λ k u. let (i, R) = freed-ripe is f k u in (i, R .sequence ∙ same-sequence (k .client), ripe s₁ (p .area) k R);
+        took = took;
       }
 
-      -- the other clients' parts rest
+      -- the parts behind the count: another client's rests
+      pub part-here : w c ≡ view (p .area) c (p .slot)
+      part-here = ap (view (p .area) c) here
+
+      pub part-there : (d : ℕ) → Among 8 d → (d ≡ c → ⊥) → w d ≡ view a d (slotOf s d)
+      part-there d i ne = ap (view (p .area) d) (there d ne) ∙ by-blocks a (p .area) d (slotOf s d)
+          (counted-others H g M kk me s a initial (F .room) j at c is X k Q d i ne (slotOf s d) (slot-within shapes (F .within) d (i .1)))
+
       parts : (Said : ℕ → Stage → P → Type 0) → ((d : ℕ) (z : Stage) (y : P) → Said d z y → d ≡ c)
           → Becomes s a from m c (view a c (slotOf s c)) (view (p .area) c (p .slot)) (Said c) → (d : ℕ) → Among 8 d → Becomes s a from m d (view a d (slotOf s d)) (w d) (Said d)
       parts Said of B d i = go (ℕ-discrete d c)
         where
           go : Dec (d ≡ c) → Becomes s a from m d (view a d (slotOf s d)) (w d) (Said d)
           go (yes e) = subst (λ d. Becomes s a from m d (view a d (slotOf s d)) (w d) (Said d)) (sym e)
-              (subst (λ x. Becomes s a from m c (view a c (slotOf s c)) (view (p .area) c x) (Said c)) (sym here) B)
-          go (no ne) = subst (λ v. Becomes s a from m d (view a d (slotOf s d)) v (Said d))
-              (sym (ap (view (p .area) d) (there d ne) ∙ by-blocks a (p .area) d (slotOf s d)
-              (counted-others H g M kk me s a initial (F .room) j at c is X k Q d i ne (slotOf s d) (slot-within shapes (F .within) d (i .1)))))
+              (subst (λ v. Becomes s a from m c (view a c (slotOf s c)) v (Said c)) (sym part-here) B)
+          go (no ne) = subst (λ v. Becomes s a from m d (view a d (slotOf s d)) v (Said d)) (sym (part-there d i ne))
               (rest-facts rules (g .n) (g .t) what _ _ _ _ (Said d) (λ z y u. ne (of d z y u)))
 
       settled : BroadcastFacts s a from m (S.behind p r)

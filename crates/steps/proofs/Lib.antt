@@ -2,6 +2,7 @@ pub mod PartFacts
 pub mod ServerTaken
 pub mod ServerFits
 pub mod CastFacts
+pub mod DecodedFacts
 pub mod ServerRanges
 pub mod Keys
 pub mod ServerStamps

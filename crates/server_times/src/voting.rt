@@ -83,7 +83,8 @@ pub fn time_full(g: Params, x: Slot, time: u64) -> bool
 // The first frames of a step: readies of this time to all servers, if they are due.
 fn time_readies(due: bool, k: Call, time: u64, out: &mut [u8], to: &mut [u8]) -> Place
     requires { ⌜ Roomy (k .params) (length (now out)) (length (now to)) ⌝ }
-    ensures { λ r. ⌜ outbox (now (out .exit)) (now (to .exit)) r ≡ sent (outbox (now (out .entry)) (now (to .entry)) firstPlace) (pick due (readiesOf k time) []) ⌝ }
+    ensures { λ r. ⌜ outbox (now (out .exit)) (now (to .exit)) r
+        ≡ sent (outbox (now (out .entry)) (now (to .entry)) firstPlace) (pick due (readiesOf k time) []) ⌝ }
 {
     let p = Place { at: 0, count: 0 };
     if !due {

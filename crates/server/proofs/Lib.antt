@@ -4,3 +4,4 @@ pub mod Scopes
 pub mod Present
 pub mod Answers
 pub mod Constructing
+pub mod Handling

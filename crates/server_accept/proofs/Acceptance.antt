@@ -1,34 +1,36 @@
--- Acceptance, stage by stage. Assumes nothing.
-use Prim.Native.Nat.{ℕ, zero, suc, _+_, _*_, _-_, _≤_, _<_}
+-- Acceptance, stage by stage: the values to listeners, and the whole. Assumes nothing.
+use Prim.Native.Nat.{ℕ, suc, _+_, _-_, _≤_, _<_}
 use native.Mathlib.Omega.{arith}
 use native.Mathlib.Numerals.{add-one}
 use mathlib.Core.Path.{_≡_, refl, ap, sym, _∙_}
-use mathlib.Core.Bool.{Bool, true, false, not, _&&_}
+use mathlib.Core.Bool.{Bool, true, false, _&&_}
 use mathlib.Core.Option.{Option, none, some}
 use mathlib.Core.List.{List, [], _∷_, _++_}
-use lib.ListN.{length, getD, set, take, drop}
-use lib.Seq.{sets, length-sets, length-take-le, getD-take, getD-drop}
+use lib.ListN.{set}
+use lib.Seq.{set-getD}
 use lib.Dec.{ltb}
 use borrow.Author.Tests.{lt-ltb, le-ltb}
-use Rattle.area.specs.Area.{pick, part}
-use Rattle.area.proofs.Sets.{sets-more, length-part, part-sets-after}
+use Rattle.area.specs.Area.{pick}
 use Rattle.blocks.specs.declared.Params.{Params}
 use Rattle.frame.specs.declared.Party.the-variants as P
 use Rattle.frame.specs.declared.Stamp.{Stamp}
-use Rattle.frame.specs.declared.Place.{Place}
-use Rattle.frame.specs.Params.{width, listed}
 use Rattle.frame.specs.Stamps.{older, lastTime}
 use Rattle.frame.specs.Messages.{Entry, entry, message, Sending, sending, valueIs, ack}
-use Rattle.frame.specs.Outbox.{Outbox, outbox, sent, Room}
-use Rattle.frame.specs.Chunks.{chunkAt, blockPlace, entryAt, storeEntry, storeIf, presentAt, completeAt}
+use Rattle.frame.specs.Outbox.{Outbox, sent}
+use Rattle.frame.specs.Chunks.{entryAt, storeIf, presentAt, completeAt}
 use Rattle.frame.proofs.Outbox.{sent-append, sent-none}
 use Rattle.server_rules.specs.declared.Reader.{Reader}
+use Rattle.server_rules.specs.declared.Scope.{Scope}
 use Rattle.server_rules.specs.declared.Slot.{Slot}
 use Rattle.server_rules.specs.declared.Server.{Server}
 use Rattle.server_rules.specs.Broadcast.{kept}
-use Rattle.server_rules.specs.State.{readerOf, freshSlot, withSlot, timeView, blockView}
-use Rattle.server_rules.specs.Steps.{Write, stampOf, Effect, tellFrom, accept, wait, acceptBelow, acceptDone, settle}
-use Rattle.server.specs.Stages.{Progress, progress, moved, toldTo, opensNext}
+use Rattle.server_rules.specs.State.{noReader, readerAt, slotOf, freshSlot, timeView, blockView}
+use Rattle.server_rules.specs.Scopes.{withScope}
+use Rattle.server_rules.specs.Steps.{Write, stampOf, tellFrom, accept, bothDone, ripe, freeBy, free}
+use Rattle.server.specs.Stages.{Holds, Progress, progress, moved}
+use Rattle.server.proofs.Answers.{none-sent}
+use Rattle.server.proofs.Scopes.{as-it-was}
+use Rattle.server_accept.specs.Telling.{toldTo, opensIn, writeIn}
 
 -- ---- values to listeners
 
@@ -37,20 +39,23 @@ unfolding pick
 pick-first true y l = refl
 pick-first false y l = refl
 
-told-first : (s : Server) (x : Stamp) (e : Entry) (c m : ℕ) → tellFrom s x e c (suc m) ≡ toldTo (readerOf s c) c x e ++ tellFrom s x e (suc c) m
+told-first : (s : List Reader) (x : Stamp) (e : Entry) (c m : ℕ) → tellFrom s x e c (suc m) ≡ toldTo (readerAt s c) c x e ++ tellFrom s x e (suc c) m
 unfolding tellFrom toldTo
-told-first s x e c m = pick-first (readerOf s c .listening && older (readerOf s c .noted) x) _ (tellFrom s x e (suc c) m)
+told-first s x e c m = pick-first (readerAt s c .listening && older (readerAt s c .noted) x) _ (tellFrom s x e (suc c) m)
 
 -- client c was told; what is left to tell gives the same in the end
-pub tell-turn : (s : Server) (x : Stamp) (e : Entry) (c : ℕ) (r : Reader) (q q′ z : Outbox) → c < 9 → r ≡ readerOf s c → q′ ≡ sent q (toldTo r c x e)
+pub tell-turn : (s : List Reader) (x : Stamp) (e : Entry) (c : ℕ) (r : Reader) (q q′ z : Outbox) → c < 9 → r ≡ readerAt s c → q′ ≡ sent q (toldTo r c x e)
     → sent q (tellFrom s x e c (9 - c)) ≡ z → sent q′ (tellFrom s x e (c + 1) (9 - (c + 1))) ≡ z
 tell-turn s x e c r q q′ z h k f i =
     let m : 9 - c ≡ suc (9 - (c + 1)) = omega arith in
     let l : tellFrom s x e c (9 - c) ≡ toldTo r c x e ++ tellFrom s x e (c + 1) (9 - (c + 1)) =
     ap (tellFrom s x e c) m ∙ told-first s x e c (9 - (c + 1)) ∙ rw (k, add-one c) in
-    ap (λ (y : Outbox). sent y (tellFrom s x e (c + 1) (9 - (c + 1)))) f ∙ sent-append q (toldTo r c x e) (tellFrom s x e (c + 1) (9 - (c + 1))) ∙ ap (sent q) (sym l) ∙ i
+    ap (λ (y : Outbox). sent y (tellFrom s x e (c + 1) (9 - (c + 1)))) f
+    ∙ sent-append q (toldTo r c x e) (tellFrom s x e (c + 1) (9 - (c + 1)))
+    ∙ ap (sent q) (sym l)
+    ∙ i
 
-pub tell-end : (s : Server) (x : Stamp) (e : Entry) (c : ℕ) (q z : Outbox) → c ≡ 9 → sent q (tellFrom s x e c (9 - c)) ≡ z → q ≡ z
+pub tell-end : (s : List Reader) (x : Stamp) (e : Entry) (c : ℕ) (q z : Outbox) → c ≡ 9 → sent q (tellFrom s x e c (9 - c)) ≡ z → q ≡ z
 unfolding tellFrom
 tell-end s x e c q z h i = sym (sent-none q) ∙ sym (ap (λ (k : ℕ). sent q (tellFrom s x e k (9 - k))) h) ∙ i
 
@@ -84,137 +89,92 @@ told-due r c x e q q′ o h k l f =
     let b : r .listening && older (r .noted) x ≡ true = ap (λ (b : Bool). b && older (r .noted) x) h ∙ sym k ∙ l in
     f ∙ sym (ap (λ (b : Bool). sent q (pick b y [])) b ∙ picked-all q y)
 
--- ---- the present entry
-
-first-of : (l : List ℕ) (k : ℕ) → getD (part l k 1) 0 0 ≡ getD l k 0
-first-of l k = getD-take 1 (drop k l) 0 0 (omega arith) ∙ getD-drop k l 0 0 ∙ ap (λ (i : ℕ). getD l i 0) (omega arith)
-
--- an element behind those that were stored
-pub getD-after : (l : List ℕ) (i : ℕ) (vs : List ℕ) (k : ℕ) → i + length vs ≤ k → getD (sets l i vs) k 0 ≡ getD l k 0
-getD-after l i vs k h =
-    sym (first-of (sets l i vs) k) ∙ ap (λ (z : List ℕ). getD z 0 0) (part-sets-after l i vs k 1 h) ∙ first-of l k
-
-pub copy-turn : (a b : List ℕ) (at from n j : ℕ) → at + n ≤ from → from + n ≤ length a → j < n → b ≡ sets a at (take j (part a from n))
-    → set b (at + j) (getD b (from + j) 0) ≡ sets a at (take (j + 1) (part a from n))
-copy-turn a b at from n j u v h e =
-    let l : length (part a from n) ≡ n = length-part a from n v in
-    let i : j < length (part a from n) = omega arith in
-    let k : at + length (take j (part a from n)) ≤ from + j = omega (arith, length-take-le j (part a from n) (omega arith)) in
-    let w : getD b (from + j) 0 ≡ getD (part a from n) j 0 =
-    ap (λ (z : List ℕ). getD z (from + j) 0) e ∙ getD-after a at (take j (part a from n)) (from + j) k ∙ sym (getD-take n (drop from a) j 0 h ∙ getD-drop from a j 0) in
-    ap (λ (z : List ℕ). set z (at + j) (getD b (from + j) 0)) e ∙ ap (set (sets a at (take j (part a from n))) (at + j)) w ∙ sets-more a at (part a from n) j i
-
--- both parts of chunk p were copied
-pub replaced : (g : Params) (a b d : List ℕ) (p w : ℕ) → 1 ≤ p → 32 * g .n ≤ 320 → 576 * p + 576 ≤ length a → w ≡ width g
-    → b ≡ sets a 0 (part a (576 * p) (32 * g .n)) → d ≡ sets b 320 (part b (576 * p + 320) w) → d ≡ storeEntry a presentAt (entryAt g a p)
-unfolding storeEntry entryAt
-replaced g a b d p w h n l k e f =
-    let m : length (part a (576 * p) (32 * g .n)) ≡ 32 * g .n = length-part a (576 * p) (32 * g .n) (omega arith) in
-    let o : part b (576 * p + 320) w ≡ part a (576 * p + 320) w =
-    ap (λ (z : List ℕ). part z (576 * p + 320) w) e ∙ part-sets-after a 0 (part a (576 * p) (32 * g .n)) (576 * p + 320) w (omega arith) in
-    f ∙ ap (sets b 320) (o ∙ ap (part a (576 * p + 320)) k) ∙ ap (λ (z : List ℕ). sets z 320 (part a (576 * p + 320) (width g))) e
-
 -- ---- the whole
 
-pub accepted : (s : Server) (a a′ : List ℕ) (w : Write) (q q₁ q₂ : Outbox) (newer : Bool) (s′ : Server)
-    → newer ≡ older (s .stamp) (stampOf w)
-    → q₁ ≡ sent q (tellFrom s (stampOf w) (w .entry) 1 8)
-    → q₂ ≡ sent q₁ (sending (P.Client (w .client)) (message (w .client) (w .sequence) ack) ∷ [])
-    → a′ ≡ storeIf newer a presentAt (w .entry)
-    → s′ ≡ opensNext s (w .client) (w .sequence) newer (stampOf w)
-    → progress s′ a′ q₂ ≡ moved (accept s a w [] []) q
-unfolding moved accept opensNext
-accepted s a a′ w q q₁ q₂ newer s′ h f k m n =
-    let A = sending (P.Client (w .client)) (message (w .client) (w .sequence) ack) ∷ [] in
-    let b : q₂ ≡ sent q (tellFrom s (stampOf w) (w .entry) 1 8 ++ A) =
-    k ∙ ap (λ (y : Outbox). sent y A) f ∙ sent-append q (tellFrom s (stampOf w) (w .entry) 1 8) A in
-    ap (λ (y : Outbox). progress s′ a′ y) b ∙ ap (λ (y : List ℕ). progress s′ y (sent q (tellFrom s (stampOf w) (w .entry) 1 8 ++ A))) m
-    ∙ ap (λ (y : Server). progress y (storeIf newer a presentAt (w .entry)) (sent q (tellFrom s (stampOf w) (w .entry) 1 8 ++ A))) n
-    ∙ ap (λ (t : Bool). progress (opensNext s (w .client) (w .sequence) t (stampOf w)) (storeIf t a presentAt (w .entry)) (sent q (tellFrom s (stampOf w) (w .entry) 1 8 ++ A))) h
+-- the server of which the scope s was left open for the next write
+opened-next : (w : Server) (c : ℕ) (s z : Scope) (rs : List Reader) (newer : Bool) (g : Params) (a : List ℕ) → Holds w c s rs
+    → newer ≡ older (s .stamp) (stampOf (writeIn g s c a)) → z ≡ opensIn s newer (stampOf (writeIn g s c a))
+    → withScope w c z ≡ accept w a (writeIn g s c a) .server
+unfolding accept opensIn
+opened-next w c s z rs newer g a k h e =
+    let x = stampOf (writeIn g s c a) in
+    let i = k .scope in
+    ap (withScope w c) e
+    ∙ (λ l. record {
+      stamp = pick (h l) x (i l .stamp);
+      slots = set (w .slots) c (freshSlot (s .slot .sequence + 1));
+      readers = set (w .readers) c (i l .reader);
+    })
+    ∙ (λ l. record {
+      stamp = pick (older (i l .stamp) x) x (w .stamp);
+      slots = set (w .slots) c (freshSlot (s .slot .sequence + 1));
+      readers = set-getD (w .readers) c noReader l;
+    })
 
--- the same, the entry being handed over as its two parts
-pub accepted-parts : (s : Server) (a a′ : List ℕ) (w : Write) (q q₁ q₂ : Outbox) (newer : Bool) (s′ : Server) (d b : List ℕ)
-    → d ≡ w .entry .digests
-    → b ≡ w .entry .block
-    → newer ≡ older (s .stamp) (stampOf w)
-    → q₁ ≡ sent q (tellFrom s (stampOf w) (entry d b) 1 8)
-    → q₂ ≡ sent q₁ (sending (P.Client (w .client)) (message (w .client) (w .sequence) ack) ∷ [])
-    → a′ ≡ storeIf newer a presentAt (w .entry)
-    → s′ ≡ opensNext s (w .client) (w .sequence) newer (stampOf w)
-    → progress s′ a′ q₂ ≡ moved (accept s a w [] []) q
-accepted-parts s a a′ w q q₁ q₂ newer s′ d b i j h f =
-    accepted s a a′ w q q₁ q₂ newer s′ h (f ∙ (λ k. sent q (tellFrom s (stampOf w) (entry (i k) (j k)) 1 8)))
+-- the values, the ack, the present entry and the scope; d and b are the two parts of the entry
+pub accepted : (g : Params) (w : Server) (c : ℕ) (s z : Scope) (rs : List Reader) (a a′ d b : List ℕ) (newer : Bool) (q q₁ q₂ : Outbox)
+    → Holds w c s rs
+    → d ≡ entryAt g a (completeAt c) .digests
+    → b ≡ entryAt g a (completeAt c) .block
+    → newer ≡ older (s .stamp) (stampOf (writeIn g s c a))
+    → q₁ ≡ sent q (tellFrom rs (stampOf (writeIn g s c a)) (entry d b) 1 8)
+    → q₂ ≡ sent q₁ (sending (P.Client c) (message c (s .slot .sequence) ack) ∷ [])
+    → a′ ≡ storeIf newer a presentAt (entryAt g a (completeAt c))
+    → z ≡ opensIn s newer (stampOf (writeIn g s c a))
+    → progress (withScope w c z) a′ q₂ ≡ moved (accept w a (writeIn g s c a)) q
+unfolding moved accept
+accepted g w c s z rs a a′ d b newer q q₁ q₂ k i j h f n m e =
+    let W = writeIn g s c a in
+    let A = sending (P.Client c) (message c (s .slot .sequence) ack) ∷ [] in
+    let T = tellFrom (w .readers) (stampOf W) (W .entry) 1 8 in
+    let r = k .readers in
+    let t : sent q (tellFrom rs (stampOf W) (entry d b) 1 8) ≡ sent q T = λ l. sent q (tellFrom (r l) (stampOf W) (entry (i l) (j l)) 1 8) in
+    let u : q₂ ≡ sent q (T ++ A) = n ∙ ap (λ (y : Outbox). sent y A) (f ∙ t) ∙ sent-append q T A in
+    let v : a′ ≡ storeIf (older (w .stamp) (stampOf W)) a presentAt (W .entry) =
+    m ∙ ap (λ (y : Bool). storeIf y a presentAt (W .entry)) (h ∙ ap (λ (y : Scope). older (y .stamp) (stampOf W)) (k .scope)) in
+    let y = opened-next w c s z rs newer g a k h e in
+    λ l. progress (y l) (v l) (u l)
 
--- the slot waits, or its write is accepted
-module _ (g : Params) (s : Server) (a : List ℕ) (c : ℕ) (x : Slot) (q : Outbox) where
-  waited : (s′ : Server) → s′ ≡ withSlot s c x → progress s′ a q ≡ moved (wait s a c x [] []) q
-  unfolding moved
-  waited s′ e = ap (λ (y : Server). progress y a q) e ∙ ap (progress (withSlot s c x) a) (sym (sent-none q))
+-- nothing can be accepted, or the write is
+module _ (g : Params) (w : Server) (c : ℕ) (s : Scope) (rs : List Reader) (a : List ℕ) (q : Outbox) (k : Holds w c s rs) where
+  abbrev x : Slot
+  x = s .slot
 
-  by-time : (w : Progress) (d : Bool) → x .times .delivered ≡ d
-      → w ≡ moved (acceptDone (kept d (x .times .time)) (kept (x .blocks .complete) (entryAt g a (completeAt c))) s a c x [] []) q
-      → w ≡ moved (settle g s a c x [] []) q
-  unfolding settle timeView blockView
-  by-time w d h e =
-      e ∙ ap (λ (b : Bool). moved (acceptDone (kept b (x .times .time)) (kept (x .blocks .complete) (entryAt g a (completeAt c))) s a c x [] []) q) (sym h)
+  abbrev done : Bool → Bool → Option Write
+  done d b = bothDone w c (x .sequence) (kept d (x .times .time)) (kept b (entryAt g a (completeAt c)))
 
-  by-blocks : (w : Progress) (b : Bool) → x .times .delivered ≡ true → x .blocks .complete ≡ b
-      → w ≡ moved (acceptDone (some (x .times .time)) (kept b (entryAt g a (completeAt c))) s a c x [] []) q
-      → w ≡ moved (settle g s a c x [] []) q
-  by-blocks w b h k e =
-      by-time w true h (e ∙ ap (λ (t : Bool). moved (acceptDone (some (x .times .time)) (kept t (entryAt g a (completeAt c))) s a c x [] []) q) (sym k))
+  ripe-is : (d b : Bool) → x .times .delivered ≡ d → x .blocks .complete ≡ b → ripe g w a c ≡ done d b
+  unfolding ripe timeView blockView
+  ripe-is d b h i =
+      ap
+      (λ (y : Scope). bothDone w c (y .slot .sequence) (kept (y .slot .times .delivered) (y .slot .times .time))
+      (kept (y .slot .blocks .complete) (entryAt g a (completeAt c))))
+      (sym (k .scope))
+      ∙ (λ l. done (h l) (i l))
 
-  by-last : (w : Progress) (l : Bool) → x .times .delivered ≡ true → x .blocks .complete ≡ true → ltb (x .times .time) lastTime ≡ l
-      → w ≡ moved (acceptBelow l s a c x (x .times .time) (entryAt g a (completeAt c)) [] []) q
-      → w ≡ moved (settle g s a c x [] []) q
-  unfolding acceptDone
-  by-last w l h k m e =
-      by-blocks w true h k (e ∙ ap (λ (t : Bool). moved (acceptBelow t s a c x (x .times .time) (entryAt g a (completeAt c)) [] []) q) (sym m))
+  waits : ripe g w a c ≡ none → progress (withScope w c s) a q ≡ moved (free g w a c) q
+  unfolding free freeBy
+  waits h = none-sent w (withScope w c s) a q (as-it-was w c s (k .scope)) ∙ ap (λ (y : Option Write). moved (freeBy y w a) q) (sym h)
 
-  pub wait-time : (s′ : Server) → s′ ≡ withSlot s c x → x .times .delivered ≡ false → progress s′ a q ≡ moved (settle g s a c x [] []) q
-  unfolding acceptDone
-  wait-time s′ e h = by-time (progress s′ a q) false h (waited s′ e)
+  pub wait-time : x .times .delivered ≡ false → progress (withScope w c s) a q ≡ moved (free g w a c) q
+  unfolding bothDone
+  wait-time h = waits (ripe-is false (x .blocks .complete) h refl)
 
-  pub wait-blocks : (s′ : Server) → s′ ≡ withSlot s c x → x .times .delivered ≡ true → x .blocks .complete ≡ false
-      → progress s′ a q ≡ moved (settle g s a c x [] []) q
-  unfolding acceptDone
-  wait-blocks s′ e h k = by-blocks (progress s′ a q) false h k (waited s′ e)
+  pub wait-blocks : x .times .delivered ≡ true → x .blocks .complete ≡ false → progress (withScope w c s) a q ≡ moved (free g w a c) q
+  unfolding bothDone
+  wait-blocks h i = waits (ripe-is true false h i)
 
-  pub wait-last : (s′ : Server) → s′ ≡ withSlot s c x → x .times .delivered ≡ true → x .blocks .complete ≡ true → lastTime ≤ x .times .time
-      → progress s′ a q ≡ moved (settle g s a c x [] []) q
-  unfolding acceptBelow
-  wait-last s′ e h k l = by-last (progress s′ a q) false h k (le-ltb (x .times .time) lastTime l) (waited s′ e)
+  below : (b : Bool) → x .times .delivered ≡ true → x .blocks .complete ≡ true → ltb (x .times .time) lastTime ≡ b
+      → ripe g w a c ≡ pick b (some (writeIn g s c a)) none
+  unfolding bothDone
+  below b h i l = ripe-is true true h i ∙ ap (λ (y : Bool). pick y (some (writeIn g s c a)) none) l
 
-  pub settled : (w : Progress) (i : ℕ) → x .sequence ≡ i → x .times .delivered ≡ true → x .blocks .complete ≡ true → x .times .time < lastTime
-      → w ≡ moved (accept s a (record { client = c; sequence = i; time = x .times .time; entry = entryAt g a (completeAt c) }) [] []) q
-      → w ≡ moved (settle g s a c x [] []) q
-  unfolding acceptBelow
-  settled w i o h k l e =
-      by-last w true h k (lt-ltb (x .times .time) lastTime l)
-      (e ∙ ap (λ (j : ℕ). moved (accept s a (record { client = c; sequence = j; time = x .times .time; entry = entryAt g a (completeAt c) }) [] []) q) (sym o))
+  pub wait-last : x .times .delivered ≡ true → x .blocks .complete ≡ true → lastTime ≤ x .times .time
+      → progress (withScope w c s) a q ≡ moved (free g w a c) q
+  unfolding pick
+  wait-last h i l = waits (below false h i (le-ltb (x .times .time) lastTime l))
 
--- ---- frames that a step sent before
-
-module _ (s : Server) (a : List ℕ) (c : ℕ) (x : Slot) (l : List Sending) (vs : List (List ℕ)) (q : Outbox) where
-  after-wait : moved (wait s a c x l vs) q ≡ moved (wait s a c x [] []) (sent q l)
-  unfolding moved
-  after-wait = ap (progress (withSlot s c x) a) (sym (sent-none (sent q l)))
-
-  after-accept : (w : Write) → moved (accept s a w l vs) q ≡ moved (accept s a w [] []) (sent q l)
-  unfolding moved accept
-  after-accept w = ap (progress (accept s a w l vs .server) (accept s a w l vs .area)) (sym (sent-append q l _))
-
-  after-below : (b : Bool) (T : ℕ) (e : Entry) → moved (acceptBelow b s a c x T e l vs) q ≡ moved (acceptBelow b s a c x T e [] []) (sent q l)
-  unfolding acceptBelow
-  after-below true T e = after-accept (record { client = c; sequence = x .sequence; time = T; entry = e })
-  after-below false T e = after-wait
-
-  after-done : (o : Option ℕ) (p : Option Entry) → moved (acceptDone o p s a c x l vs) q ≡ moved (acceptDone o p s a c x [] []) (sent q l)
-  unfolding acceptDone
-  after-done none p = after-wait
-  after-done (some T) none = after-wait
-  after-done (some T) (some e) = after-below (ltb T lastTime) T e
-
-  pub settle-after : (g : Params) → moved (settle g s a c x l vs) q ≡ moved (settle g s a c x [] []) (sent q l)
-  unfolding settle
-  settle-after g = after-done (timeView x .done) (blockView g a c x .done)
+  pub freed : (r : Progress) → x .times .delivered ≡ true → x .blocks .complete ≡ true → x .times .time < lastTime
+      → r ≡ moved (accept w a (writeIn g s c a)) q → r ≡ moved (free g w a c) q
+  unfolding free freeBy pick
+  freed r h i l e = e ∙ ap (λ (y : Option Write). moved (freeBy y w a) q) (sym (below true h i (lt-ltb (x .times .time) lastTime l)))

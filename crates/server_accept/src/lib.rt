@@ -1,6 +1,4 @@
-// Acceptance: the write of a client whose time is delivered and whose blocks are complete.
-use crate::Moved;
-use crate::state::with_slot;
+// Acceptance: the write of a client whose time is delivered and whose blocks are complete. Only here are readers and the stamp seen.
 use blocks::Params;
 use frame::Place;
 use frame::Stamp;
@@ -13,22 +11,26 @@ use frame::stamps::is_older;
 use server_rules::Reader;
 use server_rules::Scope;
 use server_rules::Server;
-use server_rules::Slot;
 use server_rules::fresh::fresh_slot;
 ghost use mathlib.Core.Path.{_≡_};
-ghost use mathlib.Core.List.{[]};
 ghost use Prim.Native.Nat.{_+_, _*_, _≤_, _<_};
 ghost use lib.ListN.{length};
 ghost use lib.Seq.{sets};
 ghost use Rattle.area.specs.Area.{pick, part};
 ghost use Rattle.frame.specs.Params.{Bounded};
-ghost use Rattle.frame.specs.Stamps.{older, lastTime};
+ghost use Rattle.frame.specs.Stamps.{lastTime};
 ghost use Rattle.frame.specs.Messages.{entry};
 ghost use Rattle.frame.specs.Outbox.{outbox, sent, Room};
-ghost use Rattle.frame.specs.Chunks.{entryAt, completeAt, presentAt, storeIf};
-ghost use Rattle.server_rules.specs.State.{told, scopeOf, withScope};
-ghost use Rattle.server_rules.specs.Steps.{accept, settle, tellFrom};
-ghost use Rattle.server.specs.Stages.{progress, moved, toldTo, opensIn, Lent};
+ghost use Rattle.frame.specs.Chunks.{entryAt, presentAt, storeIf};
+ghost use Rattle.server_rules.specs.Steps.{accept, free, tellFrom};
+ghost use Rattle.server.specs.Stages.{Lent};
+ghost use Rattle.server_accept.specs.Telling.{toldTo, opensIn, writeIn, Freeing};
+
+// What an acceptance leaves of its client's scope, and where the next frame of the step goes.
+pub struct Freed {
+    pub scope: Scope,
+    pub place: Place,
+}
 
 // Sends reader r, client c, a value if it listens and its noted stamp is smaller.
 fn tell_one(
@@ -42,7 +44,8 @@ fn tell_one(
     p: Place,
 ) -> Place
     requires { ⌜ Room p 1 (22 + (length (now digests) + length (now block))) (length (now out)) (length (now to)) ⌝ }
-    ensures { λ q. ⌜ outbox (now (out .exit)) (now (to .exit)) q ≡ sent (outbox (now (out .entry)) (now (to .entry)) p) (toldTo r c x (entry (now (digests .entry)) (now (block .entry)))) ⌝ }
+    ensures { λ q. ⌜ outbox (now (out .exit)) (now (to .exit)) q
+        ≡ sent (outbox (now (out .entry)) (now (to .entry)) p) (toldTo r c x (entry (now (digests .entry)) (now (block .entry)))) ⌝ }
 {
     if !r.listening {
         return p;
@@ -64,7 +67,8 @@ fn tell(
     p: Place,
 ) -> Place
     requires { ⌜ Room p 8 (22 + (length (now digests) + length (now block))) (length (now out)) (length (now to)) ⌝ }
-    ensures { λ q. ⌜ outbox (now (out .exit)) (now (to .exit)) q ≡ sent (outbox (now (out .entry)) (now (to .entry)) p) (tellFrom (told readers) x (entry (now (digests .entry)) (now (block .entry))) 1 8) ⌝ }
+    ensures { λ q. ⌜ outbox (now (out .exit)) (now (to .exit)) q
+        ≡ sent (outbox (now (out .entry)) (now (to .entry)) p) (tellFrom readers x (entry (now (digests .entry)) (now (block .entry))) 1 8) ⌝ }
 {
     let mut q = p;
     let mut c: usize = 1;
@@ -110,37 +114,42 @@ fn newest(newer: bool, x: Stamp, y: Stamp) -> Stamp
 }
 
 // The next sequence opens, and the stamp is the larger one.
-fn opens_next(s: Scope, q: u32, newer: bool, x: Stamp) -> Scope
-    ensures { λ r. ⌜ r ≡ opensIn s q newer x ⌝ }
+fn opens_next(s: Scope, newer: bool, x: Stamp) -> Scope
+    requires { ⌜ s .slot .sequence < 4294967296 ⌝ }
+    ensures { λ r. ⌜ r ≡ opensIn s newer x ⌝ }
 {
+    let old = s.slot;
     let stamp = newest(newer, x, s.stamp);
-    let slot = fresh_slot(q as u64 + 1);
+    let slot = fresh_slot(old.sequence + 1);
     let mut y = s;
     y.stamp = stamp;
     y.slot = slot;
     y
 }
 
-// Client c's write q is accepted with this time, its entry being the completed one.
-pub fn accept(
+// The write of client c's scope is accepted with its delivered time, its entry being the completed one.
+fn accept(
     s: Scope,
     readers: [Reader; 9],
     g: Params,
-    area: &mut [u8],
     c: u8,
-    q: u32,
-    time: u64,
+    area: &mut [u8],
     out: &mut [u8],
     to: &mut [u8],
     p: Place,
-) -> Moved
-    requires { ⌜ Lent g c (length (now area)) p 9 (length (now out)) (length (now to)) × (time < lastTime) ⌝ }
-    ensures { λ r. ⌜ ((w : Server) → s ≡ scopeOf w c → readers ≡ w .readers → progress (withScope w c (r .scope)) (now (area .exit)) (outbox (now (out .exit)) (now (to .exit)) (r .place)) ≡ moved (accept w (now (area .entry)) (record { client = c; sequence = q; time = time; entry = entryAt g (now (area .entry)) (completeAt c) }) [] []) (outbox (now (out .entry)) (now (to .entry)) p)) ⌝ }
+) -> Freed
+    requires { ⌜ Lent g c (length (now area)) p 9 (length (now out)) (length (now to))
+        × (s .slot .times .time < lastTime) × (s .slot .sequence < 4294967296) ⌝ }
+    ensures { λ r. ⌜ Freeing s readers c (λ w. accept w (now (area .entry)) (writeIn g s c (now (area .entry))))
+        (outbox (now (out .entry)) (now (to .entry)) p) r (now (area .exit)) (now (out .exit)) (now (to .exit)) ⌝ }
 {
     let i = c as usize;
     let from = 21 * i - 20;
+    let slot = s.slot;
+    let t = slot.times;
+    let q = slot.sequence as u32;
     let x = Stamp {
-        time: time + 1,
+        time: t.time + 1,
         writer: c,
         sequence: q,
     };
@@ -150,39 +159,36 @@ pub fn accept(
     let told = tell(readers, x, digests, block, out, to, p);
     let place = send_ack(out, to, told, c, q);
     replace(newer, area, g, from);
-    let scope = opens_next(s, q, newer, x);
-    Moved { scope, place }
+    let scope = opens_next(s, newer, x);
+    Freed { scope, place }
 }
 
-// Client c's slot becomes x, and its write q is accepted if it can be.
-pub fn settle(
+// The write of client c's scope is accepted if it can be.
+pub fn free(
     s: Scope,
     readers: [Reader; 9],
     g: Params,
-    area: &mut [u8],
     c: u8,
-    q: u32,
-    x: Slot,
+    area: &mut [u8],
     out: &mut [u8],
     to: &mut [u8],
     p: Place,
-) -> Moved
-    requires { ⌜ Lent g c (length (now area)) p 9 (length (now out)) (length (now to)) × (x .sequence ≡ q) ⌝ }
-    ensures { λ r. ⌜ ((w : Server) → s ≡ scopeOf w c → readers ≡ w .readers → progress (withScope w c (r .scope)) (now (area .exit)) (outbox (now (out .exit)) (now (to .exit)) (r .place)) ≡ moved (settle g w (now (area .entry)) c x [] []) (outbox (now (out .entry)) (now (to .entry)) p)) ⌝ }
+) -> Freed
+    requires { ⌜ Lent g c (length (now area)) p 9 (length (now out)) (length (now to)) × (s .slot .sequence < 4294967296) ⌝ }
+    ensures { λ r. ⌜ Freeing s readers c (λ w. free g w (now (area .entry)) c)
+        (outbox (now (out .entry)) (now (to .entry)) p) r (now (area .exit)) (now (out .exit)) (now (to .exit)) ⌝ }
 {
+    let x = s.slot;
     let t = x.times;
     let b = x.blocks;
     if !t.delivered {
-        let scope = with_slot(s, x);
-        return Moved { scope, place: p };
+        return Freed { scope: s, place: p };
     }
     if !b.complete {
-        let scope = with_slot(s, x);
-        return Moved { scope, place: p };
+        return Freed { scope: s, place: p };
     }
     if Server::LAST_TIME <= t.time {
-        let scope = with_slot(s, x);
-        return Moved { scope, place: p };
+        return Freed { scope: s, place: p };
     }
-    accept(s, readers, g, area, c, q, t.time, out, to, p)
+    accept(s, readers, g, c, area, out, to, p)
 }

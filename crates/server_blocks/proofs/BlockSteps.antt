@@ -1,36 +1,31 @@
 -- The tests of a write's blocks, and what a counted entry leaves. Assumes nothing.
-use Prim.Native.Nat.{ℕ, _+_, _≤_}
-use native.Mathlib.Omega.{arith}
-use native.Mathlib.Nat.{mul-le-mul-left}
+use Prim.Native.Nat.{ℕ}
 use mathlib.Core.Path.{_≡_, refl, ap, sym, _∙_}
 use mathlib.Core.Bool.{Bool, true, false, not}
 use mathlib.Core.List.{List}
 use lib.ListN.{getD}
 use borrow.Author.Tests.{not-true, not-false}
 use Rattle.area.specs.Area.{pick}
-use Rattle.blocks.specs.declared.Params.{Params}
-use Rattle.frame.specs.declared.Party.{Party}
-use Rattle.frame.specs.declared.Place.{Place}
+use Rattle.sha256.specs.Hash.{digestOf}
 use Rattle.frame.specs.declared.Refusal.{Refusal}
 use Rattle.frame.specs.declared.Refusal.the-variants as R
 use Rattle.frame.specs.declared.Verdict.{Verdict}
 use Rattle.frame.specs.declared.Verdict.the-variants as J
 use Rattle.frame.specs.Refusals.{andThen}
-use Rattle.frame.specs.Params.{width, listed, largestFrame}
-use Rattle.frame.specs.Messages.{Entry, message, send, echo, ready, blockIs, toAll, numberIn, fromServer}
+use Rattle.frame.specs.Messages.{Entry, Stage, message, send, echo, ready, blockIs, toAll, numberIn, fromServer}
 use Rattle.group_rules.specs.Coded.{fits}
 use Rattle.frame.specs.Chunks.{storeEntry}
-use Rattle.frame.specs.Outbox.{Outbox, sent, Room}
-use Rattle.frame.proofs.Verdicts.{fine-both}
+use Rattle.frame.specs.Outbox.{Outbox, sent}
+use Rattle.frame.proofs.Verdicts.{fine-is, fine-both}
+use Rattle.frame.proofs.Within.{stop-first, go-second}
 use Rattle.server_rules.specs.declared.Slot.{Slot}
-use Rattle.server_rules.specs.declared.Scope.{Scope}
-use Rattle.server_rules.specs.declared.Server.{Server}
-use Rattle.server_rules.specs.State.{slotOf, scopeOf, withSlot, withBlocks, blockSent}
-use Rattle.server_rules.specs.Tests.{fromOwner, openTest, fitTest, senderRight, counted, orderTest, messageTest}
-use Rattle.server_rules.specs.Steps.{sendOnly, settleBlocks}
-use Rattle.server.specs.Stages.{Progress, progress, moved}
-use Rattle.server.proofs.Sending.{room-fewer, room-smaller}
-use Rattle.server.proofs.Answers.{Voted, voted, owned, only-sent}
+use Rattle.server_rules.specs.State.{withBlocks, blockSent}
+use Rattle.server_rules.specs.Tests.{fromOwner, openTest, fitTest, senderRight, counted}
+use Rattle.server_rules.specs.Steps.{votedBlock, onBlock}
+use Rattle.server.specs.declared.Call.{Call}
+use Rattle.server.specs.Stages.{Left, left, counts, Handled, handledBy, sentBy, blockFrame}
+use Rattle.server.proofs.Answers.{Voted, voted, owned}
+use Rattle.server_blocks.specs.Stage.{verdictOf, voteVerdict}
 
 -- ---- the tests
 
@@ -48,72 +43,96 @@ unfolding pick
 split true r u w = refl
 split false r u w = refl
 
-pub sent-test : (H : List ℕ → List ℕ) (g : Params) (me : ℕ) (s : Server) (x : Scope) (from : Party) (c q : ℕ) (e : Entry) (v : Verdict) → x ≡ scopeOf s c
-    → v ≡ andThen (pick (fromOwner from c) (openTest (x .slot) q (x .slot .blocks .sent)) (J.Bad R.Sender)) (fitTest H e me)
-    → v ≡ messageTest H g me s from (message c q (blockIs send e))
-unfolding messageTest senderRight orderTest counted
-sent-test H g me s x from c q e v i p =
-    p ∙ ap (λ (u : Scope). andThen (pick (fromOwner from c) (openTest (u .slot) q (u .slot .blocks .sent)) (J.Bad R.Sender)) (fitTest H e me)) i
-    ∙ split (fromOwner from c) R.Sender (openTest (slotOf s c) q (slotOf s c .blocks .sent)) (fitTest H e me)
+module _ (k : Call) (x : Slot) (e : Entry) (v : Verdict) where
+  module _ (h : v ≡ pick (fromOwner (k .from) (k .header .client)) (openTest x (k .header .sequence) (x .blocks .sent)) (J.Bad R.Sender)) where
+    pub send-bad : (r : Refusal) → v ≡ J.Bad r → J.Bad r ≡ verdictOf k x send e
+    unfolding verdictOf sentBy senderRight counted
+    send-bad r f =
+        stop-first (pick (fromOwner (k .from) (k .header .client)) (openTest x (k .header .sequence) (x .blocks .sent)) (J.Bad R.Sender)) (fitTest digestOf e (k .me)) v r h f
+        ∙ split (fromOwner (k .from) (k .header .client)) R.Sender (openTest x (k .header .sequence) (x .blocks .sent)) (fitTest digestOf e (k .me))
 
-pub echo-test : (H : List ℕ → List ℕ) (g : Params) (me : ℕ) (s : Server) (x : Scope) (from : Party) (c q : ℕ) (e : Entry) (v : Verdict) → x ≡ scopeOf s c
-    → v ≡ andThen (pick (fromServer g from) (openTest (x .slot) q (getD (x .slot .blocks .echoes) (numberIn from) false)) (J.Bad R.Sender)) (fitTest H e (numberIn from))
-    → v ≡ messageTest H g me s from (message c q (blockIs echo e))
-unfolding messageTest senderRight orderTest counted
-echo-test H g me s x from c q e v i p =
-    p ∙ ap (λ (u : Scope). andThen (pick (fromServer g from) (openTest (u .slot) q (getD (u .slot .blocks .echoes) (numberIn from) false)) (J.Bad R.Sender)) (fitTest H e (numberIn from))) i
-    ∙ split (fromServer g from) R.Sender (openTest (slotOf s c) q (getD (slotOf s c .blocks .echoes) (numberIn from) false)) (fitTest H e (numberIn from))
+    pub send-fine : (w : Verdict) → v ≡ J.Fine → w ≡ fitTest digestOf e (k .me) → w ≡ verdictOf k x send e
+    unfolding verdictOf sentBy senderRight counted
+    send-fine w f m =
+        go-second (pick (fromOwner (k .from) (k .header .client)) (openTest x (k .header .sequence) (x .blocks .sent)) (J.Bad R.Sender)) (fitTest digestOf e (k .me)) v w h f m
+        ∙ split (fromOwner (k .from) (k .header .client)) R.Sender (openTest x (k .header .sequence) (x .blocks .sent)) (fitTest digestOf e (k .me))
 
-pub ready-test : (H : List ℕ → List ℕ) (g : Params) (me : ℕ) (s : Server) (x : Scope) (from : Party) (c q : ℕ) (e : Entry) (v : Verdict) → x ≡ scopeOf s c
-    → v ≡ andThen (pick (fromServer g from) (openTest (x .slot) q (getD (x .slot .blocks .readies) (numberIn from) false)) (J.Bad R.Sender)) (fitTest H e (numberIn from))
-    → v ≡ messageTest H g me s from (message c q (blockIs ready e))
-unfolding messageTest senderRight orderTest counted
-ready-test H g me s x from c q e v i p =
-    p ∙ ap (λ (u : Scope). andThen (pick (fromServer g from) (openTest (u .slot) q (getD (u .slot .blocks .readies) (numberIn from) false)) (J.Bad R.Sender)) (fitTest H e (numberIn from))) i
-    ∙ split (fromServer g from) R.Sender (openTest (slotOf s c) q (getD (slotOf s c .blocks .readies) (numberIn from) false)) (fitTest H e (numberIn from))
+  module _ (again : Bool) (h : v ≡ pick (fromServer (k .params) (k .from)) (openTest x (k .header .sequence) again) (J.Bad R.Sender)) where
+    pub vote-bad : (r : Refusal) → v ≡ J.Bad r → J.Bad r ≡ voteVerdict k x again e
+    unfolding voteVerdict
+    vote-bad r f =
+        stop-first (pick (fromServer (k .params) (k .from)) (openTest x (k .header .sequence) again) (J.Bad R.Sender)) (fitTest digestOf e (numberIn (k .from))) v r h f
+        ∙ split (fromServer (k .params) (k .from)) R.Sender (openTest x (k .header .sequence) again) (fitTest digestOf e (numberIn (k .from)))
 
--- what is known where nothing spoke against a frame
-pub kept-voted : (g : Params) (from : Party) (x : Slot) (q : ℕ) (again : Bool) (w v : Verdict)
-    → v ≡ andThen (pick (fromServer g from) (openTest x q again) (J.Bad R.Sender)) w → v ≡ J.Fine → Voted g from x q
-kept-voted g from x q again w v e f =
-    voted g from x q again (pick (fromServer g from) (openTest x q again) (J.Bad R.Sender)) refl
-    (fine-both (pick (fromServer g from) (openTest x q again) (J.Bad R.Sender)) w (sym e ∙ f) .0)
+    pub vote-fine : (w : Verdict) (j : ℕ) → v ≡ J.Fine → w ≡ fitTest digestOf e j → j ≡ numberIn (k .from) → w ≡ voteVerdict k x again e
+    unfolding voteVerdict
+    vote-fine w j f m n =
+        go-second (pick (fromServer (k .params) (k .from)) (openTest x (k .header .sequence) again) (J.Bad R.Sender)) (fitTest digestOf e (numberIn (k .from))) v w h f
+        (m ∙ ap (fitTest digestOf e) n)
+        ∙ split (fromServer (k .params) (k .from)) R.Sender (openTest x (k .header .sequence) again) (fitTest digestOf e (numberIn (k .from)))
 
-pub kept-owned : (from : Party) (c : ℕ) (x : Slot) (q : ℕ) (again : Bool) (w v : Verdict)
-    → v ≡ andThen (pick (fromOwner from c) (openTest x q again) (J.Bad R.Sender)) w → v ≡ J.Fine → x .sequence ≡ q
-kept-owned from c x q again w v e f =
-    owned from c x q again (pick (fromOwner from c) (openTest x q again) (J.Bad R.Sender)) refl
-    (fine-both (pick (fromOwner from c) (openTest x q again) (J.Bad R.Sender)) w (sym e ∙ f) .0)
+  -- what is known where nothing spoke against a frame
+  pub sent-open : v ≡ verdictOf k x send e → v ≡ J.Fine → x .sequence ≡ k .header .sequence
+  unfolding verdictOf sentBy senderRight counted
+  sent-open h f =
+      let b = fromOwner (k .from) (k .header .client) in
+      let u = openTest x (k .header .sequence) (x .blocks .sent) in
+      owned (k .from) (k .header .client) x (k .header .sequence) (x .blocks .sent) (pick b u (J.Bad R.Sender)) refl
+      (fine-both (pick b u (J.Bad R.Sender)) (fitTest digestOf e (k .me)) (split b R.Sender u (fitTest digestOf e (k .me)) ∙ sym h ∙ f) .0)
 
--- ---- the steps
+  pub vote-open : (again : Bool) → v ≡ voteVerdict k x again e → v ≡ J.Fine → Voted (k .params) (k .from) x (k .header .sequence)
+  unfolding voteVerdict
+  vote-open again h f =
+      let b = fromServer (k .params) (k .from) in
+      let u = openTest x (k .header .sequence) again in
+      voted (k .params) (k .from) x (k .header .sequence) again (pick b u (J.Bad R.Sender)) refl
+      (fine-both (pick b u (J.Bad R.Sender)) (fitTest digestOf e (numberIn (k .from))) (split b R.Sender u (fitTest digestOf e (numberIn (k .from))) ∙ sym h ∙ f) .0)
 
--- room for a digest list and a block to all servers
-pub block-room : (g : Params) (p : Place) (k list block out to : ℕ) → list ≡ listed g → block ≡ width g
-    → Room p (g .n + k) (largestFrame g) out to → Room p (g .n) (9 + (list + block)) out to
-unfolding largestFrame
-block-room g p k list block out to l b R =
-    let h : 9 + (list + block) ≤ largestFrame g = omega (arith, l, b) in
-    room-smaller p (g .n) (9 + (list + block)) (largestFrame g) out to (mul-le-mul-left (g .n) h)
-    (room-fewer p (g .n + k) (g .n) (largestFrame g) out to (omega arith) R)
+  pub echo-verdict : v ≡ voteVerdict k x (getD (x .blocks .echoes) (numberIn (k .from)) false) e → v ≡ verdictOf k x echo e
+  unfolding voteVerdict verdictOf sentBy senderRight counted
+  echo-verdict h = h
+
+  pub ready-verdict : v ≡ voteVerdict k x (getD (x .blocks .readies) (numberIn (k .from)) false) e → v ≡ verdictOf k x ready e
+  unfolding voteVerdict verdictOf sentBy senderRight counted
+  ready-verdict h = h
+
+  -- ---- the steps
+
+  module _ (z : Stage) (a : List ℕ) (q : Outbox) (h : v ≡ verdictOf k x z e) where
+    -- turned down
+    pub turned-down : (r : Refusal) → v ≡ J.Bad r → _≡_ {A = Handled} (record { verdict = J.Bad r; slot = x; area = a; box = q }) (blockFrame digestOf k x a z e q)
+    unfolding blockFrame handledBy verdictOf
+    turned-down r f =
+        ap (λ (u : Verdict). handledBy u x a (onBlock digestOf (k .params) (k .me) a (k .header .client) x (numberIn (k .from)) z e) q) (sym f ∙ h)
+
+    -- counted
+    pub let-in : (y : Slot) (a′ : List ℕ) (q′ : Outbox) → v ≡ J.Fine
+        → left y a′ q′ ≡ counts (onBlock digestOf (k .params) (k .me) a (k .header .client) x (numberIn (k .from)) z e) q
+        → _≡_ {A = Handled} (record { verdict = J.Fine; slot = y; area = a′; box = q′ }) (blockFrame digestOf k x a z e q)
+    unfolding blockFrame handledBy verdictOf counts
+    let-in y a′ q′ f l =
+        ap (λ (u : Left). record { verdict = J.Fine; slot = u .slot; area = u .area; box = u .box }) l
+        ∙ ap (λ (u : Verdict). handledBy u x a (onBlock digestOf (k .params) (k .me) a (k .header .client) x (numberIn (k .from)) z e) q) (sym f ∙ h)
 
 -- the owner's digest list and block are echoed
-pub block-echoed : (g : Params) (s s′ : Server) (a : List ℕ) (c i : ℕ) (e : Entry) (x y : Slot) (q q′ : Outbox)
-    → x .sequence ≡ i
+pub block-echoed : (k : Call) (a : List ℕ) (j : ℕ) (e : Entry) (x y : Slot) (q q′ : Outbox)
+    → x .sequence ≡ k .header .sequence
     → y ≡ withBlocks x (blockSent (x .blocks))
-    → s′ ≡ withSlot s c y
-    → q′ ≡ sent q (toAll g (λ j. message c i (blockIs echo e)))
-    → progress s′ a q′ ≡ moved (sendOnly (withSlot s c (withBlocks x (blockSent (x .blocks)))) a (toAll g (λ j. message c (x .sequence) (blockIs echo e)))) q
-block-echoed g s s′ a c i e x y q q′ h m n f =
-    only-sent (withSlot s c (withBlocks x (blockSent (x .blocks)))) s′ a _ q q′ (n ∙ ap (withSlot s c) m)
-    (f ∙ ap (λ (z : ℕ). sent q (toAll g (λ j. message c z (blockIs echo e)))) (sym h))
+    → q′ ≡ sent q (toAll (k .params) (λ j. message (k .header .client) (k .header .sequence) (blockIs echo e)))
+    → left y a q′ ≡ counts (onBlock digestOf (k .params) (k .me) a (k .header .client) x j send e) q
+unfolding onBlock counts
+block-echoed k a j e x y q q′ h m f =
+    let u = f ∙ ap (λ (z : ℕ). sent q (toAll (k .params) (λ j. message (k .header .client) z (blockIs echo e)))) (sym h) in
+    λ i. left (m i) a (u i)
 
 -- a server's entry is kept and counted
-pub blocks-voted : (H : List ℕ → List ℕ) (g : Params) (me : ℕ) (s : Server) (a a′ : List ℕ) (c : ℕ) (at : ℕ → ℕ) (mark : ℕ → Slot) (y : Slot) (j i : ℕ) (e : Entry) (q : Outbox) (w : Progress)
+pub block-voted : (k : Call) (a a′ : List ℕ) (at : ℕ → ℕ) (mark : ℕ → Slot) (y : Slot) (j i : ℕ) (e : Entry) (q : Outbox) (l : Left)
     → j ≡ i
     → a′ ≡ storeEntry a (at j) e
     → y ≡ mark j
-    → w ≡ moved (settleBlocks H g me s a′ c y e) q
-    → w ≡ moved (settleBlocks H g me s (storeEntry a (at i) e) c (mark i) e) q
-blocks-voted H g me s a a′ c at mark y j i e q w h k m f =
-    f ∙ ap (λ (z : List ℕ). moved (settleBlocks H g me s z c y e) q) k ∙ ap (λ (z : Slot). moved (settleBlocks H g me s (storeEntry a (at j) e) c z e) q) m
-    ∙ ap (λ (l : ℕ). moved (settleBlocks H g me s (storeEntry a (at l) e) c (mark l) e) q) h
+    → l ≡ counts (votedBlock digestOf (k .params) (k .me) a′ (k .header .client) y e) q
+    → l ≡ counts (votedBlock digestOf (k .params) (k .me) (storeEntry a (at i) e) (k .header .client) (mark i) e) q
+block-voted k a a′ at mark y j i e q l h n m f =
+    f
+    ∙ (λ t. counts (votedBlock digestOf (k .params) (k .me) (n t) (k .header .client) (m t) e) q)
+    ∙ ap (λ (z : ℕ). counts (votedBlock digestOf (k .params) (k .me) (storeEntry a (at z) e) (k .header .client) (mark z) e) q) h

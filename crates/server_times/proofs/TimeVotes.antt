@@ -48,7 +48,9 @@ module _ (H : List ℕ → List ℕ) (g : Params) where
 
   pub due-time : (x : Slot) (T : ℕ)
       → due (timeRules H g) (g .n) (g .t) (timeView x) T
-      ≡ not (x .times .ready) && (leb (g .n) (count (saidTime (x .times .echoes) (x .times .echoed) T) (g .n) + g .t) || leb (g .t + 1) (count (saidTime (x .times .readies) (x .times .readied) T) (g .n)))
+      ≡ not (x .times .ready)
+      && (leb (g .n) (count (saidTime (x .times .echoes) (x .times .echoed) T) (g .n) + g .t)
+      || leb (g .t + 1) (count (saidTime (x .times .readies) (x .times .readied) T) (g .n)))
   unfolding due enough timeView
   due-time x T =
       rw (votes-time (x .times .echoes) (x .times .echoed) T, votes-time (x .times .readies) (x .times .readied) T)

@@ -1,129 +1,120 @@
 // Frames of a write's time: kinds 6 to 8.
-use crate::Moved;
-use crate::Taken;
-use crate::replies::taken;
-use crate::state::time_echo;
-use crate::state::time_ready;
-use crate::state::time_sent;
-use crate::state::with_slot;
-use crate::tests::owner_test;
-use crate::tests::server_test;
-use crate::times::settle_times;
-use blocks::Params;
+use crate::voting::count_time;
 use frame::Broadcast;
-use frame::Header;
-use frame::Party;
 use frame::Place;
 use frame::Verdict;
+use frame::layout::BODY_AT;
 use frame::parties::number_in;
 use frame::send::time_all;
-use server_rules::Reader;
-use server_rules::Reply;
-use server_rules::Scope;
-use server_rules::Server;
-ghost use mathlib.Core.Path.{_≡_};
-ghost use Prim.Native.Nat.{ℕ, _+_, _≤_};
-ghost use mathlib.Core.List.{List};
+use server::Call;
+use server::Counted;
+use server::state::time_echo;
+use server::state::time_ready;
+use server::state::time_sent;
+use server::tests::owner_test;
+use server::tests::server_test;
+use server_rules::Slot;
+ghost use Prim.Native.Nat.{_≤_};
 ghost use lib.ListN.{length};
-ghost use Rattle.area.specs.Numbers.{be8};
-ghost use Rattle.frame.specs.Messages.{message, timeIs, send, echo, ready, numberIn};
-ghost use Rattle.frame.specs.Outbox.{firstPlace, Room};
-ghost use Rattle.frame.specs.Params.{largestFrame, Bounded};
-ghost use Rattle.sha256.specs.Hash.{digestOf};
-ghost use Rattle.server_rules.specs.State.{slotOf, scopeOf};
-ghost use Rattle.server_rules.specs.Tests.{messageTest};
-ghost use Rattle.server_rules.specs.Steps.{onTime};
-ghost use Rattle.server.specs.Stages.{outcomeIn, answered, Lent};
+ghost use Rattle.frame.specs.Messages.{send, echo, ready};
+ghost use Rattle.server_times.specs.Timed.{Roomy, TimeHandled};
+
+pub mod voting;
 
 // 6: the owner's time, echoed to all.
-pub fn on_time_send(
-    s: Scope,
-    g: Params,
-    from: Party,
-    h: Header,
-    f: &[u8],
-    out: &mut [u8],
-    to: &mut [u8],
-) -> Taken
-    requires { ⌜ Bounded g × (1 ≤ h .client) × (h .client ≤ 8) × Room firstPlace (g .n + 9) (largestFrame g) (length (now out)) (length (now to)) × (17 ≤ length (now f)) ⌝ }
-    ensures { λ r. ⌜ ((w : Server) → s ≡ scopeOf w (h .client) → (a : List ℕ) → outcomeIn w (h .client) r a (now (out .exit)) (now (to .exit)) ≡ answered (messageTest digestOf g 0 w from (message (h .client) (h .sequence) (timeIs send (be8 (now (f .entry)) 9)))) w a (onTime digestOf g 0 w a (h .client) (slotOf w (h .client)) (numberIn from) send (be8 (now (f .entry)) 9)) (now (out .entry)) (now (to .entry))) ⌝ }
+pub fn on_time_send(x: Slot, k: Call, f: &[u8], out: &mut [u8], to: &mut [u8]) -> Counted
+    requires { ⌜ Roomy (k .params) (length (now out)) (length (now to)) × (17 ≤ length (now f)) ⌝ }
+    ensures { λ r. ⌜ TimeHandled k x send (now (f .entry)) (now (out .entry)) (now (to .entry)) r (now (out .exit)) (now (to .exit)) ⌝ }
 {
-    let x = s.slot;
+    let from = k.from;
+    let h = k.header;
     let t = x.times;
-    let v = owner_test(from, h.client, x, h.sequence, t.sent);
-    if let Verdict::Bad(r) = v {
-        return Taken {
-            reply: Reply::Refused(r),
-            scope: s,
+    let p = Place { at: 0, count: 0 };
+    let verdict = owner_test(from, h.client, x, h.sequence, t.sent);
+    if let Verdict::Bad(_) = verdict {
+        return Counted {
+            verdict,
+            slot: x,
+            place: p,
         };
     }
-    let time = area::read8(f, 9);
-    let p = Place { at: 0, count: 0 };
-    let place = time_all(out, to, p, g, Broadcast::Echo, h.client, h.sequence, time);
-    let scope = with_slot(s, time_sent(x));
-    taken(Moved { scope, place })
+    let time = area::read8(f, BODY_AT);
+    let place = time_all(
+        out,
+        to,
+        p,
+        k.params,
+        Broadcast::Echo,
+        h.client,
+        h.sequence,
+        time,
+    );
+    let slot = time_sent(x);
+    Counted {
+        verdict,
+        slot,
+        place,
+    }
 }
 
 // 7: a server's echo of the time.
-pub fn on_time_echo(
-    s: Scope,
-    readers: [Reader; 9],
-    g: Params,
-    from: Party,
-    h: Header,
-    f: &[u8],
-    area: &mut [u8],
-    out: &mut [u8],
-    to: &mut [u8],
-) -> Taken
-    requires { ⌜ Lent g (h .client) (length (now area)) firstPlace (g .n + 9) (length (now out)) (length (now to)) × (17 ≤ length (now f)) ⌝ }
-    ensures { λ r. ⌜ ((w : Server) → s ≡ scopeOf w (h .client) → readers ≡ w .readers → outcomeIn w (h .client) r (now (area .exit)) (now (out .exit)) (now (to .exit)) ≡ answered (messageTest digestOf g 0 w from (message (h .client) (h .sequence) (timeIs echo (be8 (now (f .entry)) 9)))) w (now (area .entry)) (onTime digestOf g 0 w (now (area .entry)) (h .client) (slotOf w (h .client)) (numberIn from) echo (be8 (now (f .entry)) 9)) (now (out .entry)) (now (to .entry))) ⌝ }
+pub fn on_time_echo(x: Slot, k: Call, f: &[u8], out: &mut [u8], to: &mut [u8]) -> Counted
+    requires { ⌜ Roomy (k .params) (length (now out)) (length (now to)) × (17 ≤ length (now f)) ⌝ }
+    ensures { λ r. ⌜ TimeHandled k x echo (now (f .entry)) (now (out .entry)) (now (to .entry)) r (now (out .exit)) (now (to .exit)) ⌝ }
 {
-    let x = s.slot;
+    let from = k.from;
+    let h = k.header;
     let t = x.times;
     let echoes = t.echoes;
-    let v = server_test(g, from, x, h.sequence, echoes);
-    if let Verdict::Bad(r) = v {
-        return Taken {
-            reply: Reply::Refused(r),
-            scope: s,
+    let verdict = server_test(k.params, from, x, h.sequence, echoes);
+    if let Verdict::Bad(_) = verdict {
+        let place = Place { at: 0, count: 0 };
+        return Counted {
+            verdict,
+            slot: x,
+            place,
         };
     }
     let j = number_in(from) as usize;
-    let time = area::read8(f, 9);
+    let time = area::read8(f, BODY_AT);
     let y = time_echo(x, j, time);
-    let m = settle_times(s, readers, g, area, h.client, h.sequence, y, time, out, to);
-    taken(m)
+    let m = count_time(y, k, time, out, to);
+    let slot = m.slot;
+    let place = m.place;
+    Counted {
+        verdict,
+        slot,
+        place,
+    }
 }
 
 // 8: a server's ready of the time.
-pub fn on_time_ready(
-    s: Scope,
-    readers: [Reader; 9],
-    g: Params,
-    from: Party,
-    h: Header,
-    f: &[u8],
-    area: &mut [u8],
-    out: &mut [u8],
-    to: &mut [u8],
-) -> Taken
-    requires { ⌜ Lent g (h .client) (length (now area)) firstPlace (g .n + 9) (length (now out)) (length (now to)) × (17 ≤ length (now f)) ⌝ }
-    ensures { λ r. ⌜ ((w : Server) → s ≡ scopeOf w (h .client) → readers ≡ w .readers → outcomeIn w (h .client) r (now (area .exit)) (now (out .exit)) (now (to .exit)) ≡ answered (messageTest digestOf g 0 w from (message (h .client) (h .sequence) (timeIs ready (be8 (now (f .entry)) 9)))) w (now (area .entry)) (onTime digestOf g 0 w (now (area .entry)) (h .client) (slotOf w (h .client)) (numberIn from) ready (be8 (now (f .entry)) 9)) (now (out .entry)) (now (to .entry))) ⌝ }
+pub fn on_time_ready(x: Slot, k: Call, f: &[u8], out: &mut [u8], to: &mut [u8]) -> Counted
+    requires { ⌜ Roomy (k .params) (length (now out)) (length (now to)) × (17 ≤ length (now f)) ⌝ }
+    ensures { λ r. ⌜ TimeHandled k x ready (now (f .entry)) (now (out .entry)) (now (to .entry)) r (now (out .exit)) (now (to .exit)) ⌝ }
 {
-    let x = s.slot;
+    let from = k.from;
+    let h = k.header;
     let t = x.times;
     let readies = t.readies;
-    let v = server_test(g, from, x, h.sequence, readies);
-    if let Verdict::Bad(r) = v {
-        return Taken {
-            reply: Reply::Refused(r),
-            scope: s,
+    let verdict = server_test(k.params, from, x, h.sequence, readies);
+    if let Verdict::Bad(_) = verdict {
+        let place = Place { at: 0, count: 0 };
+        return Counted {
+            verdict,
+            slot: x,
+            place,
         };
     }
     let j = number_in(from) as usize;
-    let time = area::read8(f, 9);
+    let time = area::read8(f, BODY_AT);
     let y = time_ready(x, j, time);
-    let m = settle_times(s, readers, g, area, h.client, h.sequence, y, time, out, to);
-    taken(m)
+    let m = count_time(y, k, time, out, to);
+    let slot = m.slot;
+    let place = m.place;
+    Counted {
+        verdict,
+        slot,
+        place,
+    }
 }

@@ -1,32 +1,27 @@
 // The time of a write: how many servers said it, and what is due then.
-use crate::Moved;
-use crate::accept::settle;
-use crate::state::time_marks;
 use blocks::Params;
 use frame::Broadcast;
 use frame::Place;
 use frame::send::time_all;
-use server_rules::Reader;
-use server_rules::Scope;
-use server_rules::Server;
+use server::Call;
+use server::Moved;
+use server::state::time_marks;
 use server_rules::Slot;
 ghost use mathlib.Core.Path.{_≡_};
 ghost use Prim.Native.Nat.{_+_, _≤_};
 ghost use mathlib.Core.Bool.{false, _&&_};
 ghost use mathlib.Core.List.{[]};
 ghost use lib.ListN.{length, getD};
-ghost use Rattle.area.specs.Area.{pick};
 ghost use lib.Dec.{eqb};
+ghost use Rattle.area.specs.Area.{pick};
 ghost use Rattle.quorum.specs.Quorum.{bit, count};
 ghost use Rattle.frame.specs.Params.{Bounded};
-ghost use Rattle.frame.specs.Messages.{message, toAll, timeIs, ready};
-ghost use Rattle.frame.specs.Outbox.{outbox, sent, firstPlace, Room};
+ghost use Rattle.frame.specs.Outbox.{outbox, sent, firstPlace};
 ghost use Rattle.sha256.specs.Hash.{digestOf};
 ghost use Rattle.server_rules.specs.Broadcast.{due, full};
-ghost use Rattle.server_rules.specs.State.{timeView, scopeOf, withScope};
+ghost use Rattle.server_rules.specs.State.{timeView};
 ghost use Rattle.server_rules.specs.Rules.{timeRules};
-ghost use Rattle.server_rules.specs.Steps.{settleTimes};
-ghost use Rattle.server.specs.Stages.{progress, moved, Lent};
+ghost use Rattle.server_times.specs.Timed.{Roomy, readiesOf, TimeVoted};
 
 // 1 where a time is kept and is this one, else 0.
 fn time_vote(on: bool, kept: u64, time: u64) -> usize
@@ -86,44 +81,37 @@ pub fn time_full(g: Params, x: Slot, time: u64) -> bool
 }
 
 // The first frames of a step: readies of this time to all servers, if they are due.
-fn time_readies(
-    due: bool,
-    g: Params,
-    c: u8,
-    q: u32,
-    time: u64,
-    out: &mut [u8],
-    to: &mut [u8],
-) -> Place
-    requires { ⌜ Bounded g × Room firstPlace (g .n) 17 (length (now out)) (length (now to)) ⌝ }
-    ensures { λ r. ⌜ outbox (now (out .exit)) (now (to .exit)) r ≡ sent (outbox (now (out .entry)) (now (to .entry)) firstPlace) (pick due (toAll g (λ j. message c q (timeIs ready time))) []) ⌝ }
+fn time_readies(due: bool, k: Call, time: u64, out: &mut [u8], to: &mut [u8]) -> Place
+    requires { ⌜ Roomy (k .params) (length (now out)) (length (now to)) ⌝ }
+    ensures { λ r. ⌜ outbox (now (out .exit)) (now (to .exit)) r
+        ≡ sent (outbox (now (out .entry)) (now (to .entry)) firstPlace) (pick due (readiesOf k time) []) ⌝ }
 {
     let p = Place { at: 0, count: 0 };
     if !due {
         return p;
     }
-    time_all(out, to, p, g, Broadcast::Ready, c, q, time)
+    let h = k.header;
+    time_all(
+        out,
+        to,
+        p,
+        k.params,
+        Broadcast::Ready,
+        h.client,
+        h.sequence,
+        time,
+    )
 }
 
-// An echo or a ready of this time was counted in client c's slot x. (Nothing here hangs on the own number, 0 in the promise.)
-pub fn settle_times(
-    s: Scope,
-    readers: [Reader; 9],
-    g: Params,
-    area: &mut [u8],
-    c: u8,
-    q: u32,
-    x: Slot,
-    time: u64,
-    out: &mut [u8],
-    to: &mut [u8],
-) -> Moved
-    requires { ⌜ Lent g c (length (now area)) firstPlace (g .n + 9) (length (now out)) (length (now to)) × (x .sequence ≡ q) ⌝ }
-    ensures { λ r. ⌜ ((w : Server) → s ≡ scopeOf w c → readers ≡ w .readers → progress (withScope w c (r .scope)) (now (area .exit)) (outbox (now (out .exit)) (now (to .exit)) (r .place)) ≡ moved (settleTimes digestOf g 0 w (now (area .entry)) c x time) (outbox (now (out .entry)) (now (to .entry)) firstPlace)) ⌝ }
+// An echo or a ready of this time was counted in the slot x of the write that k names.
+pub fn count_time(x: Slot, k: Call, time: u64, out: &mut [u8], to: &mut [u8]) -> Moved
+    requires { ⌜ Roomy (k .params) (length (now out)) (length (now to)) × (x .sequence ≡ k .header .sequence) ⌝ }
+    ensures { λ r. ⌜ TimeVoted k x time (now (out .entry)) (now (to .entry)) r (now (out .exit)) (now (to .exit)) ⌝ }
 {
+    let g = k.params;
     let due = time_due(g, x, time);
     let full = time_full(g, x, time);
-    let y = time_marks(x, due, full, time);
-    let p = time_readies(due, g, c, q, time, out, to);
-    settle(s, readers, g, area, c, q, y, out, to, p)
+    let slot = time_marks(x, due, full, time);
+    let place = time_readies(due, k, time, out, to);
+    Moved { slot, place }
 }

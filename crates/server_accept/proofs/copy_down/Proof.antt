@@ -4,13 +4,13 @@ use lib.ListN.{length, take, length-set}
 use lib.Seq.{sets, take-all}
 use Rattle.area.specs.Area.{part}
 use Rattle.area.proofs.Sets.{length-part}
-use Rattle.server.proofs.Acceptance.{copy-turn}
+use Rattle.server_accept.proofs.Replacing.{copy-turn}
 use native.Mathlib.Omega.{arith}
 use borrow.Author.Needs.{needs}
-use Rattle.server.proofs.accept.copy_down.Statement.{statement}
-use Rattle.server.proofs.accept.copy_down.Tie as tie
-use Rattle.server.proofs.accept.copy_down.Reads as reads
-use Rattle.server.proofs.accept.copy_down.Lts as lts
+use Rattle.server_accept.proofs.copy_down.Statement.{statement}
+use Rattle.server_accept.proofs.copy_down.Tie as tie
+use Rattle.server_accept.proofs.copy_down.Reads as reads
+use Rattle.server_accept.proofs.copy_down.Lts as lts
 
 abbrev Inv-loop : tie.InvT-loop
 Inv-loop area₀ at from n j₀ area j = (area ≡ sets area₀ at (take j (part area₀ from n))) × (j ≤ n) × (length area ≡ length area₀)
@@ -18,45 +18,35 @@ Inv-loop area₀ at from n j₀ area j = (area ≡ sets area₀ at (take j (part
 abbrev μ-loop : tie.MeasureT-loop
 μ-loop area₀ at from n j₀ area j = n - j
 
--- src/accept.rt:67:5
 loop-holds : tie.Need-loop-holds Inv-loop μ-loop
 loop-holds c = (refl, omega arith, refl)
 
--- src/accept.rt:68:29
 add-area : tie.Need-add-area Inv-loop μ-loop
 add-area c = search needs
 
--- src/accept.rt:68:24
 slice-read-area : tie.Need-slice-read-area Inv-loop μ-loop
 slice-read-area c = search needs
 
--- src/accept.rt:68:14
 add-area-2 : tie.Need-add-area-2 Inv-loop μ-loop
 add-area-2 c = search needs
 
--- src/accept.rt:68:9
 slice-write-area : tie.Need-slice-write-area Inv-loop μ-loop
 slice-write-area c = search needs
 
--- src/accept.rt:69:9
 add-j : tie.Need-add-j Inv-loop μ-loop
 add-j c = search needs
 
--- src/accept.rt:67:5
 loop-less : tie.Need-loop-less Inv-loop μ-loop
 loop-less c = search needs
 
--- src/accept.rt:67:5
 loop-again : tie.Need-loop-again Inv-loop μ-loop
 loop-again c =
     let a = c .before .before .before in
     (copy-turn _ _ _ _ _ _ (a .pre .0) (a .pre .1) (c .before .loop-test .taken) (c .before .before .loop .inv .0), omega arith, simp length-set (search needs))
 
--- src/accept.rt:62:1
 same-length : tie.Need-same-length Inv-loop μ-loop
 same-length c = search needs
 
--- src/accept.rt:62:1
 returns : tie.Need-returns Inv-loop μ-loop
 returns c =
     let a = c .before .before .args in

@@ -1,49 +1,40 @@
-use Rattle.server.proofs.Acceptance.{replaced}
+use Rattle.server_accept.proofs.Replacing.{replaced}
 use Rattle.frame.specs.Chunks.{entryAt, storeIf, presentAt}
 use mathlib.Core.Bool.{Bool}
 use mathlib.Core.Path.{_≡_, refl, ap, sym, _∙_}
 use native.Mathlib.Omega.{arith}
 use borrow.Author.Needs.{needs}
-use Rattle.server.proofs.accept.replace.Statement.{statement}
-use Rattle.server.proofs.accept.replace.Tie as tie
-use Rattle.server.proofs.accept.replace.Reads as reads
-use Rattle.server.proofs.accept.replace.Lts as lts
+use Rattle.server_accept.proofs.replace.Statement.{statement}
+use Rattle.server_accept.proofs.replace.Tie as tie
+use Rattle.server_accept.proofs.replace.Reads as reads
+use Rattle.server_accept.proofs.replace.Lts as lts
 use Rattle.frame.proofs.bounds.width.Reads as width-reads
-use Rattle.server.proofs.accept.copy_down.Reads as copy-down-reads
+use Rattle.server_accept.proofs.copy_down.Reads as copy-down-reads
 
--- src/accept.rt:79:13
 width-requires : tie.Need-width-requires
 width-requires c κs = search needs
 
--- src/accept.rt:80:28
 mul-copy-down : tie.Need-mul-copy-down
 mul-copy-down c = search needs
 
--- src/accept.rt:80:37
 mul-copy-down-2 : tie.Need-mul-copy-down-2
 mul-copy-down-2 c = search needs
 
--- src/accept.rt:80:9
 copy-down-requires : tie.Need-copy-down-requires
 copy-down-requires c κs = search needs
 
--- src/accept.rt:81:30
 mul-copy-down-3 : tie.Need-mul-copy-down-3
 mul-copy-down-3 c = search needs
 
--- src/accept.rt:81:30
 add-copy-down : tie.Need-add-copy-down
 add-copy-down c = search needs
 
--- src/accept.rt:81:9
 copy-down-requires-2 : tie.Need-copy-down-requires-2
 copy-down-requires-2 c κs = search needs
 
--- src/accept.rt:74:1
 same-length : tie.Need-same-length
 same-length c = search needs
 
--- src/accept.rt:74:1
 returns : tie.Need-returns
 returns c =
     let z = c .before .before .before .before .before .before .before .before .before .before .before .before in
@@ -51,7 +42,6 @@ returns c =
     replaced (a .g) (a .area .now) _ _ (a .p) _ (z .pre .1) (omega (arith, z .pre .0 .servers-high)) (z .pre .2) (c .before .before .before .before .before .before .before .before .before .width .ensures .0) (c .before .before .before .before .before .before .copy-down .ensures) (c .before .before .copy-down2 .ensures)
     ∙ ap (λ (t : Bool). storeIf t (a .area .now) presentAt (entryAt (a .g) (a .area .now) (a .p))) (sym (c .before .before .before .before .before .before .before .before .before .before .if1 .taken))
 
--- src/accept.rt:74:1
 returns-2 : tie.Need-returns-2
 returns-2 c =
     let a = c .before .before .args in

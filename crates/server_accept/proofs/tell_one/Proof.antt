@@ -1,42 +1,35 @@
-use Rattle.server.proofs.Acceptance.{told-silent, told-late, told-due}
+use Rattle.server_accept.proofs.Acceptance.{told-silent, told-late, told-due}
 use borrow.Author.Tests.{not-true, not-false}
 use mathlib.Core.Path.{_≡_, refl, ap, sym, _∙_}
 use native.Mathlib.Omega.{arith}
 use borrow.Author.Needs.{needs}
-use Rattle.server.proofs.accept.tell_one.Statement.{statement}
-use Rattle.server.proofs.accept.tell_one.Tie as tie
-use Rattle.server.proofs.accept.tell_one.Reads as reads
-use Rattle.server.proofs.accept.tell_one.Lts as lts
+use Rattle.server_accept.proofs.tell_one.Statement.{statement}
+use Rattle.server_accept.proofs.tell_one.Tie as tie
+use Rattle.server_accept.proofs.tell_one.Reads as reads
+use Rattle.server_accept.proofs.tell_one.Lts as lts
 use Rattle.frame.proofs.stamps.is_older.Reads as is-older-reads
 use Rattle.frame.proofs.send.send_value.Reads as send-value-reads
 
--- src/accept.rt:38:9
 returns : tie.Need-returns
 returns c = let a = c .before .before .before .before .before .before .args in told-silent (a .r) (a .c) (a .x) _ _ (not-true _ (c .if1 .taken))
 
--- src/accept.rt:40:9
 is-older-requires : tie.Need-is-older-requires
 is-older-requires c κs = search needs
 
--- src/accept.rt:41:9
 returns-2 : tie.Need-returns-2
 returns-2 c =
     let a = c .before .before .before .before .before .before .before .before .args in
     told-late (a .r) (a .c) (a .x) _ _ _ (not-false _ (c .before .before .if1 .left)) (c .before .is-older .ensures) (not-true _ (c .if2 .taken))
 
--- src/accept.rt:43:5
 send-value-requires : tie.Need-send-value-requires
 send-value-requires c κs = search needs
 
--- src/accept.rt:33:1
 same-length : tie.Need-same-length
 same-length c = search needs
 
--- src/accept.rt:33:1
 same-length-2 : tie.Need-same-length-2
 same-length-2 c = search needs
 
--- src/accept.rt:33:1
 returns-3 : tie.Need-returns-3
 returns-3 c =
     let a = c .before .before .before .before .before .before .before .before .before .before .before .before .before .before .before .args in

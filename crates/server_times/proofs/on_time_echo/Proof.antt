@@ -1,39 +1,37 @@
--- The step of one kind: refused as the tests say, or its whole outcome. Assumes nothing.
-use Rattle.server_rules.specs.Steps.{onTime}
-use Rattle.server.proofs.TimeStage.{times-voted}
-use Rattle.server.proofs.Answers.{refused-is, step-is, voted}
-use Rattle.server_rules.specs.Tests.{messageTest, senderRight, orderTest, counted, openTest}
-use Rattle.server_rules.specs.State.{slotOf, withTimes, timeEcho}
+-- A server's echo of the time: refused as the tests say, or its whole outcome. Assumes nothing.
+use Rattle.server_times.proofs.TimeStage.{time-read}
+use Rattle.server.proofs.Handling.{refused-frame, counted-frame}
+use Rattle.server.proofs.Answers.{voted}
+use Rattle.server.proofs.Sending.{room-fewer}
+use Rattle.server.specs.Stages.{timeFrame, sentBy}
 use Rattle.server_rules.specs.declared.Slot.{Slot}
+use Rattle.server_rules.specs.State.{withTimes, timeEcho}
+use Rattle.server_rules.specs.Tests.{senderRight, counted}
+use Rattle.server_rules.specs.Steps.{onTime}
 use Rattle.sha256.specs.Hash.{digestOf}
-use Rattle.area.specs.Area.{pick}
-use Rattle.frame.specs.Messages.{fromServer, numberIn}
-use Rattle.frame.specs.declared.Refusal.the-variants as R
-use Rattle.frame.specs.declared.Verdict.the-variants as J
-use Rattle.server_rules.specs.declared.Scope.{Scope}
-use lib.ListN.{getD}
-use mathlib.Core.Bool.{false}
 use Prim.Native.Nat.{ℕ}
 use mathlib.Core.Path.{ap, _∙_}
 use native.Mathlib.Omega.{arith}
 use borrow.Author.Needs.{needs}
-use Rattle.server.proofs.timing.on_time_echo.Statement.{statement}
-use Rattle.server.proofs.timing.on_time_echo.Tie as tie
+use Rattle.server_times.proofs.on_time_echo.Statement.{statement}
+use Rattle.server_times.proofs.on_time_echo.Tie as tie
 
 server-test-requires : tie.Need-server-test-requires
 server-test-requires c κs = search needs
 
-enum-known-v : tie.Need-enum-known-v
-enum-known-v c = search needs
-
-returns : tie.Need-returns
-unfolding messageTest senderRight orderTest counted onTime
-returns c =
-    let a = c .before .before .before .before .before .before .before .before .before .before .before .args in
-    λ w e k. refused-is _ _ _ w (a .h .client) (a .s) (a .area .now) _ _ _ e (c .before .before .before .server-test .ensures ∙ ap (λ (u : Scope). pick (fromServer (a .g) (a .from)) (openTest (u .slot) (a .h .sequence) (getD (u .slot .times .echoes) (numberIn (a .from)) false)) (J.Bad R.Sender)) e) (c .before .v .given .1)
-
 enum-told : tie.Need-enum-told
 enum-told c = search needs
+
+returns : tie.Need-returns
+unfolding timeFrame sentBy senderRight counted
+returns c =
+    record {
+      handles = λ z. refused-frame _ _ _ (c .before .before .before .before .before .before .before .before .before .args .x) z _ _ _ _ (c .before .before .server-test .ensures) (c .enum-told .given .1);
+      room = room-fewer _ _ 9 _ _ _ (omega arith) (c .before .before .before .before .before .before .before .before .before .pre .0 .room);
+    }
+
+enum-told-2 : tie.Need-enum-told-2
+enum-told-2 c = search needs
 
 number-in-requires : tie.Need-number-in-requires
 number-in-requires c κs = search needs
@@ -46,18 +44,15 @@ read8-requires c κs = search needs
 
 time-echo-requires : tie.Need-time-echo-requires
 time-echo-requires c κs =
-    let z = c .before .before .before .before .before .before .before .before .before .before .before .before in
-    let W = voted (z .args .g) (z .args .from) (z .args .s .slot) (z .args .h .sequence) _ _ (c .before .before .before .before .server-test .ensures) (c .before .before .enum-told .given .1) in
-    omega (arith, W .high, c .before .number-in .ensures, z .pre .0 .bounded .servers-high)
+    let a = c .before .before .before .before .before .before .before .before .before .before .before .args in
+    let W = voted (a .k .params) (a .k .from) (a .x) (a .k .header .sequence) _ _ (c .before .before .before .before .server-test .ensures) (c .before .before .enum-told2 .given .1) in
+    omega (arith, W .high, c .before .number-in .ensures, c .before .before .before .before .before .before .before .before .before .before .before .pre .0 .bounded .servers-high)
 
-settle-times-requires : tie.Need-settle-times-requires
-settle-times-requires c κs =
-    let z = c .before .before .before .before .before .before .before .before .before .before .before .before .before .before .before .before in
-    let W = voted (z .args .g) (z .args .from) (z .args .s .slot) (z .args .h .sequence) _ _ (c .before .before .before .before .before .before .before .before .server-test .ensures) (c .before .before .before .before .before .before .enum-told .given .1) in
-    (z .pre .0, ap (λ (y : Slot). y .sequence) (c .before .before .before .time-echo .ensures) ∙ W .at-open)
-
-taken-requires : tie.Need-taken-requires
-taken-requires c κs = search needs
+count-time-requires : tie.Need-count-time-requires
+count-time-requires c κs =
+    let a = c .before .before .before .before .before .before .before .before .before .before .before .before .before .before .args in
+    let W = voted (a .k .params) (a .k .from) (a .x) (a .k .header .sequence) _ _ (c .before .before .before .before .before .before .before .server-test .ensures) (c .before .before .before .before .before .enum-told2 .given .1) in
+    (c .before .before .before .before .before .before .before .before .before .before .before .before .before .before .pre .0, ap (λ (y : Slot). y .sequence) (c .before .before .time-echo .ensures) ∙ W .at-open)
 
 same-length : tie.Need-same-length
 same-length c = search needs
@@ -65,32 +60,31 @@ same-length c = search needs
 same-length-2 : tie.Need-same-length-2
 same-length-2 c = search needs
 
-same-length-3 : tie.Need-same-length-3
-same-length-3 c = search needs
-
 returns-2 : tie.Need-returns-2
-unfolding messageTest senderRight orderTest counted onTime
+unfolding timeFrame sentBy senderRight counted onTime
 returns-2 c =
-    let a = c .before .before .before .before .before .before .before .before .before .before .before .before .before .before .before .before .before .before .before .before .before .before .before .before .args in
-    λ w e k. step-is _ _ w (a .area .now) _ _ _ _ _ _ (a .h .client) _ _ (c .before .before .before .before .before .before .before .before .before .before .before .before .before .before .before .before .server-test .ensures ∙ ap (λ (u : Scope). pick (fromServer (a .g) (a .from)) (openTest (u .slot) (a .h .sequence) (getD (u .slot .times .echoes) (numberIn (a .from)) false)) (J.Bad R.Sender)) e) (c .before .before .before .before .before .before .before .before .before .before .before .before .before .before .enum-told .given .1)
-    (times-voted digestOf (a .g) w (a .area .now) (a .h .client) (λ (j T : ℕ). withTimes (slotOf w (a .h .client)) (timeEcho (slotOf w (a .h .client) .times) j T)) _ _ _ _ _ _ _ (c .before .before .before .before .before .before .before .before .before .before .before .before .before .number-in .ensures) (c .before .before .before .before .before .before .before .before .before .before .before .before .read8 .ensures) (c .before .before .before .before .before .before .before .before .before .before .before .time-echo .ensures ∙ ap (λ (u : Scope). withTimes (u .slot) (timeEcho (u .slot .times) (c .before .before .before .before .before .before .before .before .before .before .before .before .before .number-in .result) (c .before .before .before .before .before .before .before .before .before .before .before .before .read8 .result))) e) (c .before .before .before .before .before .before .before .settle-times .ensures w e k))
-    (c .taken .ensures .0) (c .taken .ensures .1)
+    let a = c .before .before .before .before .before .before .before .before .before .before .before .before .before .before .before .before .before .before .before .before .before .args in
+    let k = a .k in
+    record {
+      handles = λ z. counted-frame _ _ (a .x) _ z z _ _ _ _ _ (c .before .before .before .before .before .before .before .before .before .before .before .before .before .before .server-test .ensures) (c .before .before .before .before .before .before .before .before .before .before .before .before .enum-told2 .given .1)
+          (time-read digestOf (k .params) (k .me) (k .header .client) z (λ (j T : ℕ). withTimes (a .x) (timeEcho (a .x .times) j T)) _ _ _ _ _ _ _
+          (c .before .before .before .before .before .before .before .before .before .before .before .number-in .ensures) (c .before .before .before .before .before .before .before .before .before .before .read8 .ensures) (c .before .before .before .before .before .before .before .before .before .time-echo .ensures) (c .before .before .before .before .before .before .count-time .ensures .leaves z));
+      room = c .before .before .before .before .before .before .count-time .ensures .room;
+    }
 
 pub on-time-echo-spec : {M : Type 1} → statement M
 on-time-echo-spec =
     tie.close
     (tie.spec
     server-test-requires
-    enum-known-v
-    returns
     enum-told
+    returns
+    enum-told-2
     number-in-requires
     cast-j
     read8-requires
     time-echo-requires
-    settle-times-requires
-    taken-requires
+    count-time-requires
     same-length
     same-length-2
-    same-length-3
     returns-2)

@@ -1,9 +1,9 @@
 -- A block against its digest. Assumes nothing.
-use native.Mathlib.Omega.{arith}
 use Rattle.frame.proofs.Sizes.{small}
-use Rattle.server_deliver.proofs.BlockSteps.{fit-bad, fit-fine}
-use Rattle.server_deliver.proofs.storing.fit_test.Statement.{statement}
-use Rattle.server_deliver.proofs.storing.fit_test.Tie as tie
+use Rattle.server_blocks.proofs.BlockSteps.{fit-bad, fit-fine}
+use native.Mathlib.Omega.{arith}
+use Rattle.server_blocks.proofs.storing.fit_test.Statement.{statement}
+use Rattle.server_blocks.proofs.storing.fit_test.Tie as tie
 
 block-fits-requires : tie.Need-block-fits-requires
 block-fits-requires c κs =

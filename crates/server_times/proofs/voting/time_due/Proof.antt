@@ -1,40 +1,33 @@
-use Rattle.server.proofs.TimeVotes.{due-went, due-echoes, due-readies}
+use Rattle.server_times.proofs.TimeVotes.{due-went, due-echoes, due-readies}
 use Rattle.sha256.specs.Hash.{digestOf}
 use native.Mathlib.Omega.{arith}
 use borrow.Author.Needs.{needs}
-use Rattle.server.proofs.times.time_due.Statement.{statement}
-use Rattle.server.proofs.times.time_due.Tie as tie
-use Rattle.server.proofs.times.time_due.Reads as reads
-use Rattle.server.proofs.times.time_due.Lts as lts
-use Rattle.server.proofs.times.time_votes.Reads as time-votes-reads
+use Rattle.server_times.proofs.voting.time_due.Statement.{statement}
+use Rattle.server_times.proofs.voting.time_due.Tie as tie
+use Rattle.server_times.proofs.voting.time_due.Reads as reads
+use Rattle.server_times.proofs.voting.time_due.Lts as lts
+use Rattle.server_times.proofs.voting.time_votes.Reads as time-votes-reads
 
--- src/times.rt:54:9
 returns : tie.Need-returns
 returns c = let a = c .before .before .before .before .before .before .args in due-went digestOf (a .g) (a .x) (a .time) (c .if1 .taken)
 
--- src/times.rt:56:15
 time-votes-requires : tie.Need-time-votes-requires
 time-votes-requires c κs = search needs
 
--- src/times.rt:56:15
 add-if2 : tie.Need-add-if2
 add-if2 c = search needs
 
--- src/times.rt:57:9
 returns-2 : tie.Need-returns-2
 returns-2 c =
     let a = c .before .before .before .before .before .before .before .before .before .before .args in
     due-echoes digestOf (a .g) (a .x) (a .time) (c .before .before .before .time-votes .result) (c .before .before .before .before .if1 .left) (c .before .before .before .time-votes .ensures .0) (c .if2 .taken)
 
--- src/times.rt:59:5
 add-result : tie.Need-add-result
 add-result c = search needs
 
--- src/times.rt:59:16
 time-votes-requires-2 : tie.Need-time-votes-requires-2
 time-votes-requires-2 c κs = search needs
 
--- src/times.rt:44:1
 returns-3 : tie.Need-returns-3
 returns-3 c =
     let a = c .before .before .before .before .before .before .before .before .before .before .before .before .args in

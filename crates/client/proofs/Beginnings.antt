@@ -23,14 +23,14 @@ use Rattle.frame.specs.Messages.{getStamp, askRead, message, toAll}
 use Rattle.frame.specs.Outbox.{frames, receivers, Outbox, outbox, firstPlace, sent, Room}
 use Rattle.frame.proofs.Verdicts.{fine-not, fine-both}
 use Rattle.frame.proofs.Within.{admitted-of}
-use Rattle.client.specs.declared.Row.{Row}
-use Rattle.client.specs.declared.Client.{Client}
-use Rattle.client.specs.declared.Answer.the-variants as Y
-use Rattle.client.specs.declared.Phase.the-variants as F
-use Rattle.client.specs.State.{freshRow}
-use Rattle.client.specs.Tests.{sendRoom}
-use Rattle.client.specs.Steps.{Effect, quiet}
-use Rattle.client.specs.Beginning.{Begun, lengthTest, openRead, openWrite, beginBy, beginAnswer, begunOf}
+use Rattle.client_rules.specs.declared.Row.{Row}
+use Rattle.client_rules.specs.declared.Client.{Client}
+use Rattle.client_rules.specs.declared.Answer.the-variants as Y
+use Rattle.client_rules.specs.declared.Phase.the-variants as F
+use Rattle.client_rules.specs.State.{freshRow}
+use Rattle.client_rules.specs.Tests.{sendRoom}
+use Rattle.client_rules.specs.Steps.{Effect, quiet}
+use Rattle.client_rules.specs.Beginning.{Begun, lengthTest, openRead, openWrite, beginBy, beginAnswer, begunOf}
 use Rattle.client.specs.Stages.{closedBy, Opening}
 
 -- ---- what the tests tell where nothing spoke against it

@@ -11,7 +11,7 @@ use Rattle.frame.specs.declared.Verdict.{Verdict}
 use Rattle.frame.specs.declared.Refusal.the-variants as R
 use Rattle.frame.specs.declared.Verdict.the-variants as J
 use Rattle.frame.specs.Chunks.{rowsBytes}
-use Rattle.client.specs.Tests.{sendRoom, roomTest, awaited}
+use Rattle.client_rules.specs.Tests.{sendRoom, roomTest, awaited}
 
 module _ {A : Type 0} (b t : Bool) (x y : A) (p : b ≡ t) where
   pub pick-true : b ≡ true → x ≡ pick t x y

@@ -14,12 +14,12 @@ use Rattle.blocks.specs.declared.Params.{Params}
 use Rattle.frame.specs.declared.Stamp.{Stamp}
 use Rattle.frame.specs.Stamps.{older, sameStamp}
 use Rattle.group.specs.Entries.{marked}
-use Rattle.client.specs.declared.Row.{Row}
+use Rattle.client_rules.specs.declared.Row.{Row}
 use Rattle.client.specs.declared.Spot.{Spot}
 use Rattle.client.specs.declared.Spot.the-variants.{At, Nowhere}
-use Rattle.client.specs.State.{noStamp, largest}
-use Rattle.client.specs.Rows.{hasStamp, smallest, placeFor, rowWith}
-use Rattle.client.specs.Steps.{quorate}
+use Rattle.client_rules.specs.State.{noStamp, largest}
+use Rattle.client_rules.specs.Rows.{hasStamp, smallest, placeFor, rowWith}
+use Rattle.client_rules.specs.Steps.{quorate}
 use Rattle.client.specs.Stages.{spotOf}
 
 -- ---- whether a stamp is there: from the last place down

@@ -1,7 +1,1 @@
-pub mod State
-pub mod Rows
-pub mod Tests
-pub mod Steps
-pub mod Delivery
-pub mod Beginning
 pub mod Stages

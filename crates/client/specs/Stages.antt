@@ -15,14 +15,14 @@ use Rattle.frame.specs.Params.{Bounded, largestFrame}
 use Rattle.frame.specs.Stamps.{lastSequence}
 use Rattle.frame.specs.Outbox.{frames, receivers, Room, firstPlace}
 use Rattle.frame.specs.Chunks.{rowsBytes}
-use Rattle.client.specs.declared.Phase.{Phase}
-use Rattle.client.specs.declared.Client.{Client}
+use Rattle.client_rules.specs.declared.Phase.{Phase}
+use Rattle.client_rules.specs.declared.Client.{Client}
 use Rattle.client.specs.declared.Spot.{Spot}
 use Rattle.client.specs.declared.Spot.the-variants.{At, Nowhere}
-use Rattle.client.specs.declared.Answer.the-variants as Y
-use Rattle.client.specs.State.{idle}
-use Rattle.client.specs.Steps.{Effect}
-use Rattle.client.specs.Delivery.{Outcome, eventAnswer, resultOf}
+use Rattle.client_rules.specs.declared.Answer.the-variants as Y
+use Rattle.client_rules.specs.State.{idle}
+use Rattle.client_rules.specs.Steps.{Effect}
+use Rattle.client_rules.specs.Delivery.{Outcome, eventAnswer, resultOf}
 
 -- the code's name of a place in a row, or of none
 abbrev pub spotOf : Option ℕ → Spot

@@ -1,14 +1,14 @@
 // A client begins a read or a write.
-use crate::Answer;
-use crate::Answered;
-use crate::Client;
-use crate::Phase;
 use crate::fresh::fresh_rows;
 use crate::tests::closed_test;
 use crate::tests::idle_test;
 use crate::tests::length_test;
 use crate::tests::send_room;
 use blocks::Params;
+use client_rules::Answer;
+use client_rules::Answered;
+use client_rules::Client;
+use client_rules::Phase;
 use frame::Ask;
 use frame::Place;
 use frame::Verdict;
@@ -20,8 +20,8 @@ ghost use Rattle.frame.specs.Params.{paramsTest};
 ghost use Rattle.frame.specs.Refusals.{andThen};
 ghost use Rattle.frame.specs.Stamps.{lastClient};
 ghost use Rattle.frame.specs.declared.Verdict.the-variants as J;
-ghost use Rattle.client.specs.Tests.{sendRoom};
-ghost use Rattle.client.specs.Beginning.{begun, lengthTest, openRead, openWrite, begunOf, readBeginning, writeBeginning};
+ghost use Rattle.client_rules.specs.Tests.{sendRoom};
+ghost use Rattle.client_rules.specs.Beginning.{begun, lengthTest, openRead, openWrite, begunOf, readBeginning, writeBeginning};
 ghost use Rattle.client.specs.Stages.{idleBy, closedBy, Opening};
 
 // 1, 2, 3, 10, 15 and 16 of a read, where last is the last number used.

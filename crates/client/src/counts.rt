@@ -5,8 +5,8 @@ ghost use mathlib.Core.Path.{_≡_};
 ghost use Prim.Native.Nat.{_+_, _≤_, max};
 ghost use lib.ListN.{getD};
 ghost use Rattle.frame.specs.Params.{Bounded};
-ghost use Rattle.client.specs.State.{largest};
-ghost use Rattle.client.specs.Steps.{quorate};
+ghost use Rattle.client_rules.specs.State.{largest};
+ghost use Rattle.client_rules.specs.Steps.{quorate};
 
 // Whether n - t servers are marked.
 pub fn is_quorate(g: Params, heard: [bool; 11]) -> bool

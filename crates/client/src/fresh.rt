@@ -1,11 +1,11 @@
 // A client that has begun nothing.
-use crate::Client;
-use crate::Phase;
-use crate::Row;
+use client_rules::Client;
+use client_rules::Phase;
+use client_rules::Row;
 use frame::stamps::zero_stamp;
 ghost use mathlib.Core.Path.{_≡_};
 ghost use lib.ListN.{replicate};
-ghost use Rattle.client.specs.State.{freshRow, freshClient};
+ghost use Rattle.client_rules.specs.State.{freshRow, freshClient};
 
 fn fresh_row() -> Row
     ensures { λ r. ⌜ r ≡ freshRow ⌝ }

@@ -1,7 +1,7 @@
 // Which phase a client is in.
-use crate::Phase;
+use client_rules::Phase;
 ghost use mathlib.Core.Path.{_≡_};
-ghost use Rattle.client.specs.State.{idle, asking, acking, reading, writing};
+ghost use Rattle.client_rules.specs.State.{idle, asking, acking, reading, writing};
 
 pub fn is_idle(p: Phase) -> bool
     ensures { λ r. ⌜ r ≡ idle p ⌝ }

@@ -1,6 +1,6 @@
 // One server's row of a read: the stamps kept of it, and where a new one goes.
-use crate::Row;
 use crate::Spot;
+use client_rules::Row;
 use frame::Stamp;
 use frame::stamps::is_older;
 use frame::stamps::is_same;
@@ -10,8 +10,8 @@ ghost use lib.ListN.{getD};
 ghost use lib.Dec.{ltb};
 ghost use Rattle.area.specs.Area.{pick};
 ghost use Rattle.frame.specs.Stamps.{older};
-ghost use Rattle.client.specs.State.{noStamp};
-ghost use Rattle.client.specs.Rows.{used, hasStamp, smallest, placeFor, rowWith};
+ghost use Rattle.client_rules.specs.State.{noStamp};
+ghost use Rattle.client_rules.specs.Rows.{used, hasStamp, smallest, placeFor, rowWith};
 ghost use Rattle.client.specs.Stages.{spotOf};
 
 // How many places of a row are used.

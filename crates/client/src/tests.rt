@@ -1,8 +1,8 @@
 // What turns a call or a frame down: one function for each of document 01's tests.
-use crate::Phase;
 use crate::phases::is_idle;
 use crate::phases::is_writing;
 use blocks::Params;
+use client_rules::Phase;
 use frame::Refusal;
 use frame::Verdict;
 use frame::bounds::out_room;
@@ -16,9 +16,9 @@ ghost use Rattle.frame.specs.Params.{Bounded};
 ghost use Rattle.frame.specs.Stamps.{lastSequence};
 ghost use Rattle.frame.specs.declared.Verdict.the-variants as J;
 ghost use Rattle.frame.specs.declared.Refusal.the-variants as R;
-ghost use Rattle.client.specs.State.{idle, writing};
-ghost use Rattle.client.specs.Tests.{sendRoom, roomTest, awaited};
-ghost use Rattle.client.specs.Beginning.{lengthTest};
+ghost use Rattle.client_rules.specs.State.{idle, writing};
+ghost use Rattle.client_rules.specs.Tests.{sendRoom, roomTest, awaited};
+ghost use Rattle.client_rules.specs.Beginning.{lengthTest};
 
 // 10: whether the out and to areas are long enough, of which only the lengths count.
 pub fn send_room(g: Params, out: usize, to: usize) -> Verdict

@@ -10,10 +10,10 @@ use crate::trial::Trial;
 use crate::trial::usual;
 use crate::trial::with_client;
 use blocks::Params;
-use client::Client;
 use client::begin::begin_read;
 use client::begin::begin_write;
 use client_deliver::deliver;
+use client_rules::Client;
 use frame::Party;
 ghost use Rattle.io.specs.Counts.{Counts};
 

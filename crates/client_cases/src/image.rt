@@ -1,5 +1,5 @@
 // The record and all lent areas as one row of bytes, taken before and after a call and then compared.
-use client::Client;
+use client_rules::Client;
 use layout::clients::put_client;
 
 fn blank() -> [u8; 32768] {

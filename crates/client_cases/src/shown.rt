@@ -1,5 +1,5 @@
 // What is printed for a case: its name, the answer, and a line for each frame sent.
-use client::Answer;
+use client_rules::Answer;
 use frame::Refusal;
 use frame::refusals::number_of;
 

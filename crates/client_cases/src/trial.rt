@@ -1,7 +1,7 @@
 // The client that is tried with its rows area, and what a call to it lends.
 use blocks::Params;
-use client::Client;
 use client::fresh::fresh_client;
+use client_rules::Client;
 
 pub struct Trial {
     pub client: Client,

@@ -7,11 +7,11 @@ use Rattle.area.specs.Area.{pick}
 use Rattle.frame.specs.declared.Refusal.{Refusal}
 use Rattle.frame.specs.declared.Verdict.{Verdict}
 use Rattle.frame.specs.declared.Verdict.the-variants as J
-use Rattle.client.specs.declared.Client.{Client}
-use Rattle.client.specs.declared.Answer.the-variants as Y
-use Rattle.client.specs.Tests.{awaited}
-use Rattle.client.specs.Steps.{Effect}
-use Rattle.client.specs.Delivery.{Outcome, outcome}
+use Rattle.client_rules.specs.declared.Client.{Client}
+use Rattle.client_rules.specs.declared.Answer.the-variants as Y
+use Rattle.client_rules.specs.Tests.{awaited}
+use Rattle.client_rules.specs.Steps.{Effect}
+use Rattle.client_rules.specs.Delivery.{Outcome, outcome}
 use Rattle.client.specs.Stages.{stepped, answered}
 
 module _ (v u : Verdict) (s : Client) (a : List ℕ) (x : Effect) (l out to : List ℕ) (e : v ≡ u) where

@@ -30,12 +30,12 @@ use Rattle.frame.proofs.Verdicts.{fine-not, fine-both}
 use Rattle.frame.proofs.Within.{admitted-of}
 use Rattle.frame.proofs.Opening.{opens-facts}
 use Rattle.area.specs.Numbers.{be8}
-use Rattle.client.specs.declared.Client.{Client}
-use Rattle.client.specs.declared.Answer.the-variants as Y
-use Rattle.client.specs.State.{writing}
-use Rattle.client.specs.Tests.{sendRoom, roomTest, valueTest, answers, orderTest, messageTest, judgeOpened, judge}
-use Rattle.client.specs.Steps.{onBody, effect, onStamp, onAck, onValue}
-use Rattle.client.specs.Delivery.{Outcome, outcome, answerOf, resultOf, outcomeOf, effectBy, delivered, delivery}
+use Rattle.client_rules.specs.declared.Client.{Client}
+use Rattle.client_rules.specs.declared.Answer.the-variants as Y
+use Rattle.client_rules.specs.State.{writing}
+use Rattle.client_rules.specs.Tests.{sendRoom, roomTest, valueTest, answers, orderTest, messageTest, judgeOpened, judge}
+use Rattle.client_rules.specs.Steps.{onBody, effect, onStamp, onAck, onValue}
+use Rattle.client_rules.specs.Delivery.{Outcome, outcome, answerOf, resultOf, outcomeOf, effectBy, delivered, delivery}
 use Rattle.client.specs.Stages.{Lent, stepped, answered}
 use Rattle.client_deliver.specs.Needs.{Admitted, reasonIn}
 

@@ -17,9 +17,9 @@ use Rattle.frame.specs.declared.Party.the-variants as P
 use Rattle.frame.specs.Params.{Bounded, width, entryLength, largestFrame}
 use Rattle.frame.specs.Messages.{entry, Message, message, Sending, sending, toFrom, toAll, blockIs, send}
 use Rattle.frame.specs.Frames.{kindOf, entryBytes, bodyBytes, build}
-use Rattle.frame.specs.Coded.{digestsOf, entryOf}
+use Rattle.group_rules.specs.Coded.{digestsOf, entryOf}
 use Rattle.frame.specs.Outbox.{Outbox, outbox, sent, Room}
-use Rattle.frame.proofs.DigestLaws.{block-front}
+use Rattle.group.proofs.DigestLaws.{block-front}
 use Rattle.frame.proofs.Outbox.{sent-none, sent-append, toFrom-more}
 use Rattle.frame.proofs.RoundTrip.{length-frame}
 use Rattle.frame.proofs.Sizes.{small}

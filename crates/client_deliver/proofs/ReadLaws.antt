@@ -18,17 +18,17 @@ use Rattle.frame.specs.declared.Verdict.the-variants as J
 use Rattle.frame.specs.Refusals.{andThen}
 use Rattle.frame.specs.Messages.{Entry, message, valueIs, fromServer, numberIn}
 use Rattle.frame.specs.Chunks.{storeEntry, placeAt}
-use Rattle.client.specs.declared.Row.{Row}
-use Rattle.client.specs.declared.Client.{Client}
+use Rattle.client_rules.specs.declared.Row.{Row}
+use Rattle.client_rules.specs.declared.Client.{Client}
 use Rattle.client.specs.declared.Spot.{Spot}
 use Rattle.client.specs.declared.Spot.the-variants as S
-use Rattle.client.specs.State.{reading, rowOf, withRow}
-use Rattle.client.specs.Rows.{used, hasStamp, placeFor, rowWith}
-use Rattle.client.specs.Tests.{awaited, fitTest, answers, orderTest, messageTest}
-use Rattle.client.specs.Steps.{settle, keepBy, onValue}
-use Rattle.client.specs.Delivery.{Outcome}
+use Rattle.client_rules.specs.State.{reading, rowOf, withRow}
+use Rattle.client_rules.specs.Rows.{used, hasStamp, placeFor, rowWith}
+use Rattle.client_rules.specs.Tests.{awaited, fitTest, answers, orderTest, messageTest}
+use Rattle.client_rules.specs.Steps.{settle, keepBy, onValue}
+use Rattle.client_rules.specs.Delivery.{Outcome}
 use Rattle.client.specs.Stages.{spotOf, stepped}
-use Rattle.client.proofs.Views.{goes}
+use Rattle.client_rules.proofs.Views.{goes}
 
 -- what the code's name of a place tells
 none-of : (o : Option ℕ) → spotOf o ≡ S.Nowhere → o ≡ none

@@ -20,11 +20,11 @@ use Rattle.frame.specs.declared.Verdict.the-variants as J
 use Rattle.frame.specs.Params.{width}
 use Rattle.frame.specs.Messages.{entry, numberIn, fromServer}
 use Rattle.frame.specs.Frames.{entryIn}
-use Rattle.frame.specs.Coded.{fits}
+use Rattle.group_rules.specs.Coded.{fits}
 use Rattle.frame.proofs.Verdicts.{fine-is}
 use Rattle.frame.proofs.Writing.{part-at}
-use Rattle.client.specs.Rows.{hasStamp}
-use Rattle.client.specs.Tests.{awaited}
+use Rattle.client_rules.specs.Rows.{hasStamp}
+use Rattle.client_rules.specs.Tests.{awaited}
 
 -- one of servers 1 to n
 server-number : (g : Params) (from : Party) → fromServer g from ≡ true → (1 ≤ numberIn from) × (numberIn from ≤ g .n)

@@ -14,13 +14,13 @@ use Rattle.frame.specs.declared.Place.{Place}
 use Rattle.frame.specs.Stamps.{lastTime}
 use Rattle.frame.specs.Messages.{message, toAll, timeIs, send}
 use Rattle.frame.specs.Outbox.{frames, receivers, Outbox, outbox, firstPlace, sent}
-use Rattle.client.specs.declared.Client.{Client}
-use Rattle.client.specs.declared.Phase.{Phase}
-use Rattle.client.specs.declared.Phase.the-variants as F
-use Rattle.client.specs.declared.Answer.the-variants as Y
-use Rattle.client.specs.State.{asking, writing, largest, inPhase, shut}
-use Rattle.client.specs.Steps.{quorate, sendBelow, gatherBy, onStamp, endBy, onAck}
-use Rattle.client.specs.Delivery.{Outcome, outcome, eventAnswer, resultOf}
+use Rattle.client_rules.specs.declared.Client.{Client}
+use Rattle.client_rules.specs.declared.Phase.{Phase}
+use Rattle.client_rules.specs.declared.Phase.the-variants as F
+use Rattle.client_rules.specs.declared.Answer.the-variants as Y
+use Rattle.client_rules.specs.State.{asking, writing, largest, inPhase, shut}
+use Rattle.client_rules.specs.Steps.{quorate, sendBelow, gatherBy, onStamp, endBy, onAck}
+use Rattle.client_rules.specs.Delivery.{Outcome, outcome, eventAnswer, resultOf}
 use Rattle.client.specs.Stages.{stepped}
 use Rattle.client_deliver.proofs.OwnBlocks.{own}
 

@@ -13,10 +13,10 @@ use Rattle.frame.specs.declared.Opened.the-variants as O
 use Rattle.frame.specs.declared.Refusal.the-variants as R
 use Rattle.frame.specs.Params.{Bounded, largestFrame}
 use Rattle.frame.specs.Frames.{bodyAt, bodyLength}
-use Rattle.frame.specs.Coded.{digestsOf}
+use Rattle.group_rules.specs.Coded.{digestsOf}
 use Rattle.frame.specs.Outbox.{Room, firstPlace}
-use Rattle.client.specs.declared.Client.{Client}
-use Rattle.client.specs.State.{writing}
+use Rattle.client_rules.specs.declared.Client.{Client}
+use Rattle.client_rules.specs.State.{writing}
 use Rattle.client.specs.Stages.{Lent}
 
 -- the blocks of a value v go out, d being the list of their digests

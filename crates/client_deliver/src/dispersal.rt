@@ -15,7 +15,7 @@ ghost use Rattle.sha256.specs.Hash.{digestOf};
 ghost use Rattle.frame.specs.declared.Party.the-variants as P;
 ghost use Rattle.frame.specs.Params.{Bounded, entryLength, largestFrame};
 ghost use Rattle.frame.specs.Messages.{message, sending, toAll, blockIs, timeIs, send};
-ghost use Rattle.frame.specs.Coded.{entryOf};
+ghost use Rattle.group_rules.specs.Coded.{entryOf};
 ghost use Rattle.frame.specs.Outbox.{outbox, sent, firstPlace, Room};
 ghost use Rattle.client_deliver.specs.Needs.{Dispersing};
 

@@ -2,12 +2,12 @@
 use crate::record::with_row;
 use crate::tests::entry_test;
 use blocks::Params;
-use client::Answer;
-use client::Answered;
-use client::Client;
 use client::Spot;
 use client::rows::place_for;
 use client::rows::row_with;
+use client_rules::Answer;
+use client_rules::Answered;
+use client_rules::Client;
 use client_search::settle;
 use frame::Header;
 use frame::Party;
@@ -23,9 +23,9 @@ ghost use Rattle.sha256.specs.Hash.{digestOf};
 ghost use Rattle.frame.specs.Params.{entryLength};
 ghost use Rattle.frame.specs.Messages.{message, valueIs, numberIn};
 ghost use Rattle.frame.specs.Frames.{stampIn, entryIn};
-ghost use Rattle.client.specs.Tests.{messageTest};
-ghost use Rattle.client.specs.Steps.{onValue};
-ghost use Rattle.client.specs.Delivery.{outcome};
+ghost use Rattle.client_rules.specs.Tests.{messageTest};
+ghost use Rattle.client_rules.specs.Steps.{onValue};
+ghost use Rattle.client_rules.specs.Delivery.{outcome};
 ghost use Rattle.client.specs.Stages.{Lent, stepped, answered};
 
 // A value from server j with stamp x is kept, if there is a place for it; then the rows are searched.

@@ -1,10 +1,10 @@
 // The client's record with a part changed.
-use client::Client;
-use client::Phase;
-use client::Row;
+use client_rules::Client;
+use client_rules::Phase;
+use client_rules::Row;
 ghost use mathlib.Core.Path.{_≡_};
 ghost use Prim.Native.Nat.{_<_};
-ghost use Rattle.client.specs.State.{inPhase, shut, withRow};
+ghost use Rattle.client_rules.specs.State.{inPhase, shut, withRow};
 
 // In a phase, with what that phase counts.
 pub fn in_phase(s: Client, phase: Phase, heard: [bool; 11], times: [u64; 11]) -> Client

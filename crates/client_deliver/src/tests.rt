@@ -1,19 +1,19 @@
 // What turns an opened frame down: 11, 12 and 14.
 use blocks::Params;
-use client::Client;
 use client::phases::is_reading;
 use client::rows::has_stamp;
 use client::rows::used_places;
 use client::tests::awaited_test;
+use client_rules::Client;
 use frame::Header;
 use frame::Party;
 use frame::Refusal;
 use frame::Stamp;
 use frame::Verdict;
 use frame::bounds::width;
-use frame::digests::block_fits;
 use frame::parties::from_server;
 use frame::parties::number_in;
+use group::fitting::block_fits;
 ghost use mathlib.Core.Path.{_≡_};
 ghost use Prim.Native.Nat.{_+_, _≤_};
 ghost use mathlib.Core.Bool.{false, not, _&&_};
@@ -27,9 +27,9 @@ ghost use Rattle.frame.specs.Messages.{fromServer, numberIn};
 ghost use Rattle.frame.specs.Frames.{entryIn};
 ghost use Rattle.frame.specs.declared.Verdict.the-variants as J;
 ghost use Rattle.frame.specs.declared.Refusal.the-variants as R;
-ghost use Rattle.client.specs.State.{reading, rowOf};
-ghost use Rattle.client.specs.Rows.{used, hasStamp};
-ghost use Rattle.client.specs.Tests.{awaited, fitTest};
+ghost use Rattle.client_rules.specs.State.{reading, rowOf};
+ghost use Rattle.client_rules.specs.Rows.{used, hasStamp};
+ghost use Rattle.client_rules.specs.Tests.{awaited, fitTest};
 
 // 11: whether the sender is one of servers 1 to n, and the client that the frame names is this one.
 pub fn sender_right(g: Params, from: Party, c: u8, me: u8) -> bool

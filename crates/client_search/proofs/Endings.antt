@@ -19,19 +19,19 @@ use Rattle.frame.specs.declared.Place.{Place}
 use Rattle.frame.specs.Params.{largestFrame}
 use Rattle.frame.specs.Messages.{message, readComplete, toAll}
 use Rattle.frame.specs.Chunks.{entryAt, placeAt}
-use Rattle.frame.specs.Coded.{hasList, decoded}
+use Rattle.group_rules.specs.Coded.{hasList, decoded}
 use Rattle.frame.specs.Outbox.{frames, receivers, Outbox, outbox, firstPlace, sent, Room}
 use Rattle.group.specs.Entries.{marked}
 use Rattle.group.specs.Choice.{valueFrom}
 use Rattle.group.specs.Needs.{Decoding}
-use Rattle.client.specs.declared.Row.{Row}
-use Rattle.client.specs.declared.Client.{Client}
-use Rattle.client.specs.declared.Answer.the-variants as Y
-use Rattle.client.specs.declared.Phase.the-variants as F
-use Rattle.client.specs.Rows.{Kept, atStamp, rowView, rowsFrom, agreed, firstBy, firstAgreed, foundOf, foundBy, search}
-use Rattle.client.specs.Steps.{completeBy, settle}
+use Rattle.client_rules.specs.declared.Row.{Row}
+use Rattle.client_rules.specs.declared.Client.{Client}
+use Rattle.client_rules.specs.declared.Answer.the-variants as Y
+use Rattle.client_rules.specs.declared.Phase.the-variants as F
+use Rattle.client_rules.specs.Rows.{Kept, atStamp, rowView, rowsFrom, agreed, firstBy, firstAgreed, foundOf, foundBy, search}
+use Rattle.client_rules.specs.Steps.{completeBy, settle}
 use Rattle.client.specs.Stages.{Lent, stepped}
-use Rattle.client.specs.Delivery.{Outcome, eventAnswer, resultOf}
+use Rattle.client_rules.specs.Delivery.{Outcome, eventAnswer, resultOf}
 use Rattle.client_search.specs.declared.Hits.{Hits}
 use Rattle.client_search.specs.declared.Stop.{Stop}
 use Rattle.client_search.specs.declared.Stop.the-variants.{At, Nowhere}

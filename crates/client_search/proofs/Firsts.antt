@@ -19,9 +19,9 @@ use Rattle.frame.specs.declared.Stamp.{Stamp}
 use Rattle.frame.specs.Stamps.{sameStamp}
 use Rattle.frame.specs.Chunks.{entryAt, placeAt, chunkAt, rowsBytes}
 use Rattle.group.specs.Entries.{kept, marked, entries, Within}
-use Rattle.client.specs.declared.Row.{Row}
-use Rattle.client.specs.State.{noStamp, noRow}
-use Rattle.client.specs.Rows.{used, placesFrom, atStamp}
+use Rattle.client_rules.specs.declared.Row.{Row}
+use Rattle.client_rules.specs.State.{noStamp, noRow}
+use Rattle.client_rules.specs.Rows.{used, placesFrom, atStamp}
 use Rattle.client_search.specs.declared.Hit.{Hit}
 use Rattle.client_search.specs.declared.Hits.{Hits}
 use Rattle.client_search.specs.AtStamp.{firstFrom, firstIn, hitAt, hitsOf}

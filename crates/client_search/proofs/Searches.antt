@@ -14,14 +14,14 @@ use Rattle.blocks.specs.declared.Params.{Params}
 use Rattle.frame.specs.declared.Stamp.{Stamp}
 use Rattle.frame.specs.Messages.{Entry}
 use Rattle.frame.specs.Chunks.{chunkAt, entryAt, rowsBytes}
-use Rattle.frame.specs.Coded.{hasList, decoded}
+use Rattle.group_rules.specs.Coded.{hasList, decoded}
 use Rattle.group.specs.Entries.{kept, marked, entries, sentList, flags}
 use Rattle.group.specs.Choice.{valueFrom}
 use Rattle.group.specs.Needs.{Comparing}
 use Rattle.group.proofs.Matched.{count-flags, matched-count, matched-value}
-use Rattle.client.specs.declared.Row.{Row}
-use Rattle.client.specs.State.{noRow}
-use Rattle.client.specs.Rows.{Kept, used, placesFrom, atStamp, rowsFrom, agreed, firstBy, firstAgreed}
+use Rattle.client_rules.specs.declared.Row.{Row}
+use Rattle.client_rules.specs.State.{noRow}
+use Rattle.client_rules.specs.Rows.{Kept, used, placesFrom, atStamp, rowsFrom, agreed, firstBy, firstAgreed}
 use Rattle.client_search.specs.declared.Hits.{Hits}
 use Rattle.client_search.specs.AtStamp.{hitsOf}
 use Rattle.client_search.specs.declared.Stop.{Stop}

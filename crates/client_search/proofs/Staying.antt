@@ -23,11 +23,11 @@ use Rattle.frame.specs.Stamps.{older}
 use Rattle.frame.proofs.Chunks.{entry-other}
 use Rattle.frame.proofs.Sizes.{Small}
 use Rattle.frame.proofs.StampOrder.{AtMost, less-of, at-most-of, at-most-trans}
-use Rattle.client.specs.declared.Row.{Row}
-use Rattle.client.specs.declared.Client.{Client}
-use Rattle.client.specs.Rows.{Kept, used, rowView, placesFrom, smallest, placeFor, rowWith}
-use Rattle.client.specs.State.{noRow, noStamp, rowOf, withRow}
-use Rattle.client.proofs.Views.{Shaped, placed, Placed, placed-of, of-placed, Goes, goes}
+use Rattle.client_rules.specs.declared.Row.{Row}
+use Rattle.client_rules.specs.declared.Client.{Client}
+use Rattle.client_rules.specs.Rows.{Kept, used, rowView, placesFrom, smallest, placeFor, rowWith}
+use Rattle.client_rules.specs.State.{noRow, noStamp, rowOf, withRow}
+use Rattle.client_rules.proofs.Views.{Shaped, placed, Placed, placed-of, of-placed, Goes, goes}
 
 -- ---- the smallest of four
 

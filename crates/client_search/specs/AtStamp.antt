@@ -8,9 +8,9 @@ use Rattle.area.specs.Area.{pick, table}
 use Rattle.frame.specs.declared.Stamp.{Stamp}
 use Rattle.frame.specs.Stamps.{sameStamp}
 use Rattle.frame.specs.Chunks.{placeAt}
-use Rattle.client.specs.declared.Row.{Row}
-use Rattle.client.specs.State.{noStamp, noRow}
-use Rattle.client.specs.Rows.{used}
+use Rattle.client_rules.specs.declared.Row.{Row}
+use Rattle.client_rules.specs.State.{noStamp, noRow}
+use Rattle.client_rules.specs.Rows.{used}
 use Rattle.client_search.specs.declared.Hit.{Hit}
 use Rattle.client_search.specs.declared.Hits.{Hits}
 

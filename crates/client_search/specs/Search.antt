@@ -12,9 +12,9 @@ use Rattle.frame.specs.Params.{Bounded}
 use Rattle.frame.specs.Chunks.{entryAt, placeAt, rowsBytes}
 use Rattle.frame.specs.Outbox.{Room, firstPlace}
 use Rattle.group.specs.Entries.{sentList, flags}
-use Rattle.client.specs.declared.Row.{Row}
-use Rattle.client.specs.State.{noStamp, noRow}
-use Rattle.client.specs.Rows.{Kept, used, placesFrom, agreed}
+use Rattle.client_rules.specs.declared.Row.{Row}
+use Rattle.client_rules.specs.State.{noStamp, noRow}
+use Rattle.client_rules.specs.Rows.{Kept, used, placesFrom, agreed}
 use Rattle.client_search.specs.declared.Hits.{Hits}
 use Rattle.client_search.specs.declared.Stop.{Stop}
 use Rattle.client_search.specs.declared.Stop.the-variants.{At, Nowhere}

@@ -1,8 +1,8 @@
 // What the rows have at a stamp.
 use crate::Hit;
 use crate::Hits;
-use client::Row;
 use client::rows::used_places;
+use client_rules::Row;
 use frame::Stamp;
 use frame::stamps::is_same;
 ghost use mathlib.Core.Path.{_≡_};

@@ -2,11 +2,11 @@
 use crate::at_stamp::hits;
 use crate::searching::holders;
 use blocks::Params;
-use client::Answer;
-use client::Answered;
-use client::Client;
-use client::Phase;
-use client::Row;
+use client_rules::Answer;
+use client_rules::Answered;
+use client_rules::Client;
+use client_rules::Phase;
+use client_rules::Row;
 use frame::Ask;
 use frame::Place;
 use frame::Stamp;
@@ -18,11 +18,11 @@ ghost use lib.ListN.{length};
 ghost use lib.Seq.{sets};
 ghost use Rattle.sha256.specs.Hash.{digestOf};
 ghost use Rattle.frame.specs.Chunks.{entryAt};
-ghost use Rattle.frame.specs.Coded.{decoded};
-ghost use Rattle.client.specs.Rows.{atStamp, foundOf};
-ghost use Rattle.client.specs.Steps.{completeBy};
+ghost use Rattle.group_rules.specs.Coded.{decoded};
+ghost use Rattle.client_rules.specs.Rows.{atStamp, foundOf};
+ghost use Rattle.client_rules.specs.Steps.{completeBy};
 ghost use Rattle.client.specs.Stages.{stepped};
-ghost use Rattle.client.specs.Delivery.{outcome};
+ghost use Rattle.client_rules.specs.Delivery.{outcome};
 ghost use Rattle.client_search.specs.Search.{view, keptAt, Regaining, Finishing};
 
 // The value of stamp x and the digest list in chunk p, which are in n - t rows, at the start of the result area.

@@ -4,17 +4,17 @@ pub mod ending;
 pub mod searching;
 
 use blocks::Params;
-use client::Answer;
-use client::Answered;
-use client::Client;
+use client_rules::Answer;
+use client_rules::Answered;
+use client_rules::Client;
 use ending::finish;
 use searching::search;
 ghost use mathlib.Core.Path.{_≡_};
 ghost use lib.ListN.{length};
 ghost use Rattle.sha256.specs.Hash.{digestOf};
-ghost use Rattle.client.specs.Steps.{settle};
+ghost use Rattle.client_rules.specs.Steps.{settle};
 ghost use Rattle.client.specs.Stages.{Lent, stepped};
-ghost use Rattle.client.specs.Delivery.{outcome};
+ghost use Rattle.client_rules.specs.Delivery.{outcome};
 
 // What a server's row has at a stamp: whether there is an entry, and the chunk of the rows area in which it lies.
 pub struct Hit {

@@ -3,8 +3,8 @@ use crate::Hits;
 use crate::Stop;
 use crate::at_stamp::hits;
 use blocks::Params;
-use client::Row;
 use client::rows::used_places;
+use client_rules::Row;
 use frame::Stamp;
 use frame::entries::digests_at;
 use group::matching::matching;
@@ -14,7 +14,7 @@ ghost use Prim.Native.Nat.{_+_, _≤_};
 ghost use lib.ListN.{length};
 ghost use Rattle.frame.specs.Chunks.{chunkAt, entryAt};
 ghost use Rattle.group.specs.Needs.{Comparing};
-ghost use Rattle.client.specs.Rows.{rowsFrom, agreed, firstAgreed};
+ghost use Rattle.client_rules.specs.Rows.{rowsFrom, agreed, firstAgreed};
 ghost use Rattle.client_search.specs.Search.{view, holdersOf, Searching, standing, Inside};
 
 // Of what the rows have at a stamp, that with the digest list in chunk p.

@@ -11,4 +11,3 @@ pub mod Within
 pub mod Writing
 pub mod Cases
 pub mod Rooms
-pub mod DigestLaws

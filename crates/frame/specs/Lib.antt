@@ -5,5 +5,4 @@ pub mod Messages
 pub mod Frames
 pub mod Outbox
 pub mod Chunks
-pub mod Coded
 pub mod Cases

@@ -1,6 +1,5 @@
 // What servers and clients share: parties, stamps and refusals, and frames as they are opened and written.
 pub mod bounds;
-pub mod digests;
 pub mod entries;
 pub mod layout;
 pub mod opener;

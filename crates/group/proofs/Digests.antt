@@ -16,7 +16,7 @@ use Rattle.blocks.proofs.Stripes.{length-blockOf}
 use Rattle.sha256.specs.Hash.{digestOf}
 use Rattle.sha256.proofs.Bytes.{length-digest}
 use Rattle.frame.specs.Params.{listed}
-use Rattle.frame.specs.Coded.{digestsOf}
+use Rattle.group_rules.specs.Coded.{digestsOf}
 use Rattle.group.proofs.Lists.{take-front, same-comm, same-split}
 
 module _ (f : ℕ → List ℕ) (sized : (j : ℕ) → length (f j) ≡ 32) where

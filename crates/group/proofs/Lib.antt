@@ -1,3 +1,4 @@
+pub mod DigestLaws
 pub mod Lists
 pub mod Choosing
 pub mod Collecting

@@ -19,7 +19,7 @@ use Rattle.blocks.specs.declared.Params.{Params}
 use Rattle.blocks.specs.Code.{valueOf}
 use Rattle.frame.specs.Messages.{Entry}
 use Rattle.frame.specs.Chunks.{chunkAt, entryAt}
-use Rattle.frame.specs.Coded.{Piece, hasList, pieceOf, pieces, numbers, joinedBytes, decoded}
+use Rattle.group_rules.specs.Coded.{Piece, hasList, pieceOf, pieces, numbers, joinedBytes, decoded}
 use Rattle.group.specs.Entries.{kept, marked, entries, sentList, passing, flags, placesFrom, Within}
 use Rattle.group.specs.Choice.{chosen, lowest, blockIn, blocksIn, valueFrom}
 use Rattle.group.proofs.Choosing.{lowest-agree}

@@ -10,7 +10,7 @@ use Rattle.area.specs.Area.{table}
 use Rattle.blocks.specs.declared.Params.{Params}
 use Rattle.frame.specs.Messages.{Entry}
 use Rattle.frame.specs.Chunks.{chunkAt, entryAt}
-use Rattle.frame.specs.Coded.{hasList}
+use Rattle.group_rules.specs.Coded.{hasList}
 
 -- a payload beside its flag
 abbrev pub kept : {P : Type 0} → Bool → P → Option P

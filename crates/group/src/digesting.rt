@@ -11,7 +11,7 @@ ghost use Rattle.field.specs.Field.{Tables};
 ghost use Rattle.blocks.specs.Code.{blockOf};
 ghost use Rattle.sha256.specs.Hash.{digestOf};
 ghost use Rattle.frame.specs.Params.{listed};
-ghost use Rattle.frame.specs.Coded.{digestsOf};
+ghost use Rattle.group_rules.specs.Coded.{digestsOf};
 ghost use Rattle.group.specs.Needs.{Encoding};
 
 // The digest of block j of a value.

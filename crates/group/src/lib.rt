@@ -2,4 +2,5 @@
 // and the digests of a value's blocks. The tables of the field are lent.
 pub mod decoding;
 pub mod digesting;
+pub mod fitting;
 pub mod matching;

@@ -16,7 +16,7 @@ use crate::print::print_refused;
 use crate::print::print_what;
 use blocks::Params;
 use frame::Party;
-use server::Reply;
+use server_rules::Reply;
 ghost use mathlib.Core.Path.{_≡_};
 ghost use Prim.Native.Nat.{_≤_};
 ghost use lib.ListN.{length};

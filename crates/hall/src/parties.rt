@@ -6,15 +6,15 @@ use crate::print::print_step;
 use crate::print::print_value;
 use crate::print::print_written;
 use blocks::Params;
-use client::Answer;
-use client::Client;
 use client::begin::begin_read;
 use client::begin::begin_write;
 use client::fresh::fresh_client;
+use client_rules::Answer;
+use client_rules::Client;
 use frame::Party;
-use server::Reply;
-use server::Server;
-use server::state::fresh_server;
+use server::setup::construct;
+use server_rules::Reply;
+use server_rules::Server;
 ghost use mathlib.Core.Path.{_≡_};
 ghost use Prim.Native.Nat.{_+_, _≤_};
 ghost use lib.ListN.{length};
@@ -36,7 +36,7 @@ pub fn no_hall() -> Hall {
     Hall {
         ready: false,
         g,
-        servers: [fresh_server(); 11],
+        servers: [Server::fresh(); 11],
         clients: [fresh_client(); 9],
     }
 }
@@ -85,7 +85,7 @@ pub fn fresh_servers(g: Params, value: &[u8], areas: &mut [u8], initials: &mut [
     while j < 11 {
         let at = 97344 * j;
         let first = 256 * j;
-        let r = Server::fresh(
+        let r = construct(
             g,
             j as u8,
             value,

@@ -12,14 +12,15 @@ use Rattle.area.proofs.Numbers.{length-bytes4, length-bytes8}
 use Rattle.frame.specs.declared.Stamp.{Stamp}
 use Rattle.frame.specs.Frames.{stampBytes}
 use Rattle.frame.proofs.RoundTrip.{length-stamp}
-use Rattle.client.specs.declared.Phase.{Phase}
-use Rattle.client.specs.declared.Phase.the-variants as F
-use Rattle.client.specs.declared.Row.{Row}
-use Rattle.client.specs.declared.Client.{Client}
-use Rattle.client.specs.State.{noStamp, noRow}
+use Rattle.client_rules.specs.declared.Phase.{Phase}
+use Rattle.client_rules.specs.declared.Phase.the-variants as F
+use Rattle.client_rules.specs.declared.Row.{Row}
+use Rattle.client_rules.specs.declared.Client.{Client}
+use Rattle.client_rules.specs.State.{noStamp, noRow}
 use Rattle.layout.specs.Fields.{flagByte, flagAt, stampAt, flagsBytes, numbersBytes}
 use Rattle.layout.specs.Clients.{clientSize, phaseByte, phaseIn, stampsBytes, stampsAt, keptBytes, keptAt, rowsBytes, rowsAt, headBytes, clientBytes, clientAt, clientIn}
-use Rattle.layout.specs.Typed.{Word, Array, TypedStamp, TypedRow, TypedClient}
+use Rattle.layout.specs.Typed.{Word, TypedStamp, TypedRow, TypedClient}
+use Rattle.server_rules.specs.WellFormed.{Array}
 use Rattle.layout.proofs.Lengths.{length-flags, length-numbers, length-kept, length-head, length-client}
 use Rattle.layout.proofs.Reading.{Stands, front, back, alone, stored, byte-at, flag-at, word-at, long-at, stamp-at, row-at, flags-at, numbers-at}
 

@@ -10,16 +10,16 @@ use Rattle.area.proofs.Fills.{length-joined}
 use Rattle.frame.specs.declared.Stamp.{Stamp}
 use Rattle.frame.specs.Frames.{stampBytes}
 use Rattle.frame.proofs.RoundTrip.{length-stamp}
-use Rattle.client.specs.declared.Phase.{Phase}
-use Rattle.client.specs.declared.Row.{Row}
-use Rattle.client.specs.declared.Client.{Client}
-use Rattle.client.specs.State.{noStamp, noRow}
-use Rattle.server.specs.declared.BlockPart.{BlockPart}
-use Rattle.server.specs.declared.TimePart.{TimePart}
-use Rattle.server.specs.declared.Slot.{Slot}
-use Rattle.server.specs.declared.Reader.{Reader}
-use Rattle.server.specs.declared.Server.{Server}
-use Rattle.server.specs.State.{noSlot, noReader}
+use Rattle.client_rules.specs.declared.Phase.{Phase}
+use Rattle.client_rules.specs.declared.Row.{Row}
+use Rattle.client_rules.specs.declared.Client.{Client}
+use Rattle.client_rules.specs.State.{noStamp, noRow}
+use Rattle.server_rules.specs.declared.BlockPart.{BlockPart}
+use Rattle.server_rules.specs.declared.TimePart.{TimePart}
+use Rattle.server_rules.specs.declared.Slot.{Slot}
+use Rattle.server_rules.specs.declared.Reader.{Reader}
+use Rattle.server_rules.specs.declared.Server.{Server}
+use Rattle.server_rules.specs.State.{noSlot, noReader}
 use Rattle.layout.specs.Fields.{flagByte, rowBytes, flagsBytes, numbersBytes}
 use Rattle.layout.specs.Clients.{clientSize, phaseByte, stampsBytes, keptBytes, rowsBytes, headBytes, clientBytes}
 use Rattle.layout.specs.Servers.{serverSize, marksBytes, votesBytes, blocksBytes, timesBytes, slotBytes, slotsBytes, readerBytes, readersBytes, serverBytes}

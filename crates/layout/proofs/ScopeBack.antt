@@ -13,8 +13,8 @@ use Rattle.area.proofs.Fills.{length-table, table-agree}
 use Rattle.frame.specs.declared.Stamp.{Stamp}
 use Rattle.frame.specs.Frames.{stampBytes}
 use Rattle.frame.proofs.RoundTrip.{length-stamp}
-use Rattle.server.specs.declared.Slot.{Slot}
-use Rattle.server.specs.declared.Reader.{Reader}
+use Rattle.server_rules.specs.declared.Slot.{Slot}
+use Rattle.server_rules.specs.declared.Reader.{Reader}
 use Rattle.layout.specs.Fields.{flagIn, flagAt, stampAt, rowAt, flagsAt, numbersAt}
 use Rattle.layout.specs.Servers.{serverSize, blocksAt, timesAt, slotBytes, slotAt, slotsAt, readerBytes, readerAt, readersAt, serverAt, serverIn, scopeSets}
 use Rattle.layout.specs.Typed.{TypedStamp, TypedSlot, TypedReader}

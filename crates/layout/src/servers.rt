@@ -8,17 +8,17 @@ use crate::fields::put_flags;
 use crate::fields::put_numbers;
 use crate::fields::put_stamp;
 use crate::fields::stamp_at;
-use server::BlockPart;
-use server::Reader;
-use server::Scope;
-use server::Server;
-use server::Slot;
-use server::TimePart;
+use server_rules::BlockPart;
+use server_rules::Reader;
+use server_rules::Scope;
+use server_rules::Server;
+use server_rules::Slot;
+use server_rules::TimePart;
 ghost use mathlib.Core.Path.{_≡_};
 ghost use Prim.Native.Nat.{_+_, _≤_};
 ghost use lib.ListN.{length};
 ghost use lib.Seq.{sets};
-ghost use Rattle.server.specs.State.{scopeOf};
+ghost use Rattle.server_rules.specs.Scopes.{scopeOf};
 ghost use Rattle.layout.specs.Servers.{serverSize, marksBytes, votesBytes, blocksBytes, blocksAt, timesBytes, timesAt, slotBytes, slotAt, slotsBytes, readerBytes, readerAt, readersBytes, readersAt, serverBytes, serverIn, scopeSets};
 
 // ---- the parts of a slot

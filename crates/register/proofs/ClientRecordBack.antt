@@ -15,13 +15,13 @@ use Rattle.frame.specs.declared.Verdict.{Verdict}
 use Rattle.frame.specs.declared.Verdict.the-variants as J
 use Rattle.frame.specs.Stamps.{lastClient}
 use Rattle.frame.specs.Messages.{Judged, bad, good}
-use Rattle.client.specs.declared.Answer.{Answer}
-use Rattle.client.specs.declared.Client.{Client}
-use Rattle.client.specs.State.{freshClient}
-use Rattle.client.specs.Tests.{judge}
-use Rattle.client.specs.Steps.{Event, nothing, written, outOfStamps, completed, Effect}
-use Rattle.client.specs.Beginning.{Begun, readTest, writeTest, openRead, openWrite, beginBy, readBegun, writeBegun, beginAnswer, begunOf, readBeginning, writeBeginning}
-use Rattle.client.specs.Delivery.{Outcome, eventAnswer, answerOf, effectBy, delivered, outcomeOf, delivery}
+use Rattle.client_rules.specs.declared.Answer.{Answer}
+use Rattle.client_rules.specs.declared.Client.{Client}
+use Rattle.client_rules.specs.State.{freshClient}
+use Rattle.client_rules.specs.Tests.{judge}
+use Rattle.client_rules.specs.Steps.{Event, nothing, written, outOfStamps, completed, Effect}
+use Rattle.client_rules.specs.Beginning.{Begun, readTest, writeTest, openRead, openWrite, beginBy, readBegun, writeBegun, beginAnswer, begunOf, readBeginning, writeBeginning}
+use Rattle.client_rules.specs.Delivery.{Outcome, eventAnswer, answerOf, effectBy, delivered, outcomeOf, delivery}
 use Rattle.layout.specs.Clients.{clientSize, clientBytes, clientIn}
 use Rattle.layout.specs.Typed.{TypedClient}
 use Rattle.layout.proofs.ClientBack.{client-stored}

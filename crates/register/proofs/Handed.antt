@@ -14,9 +14,9 @@ use Rattle.frame.specs.Params.{Bounded, paramsTest}
 use Rattle.frame.specs.Stamps.{lastClient}
 use Rattle.frame.specs.Frames.{opened}
 use Rattle.frame.proofs.Within.{admitted-of, stop-first, go-second}
-use Rattle.client.specs.declared.Answer.{Answer}
-use Rattle.client.specs.declared.Client.{Client}
-use Rattle.client.specs.Delivery.{Outcome, delivery}
+use Rattle.client_rules.specs.declared.Answer.{Answer}
+use Rattle.client_rules.specs.declared.Client.{Client}
+use Rattle.client_rules.specs.Delivery.{Outcome, delivery}
 use Rattle.layout.specs.Clients.{clientSize, clientAt, clientIn}
 use Rattle.register.specs.Answers.{testAnswer, clientAnswer}
 use Rattle.register.specs.Calls.{wrote, stateAfter}

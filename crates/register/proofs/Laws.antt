@@ -14,10 +14,10 @@ use Rattle.blocks.specs.Calls.{Outcome, outcome}
 use Rattle.sha256.specs.Hash.{digestOf}
 use Rattle.frame.specs.declared.Verdict.{Verdict}
 use Rattle.frame.specs.Stamps.{lastClient}
-use Rattle.client.specs.declared.Answer.{Answer}
-use Rattle.client.specs.declared.Client.{Client}
-use Rattle.client.specs.State.{freshClient}
-use Rattle.client.specs.Beginning.{Begun, readBeginning, writeBeginning}
+use Rattle.client_rules.specs.declared.Answer.{Answer}
+use Rattle.client_rules.specs.declared.Client.{Client}
+use Rattle.client_rules.specs.State.{freshClient}
+use Rattle.client_rules.specs.Beginning.{Begun, readBeginning, writeBeginning}
 use Rattle.history_text.specs.Lines.{Lines, Records, Malformed, linesOf, answerOf, answerTo}
 use Rattle.order.specs.declared.operation.Operation.{Operation}
 use Rattle.order.specs.Histories.{any, malformed, unlisted, offended, later, earlier, rowOf, lineNumbers, blank, refused, offending, ordered, judged}

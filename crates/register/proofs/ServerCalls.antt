@@ -17,16 +17,16 @@ use Rattle.frame.specs.declared.Party.{Party}
 use Rattle.frame.specs.declared.Refusal.{Refusal}
 use Rattle.frame.specs.Frames.{clientAt}
 use Rattle.frame.specs.declared.Verdict.{Verdict}
-use Rattle.server.specs.declared.Reply.{Reply}
-use Rattle.server.specs.declared.Reply.the-variants as S
-use Rattle.server.specs.declared.Reader.{Reader}
-use Rattle.server.specs.declared.Scope.{Scope}
-use Rattle.server.specs.declared.Slot.{Slot}
-use Rattle.server.specs.declared.Server.{Server}
+use Rattle.server_rules.specs.declared.Reply.{Reply}
+use Rattle.server_rules.specs.declared.Reply.the-variants as S
+use Rattle.server_rules.specs.declared.Reader.{Reader}
+use Rattle.server_rules.specs.declared.Scope.{Scope}
+use Rattle.server_rules.specs.declared.Slot.{Slot}
+use Rattle.server_rules.specs.declared.Server.{Server}
 use Rattle.server.specs.declared.Taken.{Taken}
-use Rattle.server.specs.State.{noSlot, noReader, scopeOf, withScope}
+use Rattle.server_rules.specs.State.{noSlot, noReader, scopeOf, withScope}
 use Rattle.server.specs.Stages.{outcomeIn}
-use Rattle.server.specs.Delivery.{Outcome, Constructed, delivery, construction}
+use Rattle.server_rules.specs.Delivery.{Outcome, Constructed, delivery, construction}
 use Rattle.layout.specs.Servers.{serverSize, slotsAt, readersAt, serverAt, serverIn}
 use Rattle.layout.specs.Fields.{rowAt}
 use Rattle.server_deliver.specs.Handed.{refusalIn, admitted, stepFor}

@@ -7,10 +7,10 @@ use Rattle.blocks.specs.Params.{numberOf as faultNumber}
 use Rattle.frame.specs.declared.Verdict.{Verdict}
 use Rattle.frame.specs.declared.Verdict.the-variants as J
 use Rattle.frame.specs.Refusals.{numberOf}
-use Rattle.client.specs.declared.Answer.{Answer}
-use Rattle.client.specs.declared.Answer.the-variants as Y
-use Rattle.server.specs.declared.Reply.{Reply}
-use Rattle.server.specs.declared.Reply.the-variants as S
+use Rattle.client_rules.specs.declared.Answer.{Answer}
+use Rattle.client_rules.specs.declared.Answer.the-variants as Y
+use Rattle.server_rules.specs.declared.Reply.{Reply}
+use Rattle.server_rules.specs.declared.Reply.the-variants as S
 use Rattle.order.specs.declared.judge.Answer.{Answer as Judgement}
 use Rattle.order.specs.declared.judge.Answer.the-variants as O
 

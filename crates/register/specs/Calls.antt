@@ -11,11 +11,11 @@ use Rattle.blocks.specs.declared.Params.{Params}
 use Rattle.blocks.specs.Calls.{Outcome, encoding, decoding}
 use Rattle.sha256.specs.Hash.{digestOf}
 use Rattle.frame.specs.Stamps.{lastClient}
-use Rattle.client.specs.declared.Answer.{Answer}
-use Rattle.client.specs.declared.Answer.the-variants as Y
-use Rattle.client.specs.declared.Client.{Client}
-use Rattle.client.specs.State.{freshClient}
-use Rattle.client.specs.Beginning.{Begun, readBeginning, writeBeginning}
+use Rattle.client_rules.specs.declared.Answer.{Answer}
+use Rattle.client_rules.specs.declared.Answer.the-variants as Y
+use Rattle.client_rules.specs.declared.Client.{Client}
+use Rattle.client_rules.specs.State.{freshClient}
+use Rattle.client_rules.specs.Beginning.{Begun, readBeginning, writeBeginning}
 use Rattle.history_text.specs.Lines.{answerTo}
 use Rattle.order.specs.declared.judge.Answer.the-variants as O
 use Rattle.order.specs.declared.judge.Answer.{Answer as Judgement}

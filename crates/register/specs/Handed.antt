@@ -9,7 +9,7 @@ use Rattle.blocks.specs.declared.Params.{Params}
 use Rattle.frame.specs.declared.Party.{Party}
 use Rattle.frame.specs.declared.Party.the-variants as P
 use Rattle.frame.specs.Stamps.{lastClient}
-use Rattle.client.specs.Delivery.{Outcome, delivery}
+use Rattle.client_rules.specs.Delivery.{Outcome, delivery}
 use Rattle.layout.specs.Clients.{clientSize, clientIn}
 use Rattle.register.specs.Answers.{testAnswer, clientAnswer}
 use Rattle.register.specs.Calls.{stateAfter}

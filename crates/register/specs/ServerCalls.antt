@@ -10,12 +10,12 @@ use Rattle.sha256.specs.Hash.{digestOf}
 use Rattle.blocks.specs.declared.Params.{Params}
 use Rattle.frame.specs.declared.Party.{Party}
 use Rattle.frame.specs.Frames.{clientAt}
-use Rattle.server.specs.declared.Reply.{Reply}
-use Rattle.server.specs.declared.Reply.the-variants as S
-use Rattle.server.specs.declared.Scope.{Scope}
-use Rattle.server.specs.declared.Server.{Server}
-use Rattle.server.specs.State.{scopeOf}
-use Rattle.server.specs.Delivery.{Outcome, Constructed, delivery, construction}
+use Rattle.server_rules.specs.declared.Reply.{Reply}
+use Rattle.server_rules.specs.declared.Reply.the-variants as S
+use Rattle.server_rules.specs.declared.Scope.{Scope}
+use Rattle.server_rules.specs.declared.Server.{Server}
+use Rattle.server_rules.specs.State.{scopeOf}
+use Rattle.server_rules.specs.Delivery.{Outcome, Constructed, delivery, construction}
 use Rattle.layout.specs.Servers.{serverSize, serverBytes, serverIn, scopeSets}
 use Rattle.register.specs.Answers.{testAnswer, serverAnswer}
 use Rattle.register.specs.Short.{valueShort, frameShort}

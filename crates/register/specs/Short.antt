@@ -11,7 +11,7 @@ use Rattle.frame.specs.Refusals.{andThen}
 use Rattle.frame.specs.Params.{paramsTest}
 use Rattle.frame.specs.Stamps.{lastClient}
 use Rattle.frame.specs.Frames.{opened}
-use Rattle.client.specs.Beginning.{lengthTest}
+use Rattle.client_rules.specs.Beginning.{lengthTest}
 
 -- a client begins a read
 unfoldable pub readShort : Params → ℕ → Verdict

@@ -1,10 +1,10 @@
 // The one number that a host is answered.
 use blocks::Coded;
 use blocks::Fault;
-use client::Answer;
+use client_rules::Answer;
 use frame::Refusal;
 use frame::Verdict;
-use server::Reply;
+use server_rules::Reply;
 ghost use mathlib.Core.Path.{_≡_};
 ghost use Rattle.blocks.specs.Params.{numberOf as faultNumber};
 ghost use Rattle.frame.specs.Refusals.{numberOf};

@@ -10,12 +10,13 @@ use layout::servers::put_scope;
 use layout::servers::put_server;
 use layout::servers::readers_at;
 use layout::servers::scope_at;
-use server::Reply;
-use server::Scope;
-use server::Server;
+use server::setup::construct;
 use server_deliver::admit;
 use server_deliver::kinds::step_of_kind;
 use server_deliver::refusal;
+use server_rules::Reply;
+use server_rules::Scope;
+use server_rules::Server;
 ghost use mathlib.Core.Path.{_≡_};
 ghost use Prim.Native.Nat.{_≤_};
 ghost use lib.ListN.{length};
@@ -82,7 +83,7 @@ pub extern "C" fn semduoli_server_fresh(
         let short = value_short(g, me, n, value.len());
         return test_answer(short);
     }
-    let done = Server::fresh(g, me, value, area, initial);
+    let done = construct(g, me, value, area, initial);
     let reply = done.reply;
     let after = done.server;
     keep_fresh(reply, after, state)

@@ -8,12 +8,12 @@ use Rattle.blocks.specs.declared.Params.{Params}
 use Rattle.frame.specs.declared.Stamp.{Stamp}
 use Rattle.frame.specs.declared.Party.{Party}
 use Rattle.frame.specs.Messages.{Judged, bad, good}
-use Rattle.client.specs.declared.Client.{Client}
-use Rattle.client.specs.declared.Answer.the-variants as A
-use Rattle.client.specs.Rows.{Found}
-use Rattle.client.specs.Steps as C
-use Rattle.client.specs.Tests as CT
-use Rattle.client.specs.Delivery as CD
+use Rattle.client_rules.specs.declared.Client.{Client}
+use Rattle.client_rules.specs.declared.Answer.the-variants as A
+use Rattle.client_rules.specs.Rows.{Found}
+use Rattle.client_rules.specs.Steps as C
+use Rattle.client_rules.specs.Tests as CT
+use Rattle.client_rules.specs.Delivery as CD
 use Rattle.runs.specs.Answers.{Tells, AnswersTell}
 
 found-same : (x y : Found) → C.completed x ≡ C.completed y → x ≡ y

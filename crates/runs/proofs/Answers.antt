@@ -29,14 +29,14 @@ use Rattle.frame.proofs.RoundTrip.{opened-build, length-frame, length-body}
 use Rattle.frame.proofs.Outbox.{length-receivers}
 use Rattle.frame.proofs.Verdicts.{fine-both, fine-not}
 use Rattle.frame.proofs.Sizes.{Small}
-use Rattle.server.specs.declared.Server.{Server}
-use Rattle.server.specs.Tests as ST
-use Rattle.server.specs.Delivery as SD
-use Rattle.client.specs.declared.Client.{Client}
-use Rattle.client.specs.Tests as CT
-use Rattle.client.specs.Steps as C
-use Rattle.client.specs.Delivery as CD
-use Rattle.client.specs.Beginning as CB
+use Rattle.server_rules.specs.declared.Server.{Server}
+use Rattle.server_rules.specs.Tests as ST
+use Rattle.server_rules.specs.Delivery as SD
+use Rattle.client_rules.specs.declared.Client.{Client}
+use Rattle.client_rules.specs.Tests as CT
+use Rattle.client_rules.specs.Steps as C
+use Rattle.client_rules.specs.Delivery as CD
+use Rattle.client_rules.specs.Beginning as CB
 use Rattle.steps.proofs.SendCount.{server-sends, eventSends, client-sends, read-sends, write-sends}
 use Rattle.runs.specs.World.{Setup, Call, toServer, toClient, beginRead, beginWrite, caller, World, initialOf, run, sends}
 use Rattle.runs.specs.Admissible.{Honest, Proper, Admissible}

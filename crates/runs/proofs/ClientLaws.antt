@@ -21,15 +21,15 @@ use Rattle.frame.specs.Messages.{valueIs, Message, message, numberIn, Formed}
 use Rattle.frame.proofs.Converse.{formed-opened}
 use Rattle.frame.proofs.RoundTrip.{opened-build}
 use Rattle.frame.proofs.Sizes.{Small}
-use Rattle.server.proofs.Parts.{put-cases}
-use Rattle.client.specs.declared.Client.{Client}
-use Rattle.client.specs.declared.Phase.the-variants as F
-use Rattle.client.specs.Rows.{Found, Kept, rowView}
-use Rattle.client.specs.State.{heardOf}
-use Rattle.client.specs.Steps as C
-use Rattle.client.specs.Tests as CT
-use Rattle.steps.proofs.BlockFacts.{is-server}
-use Rattle.client.proofs.CallFacts.{timeOf, ClientShape, client-shape-fresh, ClientFacts, KnowsV, Brought, Nought, quiet-facts, effect-facts, read-facts, write-facts}
+use Rattle.server_rules.proofs.Parts.{put-cases}
+use Rattle.client_rules.specs.declared.Client.{Client}
+use Rattle.client_rules.specs.declared.Phase.the-variants as F
+use Rattle.client_rules.specs.Rows.{Found, Kept, rowView}
+use Rattle.client_rules.specs.State.{heardOf}
+use Rattle.client_rules.specs.Steps as C
+use Rattle.client_rules.specs.Tests as CT
+use Rattle.server_rules.proofs.Passing.{is-server}
+use Rattle.client_rules.proofs.CallFacts.{timeOf, ClientShape, client-shape-fresh, ClientFacts, KnowsV, Brought, Nought, quiet-facts, effect-facts, read-facts, write-facts}
 use Rattle.steps.proofs.ClientTaken.{Taken, Delivered, refused, taken, delivered, passed}
 use Rattle.runs.specs.Admissible.{Sent, Honest, Proper, Admissible}
 use Rattle.runs.specs.World.{Setup, Call, toServer, toClient, beginRead, beginWrite, caller, ClientSide, clientEffect, readEffect, writeEffect, start, step, run, sends, put}
@@ -108,7 +108,7 @@ module _ (Z : Setup) (G : Assumed Z) (M : Small (Z .g)) where
         let a = home ks c .area in
         let v = home ks c .value in
         let P = passed H g c s from m (T .passes) in
-        let j = is-server H g c from (P .server) in
+        let j = is-server g from (P .server) in
         let em : m ≡ message c (m .sequence) (m .body) = λ i. message (P .mine i) (m .sequence) (m .body) in
         let fm : Formed g m = subst (Formed g) (T .says) (formed-opened g f (T .header) (pr .1) (T .opens)) in
         let er : r ≡ C.effect H g c s a v (A.Server (j .0)) (message c (m .sequence) (m .body)) = e ∙ (λ i. C.effect H g c s a v (j .1 i) (em i)) in

@@ -10,11 +10,11 @@ use Rattle.quorum.proofs.Logic.{impossible}
 use Rattle.area.specs.Area.{pick}
 use Rattle.blocks.specs.declared.Params.{Params}
 use Rattle.frame.specs.declared.Stamp.{Stamp}
-use Rattle.frame.specs.Coded.{fits}
+use Rattle.group_rules.specs.Coded.{fits}
 use Rattle.frame.specs.Messages.{Entry}
 use Rattle.frame.specs.Stamps.{sameStamp}
-use Rattle.client.specs.Rows.{Kept, Found, atStamp, rowsFrom, agreed, foundOf, firstAgreed, foundBy, search}
-use Rattle.client.proofs.Agreed.{first-agreed}
+use Rattle.client_rules.specs.Rows.{Kept, Found, atStamp, rowsFrom, agreed, foundOf, firstAgreed, foundBy, search}
+use Rattle.client_rules.proofs.Agreed.{first-agreed}
 use Rattle.runs.specs.Blocks.{InFrame}
 use Rattle.runs.specs.Events.{At}
 use Rattle.runs.specs.World.{Setup, Call}

@@ -8,11 +8,11 @@ use mathlib.Core.Option.{Option, some}
 use lib.ListN.{length}
 use Rattle.quorum.specs.Quorum.{Among, count}
 use Rattle.area.specs.Area.{Bytes}
-use Rattle.frame.specs.Coded.{hasList, digestsOf, decoded, fits}
+use Rattle.group_rules.specs.Coded.{hasList, digestsOf, decoded, fits}
 use Rattle.frame.specs.Messages.{Entry}
 use Rattle.frame.specs.Stamps.{older, zeroStamp}
-use Rattle.server.specs.Steps.{Write, stampOf}
-use Rattle.client.specs.Rows.{Found}
+use Rattle.server_rules.specs.Steps.{Write, stampOf}
+use Rattle.client_rules.specs.Rows.{Found}
 use Rattle.runs.specs.Blocks.{InFrame}
 use Rattle.runs.specs.Events.{At, Accepts, CompletesRead, EndsWrite, OpensRead, OpensWrite, Decodes}
 use Rattle.runs.specs.World.{Setup, Call}

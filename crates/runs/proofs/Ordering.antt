@@ -9,13 +9,13 @@ use Rattle.precedence.specs.Laws as PL
 use Rattle.precedence.proofs.Precedence as PP
 use Rattle.frame.specs.declared.Party.{Party}
 use Rattle.frame.specs.declared.Party.the-variants as A
-use Rattle.frame.specs.Coded.{digestsOf}
+use Rattle.group_rules.specs.Coded.{digestsOf}
 use Rattle.frame.specs.Messages.{message, send, timeIs}
 use Rattle.frame.specs.Stamps.{zeroStamp}
 use Rattle.frame.proofs.Sizes.{Small}
 use Rattle.frame.proofs.StampOrder.{three}
-use Rattle.server.specs.Steps.{Write, stampOf}
-use Rattle.client.specs.Rows.{Found}
+use Rattle.server_rules.specs.Steps.{Write, stampOf}
+use Rattle.client_rules.specs.Rows.{Found}
 use Rattle.steps.proofs.Keys.{key, key-older, key-not-older}
 use Rattle.steps.proofs.ServerRanges.{StampInBounds, write-stamp-in-bounds, zero-in-bounds}
 use Rattle.runs.specs.Admissible.{Admissible}

@@ -14,7 +14,7 @@ use Rattle.area.proofs.Same.{same-true, same-refl}
 use Rattle.blocks.specs.declared.Params.{Params}
 use Rattle.blocks.specs.Code.{blocksOf}
 use Rattle.blocks.specs.Poly.{All, Distinct}
-use Rattle.frame.specs.Coded.{Piece, pieceOf, pieces, numbers, joinedBytes, blockAt, digestsOf}
+use Rattle.group_rules.specs.Coded.{Piece, pieceOf, pieces, numbers, joinedBytes, blockAt, digestsOf}
 use Rattle.frame.specs.Messages.{Entry}
 
 pub record Holds (f : ℕ → Option Entry) (d : List ℕ) (j m : ℕ) (p : Piece) : Type 0 where

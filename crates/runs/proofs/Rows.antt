@@ -9,8 +9,8 @@ use Rattle.quorum.proofs.Logic.{impossible}
 use Rattle.frame.specs.declared.Stamp.{Stamp}
 use Rattle.frame.specs.Stamps.{zeroStamp}
 use Rattle.frame.proofs.StampOrder.{Less, AtMost, less-of, older-of, less-not, at-most-of, at-most-trans, at-most-back, at-most-both, zero-least}
-use Rattle.server.specs.Steps.{stampOf}
-use Rattle.client.specs.Rows.{Found}
+use Rattle.server_rules.specs.Steps.{stampOf}
+use Rattle.client_rules.specs.Rows.{Found}
 use Rattle.runs.specs.Blocks.{Collision}
 use Rattle.runs.specs.Demand.{Operation, Stands, SameOperation, lastOf, BearsLast, NoWrite, Happened, Begins, Ends, InOrder, by-stamp, write-first, as-ended, Values, Demand3}
 use Rattle.runs.specs.Events.{At, CompletesRead, EndsWrite, OpensRead, OpensWrite}

@@ -11,16 +11,16 @@ use Rattle.area.specs.Area.{pick}
 use Rattle.frame.specs.declared.Stamp.{Stamp}
 use Rattle.frame.specs.declared.Party.{Party}
 use Rattle.frame.specs.declared.Party.the-variants as A
-use Rattle.frame.specs.Coded.{digestsOf}
+use Rattle.group_rules.specs.Coded.{digestsOf}
 use Rattle.frame.specs.Messages.{Entry, send, getStamp, ack, askRead, stampIs, timeIs, valueIs, message}
 use Rattle.frame.specs.Stamps.{zeroStamp}
 use Rattle.frame.proofs.Sizes.{Small}
-use Rattle.server.specs.State.{readerOf, presentEntry}
-use Rattle.server.specs.Steps as S
-use Rattle.client.specs.declared.Phase.the-variants as F
-use Rattle.client.specs.Rows.{Found, Kept, rowView}
-use Rattle.client.specs.State.{heardOf}
-use Rattle.client.proofs.CallFacts.{timeOf}
+use Rattle.server_rules.specs.State.{readerOf, presentEntry}
+use Rattle.server_rules.specs.Steps as S
+use Rattle.client_rules.specs.declared.Phase.the-variants as F
+use Rattle.client_rules.specs.Rows.{Found, Kept, rowView}
+use Rattle.client_rules.specs.State.{heardOf}
+use Rattle.client_rules.proofs.CallFacts.{timeOf}
 use Rattle.steps.proofs.Keys.{key, key-time}
 use Rattle.runs.specs.Events.{At, Accepts, CompletesRead, EndsWrite}
 use Rattle.runs.specs.World.{Setup, Call, ClientSide, initialOf, run}
@@ -53,7 +53,7 @@ module _ (Z : Setup) (G : Assumed Z) (M : Small (Z .g)) where
 
   -- what a server among 1 to n shows; one that is none shows the start
   abbrev pub shown : List Call → ℕ → Stamped
-  shown ks j = (serverAt Z G M ks j .server .stamp, presentEntry g (serverAt Z G M ks j .server) (serverAt Z G M ks j .area) (initialOf Z j) .digests)
+  shown ks j = (serverAt Z G M ks j .server .stamp, presentEntry g (serverAt Z G M ks j .server .stamp) (serverAt Z G M ks j .area) (initialOf Z j) .digests)
 
   abbrev pub views : PL.Views Call Agreed Stamped
   views = record {

@@ -6,7 +6,7 @@ use mathlib.Core.Path.{_≡_, ap, _∙_}
 use lib.ListN.{length}
 use Rattle.sha256.specs.Hash.{digestOf}
 use Rattle.sha256.proofs.Bytes.{length-digest}
-use Rattle.client.specs.Rows.{Found, rowView}
+use Rattle.client_rules.specs.Rows.{Found, rowView}
 use Rattle.runs.specs.World.{Setup, Call, run, DigestSize}
 use Rattle.runs.specs.Admissible.{Admissible}
 use Rattle.runs.specs.Events.{At, CompletesRead}

@@ -17,14 +17,14 @@ use Rattle.blocks.proofs.RoundTrip.{decoded as any-blocks}
 use Rattle.frame.specs.declared.Stamp.{Stamp}
 use Rattle.frame.specs.declared.Verdict.{Verdict}
 use Rattle.frame.specs.declared.Verdict.the-variants as J
-use Rattle.frame.specs.Coded.{Piece, pieces, numbers, blockAt, digestsOf, decoded, fits}
+use Rattle.group_rules.specs.Coded.{Piece, pieces, numbers, blockAt, digestsOf, decoded, fits}
 use Rattle.frame.specs.Stamps.{zeroStamp}
 use Rattle.frame.proofs.StampOrder.{three, total, less-not}
-use Rattle.server.specs.Steps.{Write, stampOf}
-use Rattle.client.specs.Rows.{Found}
-use Rattle.client.specs.Beginning as CB
-use Rattle.client.specs.Steps as C
-use Rattle.steps.proofs.Decoding.{all-pieces}
+use Rattle.server_rules.specs.Steps.{Write, stampOf}
+use Rattle.client_rules.specs.Rows.{Found}
+use Rattle.client_rules.specs.Beginning as CB
+use Rattle.client_rules.specs.Steps as C
+use Rattle.server_rules.proofs.Decoding.{all-pieces}
 use Rattle.runs.specs.Blocks.{Origin, in-frame, of-initial, of-written, of-decoded, Collision}
 use Rattle.runs.specs.Demand.{Values}
 use Rattle.runs.specs.Events.{At, Accepts, CompletesRead, OpensWrite}

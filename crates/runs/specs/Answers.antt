@@ -11,15 +11,15 @@ use Rattle.frame.specs.declared.Stamp.{Stamp}
 use Rattle.frame.specs.declared.Party.{Party}
 use Rattle.frame.specs.declared.Party.the-variants as P
 use Rattle.frame.specs.Frames.{build}
-use Rattle.server.specs.declared.Reply.{Reply}
-use Rattle.server.specs.declared.Reply.the-variants as R
-use Rattle.server.specs.Delivery as SD
-use Rattle.client.specs.declared.Answer.{Answer}
-use Rattle.client.specs.declared.Answer.the-variants as A
-use Rattle.client.specs.Rows.{Found}
-use Rattle.client.specs.Steps as C
-use Rattle.client.specs.Delivery as CD
-use Rattle.client.specs.Beginning as CB
+use Rattle.server_rules.specs.declared.Reply.{Reply}
+use Rattle.server_rules.specs.declared.Reply.the-variants as R
+use Rattle.server_rules.specs.Delivery as SD
+use Rattle.client_rules.specs.declared.Answer.{Answer}
+use Rattle.client_rules.specs.declared.Answer.the-variants as A
+use Rattle.client_rules.specs.Rows.{Found}
+use Rattle.client_rules.specs.Steps as C
+use Rattle.client_rules.specs.Delivery as CD
+use Rattle.client_rules.specs.Beginning as CB
 use Rattle.runs.specs.World.{Setup, Sound, DigestSize, Call, toServer, toClient, beginRead, beginWrite, World, initialOf, clientEffect, run, sends}
 use Rattle.runs.specs.Admissible.{Admissible}
 

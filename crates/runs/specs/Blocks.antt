@@ -8,7 +8,7 @@ use Rattle.frame.specs.declared.Header.{Header}
 use Rattle.frame.specs.declared.Opened.the-variants as O
 use Rattle.frame.specs.Messages.{Carries}
 use Rattle.frame.specs.Frames.{opened, messageIn}
-use Rattle.frame.specs.Coded.{blockAt}
+use Rattle.group_rules.specs.Coded.{blockAt}
 use Rattle.runs.specs.World.{Setup, Call, toServer, toClient, beginRead, beginWrite}
 use Rattle.runs.specs.Events.{Event, At, OpensWrite, Decodes}
 

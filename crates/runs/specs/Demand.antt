@@ -7,8 +7,8 @@ use mathlib.Core.List.{List, [], _∷_, _++_, List·Memᴰ}
 use Rattle.sha256.specs.Hash.{digestOf}
 use Rattle.frame.specs.declared.Stamp.{Stamp}
 use Rattle.frame.specs.Stamps.{older, zeroStamp}
-use Rattle.server.specs.Steps.{Write, stampOf}
-use Rattle.client.specs.Rows.{Found}
+use Rattle.server_rules.specs.Steps.{Write, stampOf}
+use Rattle.client_rules.specs.Rows.{Found}
 use Rattle.runs.specs.World.{Setup, Sound, DigestSize, Call}
 use Rattle.runs.specs.Admissible.{Admissible}
 use Rattle.runs.specs.Events.{At, Accepts, CompletesRead, EndsWrite, OpensRead, OpensWrite}

@@ -16,14 +16,14 @@ use Rattle.frame.specs.declared.Verdict.the-variants as J
 use Rattle.frame.specs.Params.{width, Bounded}
 use Rattle.frame.specs.Messages.{Sending}
 use Rattle.frame.specs.Chunks.{areaBytes, rowsBytes}
-use Rattle.server.specs.declared.Server.{Server}
-use Rattle.server.specs.Steps as S
-use Rattle.server.specs.Delivery as SD
-use Rattle.client.specs.declared.Client.{Client}
-use Rattle.client.specs.State.{freshClient}
-use Rattle.client.specs.Steps as C
-use Rattle.client.specs.Delivery as CD
-use Rattle.client.specs.Beginning as CB
+use Rattle.server_rules.specs.declared.Server.{Server}
+use Rattle.server_rules.specs.Steps as S
+use Rattle.server_rules.specs.Delivery as SD
+use Rattle.client_rules.specs.declared.Client.{Client}
+use Rattle.client_rules.specs.State.{freshClient}
+use Rattle.client_rules.specs.Steps as C
+use Rattle.client_rules.specs.Delivery as CD
+use Rattle.client_rules.specs.Beginning as CB
 
 -- ---- what is given
 

@@ -15,19 +15,19 @@ use Rattle.frame.specs.declared.Refusal.{Refusal}
 use Rattle.frame.specs.declared.Refusal.the-variants as R
 use Rattle.frame.specs.declared.Verdict.{Verdict}
 use Rattle.frame.specs.declared.Verdict.the-variants as J
-use Rattle.frame.specs.Messages.{fromServer, numberIn, message, timeIs, echo, toAll, Sending}
+use Rattle.frame.specs.Messages.{fromServer, numberIn, Sending}
 use Rattle.frame.specs.Outbox.{Outbox, outbox, sent, firstPlace}
 use Rattle.frame.proofs.Outbox.{sent-none}
 use Rattle.frame.proofs.Verdicts.{fine-is, fine-not}
-use Rattle.server.specs.declared.Slot.{Slot}
-use Rattle.server.specs.declared.Server.{Server}
-use Rattle.server.specs.declared.Scope.{Scope}
+use Rattle.server_rules.specs.declared.Slot.{Slot}
+use Rattle.server_rules.specs.declared.Server.{Server}
+use Rattle.server_rules.specs.declared.Scope.{Scope}
 use Rattle.server.specs.declared.Taken.{Taken}
-use Rattle.server.specs.declared.Moved.{Moved}
-use Rattle.server.specs.declared.Reply.the-variants as Y
-use Rattle.server.specs.State.{withSlot, scopeOf, withScope, withTimes, timeSent}
-use Rattle.server.specs.Tests.{fromOwner, openTest}
-use Rattle.server.specs.Steps.{Effect, sendOnly}
+use Rattle.frame.specs.declared.Place.{Place}
+use Rattle.server_rules.specs.declared.Reply.the-variants as Y
+use Rattle.server_rules.specs.Scopes.{scopeOf, withScope}
+use Rattle.server_rules.specs.Tests.{fromOwner, openTest}
+use Rattle.server_rules.specs.Steps.{Effect, sendOnly}
 use Rattle.server.specs.Stages.{Progress, progress, moved, outcomeIn, stepped, answered}
 use Rattle.server.proofs.Senders.{server-number}
 use Rattle.server.proofs.Scopes.{as-it-was}
@@ -40,19 +40,19 @@ refused-is v u r w c s a x out to h e f =
     ap (λ (z : Server). answered (J.Bad r) z a x out to) (as-it-was w c s h) ∙ ap (λ (z : Verdict). answered z w a x out to) (sym f ∙ e)
 
 -- a step
-pub step-is : (v u : Verdict) (s : Server) (a a′ : List ℕ) (x : Effect) (out to out′ to′ : List ℕ) (c : ℕ) (m : Moved) (r : Taken) → v ≡ u → v ≡ J.Fine
-    → progress (withScope s c (m .scope)) a′ (outbox out′ to′ (m .place)) ≡ moved x (outbox out to firstPlace)
-    → r .reply ≡ Y.Step (m .place .count) → r .scope ≡ m .scope
+pub step-is : (v u : Verdict) (s : Server) (a a′ : List ℕ) (x : Effect) (out to out′ to′ : List ℕ) (c : ℕ) (y : Scope) (p : Place) (r : Taken) → v ≡ u → v ≡ J.Fine
+    → progress (withScope s c y) a′ (outbox out′ to′ p) ≡ moved x (outbox out to firstPlace)
+    → r .reply ≡ Y.Step (p .count) → r .scope ≡ y
     → outcomeIn s c r a′ out′ to′ ≡ answered u s a x out to
 unfolding answered stepped moved sent
-step-is v u s a a′ x out to out′ to′ c m r e f h i j =
-    let k : m .place .count ≡ length (x .sends) = ap (λ (w : Progress). w .box .place .count) h ∙ zero-add (length (x .sends)) in
-    let p : r .reply ≡ Y.Step (length (x .sends)) = i ∙ ap Y.Step k in
+step-is v u s a a′ x out to out′ to′ c y p r e f h i j =
+    let k : p .count ≡ length (x .sends) = ap (λ (w : Progress). w .box .place .count) h ∙ zero-add (length (x .sends)) in
+    let b₀ : r .reply ≡ Y.Step (length (x .sends)) = i ∙ ap Y.Step k in
     let q : withScope s c (r .scope) ≡ x .server = ap (withScope s c) j ∙ ap (λ (w : Progress). w .server) h in
     let b = ap (λ (w : Progress). w .area) h in
     let o = ap (λ (w : Progress). w .box .out) h in
     let t = ap (λ (w : Progress). w .box .to) h in
-    let z : outcomeIn s c r a′ out′ to′ ≡ stepped x out to = λ l. record { reply = p l; server = q l; area = b l; out = o l; to = t l } in
+    let z : outcomeIn s c r a′ out′ to′ ≡ stepped x out to = λ l. record { reply = b₀ l; server = q l; area = b l; out = o l; to = t l } in
     z ∙ ap (λ (w : Verdict). answered w s a x out to) (sym f ∙ e)
 
 -- the open write
@@ -88,15 +88,3 @@ only-sent s s′ a l q q′ e f = λ i. progress (e i) a (f i)
 
 pub none-sent : (s s′ : Server) (a : List ℕ) (q : Outbox) → s′ ≡ s → progress s′ a q ≡ moved (sendOnly s a []) q
 none-sent s s′ a q e = only-sent s s′ a [] q q e (sym (sent-none q))
-
--- the owner's time is echoed
-pub time-echoed : (g : Params) (s s′ : Server) (a : List ℕ) (c i T U : ℕ) (x y : Slot) (q q′ : Outbox)
-    → x .sequence ≡ i
-    → T ≡ U
-    → y ≡ withTimes x (timeSent (x .times))
-    → s′ ≡ withSlot s c y
-    → q′ ≡ sent q (toAll g (λ j. message c i (timeIs echo T)))
-    → progress s′ a q′ ≡ moved (sendOnly (withSlot s c (withTimes x (timeSent (x .times)))) a (toAll g (λ j. message c (x .sequence) (timeIs echo U)))) q
-time-echoed g s s′ a c i T U x y q q′ h k m n e =
-    only-sent (withSlot s c (withTimes x (timeSent (x .times)))) s′ a _ q q′ (n ∙ ap (withSlot s c) m)
-    (e ∙ ap (λ (z : ℕ). sent q (toAll g (λ j. message c i (timeIs echo z)))) k ∙ ap (λ (z : ℕ). sent q (toAll g (λ j. message c z (timeIs echo U)))) (sym h))

@@ -15,13 +15,13 @@ use Rattle.frame.specs.declared.Verdict.{Verdict}
 use Rattle.frame.specs.declared.Verdict.the-variants as J
 use Rattle.frame.specs.Params.{width, Bounded, paramsTest}
 use Rattle.frame.specs.Chunks.{areaBytes}
-use Rattle.frame.specs.Coded.{digestsOf, blockAt}
+use Rattle.group_rules.specs.Coded.{digestsOf, blockAt}
 use Rattle.frame.proofs.Verdicts.{fine-not, fine-both}
 use Rattle.frame.proofs.Within.{admitted-of, stop-first, go-second}
-use Rattle.server.specs.declared.Server.{Server}
-use Rattle.server.specs.declared.Reply.the-variants as Y
-use Rattle.server.specs.State.{freshServer}
-use Rattle.server.specs.Delivery.{constructed, constructTest, constructBy, construction}
+use Rattle.server_rules.specs.declared.Server.{Server}
+use Rattle.server_rules.specs.declared.Reply.the-variants as Y
+use Rattle.server_rules.specs.State.{freshServer}
+use Rattle.server_rules.specs.Delivery.{constructed, constructTest, constructBy, construction}
 
 -- ---- where the tests stop
 

@@ -1,12 +1,7 @@
-pub mod Parts
-pub mod Views
-pub mod TimeVotes
 pub mod Senders
 pub mod Sending
-pub mod Acceptance
 pub mod Scopes
-pub mod TimeStage
 pub mod Present
 pub mod Answers
 pub mod Constructing
-pub mod Settling
+pub mod Handling

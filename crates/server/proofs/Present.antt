@@ -18,27 +18,27 @@ use Rattle.frame.specs.Messages.{Entry, entry, message, sending, valueIs}
 use Rattle.frame.specs.Outbox.{Outbox, sent}
 use Rattle.frame.specs.Chunks.{entryAt}
 use Rattle.frame.proofs.Sizes.{small}
-use Rattle.server.specs.declared.Server.{Server}
-use Rattle.server.specs.State.{presentBlock, presentEntry}
+use Rattle.frame.specs.declared.Stamp.{Stamp}
+use Rattle.server_rules.specs.State.{presentBlock, presentEntry}
 
-module _ (g : Params) (s : Server) (a i : List ℕ) (w : ℕ) (e : w ≡ width g) where
-  pub from-initial : s .stamp .time ≡ 0 → w ≤ length i → (take w i ≡ presentBlock g s a i) × (length (take w i) ≡ width g)
+module _ (g : Params) (s : Stamp) (a i : List ℕ) (w : ℕ) (e : w ≡ width g) where
+  pub from-initial : s .time ≡ 0 → w ≤ length i → (take w i ≡ presentBlock g s a i) × (length (take w i) ≡ width g)
   unfolding presentBlock pick
   from-initial h l = (
-    ap (λ (k : ℕ). take k i) e ∙ sym (ap (λ (b : Bool). pick b (take (width g) i) (part a 320 (width g))) (eq-eqb (s .stamp .time) 0 h)),
+    ap (λ (k : ℕ). take k i) e ∙ sym (ap (λ (b : Bool). pick b (take (width g) i) (part a 320 (width g))) (eq-eqb (s .time) 0 h)),
     length-take-le w i l ∙ e,
   )
 
-  pub from-state : (s .stamp .time ≡ 0 → ⊥) → 320 + w ≤ length a → (take (320 + w - 320) (drop 320 a) ≡ presentBlock g s a i) × (length (take (320 + w - 320) (drop 320 a)) ≡ width g)
+  pub from-state : (s .time ≡ 0 → ⊥) → 320 + w ≤ length a → (take (320 + w - 320) (drop 320 a) ≡ presentBlock g s a i) × (length (take (320 + w - 320) (drop 320 a)) ≡ width g)
   unfolding presentBlock pick
   from-state h l =
       let k : 320 + w - 320 ≡ w = add-sub-cancel-left 320 w in (
-        ap (part a 320) (k ∙ e) ∙ sym (ap (λ (b : Bool). pick b (take (width g) i) (part a 320 (width g))) (ne-eqb (s .stamp .time) 0 h)),
+        ap (part a 320) (k ∙ e) ∙ sym (ap (λ (b : Bool). pick b (take (width g) i) (part a 320 (width g))) (ne-eqb (s .time) 0 h)),
         ap (λ (j : ℕ). length (part a 320 j)) k ∙ length-part a 320 w l ∙ e,
       )
 
 -- both parts of the entry
-pub present-parts : (g : Params) (s : Server) (a i d b : List ℕ) → d ≡ entryAt g a 0 .digests → b ≡ presentBlock g s a i → entry d b ≡ presentEntry g s a i
+pub present-parts : (g : Params) (s : Stamp) (a i d b : List ℕ) → d ≡ entryAt g a 0 .digests → b ≡ presentBlock g s a i → entry d b ≡ presentEntry g s a i
 unfolding presentEntry entryAt
 present-parts g s a i d b e f = λ k. entry (e k) (f k)
 
@@ -51,8 +51,8 @@ present-size g a d b B h e f =
     omega arith
 
 -- the value that was sent is the present one
-pub present-sent : (g : Params) (s : Server) (a i d b : List ℕ) (c k : ℕ) (q q′ : Outbox) → d ≡ entryAt g a 0 .digests → b ≡ presentBlock g s a i
-    → q′ ≡ sent q (sending (P.Client c) (message c k (valueIs (s .stamp) (entry d b))) ∷ [])
-    → q′ ≡ sent q (sending (P.Client c) (message c k (valueIs (s .stamp) (presentEntry g s a i))) ∷ [])
+pub present-sent : (g : Params) (s : Stamp) (a i d b : List ℕ) (c k : ℕ) (q q′ : Outbox) → d ≡ entryAt g a 0 .digests → b ≡ presentBlock g s a i
+    → q′ ≡ sent q (sending (P.Client c) (message c k (valueIs s (entry d b))) ∷ [])
+    → q′ ≡ sent q (sending (P.Client c) (message c k (valueIs s (presentEntry g s a i))) ∷ [])
 present-sent g s a i d b c k q q′ e f h =
-    h ∙ ap (λ (z : Entry). sent q (sending (P.Client c) (message c k (valueIs (s .stamp) z)) ∷ [])) (present-parts g s a i d b e f)
+    h ∙ ap (λ (z : Entry). sent q (sending (P.Client c) (message c k (valueIs s z)) ∷ [])) (present-parts g s a i d b e f)

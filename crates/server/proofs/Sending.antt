@@ -22,11 +22,6 @@ use Rattle.frame.specs.Messages.{Entry, entry, message, Message, Sending, sendi
 use Rattle.frame.specs.Frames.{kindOf, entryBytes, stampBytes, bodyBytes, frameOf, build}
 use Rattle.frame.specs.Outbox.{frames, receivers, Outbox, outbox, sent, Room}
 use Rattle.frame.proofs.RoundTrip.{length-frame, length-stamp}
-use Rattle.server.specs.declared.Reader.{Reader}
-use Rattle.server.specs.declared.Server.{Server}
-use Rattle.server.specs.State.{readerOf}
-use Rattle.server.specs.Steps.{tellFrom}
-use Rattle.server.specs.Stages.{toldTo}
 
 -- after at most k of k + m frames there is room for m
 pub room-after : (p r : Place) (o t o₀ t₀ : List ℕ) (xs : List Sending) (k m size : ℕ)
@@ -72,44 +67,22 @@ pub record Few (xs : List Sending) (k size : ℕ) : Type 0 where
   pub bytes : length (frames xs) ≤ k * size
   pub number : length xs ≤ k
 
-few-none : (size : ℕ) → Few [] 0 size
+pub few-none : (size : ℕ) → Few [] 0 size
 unfolding frames
 few-none size = record { bytes = omega arith; number = omega arith }
 
-few-one : (b : Bool) (y : Sending) (size : ℕ) → length (build (y .says)) ≡ size → Few (pick b (y ∷ []) []) 1 size
+pub few-one : (b : Bool) (y : Sending) (size : ℕ) → length (build (y .says)) ≡ size → Few (pick b (y ∷ []) []) 1 size
 unfolding pick frames
 few-one true y size e = record { bytes = omega (arith, one-length y); number = omega arith }
 few-one false y size e = record { bytes = omega arith; number = omega arith }
 
-pub told-few : (r : Reader) (c : ℕ) (x : Stamp) (e : Entry) → Few (toldTo r c x e) 1 (22 + (length (e .digests) + length (e .block)))
-unfolding toldTo
-told-few r c x e = few-one (r .listening && older (r .noted) x) _ _ (length-value c (r .sequence) x e)
-
--- client c was told
-pub room-told : (r : Reader) (x : Stamp) (e : Entry) (c : ℕ) (p p′ : Place) (o t o₀ t₀ : List ℕ) → c < 9
-    → outbox o t p′ ≡ sent (outbox o₀ t₀ p) (toldTo r c x e)
-    → Room p (9 - c) (22 + (length (e .digests) + length (e .block))) (length o₀) (length t₀)
-    → Room p′ (9 - (c + 1)) (22 + (length (e .digests) + length (e .block))) (length o) (length t)
-room-told r x e c p p′ o t o₀ t₀ h f R =
-    let F = told-few r c x e in
-    let m : 9 - c ≡ 1 + (9 - (c + 1)) = omega arith in
-    room-after p p′ o t o₀ t₀ (toldTo r c x e) 1 (9 - (c + 1)) (22 + (length (e .digests) + length (e .block))) f (F .bytes) (F .number) (rw (← m) R)
-
-few-more : (b : Bool) (y : Sending) (l : List Sending) (m size : ℕ) → length (build (y .says)) ≡ size → Few l m size → Few (pick b (y ∷ l) l) (suc m) size
+pub few-more : (b : Bool) (y : Sending) (l : List Sending) (m size : ℕ) → length (build (y .says)) ≡ size → Few l m size → Few (pick b (y ∷ l) l) (suc m) size
 unfolding pick frames
 few-more true y l m size e F = record {
   bytes = omega (arith, length-append (build (y .says)) (frames l), F .bytes, suc-mul m size);
   number = omega (arith, F .number);
 }
 few-more false y l m size e F = record { bytes = omega (arith, F .bytes, suc-mul m size); number = omega (arith, F .number) }
-
--- at most one value to each of m clients
-tell-few : (s : Server) (x : Stamp) (e : Entry) (c m : ℕ) → Few (tellFrom s x e c m) m (22 + (length (e .digests) + length (e .block)))
-unfolding tellFrom
-tell-few s x e c zero = few-none (22 + (length (e .digests) + length (e .block)))
-tell-few s x e c (suc m) =
-    few-more (readerOf s c .listening && older (readerOf s c .noted) x) _ (tellFrom s x e (suc c) m) m _
-    (length-value c (readerOf s c .sequence) x e) (tell-few s x e (suc c) m)
 
 -- the size of a value, of which the entry lies in chunk f
 pub value-size : (g : Params) (a : List ℕ) (f : ℕ) (d b : List ℕ) → Bounded g → 576 * f + 576 ≤ length a → d ≡ entryAt g a f .digests → b ≡ entryAt g a f .block
@@ -120,17 +93,6 @@ value-size g a f d b B h i j =
     let u : length d ≡ listed g = ap length i ∙ length-part a (576 * f) (listed g) (omega (arith, M .list-room)) in
     let v : length b ≡ width g = ap length j ∙ length-part a (576 * f + 320) (width g) (omega (arith, M .block-room)) in
     omega arith
-
--- room for the values, and after them for the ack
-pub tell-room : (p : Place) (size size′ out to : ℕ) → size ≡ size′ → Room p 9 size′ out to → Room p 8 size out to
-tell-room p size size′ out to e R = room-fewer p 9 8 size out to (omega arith) (rw e R)
-
-pub ack-room : (s : Server) (x : Stamp) (d b : List ℕ) (p r : Place) (o t o₀ t₀ : List ℕ) (size : ℕ) → 22 + (length d + length b) ≡ size
-    → outbox o t r ≡ sent (outbox o₀ t₀ p) (tellFrom s x (entry d b) 1 8) → Room p 9 size (length o₀) (length t₀) → Room r 1 9 (length o) (length t)
-ack-room s x d b p r o t o₀ t₀ size e f R =
-    let F = tell-few s x (entry d b) 1 8 in
-    let A = room-after p r o t o₀ t₀ (tellFrom s x (entry d b) 1 8) 8 1 (22 + (length d + length b)) f (F .bytes) (F .number) (rw e R) in
-    room-smaller r 1 9 (22 + (length d + length b)) (length o) (length t) (omega arith) A
 
 -- ---- one message to all servers
 

@@ -1,7 +1,1 @@
-pub mod Broadcast
-pub mod State
-pub mod Rules
-pub mod Tests
-pub mod Steps
-pub mod Delivery
 pub mod Stages

@@ -1,32 +1,95 @@
--- How the code takes a step: stage by stage, each with its server, its state area and its outbox. The entry points' promises (Delivery.antt) do not
--- speak of stages. These are definitions.
-use Prim.Native.Nat.{ℕ, _+_, _≤_}
-use mathlib.Core.Bool.{Bool, not, _&&_}
-use mathlib.Core.List.{List, [], _∷_}
-use lib.ListN.{length, set}
+-- How the code takes a step: stage by stage, each with what it leaves and its outbox. The entry points' promises (Delivery.antt of server_rules) do not speak of
+-- stages. These are definitions.
+use Prim.Native.Nat.{ℕ, _≤_, _<_}
+use mathlib.Core.Path.{_≡_}
+use mathlib.Core.List.{List}
+use lib.ListN.{length}
 use lib.Seq.{sets}
 use Rattle.area.specs.Area.{pick}
 use Rattle.blocks.specs.declared.Params.{Params}
-use Rattle.frame.specs.declared.Stamp.{Stamp}
 use Rattle.frame.specs.declared.Place.{Place}
-use Rattle.frame.specs.declared.Party.the-variants as P
 use Rattle.frame.specs.declared.Verdict.{Verdict}
 use Rattle.frame.specs.declared.Verdict.the-variants as J
+use Rattle.frame.specs.declared.Refusal.the-variants as R
 use Rattle.frame.specs.Params.{Bounded, largestFrame}
-use Rattle.frame.specs.Stamps.{older}
-use Rattle.frame.specs.Messages.{Entry, message, Sending, sending, valueIs}
-use Rattle.frame.specs.Outbox.{frames, receivers, Outbox, sent, Room}
+use Rattle.frame.specs.Messages.{Entry, Stage, Body, blockIs, timeIs, numberIn}
+use Rattle.frame.specs.Outbox.{frames, receivers, Outbox, outbox, sent, Room}
 use Rattle.frame.specs.Chunks.{areaBytes}
-use Rattle.server.specs.declared.Reader.{Reader}
-use Rattle.server.specs.declared.Server.{Server}
-use Rattle.server.specs.declared.Scope.{Scope}
+use Rattle.server_rules.specs.declared.Slot.{Slot}
+use Rattle.server_rules.specs.declared.Reader.{Reader}
+use Rattle.server_rules.specs.declared.Server.{Server}
+use Rattle.server_rules.specs.declared.Scope.{Scope}
+use Rattle.server.specs.declared.Call.{Call}
+use Rattle.server.specs.declared.Counted.{Counted}
 use Rattle.server.specs.declared.Taken.{Taken}
-use Rattle.server.specs.declared.Reply.the-variants as Y
-use Rattle.server.specs.State.{freshSlot, withScope}
-use Rattle.server.specs.Steps.{Effect}
-use Rattle.server.specs.Delivery.{Outcome}
+use Rattle.server_rules.specs.declared.Reply.the-variants as Y
+use Rattle.server_rules.specs.Scopes.{scopeOf, withScope}
+use Rattle.server_rules.specs.Tests.{senderRight, blockTest, timeTest}
+use Rattle.server_rules.specs.Steps.{Effect, Counting, onBlock, onTime}
+use Rattle.server_rules.specs.Delivery.{Outcome}
 
--- what a stage leaves
+-- ---- of a scope
+
+abbrev pub slotIn : Scope → Slot → Scope
+slotIn x y = record { stamp = x .stamp; slot = y; reader = x .reader }
+
+abbrev pub readerIn : Scope → Reader → Scope
+readerIn x y = record { stamp = x .stamp; slot = x .slot; reader = y }
+
+-- the server w, which has nine slots, has this scope of client c and these readers
+pub record Holds (w : Server) (c : ℕ) (s : Scope) (rs : List Reader) : Type 0 where
+  pub many : length (w .slots) ≡ 9
+  pub scope : s ≡ scopeOf w c
+  pub readers : rs ≡ w .readers
+
+-- ---- a frame of a write, before anything is accepted
+
+-- what a stage leaves: the slot, the state area and the outbox
+pub record Left : Type 0 where
+  pub slot : Slot
+  pub area : List ℕ
+  pub box : Outbox
+
+abbrev pub left : Slot → List ℕ → Outbox → Left
+left x a q = record { slot = x; area = a; box = q }
+
+-- after a counted frame, whose frames are sent behind those before them
+unfoldable pub counts : Counting → Outbox → Left
+counts p q = record { slot = p .slot; area = p .area; box = sent q (p .sends) }
+
+-- the same with the verdict: turned down, and all as it was, or counted
+pub record Handled : Type 0 where
+  pub verdict : Verdict
+  pub slot : Slot
+  pub area : List ℕ
+  pub box : Outbox
+
+abbrev pub handled : Counted → List ℕ → List ℕ → List ℕ → Handled
+handled r a out to = record { verdict = r .verdict; slot = r .slot; area = a; box = outbox out to (r .place) }
+
+unfoldable pub handledBy : Verdict → Slot → List ℕ → Counting → Outbox → Handled
+handledBy (J.Bad r) x a p q = record { verdict = J.Bad r; slot = x; area = a; box = q }
+handledBy J.Fine x a p q = record { verdict = J.Fine; slot = p .slot; area = p .area; box = sent q (p .sends) }
+
+-- 11, or what v says, of a frame with the body b
+unfoldable pub sentBy : Call → Body → Verdict → Verdict
+sentBy k b v = pick (senderRight (k .params) (k .from) (k .header .client) b) v (J.Bad R.Sender)
+
+module _ (H : List ℕ → List ℕ) (k : Call) (x : Slot) (a : List ℕ) where
+  -- the frame k of the write whose slot is x: of its blocks, of its time
+  unfoldable pub blockFrame : Stage → Entry → Outbox → Handled
+  blockFrame z e q =
+      handledBy (sentBy k (blockIs z e) (blockTest H (k .params) (k .me) x (numberIn (k .from)) (k .header .sequence) z e)) x a
+      (onBlock H (k .params) (k .me) a (k .header .client) x (numberIn (k .from)) z e) q
+
+  unfoldable pub timeFrame : Stage → ℕ → Outbox → Handled
+  timeFrame z T q =
+      handledBy (sentBy k (timeIs z T) (timeTest H (k .params) (k .me) x (numberIn (k .from)) (k .header .sequence) z T)) x a
+      (onTime H (k .params) (k .me) a (k .header .client) x (numberIn (k .from)) z T) q
+
+-- ---- a server
+
+-- what a stage leaves of a server
 pub record Progress : Type 0 where
   pub server : Server
   pub area : List ℕ
@@ -38,23 +101,6 @@ progress s a q = record { server = s; area = a; box = q }
 -- after an effect, whose frames are sent behind those before them
 unfoldable pub moved : Effect → Outbox → Progress
 moved x q = record { server = x .server; area = x .area; box = sent q (x .sends) }
-
--- what reader r, client c, is sent of the value (x, e)
-unfoldable pub toldTo : Reader → ℕ → Stamp → Entry → List Sending
-toldTo r c x e =
-    pick (r .listening && older (r .noted) x) (sending (P.Client c) (message c (r .sequence) (valueIs x e)) ∷ []) []
-
--- the server after client c's write q was accepted; newer says whether its stamp x is larger than the server's
-unfoldable pub opensNext : Server → ℕ → ℕ → Bool → Stamp → Server
-opensNext s c q newer x = record {
-  stamp = pick newer x (s .stamp);
-  slots = set (s .slots) c (freshSlot (q + 1));
-  readers = s .readers;
-}
-
--- the same of that client's scope
-unfoldable pub opensIn : Scope → ℕ → Bool → Stamp → Scope
-opensIn x q newer y = record { stamp = pick newer y (x .stamp); slot = freshSlot (q + 1); reader = x .reader }
 
 -- what the stages ask: the state area is whole, c is a client, and m more frames have room
 pub record Lent (g : Params) (c area : ℕ) (p : Place) (m out to : ℕ) : Type 0 where

@@ -1,9 +1,4 @@
 // Frames of a client that ask: get-stamp, read and read-complete, kinds 1, 10 and 12.
-use crate::Moved;
-use crate::Reader;
-use crate::Reply;
-use crate::Scope;
-use crate::Server;
 use crate::Taken;
 use crate::reads::send_present;
 use crate::replies::taken;
@@ -18,6 +13,10 @@ use frame::Place;
 use frame::Refusal;
 use frame::Verdict;
 use frame::send::send_stamp;
+use server_rules::Reader;
+use server_rules::Reply;
+use server_rules::Scope;
+use server_rules::Server;
 ghost use mathlib.Core.Path.{_≡_};
 ghost use Prim.Native.Nat.{ℕ, _+_, _≤_};
 ghost use mathlib.Core.List.{List, _∷_, []};
@@ -31,9 +30,9 @@ ghost use Rattle.frame.specs.Messages.{message, sending, stampIs, getStamp, ask
 ghost use Rattle.frame.specs.Chunks.{areaBytes};
 ghost use Rattle.frame.specs.Outbox.{firstPlace, Room};
 ghost use Rattle.sha256.specs.Hash.{digestOf};
-ghost use Rattle.server.specs.State.{scopeOf};
-ghost use Rattle.server.specs.Tests.{fromOwner, readTest, doneTest, messageTest};
-ghost use Rattle.server.specs.Steps.{sendOnly, onRead, onReadComplete};
+ghost use Rattle.server_rules.specs.Scopes.{scopeOf};
+ghost use Rattle.server_rules.specs.Tests.{fromOwner, readTest, doneTest, messageTest};
+ghost use Rattle.server_rules.specs.Steps.{sendOnly, onRead, onReadComplete};
 ghost use Rattle.server.specs.Stages.{outcomeIn, answered};
 
 // 11 and 12 of a read.
@@ -77,7 +76,7 @@ pub fn on_get_stamp(
     let p = Place { at: 0, count: 0 };
     let stamp = s.stamp;
     let place = send_stamp(out, to, p, h.client, h.sequence, stamp.time);
-    taken(Moved { scope: s, place })
+    taken(s, place)
 }
 
 // 10: the reader is noted with the present stamp, and answered the present value.
@@ -103,15 +102,15 @@ pub fn on_read<'a>(
         };
     }
     let p = Place { at: 0, count: 0 };
-    let place = send_present(g, s, h.client, h.sequence, area, initial, out, to, p);
     let noted = s.stamp;
+    let place = send_present(g, noted, h.client, h.sequence, area, initial, out, to, p);
     let x = Reader {
         sequence: h.sequence,
         listening: true,
         noted,
     };
     let scope = with_reader(s, x);
-    taken(Moved { scope, place })
+    taken(scope, place)
 }
 
 // 12: that read and older ones are ended; nothing is sent.
@@ -134,5 +133,5 @@ pub fn on_read_complete(s: Scope, g: Params, from: Party, h: Header) -> Taken
     };
     let scope = with_reader(s, x);
     let place = Place { at: 0, count: 0 };
-    taken(Moved { scope, place })
+    taken(scope, place)
 }

@@ -1,16 +1,15 @@
 // The reply of a step that was taken.
-use crate::Moved;
-use crate::Reply;
 use crate::Taken;
+use frame::Place;
+use server_rules::Reply;
+use server_rules::Scope;
 ghost use mathlib.Core.Path.{_≡_};
-ghost use Rattle.server.specs.declared.Reply.the-variants as Y;
+ghost use Rattle.server_rules.specs.declared.Reply.the-variants as Y;
 
 // So many frames as stand before the next place.
-pub fn taken(m: Moved) -> Taken
-    ensures { λ r. ⌜ (r .reply ≡ Y.Step (m .place .count)) × (r .scope ≡ m .scope) ⌝ }
+pub fn taken(scope: Scope, p: Place) -> Taken
+    ensures { λ r. ⌜ (r .reply ≡ Y.Step (p .count)) × (r .scope ≡ scope) ⌝ }
 {
-    let p = m.place;
-    let scope = m.scope;
     Taken {
         reply: Reply::Step(p.count),
         scope,

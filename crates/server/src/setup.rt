@@ -6,15 +6,18 @@ use frame::Verdict;
 use frame::bounds::params_test;
 use frame::bounds::width;
 use group::digesting::digests;
+use server_rules::Reply;
+use server_rules::Served;
+use server_rules::Server;
 ghost use mathlib.Core.Path.{_≡_};
 ghost use Prim.Native.Nat.{_≤_};
 ghost use lib.ListN.{length};
 ghost use lib.Seq.{sets};
 ghost use Rattle.frame.specs.Params.{width, Bounded};
-ghost use Rattle.frame.specs.Coded.{digestsOf, blockAt};
+ghost use Rattle.group_rules.specs.Coded.{digestsOf, blockAt};
 ghost use Rattle.frame.specs.Chunks.{areaBytes};
 ghost use Rattle.sha256.specs.Hash.{digestOf};
-ghost use Rattle.server.specs.Delivery.{constructTest};
+ghost use Rattle.server_rules.specs.Delivery.{constructed, constructTest, construction};
 
 // 1, 2, 3 and 10; of the lent areas only the lengths count.
 pub fn construct_test(g: Params, me: u8, value: &[u8], area: usize, initial: usize) -> Verdict
@@ -45,4 +48,23 @@ pub fn store_initial(g: Params, me: u8, value: &[u8], area: &mut [u8], initial: 
     let ls = field::logs();
     digests(value, g, area, 0, &ps, &ls);
     encode_block(value, g.k, me, initial, 0, &ps, &ls);
+}
+
+// A fresh server with the digests of the initial value; its own block of it goes to the initial area.
+pub fn construct(g: Params, me: u8, value: &[u8], area: &mut [u8], initial: &mut [u8]) -> Served
+    ensures { λ r. ⌜ constructed r (now (area .exit)) (now (initial .exit)) ≡ construction digestOf g me (now (value .entry)) (now (area .entry)) (now (initial .entry)) ⌝ }
+{
+    let server = Server::fresh();
+    let v = construct_test(g, me, value, area.len(), initial.len());
+    if let Verdict::Bad(r) = v {
+        return Served {
+            reply: Reply::Refused(r),
+            server,
+        };
+    }
+    store_initial(g, me, value, area, initial);
+    Served {
+        reply: Reply::Step(0),
+        server,
+    }
 }

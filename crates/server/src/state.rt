@@ -1,86 +1,18 @@
-// The parts of a server's state: as they begin, and with one thing counted.
-use crate::BlockPart;
-use crate::Reader;
-use crate::Scope;
-use crate::Server;
-use crate::Slot;
-use crate::TimePart;
+// The parts of a server's state: with one thing counted.
 use frame::Stamp;
-use frame::stamps::zero_stamp;
+use server_rules::BlockPart;
+use server_rules::Reader;
+use server_rules::Scope;
+use server_rules::Server;
+use server_rules::Slot;
+use server_rules::TimePart;
 ghost use mathlib.Core.Path.{_≡_};
 ghost use Prim.Native.Nat.{_<_};
 ghost use mathlib.Core.Bool.{not, _&&_, _||_};
 ghost use Rattle.area.specs.Area.{pick};
-ghost use Rattle.server.specs.State.{freshBlocks, freshTimes, freshSlot, freshReader, freshServer, scopeOf, withScope, slotIn, readerIn, withBlocks, withTimes, blockSent, blockEcho, blockReady, blockMarks, timeSent, timeEcho, timeReady, timeMarks};
-
-// ---- fresh
-
-fn fresh_blocks() -> BlockPart
-    ensures { λ r. ⌜ r ≡ freshBlocks ⌝ }
-{
-    BlockPart {
-        sent: false,
-        ready: false,
-        complete: false,
-        echoes: [false; 11],
-        readies: [false; 11],
-    }
-}
-
-fn fresh_times() -> TimePart
-    ensures { λ r. ⌜ r ≡ freshTimes ⌝ }
-{
-    TimePart {
-        sent: false,
-        ready: false,
-        delivered: false,
-        time: 0,
-        echoes: [false; 11],
-        readies: [false; 11],
-        echoed: [0; 11],
-        readied: [0; 11],
-    }
-}
-
-// The write q is open, and nothing of it has come.
-pub fn fresh_slot(q: u64) -> Slot
-    ensures { λ r. ⌜ r ≡ freshSlot q ⌝ }
-{
-    let blocks = fresh_blocks();
-    let times = fresh_times();
-    Slot {
-        sequence: q,
-        blocks,
-        times,
-    }
-}
-
-fn fresh_reader() -> Reader
-    ensures { λ r. ⌜ r ≡ freshReader ⌝ }
-{
-    let noted = zero_stamp();
-    Reader {
-        sequence: 0,
-        listening: false,
-        noted,
-    }
-}
-
-// Stamp 0, client 0 and sequence 0; every client's write 1 is open.
-pub fn fresh_server() -> Server
-    ensures { λ r. ⌜ r ≡ freshServer ⌝ }
-{
-    let stamp = zero_stamp();
-    let slot = fresh_slot(1);
-    let reader = fresh_reader();
-    let slots = [slot; 9];
-    let readers = [reader; 9];
-    Server {
-        stamp,
-        slots,
-        readers,
-    }
-}
+ghost use Rattle.server_rules.specs.Scopes.{scopeOf, withScope};
+ghost use Rattle.server.specs.Stages.{slotIn, readerIn};
+ghost use Rattle.server_rules.specs.State.{withBlocks, withTimes, blockSent, blockEcho, blockReady, blockMarks, timeSent, timeEcho, timeReady, timeMarks};
 
 // ---- one client's scope
 

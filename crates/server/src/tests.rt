@@ -1,6 +1,4 @@
 // What turns a frame down: refusals 10 to 13, one function for each of document 01's tests.
-use crate::Reader;
-use crate::Slot;
 use blocks::Params;
 use frame::Party;
 use frame::Refusal;
@@ -11,6 +9,8 @@ use frame::bounds::width;
 use frame::layout::AREA_BYTES;
 use frame::parties::from_server;
 use frame::parties::number_in;
+use server_rules::Reader;
+use server_rules::Slot;
 ghost use mathlib.Core.Path.{_≡_};
 ghost use mathlib.Core.Bool.{false};
 ghost use lib.ListN.{getD};
@@ -19,7 +19,7 @@ ghost use Rattle.frame.specs.Params.{Bounded};
 ghost use Rattle.frame.specs.Messages.{numberIn, fromServer};
 ghost use Rattle.frame.specs.declared.Verdict.the-variants as J;
 ghost use Rattle.frame.specs.declared.Refusal.the-variants as R;
-ghost use Rattle.server.specs.Tests.{roomTest, fromOwner, openTest, readTest, doneTest};
+ghost use Rattle.server_rules.specs.Tests.{roomTest, fromOwner, openTest, readTest, doneTest};
 
 // 10: whether the lent areas are long enough, of which only the lengths count.
 pub fn room_test(g: Params, area: usize, initial: usize, out: usize, to: usize) -> Verdict

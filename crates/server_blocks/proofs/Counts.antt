@@ -11,25 +11,29 @@ use lib.Dec.{leb}
 use borrow.Author.Tests.{leb-true, le-leb, lt-leb}
 use Rattle.area.specs.Area.{pick, same}
 use Rattle.quorum.specs.Quorum.{count}
+use Rattle.quorum.proofs.Counting.{count-le}
 use Rattle.quorum.proofs.Logic.{and-split, or-split}
 use Rattle.blocks.specs.declared.Params.{Params}
 use Rattle.frame.specs.declared.Place.{Place}
 use Rattle.frame.specs.Params.{Bounded, quota}
 use Rattle.frame.specs.Messages.{Entry, entry}
 use Rattle.frame.specs.Chunks.{chunkAt, entryAt}
-use Rattle.frame.specs.Coded.{hasList, digestsOf, decoded}
+use Rattle.group_rules.specs.Coded.{hasList, digestsOf, decoded}
 use Rattle.group.specs.Entries as E
 use Rattle.group.specs.Entries.{marked, entries, sentList, flags, placesFrom}
 use Rattle.group.specs.Choice.{valueFrom}
 use Rattle.group.specs.Needs.{Comparing}
 use Rattle.group.proofs.Matched.{count-agree, place-law, entry-law, matched-count, matched-value, within-places}
-use Rattle.server.specs.declared.Slot.{Slot}
-use Rattle.server.specs.Broadcast.{kept, undone, isLike, votes, enough, due, full}
-use Rattle.server.specs.State.{blockView}
+use Rattle.server_rules.specs.declared.BlockPart.{BlockPart}
+use Rattle.server_rules.specs.declared.Slot.{Slot}
+use Rattle.server_rules.specs.Broadcast.{kept, undone, isLike, votes, enough, due, full}
+use Rattle.server_rules.specs.State.{blockView}
 use Rattle.server.specs.Stages.{Lent}
-use Rattle.server.specs.Rules.{chosen, regained, blockRules}
-use Rattle.server_blocks.specs.Votes.{enoughBy, mattersBy, dueBy, fullBy, Counted}
-use Rattle.server_blocks.specs.Group.{groupValue, groupEqual, Regaining}
+use Rattle.server_rules.specs.Rules.{chosen, regained, blockRules}
+use Rattle.server_blocks.specs.declared.Voters.{Voters}
+use Rattle.server_blocks.specs.declared.Due.{Due}
+use Rattle.server_blocks.specs.Votes.{enoughBy, mattersBy, dueBy, fullBy, votersOf, dueFor}
+use Rattle.server_blocks.specs.Group.{groupValue, groupEqual, Stored, Regaining}
 
 -- q is at most n
 pub quota-small : (g : Params) → Bounded g → quota g ≤ 10
@@ -80,52 +84,53 @@ picked-value g d false u v f h p q = q
 
 -- ---- what is due, by flags and numbers
 
-module _ (H : List ℕ → List ℕ) (g : Params) (B : Bounded g) (a d b : List ℕ) (c : ℕ) (x : Slot) (es rs : List Bool) (e r : ℕ)
-    (C : Counted g a d c x es rs e r) where
-  echo-number : e ≡ count (λ j. hasList (blockView g a c x .echoes j) d) (g .n)
-  echo-number =
-      C .echo-number ∙ ap (λ l. count (marked l) (g .n)) (C .echoes-are)
-      ∙ matched-count g (x .blocks .echoes) (placesFrom (21 * c - 20)) a d (blockView g a c x .echoes) (echo-agree g B a d c x) (B .servers-high)
+module _ (H : List ℕ → List ℕ) (g : Params) (B : Bounded g) (a d b : List ℕ) (c : ℕ) (x : Slot) where
+  echo-number : votersOf g a c (x .blocks) d .echoed ≡ count (λ j. hasList (blockView g a c x .echoes j) d) (g .n)
+  unfolding votersOf
+  echo-number = matched-count g (x .blocks .echoes) (placesFrom (21 * c - 20)) a d (blockView g a c x .echoes) (echo-agree g B a d c x) (B .servers-high)
 
-  ready-number : r ≡ count (λ j. hasList (blockView g a c x .readies j) d) (g .n)
-  ready-number =
-      C .ready-number ∙ ap (λ l. count (marked l) (g .n)) (C .readies-are)
-      ∙ matched-count g (x .blocks .readies) (placesFrom (21 * c - 10)) a d (blockView g a c x .readies) (ready-agree g B a d c x) (B .servers-high)
+  ready-number : votersOf g a c (x .blocks) d .readied ≡ count (λ j. hasList (blockView g a c x .readies j) d) (g .n)
+  unfolding votersOf
+  ready-number = matched-count g (x .blocks .readies) (placesFrom (21 * c - 10)) a d (blockView g a c x .readies) (ready-agree g B a d c x) (B .servers-high)
 
-  echo-votes : votes (blockRules H g) (g .n) (g .t) (blockView g a c x .echoes) (entry d b) ≡ e
+  echo-votes : votes (blockRules H g) (g .n) (g .t) (blockView g a c x .echoes) (entry d b) ≡ votersOf g a c (x .blocks) d .echoed
   echo-votes = votes-list g B a d c x H b (blockView g a c x .echoes) ∙ sym echo-number
 
-  ready-votes : votes (blockRules H g) (g .n) (g .t) (blockView g a c x .readies) (entry d b) ≡ r
+  ready-votes : votes (blockRules H g) (g .n) (g .t) (blockView g a c x .readies) (entry d b) ≡ votersOf g a c (x .blocks) d .readied
   ready-votes = votes-list g B a d c x H b (blockView g a c x .readies) ∙ sym ready-number
 
   -- "decode from the k lowest senders with that list, readies if there are q, else echoes"
-  pub value-is : regained g (blockView g a c x .echoes) (blockView g a c x .readies) d ≡ groupValue g es rs r c a
-  unfolding regained chosen groupValue
+  pub value-is : regained g (blockView g a c x .echoes) (blockView g a c x .readies) d ≡ groupValue g (votersOf g a c (x .blocks) d) c a
+  unfolding regained chosen groupValue votersOf
   value-is =
-      let p : valueFrom g rs (placesFrom (21 * c - 10)) a ≡ decoded g (blockView g a c x .readies) d =
-      ap (λ l. valueFrom g l (placesFrom (21 * c - 10)) a) (C .readies-are)
-      ∙ matched-value g (x .blocks .readies) (placesFrom (21 * c - 10)) a d (blockView g a c x .readies) (ready-agree g B a d c x) (B .servers-high) in
-      let q : valueFrom g es (placesFrom (21 * c - 20)) a ≡ decoded g (blockView g a c x .echoes) d =
-      ap (λ l. valueFrom g l (placesFrom (21 * c - 20)) a) (C .echoes-are)
-      ∙ matched-value g (x .blocks .echoes) (placesFrom (21 * c - 20)) a d (blockView g a c x .echoes) (echo-agree g B a d c x) (B .servers-high) in
+      let v = votersOf g a c (x .blocks) d in
+      let p : valueFrom g (v .readies) (placesFrom (21 * c - 10)) a ≡ decoded g (blockView g a c x .readies) d =
+      matched-value g (x .blocks .readies) (placesFrom (21 * c - 10)) a d (blockView g a c x .readies) (ready-agree g B a d c x) (B .servers-high) in
+      let q : valueFrom g (v .echoes) (placesFrom (21 * c - 20)) a ≡ decoded g (blockView g a c x .echoes) d =
+      matched-value g (x .blocks .echoes) (placesFrom (21 * c - 20)) a d (blockView g a c x .echoes) (echo-agree g B a d c x) (B .servers-high) in
       ap (λ m. decoded g (pick (leb (quota g) m) (blockView g a c x .readies) (blockView g a c x .echoes)) d) (sym ready-number)
-      ∙ sym (picked-value g d (leb (quota g) r) (valueFrom g rs (placesFrom (21 * c - 10)) a) (valueFrom g es (placesFrom (21 * c - 20)) a)
+      ∙ sym (picked-value g d (leb (quota g) (v .readied))
+      (valueFrom g (v .readies) (placesFrom (21 * c - 10)) a) (valueFrom g (v .echoes) (placesFrom (21 * c - 20)) a)
       (blockView g a c x .readies) (blockView g a c x .echoes) p q)
 
-  enough-is : enough (blockRules H g) (g .n) (g .t) (blockView g a c x) (entry d b) ≡ enoughBy g e r
+  enough-is : enough (blockRules H g) (g .n) (g .t) (blockView g a c x) (entry d b)
+      ≡ enoughBy g (votersOf g a c (x .blocks) d .echoed) (votersOf g a c (x .blocks) d .readied)
   unfolding enough enoughBy
   enough-is = ap₂ (λ u v. leb (g .n) (u + g .t) || leb (quota g) v) echo-votes ready-votes
 
-  supports-is : blockRules H g .supports (blockView g a c x .echoes) (blockView g a c x .readies) (entry d b) ≡ groupEqual H g es rs r c a d
+  supports-is : blockRules H g .supports (blockView g a c x .echoes) (blockView g a c x .readies) (entry d b)
+      ≡ groupEqual H g (votersOf g a c (x .blocks) d) c a d
   unfolding groupEqual
   supports-is = ap (λ v. same (digestsOf H g v) d) value-is
 
-  pub due-is : due (blockRules H g) (g .n) (g .t) (blockView g a c x) (entry d b) ≡ dueBy g (x .blocks .ready) (groupEqual H g es rs r c a d) e r
-  unfolding due dueBy blockView
+  pub due-is : due (blockRules H g) (g .n) (g .t) (blockView g a c x) (entry d b)
+      ≡ dueFor g (x .blocks) (votersOf g a c (x .blocks) d) (groupEqual H g (votersOf g a c (x .blocks) d) c a d) .ready
+  unfolding due dueFor dueBy blockView
   due-is = ap₂ (λ u v. not (x .blocks .ready) && (u && v)) enough-is supports-is
 
-  pub full-is : full (blockRules H g) (g .n) (g .t) (blockView g a c x) (entry d b) ≡ fullBy g (groupEqual H g es rs r c a d) r
-  unfolding full fullBy
+  pub full-is : full (blockRules H g) (g .n) (g .t) (blockView g a c x) (entry d b)
+      ≡ dueFor g (x .blocks) (votersOf g a c (x .blocks) d) (groupEqual H g (votersOf g a c (x .blocks) d) c a d) .complete
+  unfolding full dueFor fullBy
   full-is = ap₂ (λ u v. leb (quota g + g .t) u && v) ready-votes supports-is
 
 -- ---- a comparison on which something hangs can be made
@@ -147,18 +152,29 @@ enough-echoes g went complete e r h m = go (or-split (not went && enoughBy g e r
     go (inl k) = short g e r h (and-split (not went) (enoughBy g e r) k .1)
     go (inr k) = absurd (let z = leb-true (quota g + g .t) r (and-split (leb (quota g + g .t) r) (not complete) k .0) in omega (arith, z, h))
 
-pub regaining : (g : Params) (a d : List ℕ) (c : ℕ) (x : Slot) (es rs : List Bool) (e r : ℕ) (p : Place) (m out to : ℕ) → Lent g c (length a) p m out to
-    → Counted g a d c x es rs e r → (went complete : Bool) → mattersBy g went complete e r ≡ true → Regaining g es rs r c (length a)
-regaining g a d c x es rs e r p m out to L C went complete h = record {
-  bounded = L .bounded;
-  client-low = L .client-low;
-  client-high = L .client-high;
-  whole = L .whole;
-  number = C .ready-number;
-  enough = λ z.
-      let k = enough-echoes g went complete e r z h in
-      omega (arith, k, C .echo-number, L .bounded .blocks-high);
-}
+-- there are as many as were flagged, and at most 10
+pub voters-few : (g : Params) (a : List ℕ) (c : ℕ) (b : BlockPart) (d : List ℕ) (v : Voters) → Bounded g → v ≡ votersOf g a c b d → v .echoed ≤ 10
+unfolding votersOf
+voters-few g a c b d v B e =
+    let n = ap (λ (w : Voters). w .echoed) e in
+    let l = count-le (marked (votersOf g a c b d .echoes)) (g .n) in
+    omega (arith, n, l, B .servers-high)
+
+pub stored : (g : Params) (c a : ℕ) (p : Place) (m out to : ℕ) → Lent g c a p m out to → Stored g c a
+stored g c a p m out to L = record { bounded = L .bounded; client-low = L .client-low; client-high = L .client-high; whole = L .whole }
+
+pub regaining : (g : Params) (a d : List ℕ) (c : ℕ) (b : BlockPart) (v : Voters) → Stored g c (length a) → v ≡ votersOf g a c b d
+    → (went complete : Bool) → mattersBy g went complete (v .echoed) (v .readied) ≡ true → Regaining g v c (length a)
+unfolding votersOf
+regaining g a d c b v S e went complete h =
+    let n : v .echoed ≡ count (marked (v .echoes)) (g .n) = ap (λ (w : Voters). w .echoed) e ∙ ap (λ (w : Voters). count (marked (w .echoes)) (g .n)) (sym e) in
+    record {
+      stored = S;
+      number = ap (λ (w : Voters). w .readied) e ∙ ap (λ (w : Voters). count (marked (w .readies)) (g .n)) (sym e);
+      enough = λ z.
+          let k = enough-echoes g went complete (v .echoed) (v .readied) z h in
+          omega (arith, k, n, S .bounded .blocks-high);
+    }
 
 -- ---- the tests of the code
 
@@ -186,6 +202,11 @@ pub full-by : (g : Params) (equal : Bool) (r q : ℕ) (b : Bool) → q ≡ quota
 unfolding fullBy
 full-by g equal r q b h k = k ∙ ap (λ (y : ℕ). leb (y + g .t) r && equal) h
 
+pub due-for : (g : Params) (b : BlockPart) (v : Voters) (equal m f : Bool) → m ≡ dueBy g (b .ready) equal (v .echoed) (v .readied)
+    → f ≡ fullBy g equal (v .readied) → _≡_ {A = Due} (record { ready = m; complete = f }) (dueFor g b v equal)
+unfolding dueFor
+due-for g b v equal m f h k = λ i. record { ready = h i; complete = k i }
+
 -- ---- flags of the entries in chunks from p on
 
 pub comparing : (g : Params) (at a : List ℕ) (p : ℕ) → Bounded g → at ≡ placesFrom p → chunkAt (p + 10) + 576 ≤ length a → Comparing g at a
@@ -194,3 +215,15 @@ comparing g at a p B e h = record { bounded = B; within = rw e (within-places p 
 pub flags-at : (g : Params) (on : List Bool) (at a d : List ℕ) (p : ℕ) (r : List Bool) → at ≡ placesFrom p
     → r ≡ flags (sentList g on at a d) (g .n) → r ≡ flags (sentList g on (placesFrom p) a d) (g .n)
 flags-at g on at a d p r e k = k ∙ ap (λ (l : List ℕ). flags (sentList g on l a d) (g .n)) e
+
+pub voters-are : (g : Params) (a : List ℕ) (c : ℕ) (b : BlockPart) (d : List ℕ) (es rs : List Bool) (e r : ℕ)
+    → es ≡ flags (sentList g (b .echoes) (placesFrom (21 * c - 20)) a d) (g .n)
+    → rs ≡ flags (sentList g (b .readies) (placesFrom (21 * c - 10)) a d) (g .n)
+    → e ≡ count (marked es) (g .n)
+    → r ≡ count (marked rs) (g .n)
+    → _≡_ {A = Voters} (record { echoes = es; readies = rs; echoed = e; readied = r }) (votersOf g a c b d)
+unfolding votersOf
+voters-are g a c b d es rs e r h k m n =
+    let u = m ∙ ap (λ (l : List Bool). count (marked l) (g .n)) h in
+    let w = n ∙ ap (λ (l : List Bool). count (marked l) (g .n)) k in
+    λ i. record { echoes = h i; readies = k i; echoed = u i; readied = w i }

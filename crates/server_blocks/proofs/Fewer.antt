@@ -3,7 +3,7 @@ use Prim.Native.Nat.{ℕ, zero, suc, _+_, _*_, _-_, _≤_}
 use native.Mathlib.Omega.{arith}
 use mathlib.Core.Path.{_≡_, refl, ap, ap₂}
 use mathlib.Core.Bool.{Bool, true, false, not, _&&_, _||_}
-use mathlib.Core.List.{List, []}
+use mathlib.Core.List.{List}
 use lib.ListN.{getD}
 use lib.Dec.{leb}
 use borrow.Author.Tests.{leb-false, lt-leb}
@@ -14,15 +14,15 @@ use Rattle.frame.specs.Params.{Bounded, quota}
 use Rattle.frame.specs.Messages.{Entry, entry}
 use Rattle.frame.specs.Outbox.{Outbox}
 use Rattle.frame.specs.Chunks.{entryAt}
-use Rattle.frame.specs.Coded.{hasList}
+use Rattle.group_rules.specs.Coded.{hasList}
 use Rattle.group.specs.Entries.{kept, marked, entries, sentList, flags, placesFrom}
 use Rattle.group.proofs.Matched.{count-flags}
-use Rattle.server.specs.declared.Slot.{Slot}
-use Rattle.server.specs.declared.Server.{Server}
-use Rattle.server.specs.Steps.{settle, settleBlocks}
-use Rattle.server.specs.Stages.{Progress, moved}
-use Rattle.server_blocks.specs.Votes.{enoughBy, mattersBy}
-use Rattle.server_blocks.proofs.Settling.{skipped}
+use Rattle.server_rules.specs.declared.Slot.{Slot}
+use Rattle.server_rules.specs.Steps.{votedBlock}
+use Rattle.server.specs.declared.Call.{Call}
+use Rattle.server.specs.Stages.{left, counts}
+use Rattle.server_blocks.specs.Votes.{enoughBy, mattersBy, votersOf}
+use Rattle.server_blocks.proofs.Voting.{skipped}
 
 -- ---- fewer have the list than are flagged
 
@@ -82,17 +82,17 @@ matters-fewer g went complete e r E R h k =
     (fewer-and (leb (quota g + g .t) r) (leb (quota g + g .t) R) (not complete) (leb-fewer (quota g + g .t) r R k))
 
 -- no list is compared: nothing hangs on the e echoes and r readies that were counted
-pub unlisted : (H : List ℕ → List ℕ) (g : Params) → Bounded g → (a d b : List ℕ) (c : ℕ) (x : Slot) (e r me : ℕ) (s : Server) (q : Outbox) (w : Progress)
-    → e ≡ count (marked (x .blocks .echoes)) (g .n)
-    → r ≡ count (marked (x .blocks .readies)) (g .n)
-    → mattersBy g (x .blocks .ready) (x .blocks .complete) e r ≡ false
-    → w ≡ moved (settle g s a c x [] []) q
-    → w ≡ moved (settleBlocks H g me s a c x (entry d b)) q
-unlisted H g B a d b c x e r me s q w u v h k =
-    let E = flags (sentList g (x .blocks .echoes) (placesFrom (21 * c - 20)) a d) (g .n) in
-    let R = flags (sentList g (x .blocks .readies) (placesFrom (21 * c - 10)) a d) (g .n) in
-    let i : count (marked E) (g .n) ≤ e = rw u (with-list-le g (x .blocks .echoes) (placesFrom (21 * c - 20)) a d B) in
-    let j : count (marked R) (g .n) ≤ r = rw v (with-list-le g (x .blocks .readies) (placesFrom (21 * c - 10)) a d B) in
-    skipped H g B a d b c x E R (count (marked E) (g .n)) (count (marked R) (g .n))
-    (record { echoes-are = refl; readies-are = refl; echo-number = refl; ready-number = refl }) me s q w
-    (matters-fewer g (x .blocks .ready) (x .blocks .complete) (count (marked E) (g .n)) (count (marked R) (g .n)) e r i j h) k
+pub unlisted : (H : List ℕ → List ℕ) (k : Call) → Bounded (k .params) → (a d b : List ℕ) (x : Slot) → x .sequence ≡ k .header .sequence
+    → (q : Outbox) (e r : ℕ)
+    → e ≡ count (marked (x .blocks .echoes)) (k .params .n)
+    → r ≡ count (marked (x .blocks .readies)) (k .params .n)
+    → mattersBy (k .params) (x .blocks .ready) (x .blocks .complete) e r ≡ false
+    → left x a q ≡ counts (votedBlock H (k .params) (k .me) a (k .header .client) x (entry d b)) q
+unfolding votersOf
+unlisted H k B a d b x o q e r u w h =
+    let g = k .params in
+    let c = k .header .client in
+    let v = votersOf g a c (x .blocks) d in
+    let i : v .echoed ≤ e = rw u (with-list-le g (x .blocks .echoes) (placesFrom (21 * c - 20)) a d B) in
+    let j : v .readied ≤ r = rw w (with-list-le g (x .blocks .readies) (placesFrom (21 * c - 10)) a d B) in
+    skipped H k B a d b x o q v refl (matters-fewer g (x .blocks .ready) (x .blocks .complete) (v .echoed) (v .readied) e r i j h)

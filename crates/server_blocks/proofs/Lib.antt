@@ -1,5 +1,6 @@
 pub mod Counts
 pub mod Comparison
 pub mod Rooms
-pub mod Settling
+pub mod Voting
 pub mod Fewer
+pub mod BlockSteps

@@ -1,4 +1,4 @@
--- The value that client c's kept entries give, by the flags of the echoes and of the readies that have the list. These are definitions.
+-- The value that client c's kept entries give, by the votes v for a digest list. These are definitions.
 use Prim.Native.Nat.{ℕ, _*_, _-_, _≤_, _<_}
 use mathlib.Core.Path.{_≡_}
 use mathlib.Core.Bool.{Bool}
@@ -9,24 +9,29 @@ use Rattle.blocks.specs.declared.Params.{Params}
 use Rattle.quorum.specs.Quorum.{count}
 use Rattle.frame.specs.Params.{Bounded, quota}
 use Rattle.frame.specs.Chunks.{areaBytes}
-use Rattle.frame.specs.Coded.{digestsOf}
+use Rattle.group_rules.specs.Coded.{digestsOf}
 use Rattle.group.specs.Entries.{marked, placesFrom}
 use Rattle.group.specs.Choice.{valueFrom}
+use Rattle.server_blocks.specs.declared.Voters.{Voters}
 
--- "readies if there are q, else echoes": of the r readies rs, or of the echoes es
-unfoldable pub groupValue : Params → List Bool → List Bool → ℕ → ℕ → List ℕ → List ℕ
-groupValue g es rs r c a =
-    pick (leb (quota g) r) (valueFrom g rs (placesFrom (21 * c - 10)) a) (valueFrom g es (placesFrom (21 * c - 20)) a)
+-- "readies if there are q, else echoes"
+unfoldable pub groupValue : Params → Voters → ℕ → List ℕ → List ℕ
+groupValue g v c a =
+    pick (leb (quota g) (v .readied)) (valueFrom g (v .readies) (placesFrom (21 * c - 10)) a) (valueFrom g (v .echoes) (placesFrom (21 * c - 20)) a)
 
 -- "encode afresh with zero padding and compare all n digests": H is the digest, d the list
-unfoldable pub groupEqual : (List ℕ → List ℕ) → Params → List Bool → List Bool → ℕ → ℕ → List ℕ → List ℕ → Bool
-groupEqual H g es rs r c a d = same (digestsOf H g (groupValue g es rs r c a)) d
+unfoldable pub groupEqual : (List ℕ → List ℕ) → Params → Voters → ℕ → List ℕ → List ℕ → Bool
+groupEqual H g v c a d = same (digestsOf H g (groupValue g v c a)) d
 
--- one of the two groups is large enough, in a state area of this length
-pub record Regaining (g : Params) (es rs : List Bool) (r c area : ℕ) : Type 0 where
+-- the entries of client c lie in a state area of this length
+pub record Stored (g : Params) (c area : ℕ) : Type 0 where
   pub bounded : Bounded g
   pub client-low : 1 ≤ c
   pub client-high : c ≤ 8
   pub whole : areaBytes ≤ area
-  pub number : r ≡ count (marked rs) (g .n)
-  pub enough : r < quota g → g .k ≤ count (marked es) (g .n)
+
+-- and one of the two groups is large enough
+pub record Regaining (g : Params) (v : Voters) (c area : ℕ) : Type 0 where
+  pub stored : Stored g c area
+  pub number : v .readied ≡ count (marked (v .readies)) (g .n)
+  pub enough : v .readied < quota g → g .k ≤ count (marked (v .echoes)) (g .n)

@@ -1,15 +1,15 @@
--- What is due of a write's blocks by the numbers e of echoes and r of readies that have its digest list. Assumes nothing: these are definitions.
-use Prim.Native.Nat.{ℕ, _+_, _*_, _-_, _≤_}
-use mathlib.Core.Path.{_≡_}
+-- What is due of a write's blocks by the numbers e of echoes and r of readies that have its digest list. These are definitions.
+use Prim.Native.Nat.{ℕ, _+_, _*_, _-_}
 use mathlib.Core.Bool.{Bool, not, _&&_, _||_}
 use mathlib.Core.List.{List}
 use lib.Dec.{leb}
 use Rattle.quorum.specs.Quorum.{count}
 use Rattle.blocks.specs.declared.Params.{Params}
-use Rattle.frame.specs.Params.{Bounded, listed, quota}
-use Rattle.frame.specs.Chunks.{areaBytes}
+use Rattle.frame.specs.Params.{quota}
 use Rattle.group.specs.Entries.{marked, sentList, flags, placesFrom}
-use Rattle.server.specs.declared.Slot.{Slot}
+use Rattle.server_rules.specs.declared.BlockPart.{BlockPart}
+use Rattle.server_blocks.specs.declared.Voters.{Voters}
+use Rattle.server_blocks.specs.declared.Due.{Due}
 
 -- "n - t echoes or q readies"
 unfoldable pub enoughBy : Params → ℕ → ℕ → Bool
@@ -27,17 +27,15 @@ dueBy g went supported e r = not went && (enoughBy g e r && supported)
 unfoldable pub fullBy : Params → Bool → ℕ → Bool
 fullBy g supported r = leb (quota g + g .t) r && supported
 
--- client c's kept entries are compared with a list
-pub record Voting (g : Params) (c area list : ℕ) : Type 0 where
-  pub bounded : Bounded g
-  pub client-low : 1 ≤ c
-  pub client-high : c ≤ 8
-  pub whole : areaBytes ≤ area
-  pub list-is : list ≡ listed g
+-- ---- the same of a slot's blocks b
 
--- Of client c's slot x, whose entries lie in the area a: es and rs flag the e echoes and the r readies that have the list d.
-pub record Counted (g : Params) (a d : List ℕ) (c : ℕ) (x : Slot) (es rs : List Bool) (e r : ℕ) : Type 0 where
-  pub echoes-are : es ≡ flags (sentList g (x .blocks .echoes) (placesFrom (21 * c - 20)) a d) (g .n)
-  pub readies-are : rs ≡ flags (sentList g (x .blocks .readies) (placesFrom (21 * c - 10)) a d) (g .n)
-  pub echo-number : e ≡ count (marked es) (g .n)
-  pub ready-number : r ≡ count (marked rs) (g .n)
+-- the votes for the list d, the entries of client c lying in the area a
+unfoldable pub votersOf : Params → List ℕ → ℕ → BlockPart → List ℕ → Voters
+votersOf g a c b d =
+    let es = flags (sentList g (b .echoes) (placesFrom (21 * c - 20)) a d) (g .n) in
+    let rs = flags (sentList g (b .readies) (placesFrom (21 * c - 10)) a d) (g .n) in
+    record { echoes = es; readies = rs; echoed = count (marked es) (g .n); readied = count (marked rs) (g .n) }
+
+-- what the votes v bring forth
+unfoldable pub dueFor : Params → BlockPart → Voters → Bool → Due
+dueFor g b v supported = record { ready = dueBy g (b .ready) supported (v .echoed) (v .readied); complete = fullBy g supported (v .readied) }

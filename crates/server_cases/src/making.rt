@@ -8,8 +8,9 @@ use case_text::report::result;
 use case_text::text::bytes;
 use case_text::text::put_bytes;
 use case_text::text::word_at;
-use server::Reply;
-use server::Server;
+use server::setup::construct;
+use server_rules::Reply;
+use server_rules::Server;
 ghost use Prim.Native.Nat.{_≤_};
 ghost use lib.ListN.{length};
 
@@ -45,7 +46,7 @@ fn of_params(
     let v = word_at(line, at);
     let mut value = [0u8; 1024];
     let len = bytes(line, v.start, v.end, &mut value);
-    let made = Server::fresh(g, me, &value[..len], area, initial);
+    let made = construct(g, me, &value[..len], area, initial);
     let reply = made.reply;
     let server = made.server;
     stored(line, v.next, reply, area, initial);

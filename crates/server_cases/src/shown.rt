@@ -4,7 +4,7 @@ use case_text::report::result;
 use case_text::text::put_bytes;
 use frame::Refusal;
 use frame::refusals::number_of;
-use server::Reply;
+use server_rules::Reply;
 ghost use Prim.Native.Nat.{_≤_};
 ghost use lib.ListN.{length};
 

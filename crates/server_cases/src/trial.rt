@@ -3,8 +3,7 @@ use blocks::Params;
 use case_text::text::number;
 use case_text::text::word_at;
 use frame::Party;
-use server::Server;
-use server::state::fresh_server;
+use server_rules::Server;
 ghost use Prim.Native.Nat.{_≤_};
 ghost use lib.ListN.{length};
 
@@ -22,7 +21,7 @@ pub struct Reading {
 
 // Before the first line.
 pub fn first() -> Trial {
-    let server = fresh_server();
+    let server = Server::fresh();
     Trial {
         g: Params {
             n: 0,

@@ -19,15 +19,15 @@ use Rattle.frame.specs.Params.{width, listed}
 use Rattle.frame.specs.Messages.{Entry, entry, Body, getStamp, askRead, readComplete, stampIs, blockIs, timeIs, Stage, send, echo, ready, message, sending, numberIn}
 use Rattle.frame.specs.Frames.{bodyAt, lengthOf, bodyLength, entryIn, bodyIn, messageIn}
 use Rattle.frame.proofs.Writing.{part-at}
-use Rattle.server.specs.declared.Server.{Server}
-use Rattle.server.specs.declared.Reply.the-variants as Y
-use Rattle.server.specs.State.{slotOf}
-use Rattle.server.specs.Tests.{senderRight, orderTest, messageTest}
-use Rattle.server.specs.Steps.{sendOnly, settleTimes, onBlock, onTime, onRead, onReadComplete, onBody, effect}
-use Rattle.server.specs.Delivery.{Outcome}
+use Rattle.server_rules.specs.declared.Server.{Server}
+use Rattle.server_rules.specs.declared.Reply.the-variants as Y
+use Rattle.server_rules.specs.State.{slotOf}
+use Rattle.server_rules.specs.Tests.{senderRight, orderTest, messageTest}
+use Rattle.server_rules.specs.Steps.{sendOnly, settleTimes, onBlock, onTime, onRead, onReadComplete, onBody, effect}
+use Rattle.server_rules.specs.Delivery.{Outcome}
 use Rattle.server.specs.Stages.{outcomeIn, answered}
-use Rattle.server.specs.State.{scopeOf}
-use Rattle.server.specs.declared.Scope.{Scope}
+use Rattle.server_rules.specs.State.{scopeOf}
+use Rattle.server_rules.specs.declared.Scope.{Scope}
 use Rattle.server.proofs.Scopes.{as-it-was}
 use Rattle.server_deliver.specs.Handed.{Carried, stepFor}
 

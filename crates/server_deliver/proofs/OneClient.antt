@@ -16,13 +16,13 @@ use Rattle.frame.specs.Params.{paramsTest}
 use Rattle.frame.specs.Stamps.{lastTime}
 use Rattle.frame.specs.Messages.{Entry, Stage, send, echo, ready, Body, getStamp, ack, askRead, readComplete, stampIs, blockIs, timeIs, valueIs, Message, Sending, numberIn, judgedBy, after}
 use Rattle.frame.specs.Frames.{clientAt, headerIn, frameTest, openedBy, opened, messageIn}
-use Rattle.server.specs.declared.Slot.{Slot}
-use Rattle.server.specs.declared.Reader.{Reader}
-use Rattle.server.specs.declared.Server.{Server}
-use Rattle.server.specs.State.{noSlot, noReader, freshSlot, slotOf, readerOf, withSlot, withReader, blockView, timeView}
-use Rattle.server.specs.Tests.{roomTest, messageTest, judgeOpened, judge}
-use Rattle.server.specs.Steps.{accept, acceptBelow, acceptDone, settle, settleBlocks, onBlock, settleTimes, onTime, onRead, onReadComplete, onBody, effect}
-use Rattle.server.specs.Delivery.{effectBy, delivered, outcomeOf, delivery}
+use Rattle.server_rules.specs.declared.Slot.{Slot}
+use Rattle.server_rules.specs.declared.Reader.{Reader}
+use Rattle.server_rules.specs.declared.Server.{Server}
+use Rattle.server_rules.specs.State.{noSlot, noReader, freshSlot, slotOf, readerOf, withSlot, withReader, blockView, timeView}
+use Rattle.server_rules.specs.Tests.{roomTest, messageTest, judgeOpened, judge}
+use Rattle.server_rules.specs.Steps.{accept, acceptBelow, acceptDone, settle, settleBlocks, onBlock, settleTimes, onTime, onRead, onReadComplete, onBody, effect}
+use Rattle.server_rules.specs.Delivery.{effectBy, delivered, outcomeOf, delivery}
 
 -- of the arrays, r differs from s at client c alone
 record Only (c : ℕ) (s r : Server) : Type 0 where

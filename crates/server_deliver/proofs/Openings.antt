@@ -24,13 +24,13 @@ use Rattle.frame.proofs.Verdicts.{fine-not}
 use Rattle.frame.proofs.Within.{admitted-of}
 use Rattle.frame.proofs.Opening.{opens-facts}
 use Rattle.quorum.proofs.Logic.{impossible}
-use Rattle.server.specs.declared.Server.{Server}
-use Rattle.server.specs.declared.Reply.the-variants as Y
-use Rattle.server.specs.Tests.{roomTest, messageTest, judgeOpened, judge}
-use Rattle.server.specs.Steps.{effect}
-use Rattle.server.specs.Delivery.{Outcome, outcome, effectBy, delivered, replyOf, outcomeOf, delivery}
+use Rattle.server_rules.specs.declared.Server.{Server}
+use Rattle.server_rules.specs.declared.Reply.the-variants as Y
+use Rattle.server_rules.specs.Tests.{roomTest, messageTest, judgeOpened, judge}
+use Rattle.server_rules.specs.Steps.{effect}
+use Rattle.server_rules.specs.Delivery.{Outcome, outcome, effectBy, delivered, replyOf, outcomeOf, delivery}
 use Rattle.server.specs.declared.Taken.{Taken}
-use Rattle.server.specs.State.{withScope}
+use Rattle.server_rules.specs.State.{withScope}
 use Rattle.server.specs.Stages.{outcomeIn, stepped, answered}
 use Rattle.server_deliver.specs.Handed.{Own, Handed, refusalIn, unless, admittedBy, admitted, stepFor, deliveryBy}
 

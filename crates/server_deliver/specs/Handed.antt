@@ -16,10 +16,10 @@ use Rattle.frame.specs.Params.{width, listed, paramsTest, Bounded}
 use Rattle.frame.specs.Messages.{Judged}
 use Rattle.frame.specs.Frames.{bodyAt, bodyLength, opened, messageIn}
 use Rattle.frame.specs.Outbox.{firstPlace}
-use Rattle.server.specs.declared.Server.{Server}
-use Rattle.server.specs.Tests.{roomTest, messageTest}
-use Rattle.server.specs.Steps.{effect}
-use Rattle.server.specs.Delivery.{Outcome, effectBy, outcomeOf}
+use Rattle.server_rules.specs.declared.Server.{Server}
+use Rattle.server_rules.specs.Tests.{roomTest, messageTest}
+use Rattle.server_rules.specs.Steps.{effect}
+use Rattle.server_rules.specs.Delivery.{Outcome, effectBy, outcomeOf}
 use Rattle.server.specs.Stages.{answered, Lent}
 
 -- a digest list and a block of these lengths

@@ -1,12 +1,12 @@
 // The client's record lent to a delivery, which updates it.
 use blocks::Params;
-use client::Answer;
-use client::Answered;
-use client::Client;
+use client_rules::Answer;
+use client_rules::Answered;
+use client_rules::Client;
 use frame::Party;
 ghost use mathlib.Core.Path.{_≡_};
 ghost use Rattle.sha256.specs.Hash.{digestOf};
-ghost use Rattle.client.specs.Delivery.{outcome, delivery};
+ghost use Rattle.client_rules.specs.Delivery.{outcome, delivery};
 
 // Delivers a frame to the client whose record is lent: the step by value, whose record is stored.
 pub fn deliver(

@@ -4,7 +4,6 @@ use Prim.Native.Nat.{ℕ, zero, suc, _+_}
 use mathlib.Core.Bool.{Bool, true, false, not, cond, _&&_}
 use mathlib.Core.Path.{_≡_, refl, ap, sym, _∙_, subst}
 use mathlib.Core.Logic.{_⊎_, inl, inr, ⊎-elim}
-use mathlib.Core.Option.{some}
 use mathlib.Core.List.{List, [], _∷_, List·Memᴰ, List·Memᴰ·head, List·Memᴰ·tail}
 use lib.ListN.{length, drop}
 use lib.Seq.{length-sets}
@@ -22,15 +21,15 @@ use Rattle.frame.specs.Messages.{Sending, numberIn}
 use Rattle.frame.specs.Frames.{build}
 use Rattle.frame.specs.Chunks.{entryAt, areaBytes, rowsBytes}
 use Rattle.frame.proofs.Sizes.{Small, small}
-use Rattle.server.specs.declared.Server.{Server}
-use Rattle.server.specs.State.{freshServer}
-use Rattle.server.specs.Delivery as SD
-use Rattle.client.specs.declared.Client.{Client}
-use Rattle.client.specs.Steps as C
-use Rattle.client.specs.Beginning as CB
+use Rattle.server_rules.specs.declared.Server.{Server}
+use Rattle.server_rules.specs.State.{freshServer}
+use Rattle.server_rules.specs.Delivery as SD
+use Rattle.client_rules.specs.declared.Client.{Client}
+use Rattle.client_rules.specs.Steps as C
+use Rattle.client_rules.specs.Beginning as CB
 use Rattle.runs.specs.World.{Setup, Call, toServer, toClient, beginRead, beginWrite, caller, ServerSide, ClientSide, World, put, initialOf, start, lentBy, step, run, sends, serverEffect, clientEffect}
-use Rattle.server.specs.Steps.{Write}
-use Rattle.client.specs.Rows.{Found}
+use Rattle.server_rules.specs.Steps.{Write}
+use Rattle.client_rules.specs.Rows.{Found}
 use Rattle.runs.specs.Events.{Event, At, Accepts, CompletesRead, EndsWrite, OpensRead, OpensWrite}
 use Rattle.runs.specs.Admissible.{Sent, Honest, Proper, Admissible}
 use Rattle.witness.proofs.Areas.{Shows}
@@ -252,10 +251,10 @@ module _ (Z : Setup) (G : Exact Z) where
 
   -- ---- events
 
-  pub accepts-by : (ks : List Call) (k : Call) (i : ℕ) (x : Write) → caller k ≡ P.Server i → acceptedIn Z (image Z ks) k ≡ some x → Accepts Z i x ks k
+  pub accepts-by : (ks : List Call) (k : Call) (i : ℕ) (x : Write) → caller k ≡ P.Server i → List·Memᴰ x (acceptedIn Z (image Z ks) k) → Accepts Z i x ks k
   unfolding acceptedIn
   accepts-by ks (toServer j from f out to) i x h e =
-      (ap numberIn (sym h), server-at (run Z ks) (image Z ks) (depicts ks) j from f out to .accepted ∙ e)
+      (ap numberIn (sym h), subst (List·Memᴰ x) (sym (server-at (run Z ks) (image Z ks) (depicts ks) j from f out to .accepted)) e)
   accepts-by ks (toClient c from f result out to) i x h e = impossible (cc)
   accepts-by ks (beginRead c out to) i x h e = impossible (cc)
   accepts-by ks (beginWrite c v out to) i x h e = impossible (cc)

@@ -2,7 +2,6 @@
 -- list, so that it can be computed. Assumes nothing.
 use Prim.Native.Nat.{ℕ}
 use mathlib.Core.Bool.{Bool, true, false, not, _&&_, _||_}
-use mathlib.Core.Option.{Option, none}
 use mathlib.Core.List.{List, [], _∷_}
 use lib.Dec.{eqb, leb, ltb}
 use Rattle.area.specs.Area.{same}
@@ -11,14 +10,14 @@ use Rattle.frame.specs.declared.Party.the-variants as P
 use Rattle.frame.specs.Messages.{Entry, Sending}
 use Rattle.frame.specs.Frames.{build}
 use Rattle.frame.specs.Chunks.{entryAt}
-use Rattle.server.specs.declared.Server.{Server}
-use Rattle.server.specs.State.{freshServer}
-use Rattle.client.specs.declared.Client.{Client}
-use Rattle.client.specs.State.{freshClient}
-use Rattle.client.specs.Steps as C
-use Rattle.client.specs.Beginning as CB
+use Rattle.server_rules.specs.declared.Server.{Server}
+use Rattle.server_rules.specs.State.{freshServer}
+use Rattle.client_rules.specs.declared.Client.{Client}
+use Rattle.client_rules.specs.State.{freshClient}
+use Rattle.client_rules.specs.Steps as C
+use Rattle.client_rules.specs.Beginning as CB
 use Rattle.runs.specs.World.{Setup, Call, toServer, toClient, beginRead, beginWrite, put, initialOf, start, lentBy, run, sends}
-use Rattle.server.specs.Steps.{Write}
+use Rattle.server_rules.specs.Steps.{Write}
 use Rattle.runs.specs.Events.{Event}
 use Rattle.witness.proofs.Served.{Seen, served}
 use Rattle.witness.proofs.Asked.{Heard, asked}
@@ -143,11 +142,11 @@ module _ (Z : Setup) where
   image (k ∷ ks) = advance (image ks) k
 
   -- what a call accepts, and what it ends
-  unfoldable pub acceptedIn : Image → Call → Option Write
+  unfoldable pub acceptedIn : Image → Call → List Write
   acceptedIn w (toServer i from f out to) = seenServer w i from f out to .accepted
-  acceptedIn w (toClient c from f result out to) = none
-  acceptedIn w (beginRead c out to) = none
-  acceptedIn w (beginWrite c v out to) = none
+  acceptedIn w (toClient c from f result out to) = []
+  acceptedIn w (beginRead c out to) = []
+  acceptedIn w (beginWrite c v out to) = []
 
   unfoldable pub endIn : Image → Call → C.Event
   endIn w (toServer i from f out to) = C.nothing

@@ -7,8 +7,8 @@ use Rattle.blocks.specs.declared.Params.{Params}
 use Rattle.frame.specs.declared.Party.the-variants as P
 use Rattle.frame.specs.Stamps.{zeroStamp}
 use Rattle.frame.specs.Messages.{send, Message, message, askRead, timeIs, valueIs}
-use Rattle.frame.specs.Coded.{entryOf, digestsOf}
-use Rattle.client.specs.Rows.{Found}
+use Rattle.group_rules.specs.Coded.{entryOf, digestsOf}
+use Rattle.client_rules.specs.Rows.{Found}
 use Rattle.runs.specs.World.{Setup, Call}
 use Rattle.witness.specs.Toy.{toy, four, setup, handServer, handClient, startRead}
 

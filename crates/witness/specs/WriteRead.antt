@@ -7,9 +7,9 @@ use Rattle.blocks.specs.declared.Params.{Params}
 use Rattle.frame.specs.declared.Stamp.{Stamp}
 use Rattle.frame.specs.declared.Party.the-variants as P
 use Rattle.frame.specs.Messages.{Entry, Stage, send, echo, ready, message, getStamp, stampIs, blockIs, timeIs, ack, askRead, valueIs}
-use Rattle.frame.specs.Coded.{entryOf, digestsOf}
-use Rattle.server.specs.Steps.{Write}
-use Rattle.client.specs.Rows.{Found}
+use Rattle.group_rules.specs.Coded.{entryOf, digestsOf}
+use Rattle.server_rules.specs.Steps.{Write}
+use Rattle.client_rules.specs.Rows.{Found}
 use Rattle.runs.specs.World.{Setup, Call}
 use Rattle.runs.specs.Demand.{Operation}
 use Rattle.witness.specs.Toy.{toy, four, setup, handServer, handClient, startRead, startWrite}

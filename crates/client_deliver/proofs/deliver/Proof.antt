@@ -1,5 +1,5 @@
 -- The tests in the order of their numbers, then the step. Assumes nothing.
-use Rattle.client.specs.Tests.{valueTest}
+use Rattle.client_rules.specs.Tests.{valueTest}
 use Rattle.client_deliver.proofs.Deliveries.{bounded-of-call, admitted-by, call-refused, not-opened, room-refused, frame-answered}
 use borrow.Author.Needs.{needs}
 use Rattle.client_deliver.proofs.deliver.Statement.{statement}

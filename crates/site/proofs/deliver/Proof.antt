@@ -51,15 +51,15 @@ use Rattle.blocks.proofs.Params.Laws as G′
 use Rattle.frame.specs.declared.Party.{Party}
 use Rattle.frame.proofs.Party as P
 use Rattle.frame.proofs.Party.Laws as P′
-use Rattle.client.specs.declared.Client.{Client}
-use Rattle.client.specs.declared.Answered.{Answered}
-use Rattle.client.specs.Delivery.{outcome, delivery}
-use Rattle.client.proofs.Client as T
-use Rattle.client.proofs.Client.Laws as T′
-use Rattle.client.proofs.Answered as S
-use Rattle.client.proofs.Answered.Laws as S′
-use Rattle.client.proofs.Answer as N
-use Rattle.client.proofs.Answer.Laws as N′
+use Rattle.client_rules.specs.declared.Client.{Client}
+use Rattle.client_rules.specs.declared.Answered.{Answered}
+use Rattle.client_rules.specs.Delivery.{outcome, delivery}
+use Rattle.client_rules.proofs.Client as T
+use Rattle.client_rules.proofs.Client.Laws as T′
+use Rattle.client_rules.proofs.Answered as S
+use Rattle.client_rules.proofs.Answered.Laws as S′
+use Rattle.client_rules.proofs.Answer as N
+use Rattle.client_rules.proofs.Answer.Laws as N′
 use Rattle.client_deliver.proofs.deliver as step
 use Rattle.client_deliver.proofs.deliver.Symbol as step-def
 use Rattle.client_deliver.proofs.deliver.Symbol.{name as #client-deliver·deliver}

@@ -1,6 +1,6 @@
 use borrow.Author.Needs.{needs}
 use Rattle.client.proofs.Beginnings.{read-facts, begin-refused, begin-opened}
-use Rattle.client.specs.Beginning.{readBeginning, readBegun, readTest, idleTest}
+use Rattle.client_rules.specs.Beginning.{readBeginning, readBegun, readTest, idleTest}
 use Rattle.client.proofs.begin.begin_read.Statement.{statement}
 use Rattle.client.proofs.begin.begin_read.Tie as tie
 

@@ -1,6 +1,6 @@
 use borrow.Author.Needs.{needs}
 use Rattle.client.proofs.Beginnings.{write-facts, begin-refused, begin-opened}
-use Rattle.client.specs.Beginning.{writeBeginning, writeBegun, writeTest, idleTest, closedTest}
+use Rattle.client_rules.specs.Beginning.{writeBeginning, writeBegun, writeTest, idleTest, closedTest}
 use Rattle.client.proofs.begin.begin_write.Statement.{statement}
 use Rattle.client.proofs.begin.begin_write.Tie as tie
 

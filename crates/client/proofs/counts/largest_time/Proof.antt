@@ -2,7 +2,7 @@ use Rattle.client.proofs.RowLaws.{largest-turn, largest-end}
 use Prim.Native.Nat.{_≤_, _-_}
 use mathlib.Core.Path.{_≡_, refl}
 use lib.ListN.{getD}
-use Rattle.client.specs.State.{largest}
+use Rattle.client_rules.specs.State.{largest}
 use native.Mathlib.Omega.{arith}
 use borrow.Author.Needs.{needs}
 use Rattle.client.proofs.counts.largest_time.Statement.{statement}

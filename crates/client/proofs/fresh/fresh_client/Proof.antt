@@ -1,5 +1,5 @@
 use borrow.Author.Needs.{needs}
-use Rattle.client.specs.State.{freshClient}
+use Rattle.client_rules.specs.State.{freshClient}
 use Rattle.client.proofs.fresh.fresh_client.Statement.{statement}
 use Rattle.client.proofs.fresh.fresh_client.Tie as tie
 

@@ -1,5 +1,5 @@
 use borrow.Author.Needs.{needs}
-use Rattle.client.specs.State.{freshRow}
+use Rattle.client_rules.specs.State.{freshRow}
 use Rattle.client.proofs.fresh.fresh_row.Statement.{statement}
 use Rattle.client.proofs.fresh.fresh_row.Tie as tie
 

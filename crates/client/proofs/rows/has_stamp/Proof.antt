@@ -1,7 +1,7 @@
 use Rattle.client.proofs.RowLaws.{has-found, has-next, has-none}
 use Prim.Native.Nat.{suc, _≤_, _-_}
 use mathlib.Core.Path.{_≡_, refl}
-use Rattle.client.specs.Rows.{hasStamp}
+use Rattle.client_rules.specs.Rows.{hasStamp}
 use native.Mathlib.Omega.{arith}
 use borrow.Author.Needs.{needs}
 use Rattle.client.proofs.rows.has_stamp.Statement.{statement}

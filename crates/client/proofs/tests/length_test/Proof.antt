@@ -1,4 +1,4 @@
-use Rattle.client.specs.Beginning.{lengthTest}
+use Rattle.client_rules.specs.Beginning.{lengthTest}
 use Rattle.area.proofs.Tests.{tests}
 use Rattle.area.specs.Area.{pick}
 use native.Mathlib.Omega.{arith}

@@ -1,4 +1,4 @@
-use Rattle.client.specs.Tests.{sendRoom, roomTest}
+use Rattle.client_rules.specs.Tests.{sendRoom, roomTest}
 use Rattle.frame.specs.Params.{outRoom, toRoom}
 use Prim.Native.Nat.{_<_, _≤_, _+_, _*_}
 use Rattle.area.proofs.Tests.{tests}

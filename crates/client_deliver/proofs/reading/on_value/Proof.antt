@@ -1,5 +1,5 @@
 -- The tests; then the value is kept. Assumes nothing.
-use Rattle.client.specs.Tests.{messageTest, orderTest, answers}
+use Rattle.client_rules.specs.Tests.{messageTest, orderTest, answers}
 use Rattle.client_deliver.proofs.Senders.{fine-sender}
 use Rattle.client_deliver.proofs.Answers.{refused-is, step-is}
 use Rattle.client_deliver.proofs.ReadLaws.{kept-from, value-verdict}

@@ -6,9 +6,9 @@ use Rattle.sha256.specs.Hash.{digestOf}
 use Rattle.frame.specs.Refusals.{andThen}
 use Rattle.frame.specs.Frames.{entryIn}
 use Rattle.frame.proofs.Within.{stop-not, go-on}
-use Rattle.client.specs.State.{reading, rowOf}
-use Rattle.client.specs.Rows.{used, hasStamp}
-use Rattle.client.specs.Tests.{awaited, fitTest}
+use Rattle.client_rules.specs.State.{reading, rowOf}
+use Rattle.client_rules.specs.Rows.{used, hasStamp}
+use Rattle.client_rules.specs.Tests.{awaited, fitTest}
 use Rattle.client_deliver.proofs.Senders.{sender-facts}
 use borrow.Author.Needs.{needs}
 use Rattle.client_deliver.proofs.tests.entry_test.Statement.{statement}

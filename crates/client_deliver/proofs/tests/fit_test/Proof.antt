@@ -1,7 +1,7 @@
 -- Assumes nothing.
 use Rattle.sha256.specs.Hash.{digestOf}
 use Rattle.frame.proofs.Within.{stop-not, go-on}
-use Rattle.client.specs.Tests.{fitTest}
+use Rattle.client_rules.specs.Tests.{fitTest}
 use Rattle.client_deliver.proofs.Senders.{fits-in}
 use mathlib.Core.Path.{refl}
 use borrow.Author.Needs.{needs}

@@ -1,6 +1,6 @@
 -- The tests; then the ack is counted, and at n - t the write has ended. Assumes nothing.
-use Rattle.client.specs.State.{acking}
-use Rattle.client.specs.Tests.{messageTest, orderTest, answers}
+use Rattle.client_rules.specs.State.{acking}
+use Rattle.client_rules.specs.Tests.{messageTest, orderTest, answers}
 use Rattle.client_deliver.proofs.Senders.{fine-sender}
 use Rattle.client_deliver.proofs.Answers.{refused-is, step-is, verdict-in}
 use Rattle.client_deliver.proofs.WriteLaws.{ack-waits, ack-ends}

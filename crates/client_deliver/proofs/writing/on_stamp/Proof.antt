@@ -2,8 +2,8 @@
 use mathlib.Core.Path.{sym, _∙_}
 use Rattle.frame.specs.declared.Refusal.the-variants as R
 use Rattle.frame.proofs.Verdicts.{fine-is}
-use Rattle.client.specs.State.{asking}
-use Rattle.client.specs.Tests.{messageTest, orderTest, answers}
+use Rattle.client_rules.specs.State.{asking}
+use Rattle.client_rules.specs.Tests.{messageTest, orderTest, answers}
 use Rattle.client_deliver.proofs.Senders.{fine-sender, awaited-fit}
 use Rattle.client_deliver.proofs.Answers.{refused-is, step-is, verdict-in}
 use Rattle.client_deliver.proofs.WriteLaws.{asking-writes, stamp-waits, stamp-gathers}

@@ -6,7 +6,7 @@ use lib.ListN.{getD, replicate}
 use lib.Seq.{sets}
 use Rattle.area.specs.Area.{table, tableFrom}
 use Rattle.group.proofs.Lists.{table-turn, table-end}
-use Rattle.client.specs.State.{noRow}
+use Rattle.client_rules.specs.State.{noRow}
 use Rattle.client_search.specs.AtStamp.{hitAt}
 use Rattle.client_search.proofs.Firsts.{hits-law}
 use native.Mathlib.Omega.{arith}

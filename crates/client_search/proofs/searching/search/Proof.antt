@@ -3,8 +3,8 @@ use Prim.Native.Nat.{_+_, _-_, _≤_}
 use mathlib.Core.Path.{_≡_, refl, sym, _∙_}
 use mathlib.Core.List.{_++_}
 use lib.ListN.{getD}
-use Rattle.client.specs.State.{noRow}
-use Rattle.client.specs.Rows.{placesFrom, rowsFrom, firstAgreed}
+use Rattle.client_rules.specs.State.{noRow}
+use Rattle.client_rules.specs.Rows.{placesFrom, rowsFrom, firstAgreed}
 use Rattle.client_search.specs.declared.Stop.the-variants.{Nowhere}
 use Rattle.client_search.specs.Search.{view}
 use Rattle.client_search.proofs.Searches.{rest, rows-start, rows-end, row-start, row-end, place-next, place-found, stop-nowhere}

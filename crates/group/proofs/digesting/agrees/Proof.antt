@@ -6,7 +6,7 @@ use borrow.Author.Tests.{not-true, not-false}
 use Rattle.area.specs.Area.{same, joined}
 use Rattle.blocks.specs.Code.{blockOf}
 use Rattle.sha256.specs.Hash.{digestOf}
-use Rattle.frame.specs.Coded.{digestsOf}
+use Rattle.group_rules.specs.Coded.{digestsOf}
 use Rattle.group.proofs.Digests.{block-digests, rest-start, rest-turn, rest-differ, rest-end}
 use native.Mathlib.Omega.{arith}
 use borrow.Author.Needs.{needs}

@@ -6,7 +6,7 @@ use lib.Seq.{sets}
 use Rattle.area.specs.Area.{joined}
 use Rattle.blocks.specs.Code.{blockOf}
 use Rattle.sha256.specs.Hash.{digestOf}
-use Rattle.frame.specs.Coded.{digestsOf}
+use Rattle.group_rules.specs.Coded.{digestsOf}
 use Rattle.group.proofs.Digests.{block-digests, joined-turn, joined-end}
 use native.Mathlib.Omega.{arith}
 use borrow.Author.Needs.{needs}

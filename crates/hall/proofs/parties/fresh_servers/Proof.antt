@@ -7,7 +7,7 @@ use Rattle.hall.proofs.parties.fresh_servers.Statement.{statement}
 use Rattle.hall.proofs.parties.fresh_servers.Tie as tie
 use Rattle.hall.proofs.parties.fresh_servers.Reads as reads
 use Rattle.hall.proofs.parties.fresh_servers.Lts as lts
-use Rattle.server.proofs.Server.fresh.Reads as fresh-reads
+use Rattle.server.proofs.setup.construct.Reads as construct-reads
 
 abbrev Inv-loop : tie.InvT-loop
 Inv-loop g value areas₀ initials₀ j₀ areas initials j = (j ≤ 11) × (length areas ≡ 1070784) × (length initials ≡ 2816)
@@ -28,44 +28,44 @@ mul-first : tie.Need-mul-first Inv-loop μ-loop
 mul-first c = search needs
 
 -- src/parties.rt:96:13
-cast-fresh : tie.Need-cast-fresh Inv-loop μ-loop
-cast-fresh c = search needs
+cast-construct : tie.Need-cast-construct Inv-loop μ-loop
+cast-construct c = search needs
 
 -- src/parties.rt:98:28
-add-fresh : tie.Need-add-fresh Inv-loop μ-loop
-add-fresh c = search needs
+add-construct : tie.Need-add-construct Inv-loop μ-loop
+add-construct c = search needs
 
 -- src/parties.rt:98:13
-sub-fresh : tie.Need-sub-fresh Inv-loop μ-loop
-sub-fresh c = search needs
+sub-construct : tie.Need-sub-construct Inv-loop μ-loop
+sub-construct c = search needs
 
 -- src/parties.rt:98:13
-part-fresh-start : tie.Need-part-fresh-start Inv-loop μ-loop
-part-fresh-start c = search needs
+part-construct-start : tie.Need-part-construct-start Inv-loop μ-loop
+part-construct-start c = search needs
 
 -- src/parties.rt:98:13
-part-fresh-end : tie.Need-part-fresh-end Inv-loop μ-loop
-part-fresh-end c = search needs
+part-construct-end : tie.Need-part-construct-end Inv-loop μ-loop
+part-construct-end c = search needs
 
 -- src/parties.rt:99:34
-add-fresh-2 : tie.Need-add-fresh-2 Inv-loop μ-loop
-add-fresh-2 c = search needs
+add-construct-2 : tie.Need-add-construct-2 Inv-loop μ-loop
+add-construct-2 c = search needs
 
 -- src/parties.rt:99:13
-sub-fresh-2 : tie.Need-sub-fresh-2 Inv-loop μ-loop
-sub-fresh-2 c = search needs
+sub-construct-2 : tie.Need-sub-construct-2 Inv-loop μ-loop
+sub-construct-2 c = search needs
 
 -- src/parties.rt:99:13
-part-fresh-start-2 : tie.Need-part-fresh-start-2 Inv-loop μ-loop
-part-fresh-start-2 c = search needs
+part-construct-start-2 : tie.Need-part-construct-start-2 Inv-loop μ-loop
+part-construct-start-2 c = search needs
 
 -- src/parties.rt:99:13
-part-fresh-end-2 : tie.Need-part-fresh-end-2 Inv-loop μ-loop
-part-fresh-end-2 c = search needs
+part-construct-end-2 : tie.Need-part-construct-end-2 Inv-loop μ-loop
+part-construct-end-2 c = search needs
 
 -- src/parties.rt:94:13
-fresh-requires : tie.Need-fresh-requires Inv-loop μ-loop
-fresh-requires c κs = search needs
+construct-requires : tie.Need-construct-requires Inv-loop μ-loop
+construct-requires c κs = search needs
 
 -- src/parties.rt:102:31
 enum-known-reply : tie.Need-enum-known-reply Inv-loop μ-loop
@@ -131,16 +131,16 @@ fresh-servers-spec =
     loop-holds
     mul-at
     mul-first
-    cast-fresh
-    add-fresh
-    sub-fresh
-    part-fresh-start
-    part-fresh-end
-    add-fresh-2
-    sub-fresh-2
-    part-fresh-start-2
-    part-fresh-end-2
-    fresh-requires
+    cast-construct
+    add-construct
+    sub-construct
+    part-construct-start
+    part-construct-end
+    add-construct-2
+    sub-construct-2
+    part-construct-start-2
+    part-construct-end-2
+    construct-requires
     enum-known-reply
     same-length
     same-length-2

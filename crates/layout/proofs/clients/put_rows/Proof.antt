@@ -6,7 +6,7 @@ use lib.Seq.{sets}
 use lib.ListN.{length, getD}
 use borrow.Author.Needs.{needs}
 use Rattle.area.specs.Area.{joined}
-use Rattle.client.specs.State.{noRow}
+use Rattle.client_rules.specs.State.{noRow}
 use Rattle.layout.proofs.Lengths.{length-kept}
 use Rattle.layout.specs.Clients.{keptBytes, rowsBytes}
 use Rattle.layout.proofs.Places.{put-turn, put-end}

@@ -8,7 +8,7 @@ use borrow.Author.Needs.{needs}
 use Rattle.area.specs.Area.{joined}
 use Rattle.frame.proofs.RoundTrip.{length-stamp}
 use Rattle.frame.specs.Frames.{stampBytes}
-use Rattle.client.specs.State.{noStamp}
+use Rattle.client_rules.specs.State.{noStamp}
 use Rattle.layout.proofs.Places.{put-turn, put-end}
 use Rattle.layout.specs.Clients.{stampsBytes}
 use Rattle.layout.specs.Fields.{rowBytes}

@@ -6,7 +6,7 @@ use lib.Seq.{sets}
 use lib.ListN.{length, getD}
 use borrow.Author.Needs.{needs}
 use Rattle.area.specs.Area.{joined}
-use Rattle.server.specs.State.{noReader}
+use Rattle.server_rules.specs.State.{noReader}
 use Rattle.layout.proofs.Lengths.{length-reader}
 use Rattle.layout.specs.Servers.{readerBytes, readersBytes}
 use Rattle.layout.proofs.Places.{put-turn, put-end}

@@ -6,7 +6,7 @@ use lib.Seq.{sets}
 use lib.ListN.{length, getD}
 use borrow.Author.Needs.{needs}
 use Rattle.area.specs.Area.{joined}
-use Rattle.server.specs.State.{noSlot}
+use Rattle.server_rules.specs.State.{noSlot}
 use Rattle.layout.proofs.Lengths.{length-slot}
 use Rattle.layout.specs.Servers.{slotBytes, slotsBytes}
 use Rattle.layout.proofs.Places.{put-turn, put-end}

@@ -13,8 +13,8 @@ test-answer-requires c κs = search needs
 returns : tie.Need-returns
 returns c = make-short _ _ _ _ _ _ _ _ (c .before .before .if1 .taken) (c .test-answer .ensures) (c .before .value-short .ensures)
 
-fresh-requires : tie.Need-fresh-requires
-fresh-requires c κs = search needs
+construct-requires : tie.Need-construct-requires
+construct-requires c κs = search needs
 
 keep-fresh-requires : tie.Need-keep-fresh-requires
 keep-fresh-requires c κs = search needs
@@ -29,7 +29,7 @@ same-length-3 : tie.Need-same-length-3
 same-length-3 c = search needs
 
 returns-2 : tie.Need-returns-2
-returns-2 c = make-done _ _ _ _ _ _ _ _ _ _ _ _ (c .before .before .before .before .before .before .before .before .before .before .before .before .if1 .left) (c .before .before .before .before .before .before .before .before .before .fresh .ensures) (c .before .before .keep-fresh .ensures)
+returns-2 c = make-done _ _ _ _ _ _ _ _ _ _ _ _ (c .before .before .before .before .before .before .before .before .before .before .before .before .if1 .left) (c .before .before .before .before .before .before .before .before .before .construct .ensures) (c .before .before .keep-fresh .ensures)
 
 pub semduoli-server-fresh-spec : {M : Type 1} → statement M
 semduoli-server-fresh-spec =
@@ -38,7 +38,7 @@ semduoli-server-fresh-spec =
     value-short-requires
     test-answer-requires
     returns
-    fresh-requires
+    construct-requires
     keep-fresh-requires
     same-length
     same-length-2

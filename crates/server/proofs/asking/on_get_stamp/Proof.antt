@@ -1,14 +1,14 @@
 -- The step of one kind: refused as the tests say, or its whole outcome. Assumes nothing.
 use Rattle.server.proofs.Answers.{refused-is, step-is, only-sent}
 use Rattle.server.proofs.Sending.{stamp-room}
-use Rattle.server.specs.Tests.{messageTest, senderRight, orderTest}
+use Rattle.server_rules.specs.Tests.{messageTest, senderRight, orderTest}
 use Rattle.frame.proofs.Within.{stop-not, go-on}
 use Rattle.frame.specs.declared.Verdict.the-variants as J
 use Rattle.frame.specs.declared.Refusal.the-variants as R
 use Rattle.frame.specs.declared.Party.the-variants as P
 use Rattle.frame.specs.Messages.{message, sending, stampIs}
 use Rattle.frame.specs.Outbox.{outbox, sent, firstPlace}
-use Rattle.server.specs.declared.Scope.{Scope}
+use Rattle.server_rules.specs.declared.Scope.{Scope}
 use Rattle.server.proofs.Scopes.{as-it-was}
 use mathlib.Core.List.{_∷_, []}
 use mathlib.Core.Path.{refl, ap, _∙_}
@@ -44,7 +44,7 @@ returns-2 : tie.Need-returns-2
 unfolding messageTest senderRight orderTest
 returns-2 c =
     let a = c .before .before .before .before .before .before .before .before .before .before .before .before .before .args in
-    λ w e z. step-is J.Fine _ w z z _ _ _ _ _ (a .h .client) (record { scope = a .s; place = c .before .before .before .before .before .send-stamp .result }) _
+    λ w e z. step-is J.Fine _ w z z _ _ _ _ _ (a .h .client) (a .s) (c .before .before .before .before .before .send-stamp .result) _
     (go-on _ _ R.Sender J.Fine J.Fine (c .before .before .before .before .before .before .before .before .before .before .from-owner .ensures) (c .before .before .before .before .before .before .before .before .before .if1 .left) refl) refl
     (only-sent w _ z _ _ _ (as-it-was w (a .h .client) (a .s) e) (c .before .before .before .before .before .send-stamp .ensures ∙ ap (λ (u : Scope). sent (outbox (a .out .now) (a .to .now) firstPlace) (sending (P.Client (a .h .client)) (message (a .h .client) (a .h .sequence) (stampIs (u .stamp .time))) ∷ [])) e)) (c .taken .ensures .0) (c .taken .ensures .1)
 

@@ -1,15 +1,15 @@
 -- The step of one kind: refused as the tests say, or its whole outcome. Assumes nothing.
 use Rattle.server.proofs.Answers.{refused-is, step-is, only-sent}
-use Rattle.server.specs.Steps.{onRead}
-use Rattle.server.specs.Tests.{messageTest, senderRight, orderTest, fromOwner, readTest}
-use Rattle.server.specs.State.{withReader, bare, presentEntry}
-use Rattle.server.specs.declared.Scope.{Scope}
-use Rattle.server.proofs.Scopes.{reader-set, presents}
+use Rattle.server_rules.specs.Steps.{onRead}
+use Rattle.server_rules.specs.Tests.{messageTest, senderRight, orderTest, fromOwner, readTest}
+use Rattle.server_rules.specs.State.{withReader, presentEntry}
+use Rattle.server_rules.specs.declared.Scope.{Scope}
+use Rattle.server.proofs.Scopes.{reader-set}
 use Rattle.area.specs.Area.{pick}
 use Rattle.frame.specs.declared.Party.the-variants as P
 use Rattle.frame.specs.declared.Refusal.the-variants as R
 use Rattle.frame.specs.declared.Verdict.the-variants as J
-use Rattle.frame.specs.Messages.{Entry, message, sending, valueIs}
+use Rattle.frame.specs.Messages.{message, sending, valueIs}
 use Rattle.frame.specs.Outbox.{outbox, sent, firstPlace}
 use mathlib.Core.Bool.{true}
 use mathlib.Core.List.{_∷_, []}
@@ -53,11 +53,10 @@ unfolding messageTest senderRight orderTest onRead
 returns-2 c =
     let a = c .before .before .before .before .before .before .before .before .before .before .before .before .before .before .before .before .before .before .args in
     λ w e.
-    let presented = ap (λ (u : Scope). sent (outbox (a .out .now) (a .to .now) firstPlace) (sending (P.Client (a .h .client)) (message (a .h .client) (a .h .sequence) (valueIs (u .stamp) (presentEntry (a .g) (bare (a .s)) (a .area .now) (a .initial .now)))) ∷ [])) e
-    ∙ ap (λ (d : Entry). sent (outbox (a .out .now) (a .to .now) firstPlace) (sending (P.Client (a .h .client)) (message (a .h .client) (a .h .sequence) (valueIs (w .stamp) d)) ∷ [])) (presents w (a .h .client) (a .s) e (a .g) (a .area .now) (a .initial .now)) in
-    step-is _ _ w (a .area .now) (a .area .now) _ _ _ _ _ (a .h .client) (record { scope = c .before .with-reader .result; place = c .before .before .before .before .before .before .before .send-present .result }) _
+    let presented = ap (λ (u : Scope). sent (outbox (a .out .now) (a .to .now) firstPlace) (sending (P.Client (a .h .client)) (message (a .h .client) (a .h .sequence) (valueIs (u .stamp) (presentEntry (a .g) (u .stamp) (a .area .now) (a .initial .now)))) ∷ [])) e in
+    step-is _ _ w (a .area .now) (a .area .now) _ _ _ _ _ (a .h .client) (c .before .with-reader .result) (c .before .before .before .before .before .before .send-present .result) _
     (c .before .before .before .before .before .before .before .before .before .before .before .before .ask-test .ensures ∙ ap (λ (u : Scope). pick (fromOwner (a .from) (a .h .client)) (readTest (u .reader) (a .h .sequence)) (J.Bad R.Sender)) e) (c .before .before .before .before .before .before .before .before .before .before .enum-told .given .1)
-    (only-sent _ _ (a .area .now) _ _ _ (reader-set w (a .h .client) (a .s) e _ _ (c .before .with-reader .ensures) ∙ ap (λ (u : Scope). withReader w (a .h .client) (record { sequence = a .h .sequence; listening = true; noted = u .stamp })) e) (c .before .before .before .before .before .before .before .send-present .ensures ∙ presented)) (c .taken .ensures .0) (c .taken .ensures .1)
+    (only-sent _ _ (a .area .now) _ _ _ (reader-set w (a .h .client) (a .s) e _ _ (c .before .with-reader .ensures) ∙ ap (λ (u : Scope). withReader w (a .h .client) (record { sequence = a .h .sequence; listening = true; noted = u .stamp })) e) (c .before .before .before .before .before .before .send-present .ensures ∙ presented)) (c .taken .ensures .0) (c .taken .ensures .1)
 
 pub on-read-spec : {M : Type 1} → statement M
 on-read-spec =

@@ -1,9 +1,9 @@
 -- The step of one kind: refused as the tests say, or its whole outcome. Assumes nothing.
 use Rattle.server.proofs.Answers.{refused-is, step-is, none-sent}
-use Rattle.server.specs.Steps.{onReadComplete}
-use Rattle.server.specs.Tests.{messageTest, senderRight, orderTest, fromOwner, doneTest}
-use Rattle.server.specs.State.{withReader}
-use Rattle.server.specs.declared.Scope.{Scope}
+use Rattle.server_rules.specs.Steps.{onReadComplete}
+use Rattle.server_rules.specs.Tests.{messageTest, senderRight, orderTest, fromOwner, doneTest}
+use Rattle.server_rules.specs.State.{withReader}
+use Rattle.server_rules.specs.declared.Scope.{Scope}
 use Rattle.server.proofs.Scopes.{reader-set}
 use Rattle.area.specs.Area.{pick}
 use Rattle.frame.specs.declared.Refusal.the-variants as R
@@ -40,7 +40,7 @@ returns-2 : tie.Need-returns-2
 unfolding messageTest senderRight orderTest onReadComplete
 returns-2 c =
     let a = c .before .before .before .before .before .before .before .args in
-    λ w e z out to. step-is _ _ w z z _ out to out to (a .h .client) (record { scope = c .before .with-reader .result; place = firstPlace }) _
+    λ w e z out to. step-is _ _ w z z _ out to out to (a .h .client) (c .before .with-reader .result) (firstPlace) _
     (c .before .before .before .before .before .end-test .ensures ∙ ap (λ (u : Scope). pick (fromOwner (a .from) (a .h .client)) (doneTest (u .reader) (a .h .sequence)) (J.Bad R.Sender)) e) (c .before .before .before .enum-told .given .1)
     (none-sent _ _ z (outbox out to firstPlace) (reader-set w (a .h .client) (a .s) e _ _ (c .before .with-reader .ensures) ∙ ap (λ (u : Scope). withReader w (a .h .client) (record { sequence = a .h .sequence; listening = false; noted = u .reader .noted })) e)) (c .taken .ensures .0) (c .taken .ensures .1)
 

@@ -1,7 +1,6 @@
 use lib.ListN.{length}
 use Prim.Native.Nat.{_+_, _≤_}
 use Rattle.server.proofs.Present.{from-initial, from-state}
-use Rattle.server.specs.State.{bare}
 use lib.Seq.{length-take-le}
 use mathlib.Core.Path.{sym}
 use native.Mathlib.Omega.{arith}
@@ -26,7 +25,7 @@ returns : tie.Need-returns
 returns c =
     let z = c .before .before .before .before .before .before in
     let l : c .before .before .before .width .result ≤ length (z .args .initial .now) = omega (arith, z .pre .2, c .before .before .before .width .ensures .0) in
-    from-initial (z .args .g) (bare (z .args .s)) (z .args .area .now) (z .args .initial .now) _ (c .before .before .before .width .ensures .0) (c .before .if1 .taken) l
+    from-initial (z .args .g) (z .args .x) (z .args .area .now) (z .args .initial .now) _ (c .before .before .before .width .ensures .0) (c .before .if1 .taken) l
 
 -- src/reads.rt:30:15
 add-end : tie.Need-add-end
@@ -49,7 +48,7 @@ returns-2 : tie.Need-returns-2
 returns-2 c =
     let z = c .before .before .before .before .before .before in
     let l : 320 + c .before .before .before .width .result ≤ length (z .args .area .now) = omega (arith, z .pre .1, c .before .before .before .width .ensures .2) in
-    from-state (z .args .g) (bare (z .args .s)) (z .args .area .now) (z .args .initial .now) _ (c .before .before .before .width .ensures .0) (c .before .if1 .left) l
+    from-state (z .args .g) (z .args .x) (z .args .area .now) (z .args .initial .now) _ (c .before .before .before .width .ensures .0) (c .before .if1 .left) l
 
 pub present-block-spec : {M : Type 1} → statement M
 present-block-spec =

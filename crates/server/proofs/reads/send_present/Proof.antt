@@ -1,5 +1,4 @@
 use Rattle.server.proofs.Present.{present-sent}
-use Rattle.server.specs.State.{bare}
 use Rattle.frame.proofs.Writing.{room-of}
 use Rattle.server.proofs.Present.{present-size}
 use mathlib.Core.Path.{sym}
@@ -37,7 +36,7 @@ same-length-2 c = search needs
 returns : tie.Need-returns
 returns c =
     let a = c .before .before .before .before .before .before .before .before .before .before .before .before .before .args in
-    present-sent (a .g) (bare (a .s)) (a .area .now) (a .initial .now) _ _ _ _ _ _ (c .before .before .before .before .before .before .before .digests-at .ensures) (c .before .before .before .before .before .before .before .before .present-block .ensures .0) (c .before .before .before .before .send-value .ensures)
+    present-sent (a .g) (a .x) (a .area .now) (a .initial .now) _ _ _ _ _ _ (c .before .before .before .before .before .before .before .digests-at .ensures) (c .before .before .before .before .before .before .before .before .present-block .ensures .0) (c .before .before .before .before .send-value .ensures)
 
 pub send-present-spec : {M : Type 1} → statement M
 send-present-spec =

@@ -1,4 +1,4 @@
-use Rattle.server.specs.Tests.{openTest}
+use Rattle.server_rules.specs.Tests.{openTest}
 use Rattle.area.proofs.Tests.{tests}
 use Rattle.area.specs.Area.{pick}
 use native.Mathlib.Omega.{arith}

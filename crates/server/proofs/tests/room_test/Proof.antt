@@ -1,7 +1,7 @@
 use Rattle.frame.specs.Params.{width, outRoom}
 use Prim.Native.Nat.{_<_, _≤_, _+_, _*_}
 use mathlib.Core.Path.{_≡_, refl}
-use Rattle.server.specs.Tests.{roomTest}
+use Rattle.server_rules.specs.Tests.{roomTest}
 use Rattle.frame.specs.Params.{toRoom}
 use Rattle.area.proofs.Tests.{tests}
 use Rattle.area.specs.Area.{pick}

@@ -1,0 +1,506 @@
+-- What one call does to a client: what it has counted, sent and ended, as the record ClientFacts, which is all that runs need of a call here.
+-- Assumes nothing.
+use Prim.Native.Nat.{ℕ, zero, suc, _+_, _-_, _≤_, _<_, max, min}
+use native.Mathlib.Omega.{arith}
+use native.Mathlib.Decide.{ℕ-discrete}
+use mathlib.Core.Bool.{Bool, true, false}
+use mathlib.Core.Path.{_≡_, refl, ap, sym, _∙_, subst}
+use mathlib.Core.Logic.{_⊎_, inl, inr, ⊎-elim}
+use mathlib.Core.Option.{Option, none, some}
+use mathlib.Core.List.{List, [], List·Memᴰ, List·Memᴰ·not-nil, List·Memᴰ·append-cases}
+use lib.ListN.{length, getD, set, replicate, length-set, length-replicate, getD-replicate}
+use lib.Seq.{getD-set-same, getD-set-other}
+use lib.Dec.{eqb}
+use borrow.Author.Tests.{leb-true, eqb-true}
+use Rattle.quorum.specs.Quorum.{count, Among}
+use Rattle.quorum.proofs.Logic.{impossible, and-split}
+use Rattle.quorum.proofs.Quorums.{AtLeast, at-least-map}
+use Rattle.area.specs.Area.{pick}
+use Rattle.blocks.specs.declared.Params.{Params}
+use Rattle.frame.specs.declared.Stamp.{Stamp}
+use Rattle.frame.specs.declared.Party.{Party}
+use Rattle.frame.specs.declared.Verdict.{Verdict}
+use Rattle.frame.specs.declared.Party.the-variants as A
+use Rattle.frame.specs.declared.Verdict.the-variants as J
+use Rattle.frame.specs.Chunks.{rowsBytes}
+use Rattle.group_rules.specs.Coded.{entryOf}
+use Rattle.frame.specs.Messages.{Entry, send, Body, getStamp, ack, askRead, readComplete, stampIs, blockIs, timeIs, valueIs, Message, message, Sending, sending, toAll, Sized, FormedBody}
+use Rattle.frame.proofs.Chunks.{length-store}
+use Rattle.frame.proofs.Sizes.{Small}
+use Rattle.frame.proofs.Verdicts.{fine-both}
+use Rattle.client_rules.specs.declared.Phase.{Phase}
+use Rattle.client_rules.specs.declared.Client.{Client}
+use Rattle.client_rules.specs.declared.Phase.the-variants as F
+use Rattle.client_rules.specs.Rows.{used, Kept, placesFrom, rowView, rowWith, Found, search}
+use Rattle.client_rules.specs.State.{freshRow, freshClient, noRow, rowOf, inPhase, shut, withRow, heardOf, largest}
+use Rattle.client_rules.specs.Beginning as CB
+use Rattle.client_rules.specs.State as CS
+use Rattle.client_rules.specs.Steps as C
+use Rattle.client_rules.specs.Tests as CT
+use Rattle.client_rules.proofs.Views as CV
+use Rattle.client_rules.proofs.Shapes.{dispersed, largestNow, Keeps, drops, keeps, Shape, idle, hears, shuts, counts, ends, waits, completes, shape-of}
+use Rattle.client_rules.proofs.Shapes.{sends as disperses}
+use Rattle.client_rules.proofs.Agreed.{finds}
+use Rattle.client_rules.proofs.Sends.{mem-all}
+
+-- ---- small laws
+
+pub awaited-true : (H : List ℕ → List ℕ) (g : Params) (me : ℕ) (b : Bool) → CT.awaited b ≡ J.Fine → b ≡ true
+unfolding CT.awaited pick
+awaited-true H g me true e = refl
+awaited-true H g me false e = impossible (cc)
+
+-- a time beside its flag
+abbrev kept : Bool → ℕ → Option ℕ
+kept true T = some T
+kept false T = none
+
+no-flag : (n j : ℕ) → getD (replicate n false) j false ≡ false
+no-flag zero j = refl
+no-flag (suc n) zero = refl
+no-flag (suc n) (suc j) = no-flag n j
+
+kept-some : (b : Bool) (v y : ℕ) → kept b v ≡ some y → (b ≡ true) × (v ≡ y)
+kept-some true v y e = (refl, cc)
+kept-some false v y e = impossible (cc)
+
+kept-true : (b : Bool) (v : ℕ) → b ≡ true → kept b v ≡ some v
+kept-true true v e = refl
+kept-true false v e = impossible (cc)
+
+le-largest : (f : ℕ → ℕ) (n j : ℕ) → Among n j → f j ≤ largest f n
+unfolding largest
+le-largest f zero j i = absurd (omega (arith, i .0, i .1))
+le-largest f (suc k) j i = go (λ l. le-largest f k j (i .0, l)) (ℕ-discrete j (suc k))
+  where
+    go : (j ≤ k → f j ≤ largest f k) → Dec (j ≡ suc k) → f j ≤ max (f (suc k)) (largest f k)
+    go h (yes z) = let w : f j ≡ f (suc k) = ap f z in omega (arith, w)
+    go h (no z) = let w = h (omega (arith, z, i .1)) in omega (arith, w)
+
+-- ---- a client's state that calls find
+
+pub record ClientShape (s : Client) (a : List ℕ) : Type 0 where
+  pub shaped : CV.Shaped s
+  pub heard-many : length (s .heard) ≡ 11
+  pub times-many : length (s .times) ≡ 11
+  pub room : rowsBytes ≤ length a
+
+pub set-cases : {A : Type 0} (l : List A) (i : ℕ) (v d : A) → i < length l → (j : ℕ) → ((j ≡ i) × (getD (set l i v) j d ≡ v)) ⊎ (getD (set l i v) j d ≡ getD l j d)
+set-cases l i v d h j = go (ℕ-discrete j i)
+  where
+    go : Dec (j ≡ i) → ((j ≡ i) × (getD (set l i v) j d ≡ v)) ⊎ (getD (set l i v) j d ≡ getD l j d)
+    go (yes z) = inl (z, ap (λ y. getD (set l i v) y d) z ∙ getD-set-same l i v d h)
+    go (no z) = inr (getD-set-other l i j v d z)
+
+pub row-shaped : (s : Client) → CV.Shaped s → (j : ℕ) → j ≤ 10 → (i : ℕ) (x : Stamp) → CV.Shaped (withRow s j (rowWith (rowOf s j) i x))
+row-shaped s S j hj i x = record {
+  rows-many = length-set (s .rows) j _ ∙ S .rows-many;
+  stamps-many = λ m hm. ⊎-elim
+      (λ w. ap (λ r. length (r .stamps)) (w .1) ∙ length-set (rowOf s j .stamps) i x ∙ S .stamps-many j hj)
+      (λ w. ap (λ r. length (r .stamps)) w ∙ S .stamps-many m hm)
+      (set-cases (s .rows) j (rowWith (rowOf s j) i x) noRow (omega (arith, S .rows-many)) m);
+}
+
+fresh-row : (n m : ℕ) → (getD (replicate n freshRow) m noRow .count ≡ 0)
+unfolding freshRow
+fresh-row zero m = refl
+fresh-row (suc n) zero = refl
+fresh-row (suc n) (suc m) = fresh-row n m
+
+pub rows-shaped : (s : Client) → s .rows ≡ replicate 11 freshRow → CV.Shaped s
+unfolding freshRow
+rows-shaped s e = record {
+  rows-many = ap length e ∙ length-replicate 11 freshRow;
+  stamps-many = λ j h. ap (λ l. length (getD l j noRow .stamps)) e ∙ ap (λ r. length (r .stamps)) (getD-replicate 11 j freshRow noRow (omega arith));
+}
+
+pub no-rows : (g : Params) (s : Client) (a : List ℕ) (j : ℕ) (k : Kept) → s .rows ≡ replicate 11 freshRow → List·Memᴰ k (rowView g s a j) → ⊥
+unfolding rowView placesFrom
+no-rows g s a j k e u =
+    let c : used (rowOf s j) ≡ 0 = ap (λ l. used (getD l j noRow)) e ∙ ap (λ m. min m 4) (fresh-row 11 j) in
+    List·Memᴰ·not-nil (subst (λ n. List·Memᴰ k (placesFrom g a j (rowOf s j) 0 n)) c u)
+
+pub client-shape-fresh : (a : List ℕ) → rowsBytes ≤ length a → ClientShape freshClient a
+unfolding freshClient
+client-shape-fresh a R = record { shaped = rows-shaped freshClient refl; heard-many = refl; times-many = refl; room = R }
+
+-- ---- the facts
+
+-- the time of server j that was counted
+abbrev pub timeOf : Client → ℕ → Option ℕ
+timeOf s j = kept (getD (s .heard) j false) (getD (s .times) j 0)
+
+module _ (H : List ℕ → List ℕ) (g : Params) (M : Small g) (few : g .n ≤ 10) (me : ℕ) where
+  -- N j m: the call brought m of server j
+  module _ (s : Client) (a : List ℕ) (N : ℕ → Message → Type 0) where
+    abbrev pub KnowsT : ℕ → ℕ → Type 0
+    KnowsT j T = ((s .phase ≡ F.Asking) × (timeOf s j ≡ some T)) ⊎ N j (message me (s .writes) (stampIs T))
+
+    abbrev pub KnowsA : ℕ → Type 0
+    KnowsA j = ((s .phase ≡ F.Acking) × (heardOf s j ≡ true)) ⊎ N j (message me (s .writes) ack)
+
+    abbrev pub KnowsV : ℕ → Kept → Type 0
+    KnowsV j k = ((s .phase ≡ F.Reading) × List·Memᴰ k (rowView g s a j)) ⊎ N j (message me (s .reads) (valueIs (k .stamp) (k .entry)))
+
+    pub record ClientFacts (s′ : Client) (a′ : List ℕ) (l : List Sending) (ev : C.Event) : Type 0 where
+      pub client-shape : ClientShape s′ a′
+      pub writes-up : s .writes ≤ s′ .writes
+      pub reads-up : s .reads ≤ s′ .reads
+      pub t-kept : (j T : ℕ) → Among (g .n) j → s′ .phase ≡ F.Asking → timeOf s′ j ≡ some T → (s′ .writes ≡ s .writes) × KnowsT j T
+      pub a-kept : (j : ℕ) → Among (g .n) j → s′ .phase ≡ F.Acking → heardOf s′ j ≡ true → (s′ .writes ≡ s .writes) × KnowsA j
+      pub v-kept : (j : ℕ) (k : Kept) → Among (g .n) j → s′ .phase ≡ F.Reading → List·Memᴰ k (rowView g s′ a′ j) → (s′ .reads ≡ s .reads) × KnowsV j k
+      pub t-sent : (b : Party) (d q T : ℕ) → List·Memᴰ (sending b (message d q (timeIs send T))) l
+          → (q ≡ s .writes) × AtLeast (g .n) (g .n - g .t) (λ j. (T′ : ℕ) × (T′ ≤ T) × KnowsT j T′)
+      pub g-sent : (b : Party) (d q : ℕ) → List·Memᴰ (sending b (message d q getStamp)) l → q ≤ s′ .writes
+      pub r-sent : (b : Party) (d q : ℕ) → List·Memᴰ (sending b (message d q askRead)) l → q ≤ s′ .reads
+      pub write-why : ev ≡ C.written → AtLeast (g .n) (g .n - g .t) KnowsA
+      pub read-why : (v : Found) → ev ≡ C.completed v → AtLeast (g .n) (g .n - g .t) (λ j. (k : Kept) × (k .stamp ≡ v .stamp) × (k .entry .digests ≡ v .digests) × KnowsV j k)
+
+    -- a move that sends nothing and ends nothing
+    turn-facts : (s′ : Client) (a′ : List ℕ) → ClientShape s′ a′ → s′ .writes ≡ s .writes → s′ .reads ≡ s .reads
+        → ((j T : ℕ) → Among (g .n) j → s′ .phase ≡ F.Asking → timeOf s′ j ≡ some T → KnowsT j T)
+        → ((j : ℕ) → Among (g .n) j → s′ .phase ≡ F.Acking → heardOf s′ j ≡ true → KnowsA j)
+        → ((j : ℕ) (k : Kept) → Among (g .n) j → s′ .phase ≡ F.Reading → List·Memᴰ k (rowView g s′ a′ j) → KnowsV j k)
+        → ClientFacts s′ a′ [] C.nothing
+    turn-facts s′ a′ X ew er ft fa fv = record {
+      client-shape = X;
+      writes-up = omega (arith, ew);
+      reads-up = omega (arith, er);
+      t-kept = λ j T i p e. (ew, ft j T i p e);
+      a-kept = λ j i p e. (ew, fa j i p e);
+      v-kept = λ j k i p e. (er, fv j k i p e);
+      t-sent = λ b d q T u. absurd (List·Memᴰ·not-nil u);
+      g-sent = λ b d q u. absurd (List·Memᴰ·not-nil u);
+      r-sent = λ b d q u. absurd (List·Memᴰ·not-nil u);
+      write-why = λ e. impossible (cc);
+      read-why = λ v e. impossible (cc);
+    }
+
+    pub quiet-facts : ClientShape s a → ClientFacts s a [] C.nothing
+    quiet-facts X = turn-facts s a X refl refl (λ j T i p e. inl (p, e)) (λ j i p e. inl (p, e)) (λ j k i p e. inl (p, e))
+
+    -- ---- stamps
+
+    abbrev heardNow : ℕ → List Bool
+    heardNow j = set (s .heard) j true
+
+    abbrev timesNow : ℕ → ℕ → List ℕ
+    timesNow j T = set (s .times) j T
+
+    stamp-knows : ClientShape s a → s .phase ≡ F.Asking → (j T : ℕ) → Among (g .n) j → N j (message me (s .writes) (stampIs T))
+        → (i T′ : ℕ) → kept (getD (heardNow j) i false) (getD (timesNow j T) i 0) ≡ some T′ → KnowsT i T′
+    stamp-knows X p j T ij new i T′ e = go (ℕ-discrete i j)
+      where
+        go : Dec (i ≡ j) → KnowsT i T′
+        go (yes z) =
+            let w = kept-some (getD (heardNow j) i false) (getD (timesNow j T) i 0) T′ e in
+            let t : T ≡ T′ = sym (getD-set-same (s .times) j T 0 (omega (arith, X .times-many, few, ij .1))) ∙ ap (λ y. getD (timesNow j T) y 0) (sym z) ∙ w .1 in
+            inr (subst (λ y. N i (message me (s .writes) (stampIs y))) t (subst (λ y. N y (message me (s .writes) (stampIs T))) (sym z) new))
+        go (no z) =
+            let u : kept (getD (heardNow j) i false) (getD (timesNow j T) i 0) ≡ timeOf s i =
+            λ d. kept (getD-set-other (s .heard) j i true false z d) (getD-set-other (s .times) j i T 0 z d) in
+            inl (p, sym u ∙ e)
+
+    abbrev asked : ℕ → ℕ → Client
+    asked j T = inPhase s F.Asking (heardNow j) (timesNow j T)
+
+    asked-trim : ClientShape s a → (j T : ℕ) → ClientShape (asked j T) a
+    asked-trim X j T = record {
+      shaped = record { rows-many = X .shaped .rows-many; stamps-many = X .shaped .stamps-many };
+      heard-many = length-set (s .heard) j true ∙ X .heard-many;
+      times-many = length-set (s .times) j T ∙ X .times-many;
+      room = X .room;
+    }
+
+    phase-trim : ClientShape s a → (p : Phase) (h : List Bool) (ts : List ℕ) → length h ≡ 11 → length ts ≡ 11 → ClientShape (inPhase s p h ts) a
+    phase-trim X p h ts eh et = record {
+      shaped = record { rows-many = X .shaped .rows-many; stamps-many = X .shaped .stamps-many };
+      heard-many = eh;
+      times-many = et;
+      room = X .room;
+    }
+
+    body-all : (f : ℕ → Message) (b : Party) (m : Message) → List·Memᴰ (sending b m) (toAll g f) → (j : ℕ) × (m .body ≡ f j .body) × (m .sequence ≡ f j .sequence)
+    unfolding toAll
+    body-all f b m u = let w = mem-all f 1 (g .n) (sending b m) u in (w .0, ap (λ z. z .body) (w .1), ap (λ z. z .sequence) (w .1))
+
+    -- all counted times are at most U
+    abbrev Above : ℕ → ℕ → ℕ → Type 0
+    Above j T U = (i : ℕ) → Among (g .n) i → getD (timesNow j T) i 0 ≤ U
+
+    module _ (X : ClientShape s a) (p : s .phase ≡ F.Asking) (v : List ℕ) (j T : ℕ) (ij : Among (g .n) j) (new : N j (message me (s .writes) (stampIs T))) where
+      quorum : C.quorate g (heardNow j) ≡ true → (U : ℕ) → Above j T U → (T₁ : ℕ) → T₁ ≡ U → AtLeast (g .n) (g .n - g .t) (λ i. (T′ : ℕ) × (T′ ≤ T₁) × KnowsT i T′)
+      unfolding C.quorate
+      quorum e U above T₁ eT = record {
+        member = λ i. getD (heardNow j) i false;
+        many = let h = leb-true (g .n) _ e in omega (arith, h);
+        each = λ i is b. (
+          getD (timesNow j T) i 0,
+          subst (λ y. getD (timesNow j T) i 0 ≤ y) (sym eT) (above i is),
+          stamp-knows X p j T ij new i (getD (timesNow j T) i 0) (kept-true _ _ b),
+        );
+      }
+
+      time-same : (T₁ T₂ : ℕ) → timeIs send T₁ ≡ timeIs send T₂ → T₁ ≡ T₂
+      time-same T₁ T₂ e = cc
+
+      -- the time that is sent is the largest of them, so at least each
+      send-facts : C.quorate g (heardNow j) ≡ true → ClientFacts (inPhase s F.Acking (replicate 11 false) (timesNow j T)) a (dispersed H g me s a v j (largestNow H g me s a v j T)) C.nothing
+      send-facts e = record {
+        client-shape = phase-trim X F.Acking (replicate 11 false) (timesNow j T) refl (length-set (s .times) j T ∙ X .times-many);
+        writes-up = omega arith;
+        reads-up = omega arith;
+        t-kept = λ i T′ is q z. impossible (cc);
+        a-kept = λ i is q z. impossible (cc (no-flag 11 i, z));
+        v-kept = λ i k is q z. impossible (cc);
+        t-sent = λ b d q T₁ u. ⊎-elim
+            (λ y. impossible (cc (body-all (λ j. message me (s .writes) (blockIs send (entryOf H g v j))) b _ y .1)))
+            (λ y. (body-all _ b _ y .2, quorum e _ (λ i is. le-largest (λ m. getD (timesNow j T) m 0) (g .n) i is) T₁ (time-same T₁ _ (body-all _ b _ y .1))))
+            (List·Memᴰ·append-cases (toAll g (λ j. message me (s .writes) (blockIs send (entryOf H g v j)))) u);
+        g-sent = λ b d q u. ⊎-elim
+            (λ y. impossible (cc (body-all (λ j. message me (s .writes) (blockIs send (entryOf H g v j))) b _ y .1)))
+            (λ y. impossible (cc (body-all _ b _ y .1)))
+            (List·Memᴰ·append-cases (toAll g (λ j. message me (s .writes) (blockIs send (entryOf H g v j)))) u);
+        r-sent = λ b d q u. ⊎-elim
+            (λ y. impossible (cc (body-all (λ j. message me (s .writes) (blockIs send (entryOf H g v j))) b _ y .1)))
+            (λ y. impossible (cc (body-all _ b _ y .1)))
+            (List·Memᴰ·append-cases (toAll g (λ j. message me (s .writes) (blockIs send (entryOf H g v j)))) u);
+        write-why = λ z. impossible (cc);
+        read-why = λ v z. impossible (cc);
+      }
+
+      shut-facts : ClientFacts (shut (asked j T)) a [] C.outOfStamps
+      shut-facts = record {
+        client-shape = record {
+          shaped = record { rows-many = X .shaped .rows-many; stamps-many = X .shaped .stamps-many };
+          heard-many = length-set (s .heard) j true ∙ X .heard-many;
+          times-many = length-set (s .times) j T ∙ X .times-many;
+          room = X .room;
+        };
+        writes-up = omega arith;
+        reads-up = omega arith;
+        t-kept = λ i T′ is q z. impossible (cc);
+        a-kept = λ i is q z. impossible (cc);
+        v-kept = λ i k is q z. impossible (cc);
+        t-sent = λ b d q T u. absurd (List·Memᴰ·not-nil u);
+        g-sent = λ b d q u. absurd (List·Memᴰ·not-nil u);
+        r-sent = λ b d q u. absurd (List·Memᴰ·not-nil u);
+        write-why = λ z. impossible (cc);
+        read-why = λ v z. impossible (cc);
+      }
+
+      hear-facts : ClientFacts (asked j T) a [] C.nothing
+      hear-facts = turn-facts (asked j T) a (asked-trim X j T) refl refl (λ i T′ is q z. stamp-knows X p j T ij new i T′ z) (λ i is q z. impossible (cc)) (λ i k is q z. impossible (cc))
+
+    -- ---- acks
+
+    module _ (X : ClientShape s a) (p : s .phase ≡ F.Acking) (j : ℕ) (ij : Among (g .n) j) (new : N j (message me (s .writes) ack)) where
+      knows : (i : ℕ) → getD (heardNow j) i false ≡ true → KnowsA i
+      knows i e = ⊎-elim
+          (λ w. inr (subst (λ y. N y (message me (s .writes) ack)) (sym (w .0)) new))
+          (λ w. inl (p, sym w ∙ e))
+          (set-cases (s .heard) j true false (omega (arith, X .heard-many, few, ij .1)) i)
+
+      end-facts : C.quorate g (heardNow j) ≡ true → ClientFacts (inPhase s F.Idle (heardNow j) (s .times)) a [] C.written
+      unfolding C.quorate
+      end-facts e = record {
+        client-shape = phase-trim X F.Idle (heardNow j) (s .times) (length-set (s .heard) j true ∙ X .heard-many) (X .times-many);
+        writes-up = omega arith;
+        reads-up = omega arith;
+        t-kept = λ i T′ is q z. impossible (cc);
+        a-kept = λ i is q z. impossible (cc);
+        v-kept = λ i k is q z. impossible (cc);
+        t-sent = λ b d q T u. absurd (List·Memᴰ·not-nil u);
+        g-sent = λ b d q u. absurd (List·Memᴰ·not-nil u);
+        r-sent = λ b d q u. absurd (List·Memᴰ·not-nil u);
+        write-why = λ z. record {
+          member = λ i. getD (heardNow j) i false;
+          many = omega (arith, leb-true (g .n) (count (λ i. getD (heardNow j) i false) (g .n) + g .t) e);
+          each = λ i is b. knows i b;
+        };
+        read-why = λ v z. impossible (cc);
+      }
+
+      count-facts : ClientFacts (inPhase s F.Acking (heardNow j) (s .times)) a [] C.nothing
+      count-facts = turn-facts (inPhase s F.Acking (heardNow j) (s .times)) a
+          (phase-trim X F.Acking (heardNow j) (s .times) (length-set (s .heard) j true ∙ X .heard-many) (X .times-many)) refl refl
+          (λ i T′ is q z. impossible (cc)) (λ i is q z. knows i z) (λ i k is q z. impossible (cc))
+
+    -- ---- values
+
+    -- the rows s′ and a′ are searched
+    module _ (s′ : Client) (a′ : List ℕ) (X : ClientShape s′ a′) (ew : s′ .writes ≡ s .writes) (er : s′ .reads ≡ s .reads) (p : s′ .phase ≡ F.Reading)
+        (f : (i : ℕ) (k : Kept) → Among (g .n) i → List·Memᴰ k (rowView g s′ a′ i) → KnowsV i k) where
+      wait-facts : ClientFacts s′ a′ [] C.nothing
+      wait-facts = turn-facts s′ a′ X ew er (λ i T′ is q z. impossible (cc)) (λ i is q z. impossible (cc)) (λ i k is q z. f i k is z)
+
+      complete-facts : (y : Found) → search g (rowView g s′ a′) ≡ some y
+          → ClientFacts (inPhase s′ F.Idle (s′ .heard) (s′ .times)) a′ (toAll g (λ i. message me (s′ .reads) readComplete)) (C.completed y)
+      complete-facts y e = record {
+        client-shape = record {
+          shaped = record { rows-many = X .shaped .rows-many; stamps-many = X .shaped .stamps-many };
+          heard-many = X .heard-many;
+          times-many = X .times-many;
+          room = X .room;
+        };
+        writes-up = omega (arith, ew);
+        reads-up = omega (arith, er);
+        t-kept = λ i T′ is q z. impossible (cc);
+        a-kept = λ i is q z. impossible (cc);
+        v-kept = λ i k is q z. impossible (cc);
+        t-sent = λ b d q T u. impossible (cc (body-all _ b _ u .1));
+        g-sent = λ b d q u. impossible (cc (body-all _ b _ u .1));
+        r-sent = λ b d q u. impossible (cc (body-all _ b _ u .1));
+        write-why = λ z. impossible (cc);
+        read-why = λ v z.
+            let w : y ≡ v = cc in
+            at-least-map (λ i is h. (h .it, h .stamp, h .digests, f i (h .it) is (h .in-row))) (finds H g (rowView g s′ a′) v (e ∙ ap some w));
+      }
+
+    -- a value of server j, kept or dropped
+    pub record Kept-facts (s′ : Client) (a′ : List ℕ) : Type 0 where
+      pub shape : ClientShape s′ a′
+      pub writes : s′ .writes ≡ s .writes
+      pub reads : s′ .reads ≡ s .reads
+      pub phase : s′ .phase ≡ F.Reading
+      pub each : (i : ℕ) (k : Kept) → Among (g .n) i → List·Memᴰ k (rowView g s′ a′ i) → KnowsV i k
+
+    keep-facts : ClientShape s a → s .phase ≡ F.Reading → (v : List ℕ) (j : ℕ) (x : Stamp) (e : Entry) → Sized g e → Among (g .n) j → N j (message me (s .reads) (valueIs x e))
+        → {s′ : Client} {a′ : List ℕ} → Keeps H g me s a v j x e s′ a′ → Kept-facts s′ a′
+    keep-facts X p v j x e Q ij new (drops z) = record { shape = X; writes = refl; reads = refl; phase = p; each = λ i k is u. inl (p, u) }
+    keep-facts X p v j x e Q ij new (keeps i z) = record {
+      shape = record {
+        shaped = row-shaped s (X .shaped) j (omega (arith, few, ij .1)) i x;
+        heard-many = X .heard-many;
+        times-many = X .times-many;
+        room = rw length-store (X .room);
+      };
+      writes = refl;
+      reads = refl;
+      phase = p;
+      each = λ m k is u. ⊎-elim
+          (λ w. inr (subst (λ y. N m (message me (s .reads) (valueIs (y .stamp) (y .entry)))) (sym (w .1)) (subst (λ y. N y (message me (s .reads) (valueIs x e))) (sym (w .0)) new)))
+          (λ w. inl (p, w))
+          (CV.row-kept g M s (X .shaped) a (X .room) j (ij .0, omega (arith, few, ij .1)) x e Q i (CV.goes (rowOf s j) x i z) m (is .0) k u);
+    }
+
+  asking-is : (p : Phase) → CS.asking p ≡ true → p ≡ F.Asking
+  asking-is F.Idle e = impossible (cc)
+  asking-is F.Asking e = refl
+  asking-is F.Acking e = impossible (cc)
+  asking-is F.Reading e = impossible (cc)
+
+  acking-is : (p : Phase) → CS.acking p ≡ true → p ≡ F.Acking
+  acking-is F.Idle e = impossible (cc)
+  acking-is F.Asking e = impossible (cc)
+  acking-is F.Acking e = refl
+  acking-is F.Reading e = impossible (cc)
+
+  reading-is : (p : Phase) → CS.reading p ≡ true → p ≡ F.Reading
+  reading-is F.Idle e = impossible (cc)
+  reading-is F.Asking e = impossible (cc)
+  reading-is F.Acking e = impossible (cc)
+  reading-is F.Reading e = refl
+
+  -- a frame of server j with the message m
+  abbrev pub Brought : ℕ → Message → ℕ → Message → Type 0
+  Brought j m i m′ = (j ≡ i) × (m ≡ m′)
+
+  -- what each kind's test has shown: the phase, and that the frame is of the open operation
+  ack-open : (s : Client) (j q : ℕ) → CT.orderTest H g me s j q ack ≡ J.Fine → (s .phase ≡ F.Acking) × (q ≡ s .writes)
+  unfolding CT.orderTest
+  ack-open s j q o =
+      let w = and-split (CS.acking (s .phase)) _ (awaited-true H g me _ o) in
+      (acking-is (s .phase) (w .0), eqb-true q (s .writes) (and-split (eqb q (s .writes)) _ (w .1) .0))
+
+  stamp-open : (s : Client) (j q T : ℕ) → CT.orderTest H g me s j q (stampIs T) ≡ J.Fine → (s .phase ≡ F.Asking) × (q ≡ s .writes)
+  unfolding CT.orderTest
+  stamp-open s j q T o =
+      let w = and-split (CS.asking (s .phase)) _ (awaited-true H g me _ o) in
+      (asking-is (s .phase) (w .0), eqb-true q (s .writes) (and-split (eqb q (s .writes)) _ (w .1) .0))
+
+  value-open : (s : Client) (j q : ℕ) (x : Stamp) (e : Entry) → CT.orderTest H g me s j q (valueIs x e) ≡ J.Fine → (s .phase ≡ F.Reading) × (q ≡ s .reads)
+  unfolding CT.orderTest
+  value-open s j q x e o =
+      let w = and-split (CS.reading (s .phase)) _ (awaited-true H g me _ (fine-both _ _ o .0)) in
+      (reading-is (s .phase) (w .0), eqb-true q (s .reads) (and-split (eqb q (s .reads)) _ (w .1) .0))
+
+  module _ (s : Client) (a v : List ℕ) (X : ClientShape s a) (j q : ℕ) (ij : Among (g .n) j) where
+    abbrev Of : Body → C.Effect → Type 0
+    Of b r = ClientFacts s a (Brought j (message me q b)) (r .client) (r .area) (r .sends) (r .event)
+
+    shape-facts : {b : Body} {r : C.Effect} → FormedBody g b → CT.orderTest H g me s j q b ≡ J.Fine → Shape H g me s a v j b r → Of b r
+    shape-facts f o (idle b) = quiet-facts s a _ X
+    shape-facts f o (hears T z) = let w = stamp-open s j q T o in hear-facts s a _ X (w .0) v j T ij (refl, ap (λ y. message me y (stampIs T)) (w .1))
+    shape-facts f o (disperses T z l) = let w = stamp-open s j q T o in send-facts s a _ X (w .0) v j T ij (refl, ap (λ y. message me y (stampIs T)) (w .1)) z
+    shape-facts f o (shuts T z l) = let w = stamp-open s j q T o in shut-facts s a _ X (w .0) v j T ij (refl, ap (λ y. message me y (stampIs T)) (w .1))
+    shape-facts f o (counts z) = let w = ack-open s j q o in count-facts s a _ X (w .0) j ij (refl, ap (λ y. message me y ack) (w .1))
+    shape-facts f o (ends z) = let w = ack-open s j q o in end-facts s a _ X (w .0) j ij (refl, ap (λ y. message me y ack) (w .1)) z
+    shape-facts f o (waits x e k z) =
+        let w = value-open s j q x e o in
+        let K = keep-facts s a (Brought j (message me q (valueIs x e))) X (w .0) v j x e (f .0) ij (refl, ap (λ y. message me y (valueIs x e)) (w .1)) k in
+        wait-facts s a (Brought j (message me q (valueIs x e))) _ _ (K .shape) (K .writes) (K .reads) (K .phase) (K .each)
+    shape-facts f o (completes x e k y z) =
+        let w = value-open s j q x e o in
+        let K = keep-facts s a (Brought j (message me q (valueIs x e))) X (w .0) v j x e (f .0) ij (refl, ap (λ y. message me y (valueIs x e)) (w .1)) k in
+        complete-facts s a (Brought j (message me q (valueIs x e))) _ _ (K .shape) (K .writes) (K .reads) (K .phase) (K .each) y z
+
+  pub effect-facts : (s : Client) (a v : List ℕ) → ClientShape s a → (j q : ℕ) (b : Body) → Among (g .n) j → FormedBody g b → CT.orderTest H g me s j q b ≡ J.Fine
+      → ClientFacts s a (Brought j (message me q b)) (C.effect H g me s a v (A.Server j) (message me q b) .client) (C.effect H g me s a v (A.Server j) (message me q b) .area)
+      (C.effect H g me s a v (A.Server j) (message me q b) .sends) (C.effect H g me s a v (A.Server j) (message me q b) .event)
+  effect-facts s a v X j q b ij f o = shape-facts s a v X j q ij f o (shape-of H g me s a v (A.Server j) (message me q b))
+
+  -- ---- beginnings
+
+  abbrev pub Nought : ℕ → Message → Type 0
+  Nought i m = ⊥
+
+  pub read-facts : (s : Client) (a : List ℕ) → ClientShape s a → (out to : List ℕ)
+      → ClientFacts s a Nought (CB.readBegun g me s out to .client) a (CB.readBegun g me s out to .sends) (CB.readBegun g me s out to .event)
+  unfolding CB.readBegun CB.openRead CB.beginBy
+  read-facts s a X out to = go (CB.readTest g me s out to)
+    where
+      go : (y : Verdict) → ClientFacts s a Nought (CB.beginBy g me y s (CB.openRead g me s) .client) a (CB.beginBy g me y s (CB.openRead g me s) .sends) (CB.beginBy g me y s (CB.openRead g me s) .event)
+      go (J.Bad r) = quiet-facts s a _ X
+      go J.Fine = record {
+        client-shape = record { shaped = rows-shaped _ refl; heard-many = X .heard-many; times-many = X .times-many; room = X .room };
+        writes-up = omega arith;
+        reads-up = omega arith;
+        t-kept = λ i T′ is q z. impossible (cc);
+        a-kept = λ i is q z. impossible (cc);
+        v-kept = λ i k is q z. absurd (no-rows g _ a i k refl z);
+        t-sent = λ b d q T u. impossible (cc (body-all s a Nought _ b _ u .1));
+        g-sent = λ b d q u. impossible (cc (body-all s a Nought _ b _ u .1));
+        r-sent = λ b d q u. let w = body-all s a Nought (λ j. message me (s .reads + 1) askRead) b _ u .2 in omega (arith, w);
+        write-why = λ z. impossible (cc);
+        read-why = λ v z. impossible (cc);
+      }
+
+  no-time : (i T : ℕ) → kept (getD (replicate 11 false) i false) (getD (replicate 11 0) i 0) ≡ some T → ⊥
+  no-time i T e = let w = kept-some (getD (replicate 11 false) i false) (getD (replicate 11 0) i 0) T e in impossible (cc (no-flag 11 i, w .0))
+
+  pub write-facts : (s : Client) (a : List ℕ) → ClientShape s a → (v out to : List ℕ)
+      → ClientFacts s a Nought (CB.writeBegun g me s v out to .client) a (CB.writeBegun g me s v out to .sends) (CB.writeBegun g me s v out to .event)
+  unfolding CB.writeBegun CB.openWrite CB.beginBy
+  write-facts s a X v out to = go (CB.writeTest g me s v out to)
+    where
+      go : (y : Verdict) → ClientFacts s a Nought (CB.beginBy g me y s (CB.openWrite g me s) .client) a (CB.beginBy g me y s (CB.openWrite g me s) .sends) (CB.beginBy g me y s (CB.openWrite g me s) .event)
+      go (J.Bad r) = quiet-facts s a _ X
+      go J.Fine = record {
+        client-shape = record {
+          shaped = record { rows-many = X .shaped .rows-many; stamps-many = X .shaped .stamps-many };
+          heard-many = refl;
+          times-many = refl;
+          room = X .room;
+        };
+        writes-up = omega arith;
+        reads-up = omega arith;
+        t-kept = λ i T′ is q z. absurd (no-time i T′ z);
+        a-kept = λ i is q z. impossible (cc);
+        v-kept = λ i k is q z. impossible (cc);
+        t-sent = λ b d q T u. impossible (cc (body-all s a Nought _ b _ u .1));
+        g-sent = λ b d q u. let w = body-all s a Nought (λ j. message me (s .writes + 1) getStamp) b _ u .2 in omega (arith, w);
+        r-sent = λ b d q u. impossible (cc (body-all s a Nought _ b _ u .1));
+        write-why = λ z. impossible (cc);
+        read-why = λ v z. impossible (cc);
+      }

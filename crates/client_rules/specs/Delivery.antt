@@ -1,0 +1,69 @@
+-- A client's delivery: the whole outcome. H is the digest, g the parameters, me the client's number. These are definitions.
+use Prim.Native.Nat.{ℕ}
+use mathlib.Core.List.{List}
+use lib.ListN.{length}
+use lib.Seq.{sets}
+use Rattle.blocks.specs.declared.Params.{Params}
+use Rattle.frame.specs.declared.Party.{Party}
+use Rattle.frame.specs.Messages.{Judged, bad, good}
+use Rattle.frame.specs.Outbox.{frames, receivers}
+use Rattle.client_rules.specs.declared.Client.{Client}
+use Rattle.client_rules.specs.declared.Answer.{Answer}
+use Rattle.client_rules.specs.declared.Answered.{Answered}
+use Rattle.client_rules.specs.declared.Answer.the-variants as Y
+use Rattle.client_rules.specs.Tests.{judge}
+use Rattle.client_rules.specs.Steps.{Event, nothing, written, outOfStamps, completed, Effect, quiet, effect}
+
+-- the whole outcome: the answer, the client, and every byte of the lent areas
+pub record Outcome : Type 0 where
+  pub answer : Answer
+  pub client : Client
+  pub area : List ℕ
+  pub result : List ℕ
+  pub out : List ℕ
+  pub to : List ℕ
+
+abbrev pub outcome : Answered → List ℕ → List ℕ → List ℕ → List ℕ → Outcome
+outcome r area result out to = record { answer = r .answer; client = r .client; area = area; result = result; out = out; to = to }
+
+unfoldable pub eventAnswer : Event → ℕ → Answer
+eventAnswer nothing c = Y.Sent c
+eventAnswer written c = Y.Written
+eventAnswer outOfStamps c = Y.OutOfStamps
+eventAnswer (completed x) c = Y.Value (x .stamp)
+
+unfoldable pub answerOf : Judged → Effect → Answer
+answerOf (bad r) x = Y.Refused r
+answerOf (good m) x = eventAnswer (x .event) (length (x .sends))
+
+-- a completed read writes its value at the start of the result area
+unfoldable pub resultOf : Event → List ℕ → List ℕ
+resultOf nothing l = l
+resultOf written l = l
+resultOf outOfStamps l = l
+resultOf (completed x) l = sets l 0 (x .bytes)
+
+-- frames lie end to end from the start of the out area, two bytes for the receiver of each in the to area; other bytes stay as lent
+unfoldable pub outcomeOf : Judged → Effect → List ℕ → List ℕ → List ℕ → Outcome
+outcomeOf j x result out to = record {
+  answer = answerOf j x;
+  client = x .client;
+  area = x .area;
+  result = resultOf (x .event) result;
+  out = sets out 0 (frames (x .sends));
+  to = sets to 0 (receivers (x .sends));
+}
+
+module _ (H : List ℕ → List ℕ) (g : Params) (me : ℕ) where
+  -- "The answer is the number alone; state and all lent bytes remain unchanged."
+  unfoldable pub effectBy : Judged → Client → List ℕ → List ℕ → Party → Effect
+  effectBy (bad r) s a v from = quiet s a
+  effectBy (good m) s a v from = effect H g me s a v from m
+
+  -- what a delivery does; one that is turned down does nothing
+  unfoldable pub delivered : Client → List ℕ → List ℕ → Party → List ℕ → List ℕ → List ℕ → List ℕ → Effect
+  delivered s a v from f result out to = effectBy (judge H g me s a v from f result out to) s a v from
+
+  -- the entry point
+  unfoldable pub delivery : Client → List ℕ → List ℕ → Party → List ℕ → List ℕ → List ℕ → List ℕ → Outcome
+  delivery s a v from f result out to = outcomeOf (judge H g me s a v from f result out to) (delivered s a v from f result out to) result out to

@@ -1,0 +1,6 @@
+pub mod State
+pub mod Rows
+pub mod Tests
+pub mod Steps
+pub mod Delivery
+pub mod Beginning

@@ -1,0 +1,92 @@
+-- Whether a frame handed to a client is turned down: the tests of document 01's numbers 3 and 10 to 14, and all tests in the order of
+-- their numbers. H is the digest, g the parameters, me the client's number. These are definitions.
+use Prim.Native.Nat.{ℕ}
+use mathlib.Core.Bool.{Bool, true, false, not, _&&_}
+use mathlib.Core.List.{List}
+use lib.ListN.{length}
+use lib.Dec.{ltb, eqb}
+use Rattle.area.specs.Area.{pick}
+use Rattle.blocks.specs.declared.Params.{Params}
+use Rattle.frame.specs.declared.Party.{Party}
+use Rattle.frame.specs.declared.Verdict.{Verdict}
+use Rattle.frame.specs.declared.Opened.{Opened}
+use Rattle.frame.specs.declared.Refusal.the-variants as R
+use Rattle.frame.specs.declared.Verdict.the-variants as J
+use Rattle.frame.specs.declared.Opened.the-variants as O
+use Rattle.frame.specs.Refusals.{andThen}
+use Rattle.frame.specs.Params.{clientFrames, outRoom, toRoom, paramsTest}
+use Rattle.frame.specs.Stamps.{lastClient}
+use Rattle.frame.specs.Messages.{Entry, Body, getStamp, ack, askRead, readComplete, stampIs, blockIs, timeIs, valueIs, Message, numberIn, fromServer, Judged, bad, judgedBy, after}
+use Rattle.frame.specs.Frames.{opened, messageIn}
+use Rattle.frame.specs.Chunks.{rowsBytes}
+use Rattle.group_rules.specs.Coded.{fits}
+use Rattle.client_rules.specs.declared.Client.{Client}
+use Rattle.client_rules.specs.State.{asking, acking, reading, writing, rowOf, heardOf}
+use Rattle.client_rules.specs.Rows.{used, hasStamp}
+
+-- 10, of the lengths of the out and to areas: "frames out need .. 2n (client)"
+unfoldable pub sendRoom : Params → ℕ → ℕ → Verdict
+sendRoom g out to =
+    pick (ltb out (outRoom g (clientFrames g))) (J.Bad R.Room)
+    (pick (ltb to (toRoom (clientFrames g))) (J.Bad R.Room)
+    J.Fine)
+
+-- 10, of all lent areas: "others their full content"
+unfoldable pub roomTest : Params → ℕ → ℕ → ℕ → ℕ → Verdict
+roomTest g area result out to =
+    pick (ltb area rowsBytes) (J.Bad R.Room)
+    (pick (ltb result (g .size)) (J.Bad R.Room)
+    (sendRoom g out to))
+
+-- 3: the lent value of an open write is L long; with no write open it is not looked at
+unfoldable pub valueTest : Params → Client → ℕ → Verdict
+valueTest g s v = pick (writing (s .phase) && not (eqb v (g .size))) (J.Bad R.Length) J.Fine
+
+-- 11: only stamps, acks and values go to clients
+unfoldable pub answers : Body → Bool
+answers getStamp = false
+answers ack = true
+answers askRead = false
+answers readComplete = false
+answers (stampIs T) = true
+answers (blockIs z e) = false
+answers (timeIs z T) = false
+answers (valueIs x e) = true
+
+-- 12: "old, repeated or not awaited"
+unfoldable pub awaited : Bool → Verdict
+awaited b = pick b J.Fine (J.Bad R.Stale)
+
+-- 14: "block against its digest"
+unfoldable pub fitTest : (List ℕ → List ℕ) → Entry → ℕ → Verdict
+fitTest H e j = pick (fits H e j) J.Fine (J.Bad R.Digest)
+
+module _ (H : List ℕ → List ℕ) (g : Params) (me : ℕ) where
+  -- 12 and 14, of a frame of operation q from server j. Stamps count only in a write's first part, acks only in its second, each server's first;
+  -- "of kind 11, each whose stamp is not kept from that server"
+  unfoldable pub orderTest : Client → ℕ → ℕ → Body → Verdict
+  orderTest s j q getStamp = J.Fine
+  orderTest s j q ack = awaited (acking (s .phase) && (eqb q (s .writes) && not (heardOf s j)))
+  orderTest s j q askRead = J.Fine
+  orderTest s j q readComplete = J.Fine
+  orderTest s j q (stampIs T) = awaited (asking (s .phase) && (eqb q (s .writes) && not (heardOf s j)))
+  orderTest s j q (blockIs z e) = J.Fine
+  orderTest s j q (timeIs z T) = J.Fine
+  orderTest s j q (valueIs x e) =
+      andThen (awaited (reading (s .phase) && (eqb q (s .reads) && not (hasStamp (rowOf s j .stamps) (used (rowOf s j)) x))))
+      (fitTest H e j)
+
+  -- 11 to 14: from a server 1 to n, of a kind for clients, naming this client
+  unfoldable pub messageTest : Client → Party → Message → Verdict
+  messageTest s from m =
+      pick (fromServer g from && (answers (m .body) && eqb (m .client) me)) (orderTest s (numberIn from) (m .sequence) (m .body)) (J.Bad R.Sender)
+
+  -- all of them: the lowest number, or what the frame says
+  unfoldable pub judgeOpened : Opened → Verdict → Client → Party → List ℕ → Judged
+  judgeOpened (O.Refused r) room s from f = bad r
+  judgeOpened (O.Frame h) room s from f = judgedBy (andThen room (messageTest s from (messageIn g h f))) (messageIn g h f)
+
+  unfoldable pub judge : Client → List ℕ → List ℕ → Party → List ℕ → List ℕ → List ℕ → List ℕ → Judged
+  judge s area v from f result out to =
+      after (andThen (paramsTest g me lastClient) (valueTest g s (length v)))
+      (judgeOpened (opened g f) (roomTest g (length area) (length result) (length out) (length to)) s from f)

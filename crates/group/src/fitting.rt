@@ -1,0 +1,18 @@
+// A block against its digest in a digest list.
+ghost use mathlib.Core.Path.{_≡_};
+ghost use Prim.Native.Nat.{_*_, _≤_};
+ghost use lib.ListN.{length};
+ghost use Rattle.sha256.specs.Hash.{digestOf};
+ghost use Rattle.frame.specs.Messages.{entry};
+ghost use Rattle.group_rules.specs.Coded.{fits};
+
+// Whether a block has the digest at place j of a digest list.
+pub fn block_fits(digests: &[u8], block: &[u8], j: usize) -> bool
+    requires { ⌜ (1 ≤ j) × (32 * j ≤ length (now digests)) × (length (now block) ≤ 256) ⌝ }
+    ensures { λ r. ⌜ r ≡ fits digestOf (entry (now (digests .entry)) (now (block .entry))) j ⌝ }
+{
+    let own = sha256::digest(block);
+    let from = 32 * j - 32;
+    let end = from + 32;
+    area::equal(&own, &digests[from..end])
+}

@@ -1,0 +1,42 @@
+-- The present entry is replaced by that of another chunk. Assumes nothing.
+use Prim.Native.Nat.{ℕ, _+_, _*_, _≤_, _<_}
+use native.Mathlib.Omega.{arith}
+use mathlib.Core.Path.{_≡_, ap, sym, _∙_}
+use mathlib.Core.List.{List}
+use lib.ListN.{length, getD, set, take, drop}
+use lib.Seq.{sets, length-take-le, getD-take, getD-drop}
+use Rattle.area.specs.Area.{part}
+use Rattle.area.proofs.Sets.{sets-more, length-part, part-sets-after}
+use Rattle.blocks.specs.declared.Params.{Params}
+use Rattle.frame.specs.Params.{width}
+use Rattle.frame.specs.Chunks.{entryAt, storeEntry, presentAt}
+
+first-of : (l : List ℕ) (k : ℕ) → getD (part l k 1) 0 0 ≡ getD l k 0
+first-of l k = getD-take 1 (drop k l) 0 0 (omega arith) ∙ getD-drop k l 0 0 ∙ ap (λ (i : ℕ). getD l i 0) (omega arith)
+
+-- an element behind those that were stored
+pub getD-after : (l : List ℕ) (i : ℕ) (vs : List ℕ) (k : ℕ) → i + length vs ≤ k → getD (sets l i vs) k 0 ≡ getD l k 0
+getD-after l i vs k h =
+    sym (first-of (sets l i vs) k) ∙ ap (λ (z : List ℕ). getD z 0 0) (part-sets-after l i vs k 1 h) ∙ first-of l k
+
+pub copy-turn : (a b : List ℕ) (at from n j : ℕ) → at + n ≤ from → from + n ≤ length a → j < n → b ≡ sets a at (take j (part a from n))
+    → set b (at + j) (getD b (from + j) 0) ≡ sets a at (take (j + 1) (part a from n))
+copy-turn a b at from n j u v h e =
+    let l : length (part a from n) ≡ n = length-part a from n v in
+    let i : j < length (part a from n) = omega arith in
+    let k : at + length (take j (part a from n)) ≤ from + j = omega (arith, length-take-le j (part a from n) (omega arith)) in
+    let w : getD b (from + j) 0 ≡ getD (part a from n) j 0 =
+    ap (λ (z : List ℕ). getD z (from + j) 0) e
+    ∙ getD-after a at (take j (part a from n)) (from + j) k
+    ∙ sym (getD-take n (drop from a) j 0 h ∙ getD-drop from a j 0) in
+    ap (λ (z : List ℕ). set z (at + j) (getD b (from + j) 0)) e ∙ ap (set (sets a at (take j (part a from n))) (at + j)) w ∙ sets-more a at (part a from n) j i
+
+-- both parts of chunk p were copied
+pub replaced : (g : Params) (a b d : List ℕ) (p w : ℕ) → 1 ≤ p → 32 * g .n ≤ 320 → 576 * p + 576 ≤ length a → w ≡ width g
+    → b ≡ sets a 0 (part a (576 * p) (32 * g .n)) → d ≡ sets b 320 (part b (576 * p + 320) w) → d ≡ storeEntry a presentAt (entryAt g a p)
+unfolding storeEntry entryAt
+replaced g a b d p w h n l k e f =
+    let m : length (part a (576 * p) (32 * g .n)) ≡ 32 * g .n = length-part a (576 * p) (32 * g .n) (omega arith) in
+    let o : part b (576 * p + 320) w ≡ part a (576 * p + 320) w =
+    ap (λ (z : List ℕ). part z (576 * p + 320) w) e ∙ part-sets-after a 0 (part a (576 * p) (32 * g .n)) (576 * p + 320) w (omega arith) in
+    f ∙ ap (sets b 320) (o ∙ ap (part a (576 * p + 320)) k) ∙ ap (λ (z : List ℕ). sets z 320 (part a (576 * p + 320) (width g))) e

@@ -1,0 +1,18 @@
+use Rattle.area.specs.Area.{pick}
+use native.Mathlib.Omega.{arith}
+use borrow.Author.Needs.{needs}
+use Rattle.server_accept.proofs.newest.Statement.{statement}
+use Rattle.server_accept.proofs.newest.Tie as tie
+use Rattle.server_accept.proofs.newest.Reads as reads
+use Rattle.server_accept.proofs.newest.Lts as lts
+
+returns : tie.Need-returns
+unfolding pick
+returns c = rw (c .if1 .taken)
+
+returns-2 : tie.Need-returns-2
+unfolding pick
+returns-2 c = rw (c .if1 .left)
+
+pub newest-spec : {M : Type 1} → statement M
+newest-spec = tie.close (tie.spec returns returns-2)

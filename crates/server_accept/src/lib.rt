@@ -1,0 +1,194 @@
+// Acceptance: the write of a client whose time is delivered and whose blocks are complete. Only here are readers and the stamp seen.
+use blocks::Params;
+use frame::Place;
+use frame::Stamp;
+use frame::bounds::width;
+use frame::entries::block_at;
+use frame::entries::digests_at;
+use frame::send::send_ack;
+use frame::send::send_value;
+use frame::stamps::is_older;
+use server_rules::Reader;
+use server_rules::Scope;
+use server_rules::Server;
+use server_rules::fresh::fresh_slot;
+ghost use mathlib.Core.Path.{_≡_};
+ghost use Prim.Native.Nat.{_+_, _*_, _≤_, _<_};
+ghost use lib.ListN.{length};
+ghost use lib.Seq.{sets};
+ghost use Rattle.area.specs.Area.{pick, part};
+ghost use Rattle.frame.specs.Params.{Bounded};
+ghost use Rattle.frame.specs.Stamps.{lastTime};
+ghost use Rattle.frame.specs.Messages.{entry};
+ghost use Rattle.frame.specs.Outbox.{outbox, sent, Room};
+ghost use Rattle.frame.specs.Chunks.{entryAt, presentAt, storeIf};
+ghost use Rattle.server_rules.specs.Steps.{accept, free, tellFrom};
+ghost use Rattle.server.specs.Stages.{Lent};
+ghost use Rattle.server_accept.specs.Telling.{toldTo, opensIn, writeIn, Freeing};
+
+// What an acceptance leaves of its client's scope, and where the next frame of the step goes.
+pub struct Freed {
+    pub scope: Scope,
+    pub place: Place,
+}
+
+// Sends reader r, client c, a value if it listens and its noted stamp is smaller.
+fn tell_one(
+    r: Reader,
+    c: u8,
+    x: Stamp,
+    digests: &[u8],
+    block: &[u8],
+    out: &mut [u8],
+    to: &mut [u8],
+    p: Place,
+) -> Place
+    requires { ⌜ Room p 1 (22 + (length (now digests) + length (now block))) (length (now out)) (length (now to)) ⌝ }
+    ensures { λ q. ⌜ outbox (now (out .exit)) (now (to .exit)) q
+        ≡ sent (outbox (now (out .entry)) (now (to .entry)) p) (toldTo r c x (entry (now (digests .entry)) (now (block .entry)))) ⌝ }
+{
+    if !r.listening {
+        return p;
+    }
+    if !is_older(r.noted, x) {
+        return p;
+    }
+    send_value(out, to, p, c, r.sequence, x, digests, block)
+}
+
+// The value goes to each listener whose noted stamp is smaller, by rising client number.
+fn tell(
+    readers: [Reader; 9],
+    x: Stamp,
+    digests: &[u8],
+    block: &[u8],
+    out: &mut [u8],
+    to: &mut [u8],
+    p: Place,
+) -> Place
+    requires { ⌜ Room p 8 (22 + (length (now digests) + length (now block))) (length (now out)) (length (now to)) ⌝ }
+    ensures { λ q. ⌜ outbox (now (out .exit)) (now (to .exit)) q
+        ≡ sent (outbox (now (out .entry)) (now (to .entry)) p) (tellFrom readers x (entry (now (digests .entry)) (now (block .entry))) 1 8) ⌝ }
+{
+    let mut q = p;
+    let mut c: usize = 1;
+    while c < 9 {
+        let r = readers[c];
+        q = tell_one(r, c as u8, x, digests, block, out, to, q);
+        c += 1;
+    }
+    q
+}
+
+// Copies n bytes within the area, from index from on to index at on, which lie before them.
+fn copy_down(area: &mut [u8], at: usize, from: usize, n: usize)
+    requires { ⌜ (at + n ≤ from) × (from + n ≤ length (now area)) ⌝ }
+    ensures { λ _. ⌜ now (area .exit) ≡ sets (now (area .entry)) at (part (now (area .entry)) from n) ⌝ }
+{
+    let mut j = 0;
+    while j < n {
+        area[at + j] = area[from + j];
+        j += 1;
+    }
+}
+
+// The entry of chunk p becomes the present one, if its stamp is newer.
+fn replace(newer: bool, area: &mut [u8], g: Params, p: usize)
+    requires { ⌜ Bounded g × (1 ≤ p) × (576 * p + 576 ≤ length (now area)) ⌝ }
+    ensures { λ _. ⌜ now (area .exit) ≡ storeIf newer (now (area .entry)) presentAt (entryAt g (now (area .entry)) p) ⌝ }
+{
+    if newer {
+        let w = width(g);
+        copy_down(area, 0, 576 * p, 32 * g.n);
+        copy_down(area, 320, 576 * p + 320, w);
+    }
+}
+
+fn newest(newer: bool, x: Stamp, y: Stamp) -> Stamp
+    ensures { λ r. ⌜ r ≡ pick newer x y ⌝ }
+{
+    if newer {
+        return x;
+    }
+    y
+}
+
+// The next sequence opens, and the stamp is the larger one.
+fn opens_next(s: Scope, newer: bool, x: Stamp) -> Scope
+    requires { ⌜ s .slot .sequence < 4294967296 ⌝ }
+    ensures { λ r. ⌜ r ≡ opensIn s newer x ⌝ }
+{
+    let old = s.slot;
+    let stamp = newest(newer, x, s.stamp);
+    let slot = fresh_slot(old.sequence + 1);
+    let mut y = s;
+    y.stamp = stamp;
+    y.slot = slot;
+    y
+}
+
+// The write of client c's scope is accepted with its delivered time, its entry being the completed one.
+fn accept(
+    s: Scope,
+    readers: [Reader; 9],
+    g: Params,
+    c: u8,
+    area: &mut [u8],
+    out: &mut [u8],
+    to: &mut [u8],
+    p: Place,
+) -> Freed
+    requires { ⌜ Lent g c (length (now area)) p 9 (length (now out)) (length (now to))
+        × (s .slot .times .time < lastTime) × (s .slot .sequence < 4294967296) ⌝ }
+    ensures { λ r. ⌜ Freeing s readers c (λ w. accept w (now (area .entry)) (writeIn g s c (now (area .entry))))
+        (outbox (now (out .entry)) (now (to .entry)) p) r (now (area .exit)) (now (out .exit)) (now (to .exit)) ⌝ }
+{
+    let i = c as usize;
+    let from = 21 * i - 20;
+    let slot = s.slot;
+    let t = slot.times;
+    let q = slot.sequence as u32;
+    let x = Stamp {
+        time: t.time + 1,
+        writer: c,
+        sequence: q,
+    };
+    let newer = is_older(s.stamp, x);
+    let digests = digests_at(area, from, g);
+    let block = block_at(area, from, g);
+    let told = tell(readers, x, digests, block, out, to, p);
+    let place = send_ack(out, to, told, c, q);
+    replace(newer, area, g, from);
+    let scope = opens_next(s, newer, x);
+    Freed { scope, place }
+}
+
+// The write of client c's scope is accepted if it can be.
+pub fn free(
+    s: Scope,
+    readers: [Reader; 9],
+    g: Params,
+    c: u8,
+    area: &mut [u8],
+    out: &mut [u8],
+    to: &mut [u8],
+    p: Place,
+) -> Freed
+    requires { ⌜ Lent g c (length (now area)) p 9 (length (now out)) (length (now to)) × (s .slot .sequence < 4294967296) ⌝ }
+    ensures { λ r. ⌜ Freeing s readers c (λ w. free g w (now (area .entry)) c)
+        (outbox (now (out .entry)) (now (to .entry)) p) r (now (area .exit)) (now (out .exit)) (now (to .exit)) ⌝ }
+{
+    let x = s.slot;
+    let t = x.times;
+    let b = x.blocks;
+    if !t.delivered {
+        return Freed { scope: s, place: p };
+    }
+    if !b.complete {
+        return Freed { scope: s, place: p };
+    }
+    if Server::LAST_TIME <= t.time {
+        return Freed { scope: s, place: p };
+    }
+    accept(s, readers, g, c, area, out, to, p)
+}

@@ -1,0 +1,17 @@
+-- The chunks lie one behind the other. Assumes nothing.
+use Rattle.server_blocks.proofs.Counts.{comparing, flags-at}
+use borrow.Author.Needs.{needs}
+use Rattle.server_blocks.proofs.votes.with_list.Statement.{statement}
+use Rattle.server_blocks.proofs.votes.with_list.Tie as tie
+
+places-requires : tie.Need-places-requires
+places-requires c κs = search needs
+
+matching-requires : tie.Need-matching-requires
+matching-requires c κs = let z = c .before .before .before in comparing _ _ _ (z .args .first) (z .pre .0) (c .places .ensures) (z .pre .2)
+
+returns : tie.Need-returns
+returns c = let a = c .before .before .before .before .args in flags-at (a .g) (a .on) _ (a .area .now) (a .list .now) (a .first) _ (c .before .places .ensures) (c .matching .ensures)
+
+pub with-list-spec : {M : Type 1} → statement M
+with-list-spec = tie.close (tie.spec places-requires matching-requires returns)

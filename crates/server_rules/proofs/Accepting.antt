@@ -1,0 +1,77 @@
+-- What an acceptance sends, by membership and by length: values to listeners, and the ack. Assumes nothing.
+use Prim.Native.Nat.{ℕ, zero, suc, _+_, _≤_, _<_}
+use native.Mathlib.Omega.{arith}
+use mathlib.Core.Bool.{Bool, true, false, _&&_}
+use mathlib.Core.Path.{_≡_, refl}
+use mathlib.Core.Logic.{_⊎_, inl, inr, ⊎-elim}
+use mathlib.Core.List.{List, [], _∷_, _++_, List·Memᴰ, List·Memᴰ·not-nil, List·Memᴰ·cases-cons, List·Memᴰ·append-cases, List·Memᴰ·eq-of-singleton}
+use lib.ListN.{length, length-append}
+use Rattle.quorum.proofs.Logic.{and-split}
+use Rattle.area.specs.Area.{pick}
+use Rattle.frame.specs.declared.Stamp.{Stamp}
+use Rattle.frame.specs.declared.Party.the-variants as P
+use Rattle.frame.specs.Stamps.{older}
+use Rattle.frame.specs.Messages.{Entry, ack, valueIs, message, Sending, sending}
+use Rattle.server_rules.specs.declared.Reader.{Reader}
+use Rattle.server_rules.specs.declared.Server.{Server}
+use Rattle.server_rules.specs.State.{readerAt}
+use Rattle.server_rules.specs.Steps as S
+
+-- ---- values
+
+-- y is a value (x, e) to client d, which listens and whose noted stamp is smaller
+pub record Told (rs : List Reader) (x : Stamp) (e : Entry) (d : ℕ) (y : Sending) : Type 0 where
+  pub listens : readerAt rs d .listening ≡ true
+  pub smaller : older (readerAt rs d .noted) x ≡ true
+  pub is : y ≡ sending (P.Client d) (message d (readerAt rs d .sequence) (valueIs x e))
+
+pub tell-mem : (rs : List Reader) (x : Stamp) (e : Entry) (c m : ℕ) (y : Sending) → List·Memᴰ y (S.tellFrom rs x e c m)
+    → (d : ℕ) × (c ≤ d) × (d < c + m) × Told rs x e d y
+unfolding S.tellFrom pick
+tell-mem rs x e c zero y u = absurd (List·Memᴰ·not-nil u)
+tell-mem rs x e c (suc m) y u = go (tell-mem rs x e (suc c) m y) (readerAt rs c .listening && older (readerAt rs c .noted) x) refl u
+  where
+    later : (d : ℕ) × (suc c ≤ d) × (d < suc c + m) × Told rs x e d y → (d : ℕ) × (c ≤ d) × (d < c + suc m) × Told rs x e d y
+    later (d, l, h, t) = (d, omega (arith, l), omega (arith, h), t)
+
+    go : (List·Memᴰ y (S.tellFrom rs x e (suc c) m) → (d : ℕ) × (suc c ≤ d) × (d < suc c + m) × Told rs x e d y)
+        → (b : Bool) → (readerAt rs c .listening && older (readerAt rs c .noted) x) ≡ b
+        → List·Memᴰ y (pick b (sending (P.Client c) (message c (readerAt rs c .sequence) (valueIs x e)) ∷ S.tellFrom rs x e (suc c) m) (S.tellFrom rs x e (suc c) m))
+        → (d : ℕ) × (c ≤ d) × (d < c + suc m) × Told rs x e d y
+    go f true q v = ⊎-elim
+        (λ w. let h = and-split (readerAt rs c .listening) (older (readerAt rs c .noted) x) q in
+        (c, omega arith, omega arith, record { listens = h .0; smaller = h .1; is = w }))
+        (λ w. later (f w))
+        (List·Memᴰ·cases-cons v)
+    go f false q v = later (f v)
+
+pub tell-length : (rs : List Reader) (x : Stamp) (e : Entry) (c m : ℕ) → length (S.tellFrom rs x e c m) ≤ m
+unfolding S.tellFrom pick
+tell-length rs x e c zero = omega arith
+tell-length rs x e c (suc m) = go (tell-length rs x e (suc c) m) (readerAt rs c .listening && older (readerAt rs c .noted) x)
+  where
+    go : length (S.tellFrom rs x e (suc c) m) ≤ m → (b : Bool)
+        → length (pick b (sending (P.Client c) (message c (readerAt rs c .sequence) (valueIs x e)) ∷ S.tellFrom rs x e (suc c) m) (S.tellFrom rs x e (suc c) m)) ≤ suc m
+    go h true = omega (arith, h)
+    go h false = omega (arith, h)
+
+-- ---- an acceptance
+
+abbrev pub ackOf : S.Write → Sending
+ackOf w = sending (P.Client (w .client)) (message (w .client) (w .sequence) ack)
+
+-- a value to one of clients 1 to 8, or the ack
+pub accept-mem : (s : Server) (a : List ℕ) (w : S.Write) (y : Sending) → List·Memᴰ y (S.accept s a w .sends)
+    → ((d : ℕ) × (1 ≤ d) × (d ≤ 8) × Told (s .readers) (S.stampOf w) (w .entry) d y) ⊎ (y ≡ ackOf w)
+unfolding S.accept
+accept-mem s a w y u = ⊎-elim
+    (λ v. let (d, l, h, t) = tell-mem (s .readers) (S.stampOf w) (w .entry) 1 8 y v in inl (d, l, omega (arith, h), t))
+    (λ v. inr (List·Memᴰ·eq-of-singleton v))
+    (List·Memᴰ·append-cases (S.tellFrom (s .readers) (S.stampOf w) (w .entry) 1 8) u)
+
+pub accept-length : (s : Server) (a : List ℕ) (w : S.Write) → length (S.accept s a w .sends) ≤ 9
+unfolding S.accept
+accept-length s a w =
+    let t = tell-length (s .readers) (S.stampOf w) (w .entry) 1 8 in
+    let p = length-append (S.tellFrom (s .readers) (S.stampOf w) (w .entry) 1 8) (ackOf w ∷ []) in
+    omega (arith, t, p)

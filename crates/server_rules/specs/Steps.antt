@@ -1,0 +1,199 @@
+-- What a frame that passes the tests does to a server, by document 01's "Steps": a frame of a write is counted, readies go out, and the write is accepted if it can
+-- be. H is the digest, g the parameters, me the server's number, s the server, a its state area, c the client that the frame names. These are definitions.
+use Prim.Native.Nat.{ℕ, zero, suc, _+_}
+use mathlib.Core.Bool.{Bool, true, false, not, _&&_}
+use mathlib.Core.Option.{Option, none, some}
+use mathlib.Core.List.{List, [], _∷_, _++_}
+use lib.ListN.{set}
+use lib.Dec.{ltb}
+use Rattle.area.specs.Area.{pick}
+use Rattle.blocks.specs.declared.Params.{Params}
+use Rattle.frame.specs.declared.Stamp.{Stamp}
+use Rattle.frame.specs.declared.Party.{Party}
+use Rattle.frame.specs.declared.Party.the-variants as P
+use Rattle.frame.specs.Stamps.{older, lastTime}
+use Rattle.frame.specs.Messages.{Entry, Stage, send, echo, ready, Body, getStamp, ack, askRead, readComplete, stampIs, blockIs, timeIs, valueIs, Message, message, Sending, sending, toAll, numberIn}
+use Rattle.frame.specs.Chunks.{storeEntry, storeIf, presentAt, completeAt, echoAt, readyAt}
+use Rattle.server_rules.specs.declared.Slot.{Slot}
+use Rattle.server_rules.specs.declared.Reader.{Reader}
+use Rattle.server_rules.specs.declared.Server.{Server}
+use Rattle.server_rules.specs.Broadcast.{due, full, matters}
+use Rattle.server_rules.specs.State.{freshSlot, slotOf, readerAt, readerOf, withSlot, withReader, withBlocks, withTimes, blockView, timeView, presentEntry, blockSent, blockEcho, blockReady, blockMarks, timeSent, timeEcho, timeReady, timeMarks}
+use Rattle.server_rules.specs.Rules.{regained, blockRules, timeRules}
+
+-- a write that is accepted, with the time that was delivered and the entry that was completed
+pub record Write : Type 0 where
+  pub client : ℕ
+  pub sequence : ℕ
+  pub time : ℕ
+  pub entry : Entry
+
+-- "the new stamp has time + 1"
+abbrev pub stampOf : Write → Stamp
+stampOf w = record { time = w .time + 1; writer = w .client; sequence = w .sequence }
+
+-- What a step does: the server and its state area afterwards, and the frames it sends. The last two are for runs: the writes that it accepts, in that
+-- order, and the values that it decodes.
+pub record Effect : Type 0 where
+  pub server : Server
+  pub area : List ℕ
+  pub sends : List Sending
+  pub accepted : List Write
+  pub decodes : List (List ℕ)
+
+-- nothing is accepted or decoded
+abbrev pub sendOnly : Server → List ℕ → List Sending → Effect
+sendOnly s a l = record { server = s; area = a; sends = l; accepted = []; decodes = [] }
+
+-- What a counted frame of a write does before anything is accepted: the client's slot and the state area afterwards, the frames sent, the values decoded.
+pub record Counting : Type 0 where
+  pub slot : Slot
+  pub area : List ℕ
+  pub sends : List Sending
+  pub decodes : List (List ℕ)
+
+module _ (H : List ℕ → List ℕ) (g : Params) (me : ℕ) where
+  -- ---- Blocks, server
+
+  -- An echo or a ready of e was counted in client c's slot x and kept in a. "At each counted echo or ready whose digest list then has n - t echoes or q
+  -- readies, decode .., encode afresh .. and compare all n digests; if equal, send ready .. once for the write. If there are then q + t readies, and
+  -- that comparison is equal, the block part is complete for good". A comparison on which nothing hangs is not made, so it decodes nothing.
+  unfoldable pub votedBlock : List ℕ → ℕ → Slot → Entry → Counting
+  votedBlock a c x e =
+      let w = blockView g a c x in
+      let r = due (blockRules H g) (g .n) (g .t) w e in
+      let f = full (blockRules H g) (g .n) (g .t) w e in
+      let own = blockRules H g .own me (w .echoes) (w .readies) e in
+      record {
+        slot = withBlocks x (blockMarks (x .blocks) r f);
+        area = storeIf (not (x .blocks .complete) && f) a (completeAt c) own;
+        sends = pick r (toAll g (λ j. message c (x .sequence) (blockIs ready own))) [];
+        decodes = pick (matters (blockRules H g) (g .n) (g .t) w e) (regained g (w .echoes) (w .readies) (e .digests) ∷ []) [];
+      }
+
+  -- a frame of client c's open write, its slot being x, from party j
+  unfoldable pub onBlock : List ℕ → ℕ → Slot → ℕ → Stage → Entry → Counting
+  onBlock a c x j send e = record {
+    slot = withBlocks x (blockSent (x .blocks));
+    area = a;
+    sends = toAll g (λ i. message c (x .sequence) (blockIs echo e));
+    decodes = [];
+  }
+  onBlock a c x j echo e = votedBlock (storeEntry a (echoAt c j) e) c (withBlocks x (blockEcho (x .blocks) j)) e
+  onBlock a c x j ready e = votedBlock (storeEntry a (readyAt c j) e) c (withBlocks x (blockReady (x .blocks) j)) e
+
+  -- ---- Time, server
+
+  -- an echo or a ready of T was counted in client c's slot x
+  unfoldable pub votedTime : List ℕ → ℕ → Slot → ℕ → Counting
+  votedTime a c x T =
+      let w = timeView x in
+      let r = due (timeRules H g) (g .n) (g .t) w T in
+      let f = full (timeRules H g) (g .n) (g .t) w T in
+      record {
+        slot = withTimes x (timeMarks (x .times) r f T);
+        area = a;
+        sends = pick r (toAll g (λ j. message c (x .sequence) (timeIs ready T))) [];
+        decodes = [];
+      }
+
+  unfoldable pub onTime : List ℕ → ℕ → Slot → ℕ → Stage → ℕ → Counting
+  onTime a c x j send T = record {
+    slot = withTimes x (timeSent (x .times));
+    area = a;
+    sends = toAll g (λ i. message c (x .sequence) (timeIs echo T));
+    decodes = [];
+  }
+  onTime a c x j echo T = votedTime a c (withTimes x (timeEcho (x .times) j T)) T
+  onTime a c x j ready T = votedTime a c (withTimes x (timeReady (x .times) j T)) T
+
+-- ---- Acceptance
+
+-- "each listener whose noted stamp is smaller gets a value": of clients c to c + m - 1 the value (x, e), the readers being rs
+unfoldable pub tellFrom : List Reader → Stamp → Entry → ℕ → ℕ → List Sending
+tellFrom rs x e c zero = []
+tellFrom rs x e c (suc m) =
+    pick (readerAt rs c .listening && older (readerAt rs c .noted) x)
+    (sending (P.Client c) (message c (readerAt rs c .sequence) (valueIs x e)) ∷ tellFrom rs x e (suc c) m)
+    (tellFrom rs x e (suc c) m)
+
+-- "If larger than the server's, stamp, digests and block are replaced. In either case each listener whose noted stamp is smaller gets a value, the
+-- owner gets an ack, and the next sequence, if any, opens."
+unfoldable pub accept : Server → List ℕ → Write → Effect
+accept s a w = record {
+  server = record {
+    stamp = pick (older (s .stamp) (stampOf w)) (stampOf w) (s .stamp);
+    slots = set (s .slots) (w .client) (freshSlot (w .sequence + 1));
+    readers = s .readers;
+  };
+  area = storeIf (older (s .stamp) (stampOf w)) a presentAt (w .entry);
+  sends = tellFrom (s .readers) (stampOf w) (w .entry) 1 8 ++ (sending (P.Client (w .client)) (message (w .client) (w .sequence) ack) ∷ []);
+  accepted = w ∷ [];
+  decodes = [];
+}
+
+-- what else an acceptance waits for: today nothing
+abbrev pub vouched : Server → ℕ → Bool
+vouched s T = true
+
+-- "Both done and the time below 2^64 - 1"; "A delivered time of 2^64 - 1 is never accepted and only that client waits."
+unfoldable pub bothDone : Server → ℕ → ℕ → Option ℕ → Option Entry → Option Write
+bothDone s c q none o = none
+bothDone s c q (some T) none = none
+bothDone s c q (some T) (some e) = pick (vouched s T && ltb T lastTime) (some (record { client = c; sequence = q; time = T; entry = e })) none
+
+-- the write of client c that can be accepted
+unfoldable pub ripe : Params → Server → List ℕ → ℕ → Option Write
+ripe g s a c = bothDone s c (slotOf s c .sequence) (timeView (slotOf s c) .done) (blockView g a c (slotOf s c) .done)
+
+unfoldable pub freeBy : Option Write → Server → List ℕ → Effect
+freeBy none s a = sendOnly s a []
+freeBy (some w) s a = accept s a w
+
+-- client c's write is accepted if it can be
+unfoldable pub free : Params → Server → List ℕ → ℕ → Effect
+free g s a c = freeBy (ripe g s a c) s a
+
+-- ---- a frame of a write: count, speak, accept
+
+-- what is accepted behind a frame of client c's write: the client's own frame completes nothing, an echo or a ready may
+unfoldable pub freed : Params → Stage → Server → List ℕ → ℕ → Effect
+freed g send s a c = sendOnly s a []
+freed g echo s a c = free g s a c
+freed g ready s a c = free g s a c
+
+-- an acceptance behind what the step has sent and decoded before
+abbrev pub behind : Counting → Effect → Effect
+behind p r = record { server = r .server; area = r .area; sends = p .sends ++ r .sends; accepted = r .accepted; decodes = p .decodes }
+
+-- client c's slot is stored, and then what can be accepted is
+unfoldable pub settle : Params → Server → ℕ → Stage → Counting → Effect
+settle g s c z p = behind p (freed g z (withSlot s c (p .slot)) (p .area) c)
+
+module _ (H : List ℕ → List ℕ) (g : Params) (me : ℕ) where
+  -- ---- Read
+
+  -- "A server notes the reader with its present stamp, in place of that client's older read, and answers a value."
+  unfoldable pub onRead : Server → List ℕ → List ℕ → ℕ → ℕ → Effect
+  onRead s a initial c q =
+      sendOnly (withReader s c (record { sequence = q; listening = true; noted = s .stamp })) a
+      (sending (P.Client c) (message c q (valueIs (s .stamp) (presentEntry g (s .stamp) a initial))) ∷ [])
+
+  -- "A read-complete ends that sequence and lower ones, also before its read arrives."
+  unfoldable pub onReadComplete : Server → List ℕ → ℕ → ℕ → Effect
+  onReadComplete s a c q = sendOnly (withReader s c (record { sequence = q; listening = false; noted = readerOf s c .noted })) a []
+
+  -- ---- any message that passed the tests, from party j: client c's operation q
+
+  unfoldable pub onBody : Server → List ℕ → List ℕ → ℕ → ℕ → ℕ → Body → Effect
+  onBody s a initial j c q getStamp = sendOnly s a (sending (P.Client c) (message c q (stampIs (s .stamp .time))) ∷ [])
+  onBody s a initial j c q ack = sendOnly s a []
+  onBody s a initial j c q askRead = onRead s a initial c q
+  onBody s a initial j c q readComplete = onReadComplete s a c q
+  onBody s a initial j c q (stampIs T) = sendOnly s a []
+  onBody s a initial j c q (blockIs z e) = settle g s c z (onBlock H g me a c (slotOf s c) j z e)
+  onBody s a initial j c q (timeIs z T) = settle g s c z (onTime H g me a c (slotOf s c) j z T)
+  onBody s a initial j c q (valueIs x e) = sendOnly s a []
+
+  unfoldable pub effect : Server → List ℕ → List ℕ → Party → Message → Effect
+  effect s a initial from m = onBody s a initial (numberIn from) (m .client) (m .sequence) (m .body)

@@ -1,0 +1,91 @@
+// A server: its state by value. Place j of an array belongs to server or client j; place 0 stays empty.
+use crate::fresh::fresh_reader;
+use crate::fresh::fresh_slot;
+use frame::Refusal;
+use frame::Stamp;
+use frame::stamps::zero_stamp;
+ghost use mathlib.Core.Path.{_≡_};
+ghost use Rattle.server_rules.specs.State.{freshServer};
+
+pub mod fresh;
+
+// What was counted of the blocks of one write. The entries themselves lie in the state area.
+pub struct BlockPart {
+    pub sent: bool,
+    pub ready: bool,
+    pub complete: bool,
+    pub echoes: [bool; 11],
+    pub readies: [bool; 11],
+}
+
+// What was counted and kept of its time.
+pub struct TimePart {
+    pub sent: bool,
+    pub ready: bool,
+    pub delivered: bool,
+    pub time: u64,
+    pub echoes: [bool; 11],
+    pub readies: [bool; 11],
+    pub echoed: [u64; 11],
+    pub readied: [u64; 11],
+}
+
+// A client's open write; the sequence 4294967296 stands for none.
+pub struct Slot {
+    pub sequence: u64,
+    pub blocks: BlockPart,
+    pub times: TimePart,
+}
+
+// A client's newest read, whether it still listens, and the stamp noted for it.
+pub struct Reader {
+    pub sequence: u32,
+    pub listening: bool,
+    pub noted: Stamp,
+}
+
+pub struct Server {
+    pub stamp: Stamp,
+    pub slots: [Slot; 9],
+    pub readers: [Reader; 9],
+}
+
+impl Server {
+    pub const CLIENTS: usize = 8;
+
+    pub const LAST_TIME: u64 = 18446744073709551615;
+
+    // A fresh server: stamp 0, client 0 and sequence 0; every client's write 1 is open.
+    pub fn fresh() -> Server
+        ensures { λ r. ⌜ r ≡ freshServer ⌝ }
+    {
+        let stamp = zero_stamp();
+        let slot = fresh_slot(1);
+        let reader = fresh_reader();
+        let slots = [slot; 9];
+        let readers = [reader; 9];
+        Server {
+            stamp,
+            slots,
+            readers,
+        }
+    }
+}
+
+// What a step for one client may change of a server: the stamp, and that client's slot and reader.
+pub struct Scope {
+    pub stamp: Stamp,
+    pub slot: Slot,
+    pub reader: Reader,
+}
+
+// A step that sent so many frames, or the reason why there is none.
+pub enum Reply {
+    Step(usize),
+    Refused(Refusal),
+}
+
+pub struct Served {
+    pub reply: Reply,
+    pub server: Server,
+}

@@ -1,0 +1,2 @@
+pub mod TimeVotes
+pub mod TimeStage

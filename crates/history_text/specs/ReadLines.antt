@@ -1,16 +1,13 @@
--- The text of a history. Document 01: "Fields: kind, start, end, time, writer, sequence. A record is malformed unless it has these six, without leading
--- zeros, one space between, a newline after, R or W, start below end, each number in its width and writer at most 8." That start is below end is part of
--- `malformed`. Assumes nothing: these are definitions.
+-- How the code reads a line at the front of a text, and a text line by line. These are the stages of `judge_text`; what a line is, says Lines.antt, and
+-- proofs/Link.antt that both are the same. Assumes nothing: these are definitions.
 use Prim.Native.Nat.{ℕ, zero, suc, _+_, _≤_}
-use mathlib.Core.Bool.{Bool, true, false}
 use mathlib.Core.List.{List, [], _∷_}
 use lib.Dec.{eqb, ltb}
 use lib.ListN.{length, getD, drop}
 use Rattle.area.specs.Area.{pick}
-use Rattle.order.specs.Histories.{refused, judged}
 use Rattle.order.specs.declared.operation.Operation.{Operation}
-use Rattle.order.specs.declared.judge.Verdict.{Verdict}
-use Rattle.history_text.specs.Numbers.{thenNumber, fieldOf}
+use Rattle.history_text.specs.Lines.{Lines, Records, Malformed, recordThen}
+use Rattle.history_text.specs.ReadNumbers.{thenNumber, fieldOf}
 use Rattle.history_text.specs.declared.line.Interval.{Interval}
 use Rattle.history_text.specs.declared.line.Interval.the-variants as I
 use Rattle.history_text.specs.declared.line.Stamp.{Stamp}
@@ -71,30 +68,13 @@ WithinLine room L.Bad = Unit {0}
 
 -- ---- the whole text
 
--- the operations of all lines, or a malformed line
-pub data Lines : Type 0 where
-  Records : List Operation → Lines
-  Malformed : Lines
-
-unfoldable pub recordThen : Operation → Lines → Lines
-recordThen a (Records ops) = Records (a ∷ ops)
-recordThen a Malformed = Malformed
-
 unfoldable pub thenLine : {A : Type 0} → Line → A → (Operation → ℕ → A) → A
 thenLine (L.Record a used) bad f = f a used
 thenLine L.Bad bad f = bad
 
 -- the lines of a text, at most n of them; every line takes a byte, so that the text's length is enough for n
-unfoldable pub linesOf : ℕ → List ℕ → Lines
-linesOf zero [] = Records []
-linesOf zero (c ∷ text) = Malformed
-linesOf (suc n) [] = Records []
-linesOf (suc n) (c ∷ text) = thenLine (operationOf (c ∷ text)) Malformed (λ a used. recordThen a (linesOf n (drop used (c ∷ text))))
-
--- the answer to a text: 18 where a line is malformed, else what is judged of its operations
-unfoldable pub answerOf : Lines → Verdict
-answerOf (Records ops) = judged ops
-answerOf Malformed = refused 18
-
-unfoldable pub answerTo : List ℕ → Verdict
-answerTo text = answerOf (linesOf (length text) text)
+unfoldable pub linesRead : ℕ → List ℕ → Lines
+linesRead zero [] = Records []
+linesRead zero (c ∷ text) = Malformed
+linesRead (suc n) [] = Records []
+linesRead (suc n) (c ∷ text) = thenLine (operationOf (c ∷ text)) Malformed (λ a used. recordThen a (linesRead n (drop used (c ∷ text))))

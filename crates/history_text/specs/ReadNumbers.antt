@@ -1,6 +1,6 @@
--- Decimal numbers in text: digits, no leading zeros, at most a given number. Document 01, "Histories". Assumes nothing: these are definitions.
-use Prim.Native.Nat.{ℕ, suc, _+_, _-_, _*_, _≤_}
-use mathlib.Core.Bool.{Bool, true, false}
+-- How the code reads a number at the front of a text. These are the stages of `read_field`; what a number is, says Decimals.antt.
+-- Assumes nothing: these are definitions.
+use Prim.Native.Nat.{ℕ, _+_, _-_, _*_, _≤_}
 use mathlib.Core.List.{List, [], _∷_}
 use lib.Dec.{eqb, ltb, leb}
 use lib.ListN.{getD}
@@ -19,7 +19,7 @@ digitsOf limit value used (c ∷ text) =
     pick (ltb 9 (digitOf c)) (Number value used)
     (pick (leb (value * 10 + digitOf c) limit) (digitsOf limit (value * 10 + digitOf c) (used + 1) text) Bad)
 
--- a number at the front of a text: 0, or digits that do not begin with 0 ("without leading zeros")
+-- a number at the front of a text: 0, or digits that do not begin with 0
 unfoldable pub numberOf : ℕ → List ℕ → Field
 numberOf limit [] = Bad
 numberOf limit (c ∷ text) = pick (eqb c 48) (Number 0 1) (pick (ltb 9 (digitOf c)) Bad (digitsOf limit 0 0 (c ∷ text)))
@@ -34,6 +34,6 @@ unfoldable pub fieldOf : ℕ → ℕ → List ℕ → Field
 fieldOf limit end text = thenNumber (numberOf limit text) Bad (λ value used. pick (eqb (getD text used 0) end) (Number value (used + 1)) Bad)
 
 -- a number that was read is at most limit, and its bytes are there
-abbrev pub Within : ℕ → ℕ → Field → Type 0
-Within limit room (Number value used) = (value ≤ limit) × (used ≤ room)
-Within limit room Bad = Unit {0}
+abbrev pub WithinField : ℕ → ℕ → Field → Type 0
+WithinField limit room (Number value used) = (value ≤ limit) × (used ≤ room)
+WithinField limit room Bad = Unit {0}

@@ -90,7 +90,7 @@ whole-lines Malformed = whole-refused 18
 
 pub whole-answer : (text : List ℕ) (v : Judged) → v ≡ answerTo text → length (v .lines) ≡ 64
 unfolding answerTo
-whole-answer text v e = ap (λ w. length (w .lines)) e ∙ whole-lines (linesOf (length text) text)
+whole-answer text v e = ap (λ w. length (w .lines)) e ∙ whole-lines (linesOf text)
 
 off : (b : Bool) → not b ≡ true → b ≡ false
 off true e = sym e

@@ -1,10 +1,10 @@
-use Rattle.hall.proofs.Laws.{counted}
+use Rattle.console.proofs.Laws.{counted}
 use native.Mathlib.Omega.{arith}
 use borrow.Author.Needs.{needs}
-use Rattle.hall.proofs.counts.count_of.Statement.{statement}
-use Rattle.hall.proofs.counts.count_of.Tie as tie
-use Rattle.hall.proofs.counts.count_of.Reads as reads
-use Rattle.hall.proofs.counts.count_of.Lts as lts
+use Rattle.console.proofs.counts.count_of.Statement.{statement}
+use Rattle.console.proofs.counts.count_of.Tie as tie
+use Rattle.console.proofs.counts.count_of.Reads as reads
+use Rattle.console.proofs.counts.count_of.Lts as lts
 
 -- src/counts.rt:10:9
 returns : tie.Need-returns

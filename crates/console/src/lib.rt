@@ -2,4 +2,4 @@
 pub mod counts;
 pub mod input;
 pub mod output;
-mod patience;
+pub mod patience;

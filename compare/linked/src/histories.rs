@@ -64,7 +64,6 @@ pub fn history(seed: u64) -> Result<Seen, Difference> {
             Err(refusal) => refusal.number() as u64,
             Ok(Judgement::NoOrder(a, b)) => 1 << 8 | (a as u64) << 16 | (b as u64) << 24,
             Ok(Judgement::Order(order)) => {
-                expected[..64].fill(0);
                 for (place, line) in expected.iter_mut().zip(&order) {
                     *place = *line as u8;
                 }

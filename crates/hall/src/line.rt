@@ -1,21 +1,45 @@
 // A line of the script, read byte by byte: up to six fields with one space between, and the bytes that its last field spells.
 
-// A field: how many bytes it has, 9 standing for more than 8; these as one number; its value as a decimal number, 1000 standing for more; whether it
-// is such a number, without leading zeros; whether it is hexadecimal, and the digit that waits for its second.
+// The words of the script, by number; 0 stands for any other.
+pub const HALL: u8 = 1;
+
+pub const SERVER: u8 = 2;
+
+pub const CLIENT: u8 = 3;
+
+pub const FROM_CLIENT: u8 = 4;
+
+pub const FROM_SERVER: u8 = 5;
+
+pub const READ: u8 = 6;
+
+pub const WRITE: u8 = 7;
+
+// The field being read: how many bytes it has, 9 standing for more than 8; these as one number; its value as a decimal number, 1000 standing for more;
+// whether it is such a number, without leading zeros; whether it is hexadecimal, and the digit that waits for its second.
 pub struct Field {
     pub length: usize,
     pub word: u64,
-    pub number: usize,
+    pub number: u16,
     pub decimal: bool,
     pub hex: bool,
     pub odd: bool,
     pub half: u8,
 }
 
-// The place of the field being read, 6 standing for one too many; the fields; and how many bytes the last one spells so far.
+// What is kept of a field: which word it is; whether it is a decimal number, and its value; whether it spells bytes.
+pub struct Mark {
+    pub word: u8,
+    pub decimal: bool,
+    pub number: u16,
+    pub bytes: bool,
+}
+
+// The place of the field being read, 6 standing for one too many; what is kept of the fields before it; that field; and how many bytes it spells so far.
 pub struct Line {
     pub last: usize,
-    pub fields: [Field; 6],
+    pub marks: [Mark; 6],
+    pub field: Field,
     pub used: usize,
 }
 
@@ -31,10 +55,20 @@ fn no_field() -> Field {
     }
 }
 
+fn no_mark() -> Mark {
+    Mark {
+        word: 0,
+        decimal: false,
+        number: 0,
+        bytes: false,
+    }
+}
+
 pub fn no_line() -> Line {
     Line {
         last: 0,
-        fields: [no_field(); 6],
+        marks: [no_mark(); 6],
+        field: no_field(),
         used: 0,
     }
 }
@@ -68,9 +102,9 @@ fn spelled(word: u64, b: u8) -> u64 {
     (word % 72057594037927936) * 256 + b as u64
 }
 
-fn decimal_with(number: usize, d: u8) -> usize {
+fn decimal_with(number: u16, d: u8) -> u16 {
     if number < 100 {
-        return number * 10 + d as usize;
+        return number * 10 + d as u16;
     }
     1000
 }
@@ -118,25 +152,112 @@ fn store(bytes: &mut [u8], used: usize, high: u8, low: u8) -> usize {
     used + 1
 }
 
-fn add_to_field(line: Line, i: usize, b: u8, bytes: &mut [u8]) -> Line {
+// The number of the word of so many bytes.
+fn word_of(length: usize, word: u64) -> u8 {
+    if length == 1 {
+        return letter_of(word);
+    }
+    if length == 4 {
+        if word == 1751215212 {
+            return HALL;
+        }
+        if word == 1919246692 {
+            return READ;
+        }
+        return 0;
+    }
+    if length == 5 {
+        if word == 513020621925 {
+            return WRITE;
+        }
+    }
+    0
+}
+
+fn letter_of(word: u64) -> u8 {
+    if word == 83 {
+        return SERVER;
+    }
+    if word == 67 {
+        return CLIENT;
+    }
+    if word == 99 {
+        return FROM_CLIENT;
+    }
+    if word == 115 {
+        return FROM_SERVER;
+    }
+    0
+}
+
+// Whether a field is a number.
+fn is_number(f: Field) -> bool {
+    if f.length == 0 {
+        return false;
+    }
+    f.decimal
+}
+
+// Whether a field spells bytes: two digits each, or `-` for none.
+fn is_bytes(f: Field) -> bool {
+    if f.length == 0 {
+        return false;
+    }
+    if f.odd {
+        if f.length == 1 {
+            return f.word == 45;
+        }
+        return false;
+    }
+    f.hex
+}
+
+fn mark_of(f: Field) -> Mark {
+    Mark {
+        word: word_of(f.length, f.word),
+        decimal: is_number(f),
+        number: f.number,
+        bytes: is_bytes(f),
+    }
+}
+
+// The line with the field being read kept too.
+pub fn ended(line: Line) -> Line {
+    let i = line.last;
     if 6 <= i {
         return line;
     }
-    let f = line.fields[i];
-    let y = field_with(f, b);
+    let mark = mark_of(line.field);
     let mut r = line;
-    r.fields[i] = y;
-    if f.odd {
-        r.used = store(bytes, line.used, f.half, y.half);
-    }
+    r.marks[i] = mark;
     r
 }
 
+fn next_place(last: usize) -> usize {
+    if last < 6 {
+        return last + 1;
+    }
+    6
+}
+
 fn next_field(line: Line) -> Line {
+    let kept = ended(line);
+    let marks = kept.marks;
+    Line {
+        last: next_place(line.last),
+        marks,
+        field: no_field(),
+        used: 0,
+    }
+}
+
+fn add_to_field(line: Line, b: u8, bytes: &mut [u8]) -> Line {
+    let f = line.field;
+    let y = field_with(f, b);
     let mut r = line;
-    r.used = 0;
-    if line.last < 6 {
-        r.last = line.last + 1;
+    r.field = y;
+    if f.odd {
+        r.used = store(bytes, line.used, f.half, y.half);
     }
     r
 }
@@ -146,35 +267,14 @@ pub fn add_byte(line: Line, b: u8, bytes: &mut [u8]) -> Line {
     if b == 32 {
         return next_field(line);
     }
-    add_to_field(line, line.last, b, bytes)
+    add_to_field(line, b, bytes)
 }
 
-// Whether a field is a number.
-pub fn is_number(f: Field) -> bool {
-    if f.length == 0 {
-        return false;
-    }
-    f.decimal
-}
-
-// Whether a field is this word, of so many bytes.
-pub fn is_word(f: Field, length: usize, word: u64) -> bool {
-    if f.length != length {
-        return false;
-    }
-    f.word == word
-}
-
-// Whether a field spells bytes: two digits each, or `-` for none.
-pub fn is_bytes(f: Field) -> bool {
-    if is_word(f, 1, 45) {
+// Whether there is anything on the line.
+pub fn is_begun(line: Line) -> bool {
+    let f = line.field;
+    if 0 < f.length {
         return true;
     }
-    if f.length == 0 {
-        return false;
-    }
-    if f.odd {
-        return false;
-    }
-    f.hex
+    0 < line.last
 }

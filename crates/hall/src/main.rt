@@ -1,83 +1,101 @@
-// Runs all parties of a register on one machine from a script on standard input, and answers each line at once.
+// Runs all parties of a register on one machine from a script, on standard input or in the file that the argument names, and answers each line at once.
+use crate::asks::asked;
+use crate::asks::is_call;
 use crate::calls::answer;
-use crate::counts::count_of;
+use crate::calls::with_out;
 use crate::line::Line;
-use crate::line::add_byte;
+use crate::line::ended;
+use crate::line::is_begun;
 use crate::line::no_line;
 use crate::parties::Hall;
 use crate::parties::no_hall;
+use crate::script::Next;
+use crate::script::next_ask;
+use console::counts::count_of;
+use console::input::open_input;
+use console::input::read_piece;
+use console::output::flush;
+use console::patience::left_after;
 ghost use mathlib.Core.Path.{_≡_};
 ghost use Prim.Native.Nat.{_≤_, _<_};
 ghost use lib.ListN.{length};
 
+mod asks;
 mod calls;
-mod counts;
 mod line;
 mod parties;
 mod print;
+mod script;
 
-// The parties, and the line that is being read.
+// The parties, the line that is being read, and where the piece of the script goes on.
 struct Run {
     hall: Hall,
     line: Line,
+    at: usize,
 }
 
-// What a piece of the script leaves, and whether there was one.
+// What a piece of the script leaves: whether it goes on, and whether it ended because it could not be read, or its answers could not be written.
 struct Taken {
     run: Run,
     more: bool,
+    failed: bool,
 }
 
-fn end_line(
+// Does what the next line asks for.
+fn step(
     r: Run,
+    n: Next,
     bytes: &[u8],
     areas: &mut [u8],
     initials: &mut [u8],
     rows: &mut [u8],
     values: &mut [u8],
+    text: &mut [u8],
 ) -> Run
     requires { ⌜ (length (now areas) ≡ 1070784) × (length (now initials) ≡ 2816) × (length (now rows) ≡ 207360) × (length (now values) ≡ 2304) ⌝ }
+    ensures { λ x. ⌜ x .at ≡ n .at ⌝ }
 {
-    let h = r.hall;
-    let line = r.line;
-    let used = count_of(line.used, bytes);
-    let hall = answer(h, line, &bytes[..used], areas, initials, rows, values);
-    Run {
-        hall,
-        line: no_line(),
+    let line = n.line;
+    let ask = n.ask;
+    let at = n.at;
+    let h = with_out(r.hall, n.out);
+    if !is_call(ask) {
+        return Run { hall: h, line, at };
     }
+    let used = count_of(n.used, bytes);
+    let hall = answer(h, ask, &bytes[..used], areas, initials, rows, values, text);
+    Run { hall, line, at }
 }
 
-// The next byte of the script.
-fn take(
+// Reads on to the next line that asks for something, and does it.
+fn take_next(
     r: Run,
-    b: u8,
+    piece: &[u8],
     bytes: &mut [u8],
     areas: &mut [u8],
     initials: &mut [u8],
     rows: &mut [u8],
     values: &mut [u8],
+    text: &mut [u8],
 ) -> Run
+    requires { ⌜ r .at < length (now piece) ⌝ }
     requires { ⌜ (length (now areas) ≡ 1070784) × (length (now initials) ≡ 2816) × (length (now rows) ≡ 207360) × (length (now values) ≡ 2304) ⌝ }
+    ensures { λ x. ⌜ (r .at < x .at) × (x .at ≤ length (now (piece .entry))) ⌝ }
 {
-    if b == 10 {
-        return end_line(r, bytes, areas, initials, rows, values);
-    }
+    let h = r.hall;
+    let n = next_ask(h.ready, r.line, piece, r.at, bytes, h.out, text);
+    step(r, n, bytes, areas, initials, rows, values, text)
+}
+
+fn from_start(r: Run) -> Run
+    ensures { λ x. ⌜ x .at ≡ 0 ⌝ }
+{
     let hall = r.hall;
-    let line = add_byte(r.line, b, bytes);
-    Run { hall, line }
+    let line = r.line;
+    Run { hall, line, at: 0 }
 }
 
-fn is_begun(line: Line) -> bool {
-    let fields = line.fields;
-    let f = fields[0];
-    if 0 < f.length {
-        return true;
-    }
-    0 < line.last
-}
-
-// All bytes of one piece of the script.
+// All lines of one piece of the script.
 fn take_all(
     r: Run,
     piece: &[u8],
@@ -86,86 +104,120 @@ fn take_all(
     initials: &mut [u8],
     rows: &mut [u8],
     values: &mut [u8],
+    text: &mut [u8],
 ) -> Run
-    requires { ⌜ (length (now piece) ≤ 65536) × (length (now areas) ≡ 1070784) × (length (now initials) ≡ 2816) × (length (now rows) ≡ 207360) × (length (now values) ≡ 2304) ⌝ }
+    requires { ⌜ (length (now areas) ≡ 1070784) × (length (now initials) ≡ 2816) × (length (now rows) ≡ 207360) × (length (now values) ≡ 2304) ⌝ }
 {
-    let mut y = r;
-    let mut i = 0;
-    while i < piece.len() {
-        y = take(y, piece[i], bytes, areas, initials, rows, values);
-        i += 1;
+    let mut y = from_start(r);
+    while y.at < piece.len() {
+        y = take_next(y, piece, bytes, areas, initials, rows, values, text);
     }
     y
 }
 
-// Reads the next piece of the script, and takes its bytes.
+fn flushed(r: Run, text: &[u8]) -> Run {
+    let h = r.hall;
+    let line = r.line;
+    let hall = with_out(h, flush(h.out, text));
+    Run { hall, line, at: 0 }
+}
+
+// Reads the next piece of the script, answers its lines, and writes the answers.
 fn take_piece(
+    fd: i32,
     r: Run,
     bytes: &mut [u8],
     areas: &mut [u8],
     initials: &mut [u8],
     rows: &mut [u8],
     values: &mut [u8],
+    text: &mut [u8],
 ) -> Taken
     requires { ⌜ (length (now areas) ≡ 1070784) × (length (now initials) ≡ 2816) × (length (now rows) ≡ 207360) × (length (now values) ≡ 2304) ⌝ }
 {
     let mut chunk = io::large_buffer();
-    let got = libc::read(0, &mut chunk);
-    let n = io::count(got, &chunk);
+    let p = read_piece(fd, &mut chunk);
+    let n = p.count;
     if n == 0 {
         return Taken {
             run: r,
             more: false,
+            failed: p.failed,
         };
     }
-    let run = take_all(r, &chunk[..n], bytes, areas, initials, rows, values);
-    Taken { run, more: true }
-}
-
-// How many pieces may still come: none at the script's end.
-fn left_after(left: u64, more: bool) -> u64
-    requires { ⌜ 0 < left ⌝ }
-    ensures { λ r. ⌜ r < left ⌝ }
-{
-    if !more {
-        return 0;
+    let y = take_all(r, &chunk[..n], bytes, areas, initials, rows, values, text);
+    let run = flushed(y, text);
+    let hall = run.hall;
+    let out = hall.out;
+    Taken {
+        run,
+        more: !out.failed,
+        failed: out.failed,
     }
-    left - 1
 }
 
-// Reads the script to its end, in at most 2^64 - 1 pieces. A last line without a newline is a line too.
+// A last line without a newline is a line too.
+fn end_script(
+    r: Run,
+    bytes: &[u8],
+    areas: &mut [u8],
+    initials: &mut [u8],
+    rows: &mut [u8],
+    values: &mut [u8],
+    text: &mut [u8],
+)
+    requires { ⌜ (length (now areas) ≡ 1070784) × (length (now initials) ≡ 2816) × (length (now rows) ≡ 207360) × (length (now values) ≡ 2304) ⌝ }
+{
+    let line = r.line;
+    if !is_begun(line) {
+        return;
+    }
+    let h = r.hall;
+    let used = count_of(line.used, bytes);
+    let ask = asked(h.ready, ended(line));
+    let last = answer(h, ask, &bytes[..used], areas, initials, rows, values, text);
+    flush(last.out, text);
+}
+
+// Reads the script to its end, in at most 2^64 - 1 pieces. Where it can't be read to its end, the line that is begun is not answered.
 fn read_script(
+    fd: i32,
     bytes: &mut [u8],
     areas: &mut [u8],
     initials: &mut [u8],
     rows: &mut [u8],
     values: &mut [u8],
+    text: &mut [u8],
 )
     requires { ⌜ (length (now areas) ≡ 1070784) × (length (now initials) ≡ 2816) × (length (now rows) ≡ 207360) × (length (now values) ≡ 2304) ⌝ }
 {
     let mut r = Run {
         hall: no_hall(),
         line: no_line(),
+        at: 0,
     };
+    let mut failed = false;
     let mut left: u64 = 18446744073709551615;
     while 0 < left {
-        let taken = take_piece(r, bytes, areas, initials, rows, values);
+        let taken = take_piece(fd, r, bytes, areas, initials, rows, values, text);
         r = taken.run;
+        failed = taken.failed;
         left = left_after(left, taken.more);
     }
-    let line = r.line;
-    if is_begun(line) {
-        end_line(r, bytes, areas, initials, rows, values);
+    if !failed {
+        end_script(r, bytes, areas, initials, rows, values, text);
     }
 }
 
 // Reads the script, the areas being whole.
 fn serve(
+    fd: i32,
     bytes: &mut [u8],
     areas: &mut [u8],
     initials: &mut [u8],
     rows: &mut [u8],
     values: &mut [u8],
+    text: &mut [u8],
 ) {
     if areas.len() != 1070784 {
         return;
@@ -179,7 +231,7 @@ fn serve(
     if values.len() != 2304 {
         return;
     }
-    read_script(bytes, areas, initials, rows, values);
+    read_script(fd, bytes, areas, initials, rows, values, text);
 }
 
 // Eleven state areas.
@@ -203,11 +255,18 @@ fn main() {
     let mut rows = no_rows();
     let mut values = [0u8; 2304];
     let mut bytes = no_bytes();
+    let mut text = io::large_buffer();
+    let fd = open_input();
+    if fd < 0 {
+        return;
+    }
     serve(
+        fd,
         &mut bytes,
         &mut areas,
         &mut initials,
         &mut rows,
         &mut values,
+        &mut text,
     );
 }

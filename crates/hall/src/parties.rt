@@ -1,16 +1,19 @@
 // The parties of one register on one machine. Place j belongs to server or client j; place 0 serves a number that is nobody's, and stays as it is.
-use crate::counts::count_of;
-use crate::print::print_out_of_stamps;
-use crate::print::print_refused;
-use crate::print::print_step;
-use crate::print::print_value;
-use crate::print::print_written;
+use crate::asks::byte_of;
+use crate::print::put_out_of_stamps;
+use crate::print::put_refused;
+use crate::print::put_step;
+use crate::print::put_value;
+use crate::print::put_written;
 use blocks::Params;
 use client::begin::begin_read;
 use client::begin::begin_write;
 use client::fresh::fresh_client;
 use client_rules::Answer;
 use client_rules::Client;
+use console::counts::count_of;
+use console::output::Out;
+use console::output::nothing;
 use frame::Party;
 use server::setup::construct;
 use server_rules::Reply;
@@ -19,11 +22,13 @@ ghost use mathlib.Core.Path.{_≡_};
 ghost use Prim.Native.Nat.{_+_, _≤_};
 ghost use lib.ListN.{length};
 
+// What waits to be printed goes with them.
 pub struct Hall {
     pub ready: bool,
     pub g: Params,
     pub servers: [Server; 11],
     pub clients: [Client; 9],
+    pub out: Out,
 }
 
 pub fn no_hall() -> Hall {
@@ -38,6 +43,7 @@ pub fn no_hall() -> Hall {
         g,
         servers: [Server::fresh(); 11],
         clients: [fresh_client(); 9],
+        out: nothing(),
     }
 }
 
@@ -51,28 +57,22 @@ fn place_of(j: usize, most: usize) -> usize
     j
 }
 
-// A number as a byte; 255 is nobody's.
-pub fn byte_of(j: usize) -> u8 {
-    if 255 < j {
-        return 255;
-    }
-    j as u8
-}
-
-fn with_server(h: Hall, i: usize, s: Server) -> Hall {
-    if 10 < i {
-        return h;
-    }
+fn with_server(h: Hall, i: usize, s: Server, o: Out) -> Hall {
     let mut y = h;
+    y.out = o;
+    if 10 < i {
+        return y;
+    }
     y.servers[i] = s;
     y
 }
 
-fn with_client(h: Hall, i: usize, s: Client) -> Hall {
-    if 8 < i {
-        return h;
-    }
+fn with_client(h: Hall, i: usize, s: Client, o: Out) -> Hall {
     let mut y = h;
+    y.out = o;
+    if 8 < i {
+        return y;
+    }
     y.clients[i] = s;
     y
 }
@@ -104,10 +104,10 @@ pub fn fresh_servers(g: Params, value: &[u8], areas: &mut [u8], initials: &mut [
     Reply::Step(0)
 }
 
-fn print_served(r: Reply, out: &[u8], to: &[u8]) {
+fn put_served(o: Out, text: &mut [u8], r: Reply, out: &[u8], to: &[u8]) -> Out {
     match r {
-        Reply::Step(count) => print_step(out, to, count),
-        Reply::Refused(x) => print_refused(x),
+        Reply::Step(count) => put_step(o, text, out, to, count),
+        Reply::Refused(x) => put_refused(o, text, x),
     }
 }
 
@@ -119,6 +119,7 @@ pub fn hand_server(
     f: &[u8],
     areas: &mut [u8],
     initials: &[u8],
+    text: &mut [u8],
 ) -> Hall
     requires { ⌜ (length (now areas) ≡ 1070784) × (length (now initials) ≡ 2816) ⌝ }
 {
@@ -141,32 +142,48 @@ pub fn hand_server(
         &mut to,
     );
     let reply = r.reply;
-    print_served(reply, &out, &to);
+    let o = put_served(h.out, text, reply, &out, &to);
     let s = r.server;
-    with_server(h, i, s)
+    with_server(h, i, s, o)
 }
 
-fn print_answered(a: Answer, n: usize, value: &[u8], out: &[u8], to: &[u8]) {
+fn put_answered(
+    o: Out,
+    text: &mut [u8],
+    a: Answer,
+    n: usize,
+    value: &[u8],
+    out: &[u8],
+    to: &[u8],
+) -> Out {
     match a {
-        Answer::Sent(count) => print_step(out, to, count),
+        Answer::Sent(count) => put_step(o, text, out, to, count),
         Answer::Written => {
-            print_step(out, to, 0);
-            print_written();
+            let y = put_step(o, text, out, to, 0);
+            put_written(y, text)
         }
         Answer::OutOfStamps => {
-            print_step(out, to, 0);
-            print_out_of_stamps();
+            let y = put_step(o, text, out, to, 0);
+            put_out_of_stamps(y, text)
         }
         Answer::Value(stamp) => {
-            print_step(out, to, n);
-            print_value(value);
+            let y = put_step(o, text, out, to, n);
+            put_value(y, text, value)
         }
-        Answer::Refused(x) => print_refused(x),
+        Answer::Refused(x) => put_refused(o, text, x),
     }
 }
 
 // A frame is handed to client j, whose open write's value lies in values.
-pub fn hand_client(h: Hall, j: usize, from: Party, f: &[u8], rows: &mut [u8], values: &[u8]) -> Hall
+pub fn hand_client(
+    h: Hall,
+    j: usize,
+    from: Party,
+    f: &[u8],
+    rows: &mut [u8],
+    values: &[u8],
+    text: &mut [u8],
+) -> Hall
     requires { ⌜ (length (now rows) ≡ 207360) × (length (now values) ≡ 2304) ⌝ }
 {
     let i = place_of(j, 8);
@@ -193,13 +210,13 @@ pub fn hand_client(h: Hall, j: usize, from: Party, f: &[u8], rows: &mut [u8], va
     );
     let a = r.answer;
     let shown = count_of(g.size, &result);
-    print_answered(a, g.n, &result[..shown], &out, &to);
+    let o = put_answered(h.out, text, a, g.n, &result[..shown], &out, &to);
     let s = r.client;
-    with_client(h, i, s)
+    with_client(h, i, s, o)
 }
 
 // Client j begins a read.
-pub fn read(h: Hall, j: usize) -> Hall {
+pub fn read(h: Hall, j: usize, text: &mut [u8]) -> Hall {
     let i = place_of(j, 8);
     let mut out = [0u8; 12000];
     let mut to = [0u8; 64];
@@ -207,9 +224,9 @@ pub fn read(h: Hall, j: usize) -> Hall {
     let clients = h.clients;
     let r = begin_read(g, byte_of(j), clients[i], &mut out, &mut to);
     let a = r.answer;
-    print_answered(a, 0, b"", &out, &to);
+    let o = put_answered(h.out, text, a, 0, b"", &out, &to);
     let s = r.client;
-    with_client(h, i, s)
+    with_client(h, i, s, o)
 }
 
 // Keeps the value of a write that has begun.
@@ -224,7 +241,7 @@ fn keep(a: Answer, value: &[u8], values: &mut [u8], at: usize)
 }
 
 // Client j begins the write of a value.
-pub fn write(h: Hall, j: usize, value: &[u8], values: &mut [u8]) -> Hall
+pub fn write(h: Hall, j: usize, value: &[u8], values: &mut [u8], text: &mut [u8]) -> Hall
     requires { ⌜ length (now values) ≡ 2304 ⌝ }
 {
     let i = place_of(j, 8);
@@ -235,7 +252,7 @@ pub fn write(h: Hall, j: usize, value: &[u8], values: &mut [u8]) -> Hall
     let r = begin_write(g, byte_of(j), clients[i], value, &mut out, &mut to);
     let a = r.answer;
     keep(a, value, values, 256 * i);
-    print_answered(a, 0, b"", &out, &to);
+    let o = put_answered(h.out, text, a, 0, b"", &out, &to);
     let s = r.client;
-    with_client(h, i, s)
+    with_client(h, i, s, o)
 }

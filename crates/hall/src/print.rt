@@ -1,6 +1,11 @@
 // What is printed for an answer.
+use console::output::Out;
+use console::output::put;
+use console::output::put_decimal;
 use frame::Refusal;
 use frame::refusals::number_of;
+ghost use Prim.Native.Nat.{_≤_};
+ghost use lib.ListN.{length};
 ghost use Rattle.io.specs.Counts.{Counts};
 
 fn glyph(d: u8) -> u8 {
@@ -30,57 +35,61 @@ fn spell(bytes: &[u8], text: &mut [u8]) -> usize
     2 * i
 }
 
-// Prints bytes, `-` for none. What is printed is a part of an out or a result area, and has room in the text.
-fn print_bytes(bytes: &[u8]) {
+// Puts bytes, `-` for none. What is put is a part of an out or a result area, and has room in the digits.
+fn put_bytes(o: Out, text: &mut [u8], bytes: &[u8]) -> Out {
     if bytes.len() == 0 {
-        io::write_all(1, b"-");
-        return;
+        return put(o, text, b"-");
     }
-    let mut text = [0u8; 24000];
-    let k = spell(bytes, &mut text);
-    io::write_all(1, &text[..k]);
+    let mut digits = [0u8; 24000];
+    let k = spell(bytes, &mut digits);
+    put(o, text, &digits[..k])
 }
 
-pub fn print_what() {
-    io::write_all(1, b"what?\n");
+pub fn put_what(o: Out, text: &mut [u8]) -> Out {
+    put(o, text, b"what?\n")
 }
 
-pub fn print_ready() {
-    io::write_all(1, b"ready\n");
+pub fn put_ready(o: Out, text: &mut [u8]) -> Out {
+    put(o, text, b"ready\n")
 }
 
-pub fn print_refused(r: Refusal) {
-    io::write_all(1, b"refused ");
-    io::print_decimal(1, number_of(r) as u64);
-    io::write_all(1, b"\n");
+pub fn put_refused(o: Out, text: &mut [u8], r: Refusal) -> Out {
+    let a = put(o, text, b"refused ");
+    let b = put_decimal(a, text, number_of(r) as u64);
+    put(b, text, b"\n")
 }
 
-pub fn print_value(value: &[u8]) {
-    io::write_all(1, b"value ");
-    print_bytes(value);
-    io::write_all(1, b"\n");
+pub fn put_value(o: Out, text: &mut [u8], value: &[u8]) -> Out {
+    let a = put(o, text, b"value ");
+    let b = put_bytes(a, text, value);
+    put(b, text, b"\n")
 }
 
-pub fn print_written() {
-    io::write_all(1, b"written\n");
+pub fn put_written(o: Out, text: &mut [u8]) -> Out {
+    put(o, text, b"written\n")
 }
 
-pub fn print_out_of_stamps() {
-    io::write_all(1, b"out of stamps\n");
+pub fn put_out_of_stamps(o: Out, text: &mut [u8]) -> Out {
+    put(o, text, b"out of stamps\n")
 }
 
-fn print_receiver(class: u8, number: u8) {
+fn put_class(o: Out, text: &mut [u8], class: u8) -> Out {
     if class == 0 {
-        io::write_all(1, b"> c ");
-    } else {
-        io::write_all(1, b"> s ");
+        return put(o, text, b"> c ");
     }
-    io::print_decimal(1, number as u64);
-    io::write_all(1, b" ");
+    put(o, text, b"> s ")
 }
 
-// Prints the frame at index at, and answers where the next one begins.
-fn print_frame(out: &[u8], at: usize) -> usize {
+fn put_receiver(o: Out, text: &mut [u8], class: u8, number: u8) -> Out {
+    let a = put_class(o, text, class);
+    let b = put_decimal(a, text, number as u64);
+    put(b, text, b" ")
+}
+
+// Where the frame at index at ends; the end of the area where there is none.
+fn frame_end(out: &[u8], at: usize) -> usize
+    ensures { λ r. ⌜ r ≤ length (now (out .entry)) ⌝ }
+{
     let n = out.len();
     if n <= at {
         return n;
@@ -92,23 +101,33 @@ fn print_frame(out: &[u8], at: usize) -> usize {
     if n - at < length {
         return n;
     }
-    let end = at + length;
-    print_bytes(&out[at..end]);
-    io::write_all(1, b"\n");
-    end
+    at + length
 }
 
-// Prints `step` and a line for each of the frames sent, with its receiver.
-pub fn print_step(out: &[u8], to: &[u8], count: usize) {
-    io::write_all(1, b"step\n");
+fn put_frame(o: Out, text: &mut [u8], out: &[u8], at: usize, end: usize) -> Out
+    requires { ⌜ end ≤ length (now out) ⌝ }
+{
+    if end <= at {
+        return o;
+    }
+    let a = put_bytes(o, text, &out[at..end]);
+    put(a, text, b"\n")
+}
+
+// Puts `step` and a line for each of the frames sent, with its receiver.
+pub fn put_step(o: Out, text: &mut [u8], out: &[u8], to: &[u8], count: usize) -> Out {
+    let mut y = put(o, text, b"step\n");
     let mut at = 0;
     let mut i = 0;
     while i < count {
         if to.len() / 2 <= i {
-            return;
+            return y;
         }
-        print_receiver(to[2 * i], to[2 * i + 1]);
-        at = print_frame(out, at);
+        let a = put_receiver(y, text, to[2 * i], to[2 * i + 1]);
+        let end = frame_end(out, at);
+        y = put_frame(a, text, out, at, end);
+        at = end;
         i += 1;
     }
+    y
 }

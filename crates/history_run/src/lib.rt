@@ -1,51 +1,74 @@
 // Reads a history to its end and prints the answer.
+use console::input::read_whole;
+use console::output::Out;
+use console::output::flush;
+use console::output::nothing;
+use console::output::put;
+use console::output::put_decimal;
 use order::judge::Answer;
 use order::judge::Verdict;
+use order::judge::refuse;
 
-// A line of a well-formed history has at most 58 bytes, so that 64 lines have at most 3712. What fills this buffer is longer, and no part of it is a
-// whole history of 64 lines: it is refused.
+// The answer to what was read into a buffer of 65536 bytes. A line of a record has under 100 bytes, so that what fills the buffer has more than 64 lines or
+// a malformed one, whatever follows.
+fn judge(history: &[u8]) -> Verdict {
+    if 65535 < history.len() {
+        return refuse(18);
+    }
+    history_text::text::judge_text(history)
+}
+
+// Reads a history to its end and prints the answer. What could not be read to its end is not judged, and that is said on standard error.
 pub fn run(fd: i32) {
-    let mut buffer = io::large_buffer();
-    let n = io::read_full(fd, &mut buffer);
-    if 3712 < n {
-        io::write_all(1, b"refused 18\n");
+    let mut history = io::large_buffer();
+    let got = read_whole(fd, &mut history);
+    if got.failed {
         return;
     }
-    print(history_text::text::judge_text(&buffer[..n]));
+    let n = got.count;
+    let verdict = judge(&history[..n]);
+    let mut text = io::buffer();
+    let out = print(verdict, &mut text);
+    flush(out, &text);
 }
 
-// Prints an answer: order and the line numbers, no order and an offending pair, or refused and the number.
-fn print(verdict: Verdict) {
+// Puts an answer: order and the line numbers, no order and an offending pair, or refused and the number.
+fn print(verdict: Verdict, text: &mut [u8]) -> Out {
     let answer = verdict.answer;
+    let start = nothing();
     match answer {
         Answer::Ordered(count) => {
-            io::write_all(1, b"order");
+            let order = put(start, text, b"order");
             let lines = verdict.lines;
-            print_lines(lines, count);
+            let all = put_lines(order, text, lines, count);
+            put(all, text, b"\n")
         }
         Answer::Offending(a, b) => {
-            io::write_all(1, b"no order ");
-            io::print_decimal(1, a as u64);
-            io::write_all(1, b" ");
-            io::print_decimal(1, b as u64);
+            let no_order = put(start, text, b"no order ");
+            let earlier = put_decimal(no_order, text, a as u64);
+            let space = put(earlier, text, b" ");
+            let later = put_decimal(space, text, b as u64);
+            put(later, text, b"\n")
         }
         Answer::Refused(number) => {
-            io::write_all(1, b"refused ");
-            io::print_decimal(1, number as u64);
+            let refused = put(start, text, b"refused ");
+            let all = put_decimal(refused, text, number as u64);
+            put(all, text, b"\n")
         }
     }
-    io::write_all(1, b"\n");
 }
 
-// Prints the first count line numbers, each after a space.
-fn print_lines(lines: [u8; 64], count: usize) {
+// Puts the first count line numbers, each after a space.
+fn put_lines(out: Out, text: &mut [u8], lines: [u8; 64], count: usize) -> Out {
+    let mut y = out;
     let mut i: usize = 0;
     while i < count {
         if 64 <= i {
-            return;
+            return y;
         }
-        io::write_all(1, b" ");
-        io::print_decimal(1, lines[i] as u64);
+        let space = put(y, text, b" ");
+        y = put_decimal(space, text, lines[i] as u64);
         i += 1;
     }
+    y
 }

@@ -12,7 +12,7 @@ use borrow.Author.Tests.{leb-true, leb-false, lt-ltb, le-ltb, le-leb, lt-leb, eq
 use Rattle.area.specs.Area.{pick}
 use Rattle.order.proofs.Picks.{pick-yes, pick-no}
 use Rattle.order.proofs.Lists.{by-test}
-use Rattle.history_text.specs.Numbers.{digitOf, digitsOf, numberOf, thenNumber, fieldOf}
+use Rattle.history_text.specs.ReadNumbers.{digitOf, digitsOf, numberOf, thenNumber, fieldOf}
 use Rattle.history_text.specs.declared.number.Field.{Field}
 use Rattle.history_text.specs.declared.number.Field.the-variants.{Number, Bad}
 
@@ -25,13 +25,16 @@ fits-equal v d l e =
     (λ t. let h = leb-true d (l % 10) t in t ∙ sym (le-leb (v * 10 + d) l (omega arith)))
     (λ t. let h = leb-false d (l % 10) t in t ∙ sym (lt-leb (v * 10 + d) l (omega arith)))
 
-digits-cons : (limit v u c : ℕ) (text : List ℕ)
-    → digitsOf limit v u (c ∷ text) ≡ pick (ltb 9 (digitOf c)) (Number v u) (pick (leb (v * 10 + digitOf c) limit) (digitsOf limit (v * 10 + digitOf c) (u + 1) text) Bad)
+pub digits-cons : (limit v u c : ℕ) (text : List ℕ)
+    → digitsOf limit v u (c ∷ text)
+    ≡ pick (ltb 9 (digitOf c)) (Number v u) (pick (leb (v * 10 + digitOf c) limit) (digitsOf limit (v * 10 + digitOf c) (u + 1) text) Bad)
 unfolding digitsOf
 digits-cons limit v u c text = refl
 
 digits-at : (limit v u i : ℕ) (s : List ℕ) → i < length s
-    → digitsOf limit v u (drop i s) ≡ pick (ltb 9 (digitOf (getD s i 0))) (Number v u) (pick (leb (v * 10 + digitOf (getD s i 0)) limit) (digitsOf limit (v * 10 + digitOf (getD s i 0)) (u + 1) (drop (suc i) s)) Bad)
+    → digitsOf limit v u (drop i s)
+    ≡ pick (ltb 9 (digitOf (getD s i 0))) (Number v u)
+    (pick (leb (v * 10 + digitOf (getD s i 0)) limit) (digitsOf limit (v * 10 + digitOf (getD s i 0)) (u + 1) (drop (suc i) s)) Bad)
 digits-at limit v u i s h = ap (digitsOf limit v u) (drop-cons s i 0 h) ∙ digits-cons limit v u (getD s i 0) (drop (suc i) s)
 
 -- no digit, a digit that passes the limit, a digit more, and the text's end
@@ -55,7 +58,8 @@ pub digits-end : (limit v u i : ℕ) (s : List ℕ) → length s ≤ i → digit
 unfolding digitsOf
 digits-end limit v u i s h = ap (digitsOf limit v u) (drop-of-length-le s h)
 
-number-cons : (limit c : ℕ) (text : List ℕ) → numberOf limit (c ∷ text) ≡ pick (eqb c 48) (Number 0 1) (pick (ltb 9 (digitOf c)) Bad (digitsOf limit 0 0 (c ∷ text)))
+pub number-cons : (limit c : ℕ) (text : List ℕ)
+    → numberOf limit (c ∷ text) ≡ pick (eqb c 48) (Number 0 1) (pick (ltb 9 (digitOf c)) Bad (digitsOf limit 0 0 (c ∷ text)))
 unfolding numberOf
 number-cons limit c text = refl
 

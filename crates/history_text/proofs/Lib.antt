@@ -1,3 +1,10 @@
 pub mod Laws
 pub mod Lines
+pub mod Decimals
+pub mod Pieces
+pub mod Shown
 pub mod ReadsBack
+pub mod Converse
+pub mod Forms
+pub mod Link
+pub mod Texts

@@ -14,7 +14,8 @@ use Rattle.order.specs.declared.judge.Verdict.{Verdict}
 use Rattle.history_row.specs.Rows.{none, added, addedAll, verdictOf}
 use Rattle.history_row.specs.declared.History.{History}
 use Rattle.history_row.proofs.Laws.{verdict-row, verdict-large, verdict-small}
-use Rattle.history_text.specs.Lines.{kindAt, intervalOf, stampOf, thenInterval, thenStamp, operationOf, Lines, Records, Malformed, recordThen, thenLine, linesOf, answerOf, answerTo}
+use Rattle.history_text.specs.Lines.{Lines, Records, Malformed, recordThen, answerOf}
+use Rattle.history_text.specs.ReadLines.{kindAt, intervalOf, stampOf, thenInterval, thenStamp, operationOf, thenLine, linesRead}
 use Rattle.history_text.specs.declared.line.Interval.{Interval}
 use Rattle.history_text.specs.declared.line.Interval.the-variants as I
 use Rattle.history_text.specs.declared.line.Stamp.{Stamp}
@@ -112,14 +113,10 @@ unfoldable pub final : History → Lines → Verdict
 final h (Records ops) = verdictOf (addedAll h ops)
 final h Malformed = refused 18
 
-final-none : (l : Lines) → final none l ≡ answerOf l
+pub final-none : (l : Lines) → final none l ≡ answerOf l
 unfolding final answerOf
 final-none (Records ops) = verdict-row ops
 final-none Malformed = refl
-
-pub final-start : (h : History) (s : List ℕ) → h ≡ none → final h (linesOf (length s) (drop 0 s)) ≡ answerTo s
-unfolding answerTo
-final-start h s e = ap (λ k. final k (linesOf (length s) s)) e ∙ final-none (linesOf (length s) s)
 
 final-record : (h : History) (a : Operation) (l : Lines) → final h (recordThen a l) ≡ final (added h a) l
 unfolding final recordThen addedAll
@@ -130,44 +127,45 @@ pub then-record : (x : Line) (bad : Lines) (f : Operation → ℕ → Lines) (a 
 unfolding thenLine
 then-record x bad f a u e = ap (λ k. thenLine k bad f) e
 
-then-none : (x : Line) (bad : Lines) (f : Operation → ℕ → Lines) → x ≡ L.Bad → thenLine x bad f ≡ bad
+pub then-none : (x : Line) (bad : Lines) (f : Operation → ℕ → Lines) → x ≡ L.Bad → thenLine x bad f ≡ bad
 unfolding thenLine
 then-none x bad f e = ap (λ k. thenLine k bad f) e
 
-lines-cons : (n c : ℕ) (text : List ℕ) → linesOf (suc n) (c ∷ text) ≡ thenLine (operationOf (c ∷ text)) Malformed (λ a used. recordThen a (linesOf n (drop used (c ∷ text))))
-unfolding linesOf
+lines-cons : (n c : ℕ) (text : List ℕ)
+    → linesRead (suc n) (c ∷ text) ≡ thenLine (operationOf (c ∷ text)) Malformed (λ a used. recordThen a (linesRead n (drop used (c ∷ text))))
+unfolding linesRead
 lines-cons n c text = refl
 
 pub lines-at : (n at : ℕ) (s : List ℕ) → at < length s
-    → linesOf (suc n) (drop at s) ≡ thenLine (operationOf (drop at s)) Malformed (λ a used. recordThen a (linesOf n (drop used (drop at s))))
+    → linesRead (suc n) (drop at s) ≡ thenLine (operationOf (drop at s)) Malformed (λ a used. recordThen a (linesRead n (drop used (drop at s))))
 lines-at n at s h =
-    ap (linesOf (suc n)) (drop-cons s at 0 h) ∙ lines-cons n (getD s at 0) (drop (suc at) s)
-    ∙ ap (λ t. thenLine (operationOf t) Malformed (λ a used. recordThen a (linesOf n (drop used t)))) (sym (drop-cons s at 0 h))
+    ap (linesRead (suc n)) (drop-cons s at 0 h) ∙ lines-cons n (getD s at 0) (drop (suc at) s)
+    ∙ ap (λ t. thenLine (operationOf t) Malformed (λ a used. recordThen a (linesRead n (drop used t)))) (sym (drop-cons s at 0 h))
 
 -- a malformed line
 pub final-bad : (h : History) (n at : ℕ) (s : List ℕ) {r : Line} → at < length s → length s - at ≤ n → r ≡ operationOf (drop at s) → r ≡ L.Bad
-    → final h (linesOf n (drop at s)) ≡ refused 18
+    → final h (linesRead n (drop at s)) ≡ refused 18
 unfolding final
 final-bad h zero at s l g e t = absurd (omega arith)
 final-bad h (suc n) at s l g e t = ap (final h) (lines-at n at s l ∙ then-none _ _ _ (sym e ∙ t))
 
 -- one line more
-pub final-more : (h : History) (n at u : ℕ) (s : List ℕ) (a : Operation) {r : Line} {k : History} → at < length s → length s - at ≤ suc n → r ≡ operationOf (drop at s)
-    → r ≡ L.Record a u → k ≡ added h a → final k (linesOf n (drop (at + u) s)) ≡ final h (linesOf (suc n) (drop at s))
+pub final-more : (h : History) (n at u : ℕ) (s : List ℕ) (a : Operation) {r : Line} {k : History} → at < length s → length s - at ≤ suc n
+    → r ≡ operationOf (drop at s) → r ≡ L.Record a u → k ≡ added h a → final k (linesRead n (drop (at + u) s)) ≡ final h (linesRead (suc n) (drop at s))
 final-more h n at u s a l g e t q =
-    ap (λ x. final x (linesOf n (drop (at + u) s))) q
-    ∙ ap (λ x. final (added h a) (linesOf n x)) (sym (drop-drop u at s))
-    ∙ sym (ap (final h) (lines-at n at s l ∙ then-record _ _ _ a u (sym e ∙ t)) ∙ final-record h a (linesOf n (drop u (drop at s))))
+    ap (λ x. final x (linesRead n (drop (at + u) s))) q
+    ∙ ap (λ x. final (added h a) (linesRead n x)) (sym (drop-drop u at s))
+    ∙ sym (ap (final h) (lines-at n at s l ∙ then-record _ _ _ a u (sym e ∙ t)) ∙ final-record h a (linesRead n (drop u (drop at s))))
 
 -- the end
-pub lines-none : (n : ℕ) → linesOf n [] ≡ Records []
-unfolding linesOf
+pub lines-none : (n : ℕ) → linesRead n [] ≡ Records []
+unfolding linesRead
 lines-none zero = refl
 lines-none (suc n) = refl
 
-pub final-end : (h : History) (n at : ℕ) (s : List ℕ) → length s ≤ at → final h (linesOf n (drop at s)) ≡ verdictOf h
+pub final-end : (h : History) (n at : ℕ) (s : List ℕ) → length s ≤ at → final h (linesRead n (drop at s)) ≡ verdictOf h
 unfolding final addedAll
-final-end h n at s l = ap (λ t. final h (linesOf n t)) (drop-of-length-le s l) ∙ ap (final h) (lines-none n)
+final-end h n at s l = ap (λ t. final h (linesRead n t)) (drop-of-length-le s l) ∙ ap (final h) (lines-none n)
 
 pub final-large : (h : History) {v : Verdict} → 64 < h .count → v ≡ refused 18 → v ≡ verdictOf h
 final-large h l q = q ∙ sym (verdict-large h l)
@@ -177,7 +175,7 @@ final-small h l q = q ∙ sym (verdict-small h l)
 
 -- a turn of the loop: some number of lines is enough for what is left
 pub final-next : (h : History) (n at u : ℕ) (s : List ℕ) (a : Operation) {r : Line} {k : History} {v : Verdict} → at < length s → length s - at ≤ n
-    → 1 ≤ u → u ≤ length s - at → r ≡ operationOf (drop at s) → r ≡ L.Record a u → k ≡ added h a → final h (linesOf n (drop at s)) ≡ v
-    → (m : ℕ) × (length s - (at + u) ≤ m) × (final k (linesOf m (drop (at + u) s)) ≡ v)
+    → 1 ≤ u → u ≤ length s - at → r ≡ operationOf (drop at s) → r ≡ L.Record a u → k ≡ added h a → final h (linesRead n (drop at s)) ≡ v
+    → (m : ℕ) × (length s - (at + u) ≤ m) × (final k (linesRead m (drop (at + u) s)) ≡ v)
 final-next h zero at u s a l g p b e t q i = absurd (omega arith)
 final-next h (suc n) at u s a l g p b e t q i = (n, omega arith, final-more h n at u s a l g e t q ∙ i)

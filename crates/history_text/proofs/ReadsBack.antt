@@ -1,4 +1,4 @@
--- What is printed for operations reads back to them (`line-reads-back`, `text-reads-back`). Assumes nothing.
+-- The code reads the line that is printed for a record as that record (`line-reads-back`). Assumes nothing.
 use mathlib.Core.Path.{_≡_, refl, sym, ap, ap₂, _∙_}
 use mathlib.Core.List.{List, [], _∷_, _++_, append-assoc}
 use Prim.Native.Nat.{ℕ, zero, suc, _+_, _-_, _*_, _/_, _%_, _^_, _<_, _≤_}
@@ -7,20 +7,23 @@ use native.Mathlib.Omega.{arith}
 use lib.Dec.{eqb, ltb, lit<}
 use lib.ListN.{length, getD, drop, length-append}
 use lib.Seq.{getD-append-seam, drop-append-seam, drop-drop}
-use borrow.Author.Tests.{ltb-true, ltb-false, lt-ltb, le-ltb, le-leb}
+use borrow.Author.Tests.{ltb-true, ltb-false, le-ltb, le-leb}
 use Rattle.area.specs.Area.{pick}
-use Rattle.order.proofs.Picks.{pick-yes, pick-no}
+use Rattle.order.proofs.Picks.{pick-no}
 use Rattle.order.proofs.Lists.{by-test}
 use Rattle.order.specs.declared.operation.Operation.{Operation}
-use Rattle.history_text.specs.Numbers.{digitOf, digitsOf, numberOf, fieldOf}
-use Rattle.history_text.specs.Printed.{decimalOf, decimal, shown, printed, printedAll, InWidth, AllInWidth}
-use Rattle.order.specs.Histories.{judged}
-use Rattle.history_text.specs.Lines.{kindAt, intervalOf, stampOf, operationOf, Records, recordThen, linesOf, answerOf, answerTo}
+use Rattle.history_text.specs.ReadNumbers.{digitOf, digitsOf, numberOf, fieldOf}
+use Rattle.history_text.specs.Decimals.{decimalOf, decimal}
+use Rattle.history_text.specs.Lines.{widths}
+use Rattle.history_text.specs.Printed.{printed, InWidth}
+use Rattle.history_text.specs.ReadLines.{kindAt, intervalOf, stampOf, operationOf}
 use Rattle.history_text.specs.declared.number.Field.the-variants.{Number}
 use Rattle.history_text.specs.declared.line.Interval.the-variants as I
 use Rattle.history_text.specs.declared.line.Stamp.the-variants as S
 use Rattle.history_text.specs.declared.line.Line.the-variants as L
-use Rattle.history_text.proofs.Lines.{line-whole, lines-at, lines-none, then-record}
+use Rattle.history_text.proofs.Decimals.{decimal-small, decimal-large, head}
+use Rattle.history_text.proofs.Shown.{shown, printed-shown}
+use Rattle.history_text.proofs.Lines.{line-whole}
 use Rattle.history_text.proofs.Laws.{digits-stop, digits-more, number-zero, number-digits, field-found, then-number}
 
 -- ---- digits
@@ -32,14 +35,6 @@ digit-of n h =
     let b : n + 48 ≤ 57 = omega arith in
     let e : n + 48 - 48 ≡ n = omega arith in
     sym (pick-no _ _ _ refl (le-ltb (n + 48) 48 a) (pick-no _ _ _ refl (le-ltb 57 (n + 48) b) (sym e)))
-
-decimal-small : (k n : ℕ) → n < 10 → decimalOf (suc k) n ≡ (n + 48) ∷ []
-unfolding decimalOf
-decimal-small k n h = sym (pick-yes _ _ _ refl (lt-ltb n 10 h) refl)
-
-decimal-large : (k n : ℕ) → 10 ≤ n → decimalOf (suc k) n ≡ decimalOf k (n / 10) ++ ((n % 10 + 48) ∷ [])
-unfolding decimalOf
-decimal-large k n h = sym (pick-no _ _ _ refl (le-ltb n 10 h) refl)
 
 -- one digit read
 digit-read : (limit v u d : ℕ) (t : List ℕ) → d < 10 → v * 10 + d ≤ limit → digitsOf limit v u ((d + 48) ∷ t) ≡ digitsOf limit (v * 10 + d) (u + 1) t
@@ -54,7 +49,8 @@ digits-none n limit u t h =
     ap₂ (λ x y. digitsOf limit x y t) e f
 
 -- all digits of n read
-digits-read : (k n limit u : ℕ) (t : List ℕ) → n < 10 ^ k → n ≤ limit → digitsOf limit 0 u (decimalOf k n ++ t) ≡ digitsOf limit n (u + length (decimalOf k n)) t
+digits-read : (k n limit u : ℕ) (t : List ℕ) → n < 10 ^ k → n ≤ limit
+    → digitsOf limit 0 u (decimalOf k n ++ t) ≡ digitsOf limit n (u + length (decimalOf k n)) t
 digits-read zero n limit u t h l = digits-none n limit u t h
 digits-read (suc k) n limit u t h l =
     by-test (ltb n 10)
@@ -80,26 +76,6 @@ digits-read (suc k) n limit u t h l =
     ∙ digits-read k (n / 10) limit u ((n % 10 + 48) ∷ t) q w
     ∙ digit-read limit (n / 10) (u + length (decimalOf k (n / 10))) (n % 10) t r m
     ∙ ap₂ (λ x y. digitsOf limit x y t) v o)
-
--- the first digit is not 0
-record Head (l : List ℕ) : Type 0 where
-  pub byte : ℕ
-  pub rest : List ℕ
-  pub is : l ≡ byte ∷ rest
-  pub low : 49 ≤ byte
-  pub high : byte ≤ 57
-
-head : (k n : ℕ) → 1 ≤ n → n < 10 ^ k → Head (decimalOf k n)
-head zero n g h = absurd (let e : n < 1 = h in omega arith)
-head (suc k) n g h =
-    by-test (ltb n 10)
-    (λ b. let l : n < 10 = ltb-true n 10 b in record { byte = n + 48; rest = []; is = decimal-small k n l; low = omega arith; high = omega arith })
-    (λ b.
-    let l : 10 ≤ n = ltb-false n 10 b in
-    let p : n < 10 ^ k * 10 = rw pow-suc at h in
-    let q : n / 10 < 10 ^ k = omega arith in
-    let d = head k (n / 10) (omega arith) q in
-    record { byte = d .byte; rest = d .rest ++ ((n % 10 + 48) ∷ []); is = decimal-large k n l ∙ ap (λ x. x ++ ((n % 10 + 48) ∷ [])) (d .is); low = d .low; high = d .high })
 
 -- ---- a number, and a number with the byte behind it
 
@@ -181,54 +157,29 @@ unfolding kindAt pick
 kind-of a = by-test (a .write) (λ t. rw t (omega arith, refl)) (λ t. rw t (omega arith, refl))
 
 pub line-reads-back : (a : Operation) (t : List ℕ) → InWidth a → operationOf (printed a ++ t) ≡ L.Record a (length (printed a))
-unfolding printed
+unfolding widths
 line-reads-back a t h =
     let k = pick {A = ℕ} (a .write) 87 82 in
     let tail = shown (a .time) 32 ++ (shown (a .writer) 32 ++ (shown (a .sequence) 10 ++ t)) in
     let u = shown (a .start) 32 ++ (shown (a .end) 32 ++ tail) in
-    let all : (shown (a .start) 32 ++ (shown (a .end) 32 ++ (shown (a .time) 32 ++ (shown (a .writer) 32 ++ shown (a .sequence) 10)))) ++ t ≡ u = simp append-assoc in
     let s = k ∷ 32 ∷ u in
-    let i = interval-read (a .start) (a .end) tail (h .start) (h .end) in
+    let i = interval-read (a .start) (a .end) tail (h .0) (h .1 .0) in
     let n = length (shown (a .start) 32) + length (shown (a .end) 32) in
     let d : drop (0 + 2 + n) s ≡ tail =
     sym (drop-drop n 2 s) ∙ sym (drop-drop (length (shown (a .end) 32)) (length (shown (a .start) 32)) u)
     ∙ ap (drop (length (shown (a .end) 32))) (drop-append-seam (shown (a .start) 32) (shown (a .end) 32 ++ tail)) ∙ drop-append-seam (shown (a .end) 32) tail in
-    let p = ap stampOf d ∙ stamp-read (a .time) (a .writer) (a .sequence) t (h .time) (h .writer) (h .sequence) in
+    let p = ap stampOf d ∙ stamp-read (a .time) (a .writer) (a .sequence) t (h .1 .1 .0) (h .1 .1 .1 .0) (h .1 .1 .1 .1 .0) in
     let m = length (shown (a .time) 32) + length (shown (a .writer) 32) + length (shown (a .sequence) 10) in
     let size : 2 + n + m ≡ length (printed a) =
-    (let x₁ = length-append (shown (a .start) 32) (shown (a .end) 32 ++ (shown (a .time) 32 ++ (shown (a .writer) 32 ++ shown (a .sequence) 10))) in
-    let x₂ = length-append (shown (a .end) 32) (shown (a .time) 32 ++ (shown (a .writer) 32 ++ shown (a .sequence) 10)) in
-    let x₃ = length-append (shown (a .time) 32) (shown (a .writer) 32 ++ shown (a .sequence) 10) in
-    let x₄ = length-append (shown (a .writer) 32) (shown (a .sequence) 10) in
+    (let x₀ = ap length (printed-shown a []) in
+    let y₀ = length-append (printed a) [] in
+    let x₁ = length-append (shown (a .start) 32) (shown (a .end) 32 ++ (shown (a .time) 32 ++ (shown (a .writer) 32 ++ (shown (a .sequence) 10 ++ [])))) in
+    let x₂ = length-append (shown (a .end) 32) (shown (a .time) 32 ++ (shown (a .writer) 32 ++ (shown (a .sequence) 10 ++ []))) in
+    let x₃ = length-append (shown (a .time) 32) (shown (a .writer) 32 ++ (shown (a .sequence) 10 ++ [])) in
+    let x₄ = length-append (shown (a .writer) 32) (shown (a .sequence) 10 ++ []) in
+    let x₅ = length-append (shown (a .sequence) 10) [] in
     omega arith) in
-    ap (λ x. operationOf (k ∷ 32 ∷ x)) all
+    ap operationOf (printed-shown a t)
     ∙ sym (line-whole s 0 (omega arith) refl (kind-of a .0) refl (a .start) (a .end) n (a .time) (a .writer) (a .sequence) m (sym i) refl (sym p) refl)
-    ∙ ap₂ (λ w x. L.Record (record { write = w; start = a .start; end = a .end; time = a .time; writer = a .writer; sequence = a .sequence }) x) (kind-of a .1) size
-
--- ---- a text
-
-filled : (a : Operation) → 1 ≤ length (printed a)
-unfolding printed
-filled a = omega arith
-
-record-then : (a : Operation) (ops : List Operation) → recordThen a (Records ops) ≡ Records (a ∷ ops)
-unfolding recordThen
-record-then a ops = refl
-
-lines-read : (ops : List Operation) (n : ℕ) → AllInWidth ops → length (printedAll ops) ≤ n → linesOf n (printedAll ops) ≡ Records ops
-unfolding printedAll
-lines-read [] n h g = lines-none n
-lines-read (a ∷ ops) zero h g = absurd (let x = length-append (printed a) (printedAll ops) in let y = filled a in omega arith)
-lines-read (a ∷ ops) (suc n) h g =
-    let x = length-append (printed a) (printedAll ops) in
-    let y = filled a in
-    lines-at n 0 (printed a ++ printedAll ops) (omega arith)
-    ∙ then-record _ _ _ a (length (printed a)) (line-reads-back a (printedAll ops) (h .0))
-    ∙ ap (λ l. recordThen a (linesOf n l)) (drop-append-seam (printed a) (printedAll ops))
-    ∙ ap (recordThen a) (lines-read ops n (h .1) (omega arith))
-    ∙ record-then a ops
-
--- what is printed for a history is answered as the history is judged
-pub text-reads-back : (ops : List Operation) → AllInWidth ops → answerTo (printedAll ops) ≡ judged ops
-unfolding answerTo answerOf
-text-reads-back ops h = ap answerOf (lines-read ops (length (printedAll ops)) h (omega arith))
+    ∙ ap₂ (λ w x. L.Record (record { write = w; start = a .start; end = a .end; time = a .time; writer = a .writer; sequence = a .sequence }) x)
+    (kind-of a .1) size

@@ -1,3 +1,5 @@
-pub mod Numbers
+pub mod Decimals
 pub mod Lines
 pub mod Printed
+pub mod ReadNumbers
+pub mod ReadLines

@@ -1,77 +1,67 @@
 -- The text of a history. Document 01: "Fields: kind, start, end, time, writer, sequence. A record is malformed unless it has these six, without leading
 -- zeros, one space between, a newline after, R or W, start below end, each number in its width and writer at most 8." That start is below end is part of
--- `malformed`. Assumes nothing: these are definitions.
-use Prim.Native.Nat.{ℕ, zero, suc, _+_, _≤_}
+-- `malformed`. 10 is a newline, 32 a space, 82 R and 87 W. Assumes nothing: these are definitions.
+use Prim.Native.Nat.{ℕ}
 use mathlib.Core.Bool.{Bool, true, false}
-use mathlib.Core.List.{List, [], _∷_}
-use lib.Dec.{eqb, ltb}
-use lib.ListN.{length, getD, drop}
-use Rattle.area.specs.Area.{pick}
-use Rattle.order.specs.Histories.{refused, judged}
+use mathlib.Core.List.{List, [], _∷_, map}
+use lib.Dec.{eqb}
+use lib.ListN.{getD}
+use Rattle.area.specs.Area.{pick, same}
+use Rattle.order.specs.Histories.{refused, judged, noOperation}
 use Rattle.order.specs.declared.operation.Operation.{Operation}
 use Rattle.order.specs.declared.judge.Verdict.{Verdict}
-use Rattle.history_text.specs.Numbers.{thenNumber, fieldOf}
-use Rattle.history_text.specs.declared.line.Interval.{Interval}
-use Rattle.history_text.specs.declared.line.Interval.the-variants as I
-use Rattle.history_text.specs.declared.line.Stamp.{Stamp}
-use Rattle.history_text.specs.declared.line.Stamp.the-variants as S
-use Rattle.history_text.specs.declared.line.Line.{Line}
-use Rattle.history_text.specs.declared.line.Line.the-variants as L
+use Rattle.history_text.specs.Decimals.{valueOf, isNumber}
 
--- 0 for R, 1 for W, 2 for another byte
-unfoldable pub kindAt : ℕ → ℕ
-kindAt c = pick (eqb c 82) 0 (pick (eqb c 87) 1 2)
+-- ---- a text in pieces
 
--- start and end, "32 bits", and how many bytes they take; 32 is a space
-unfoldable pub intervalOf : List ℕ → Interval
-intervalOf text =
-    thenNumber (fieldOf 4294967295 32 text) I.Bad (λ start a.
-    thenNumber (fieldOf 4294967295 32 (drop a text)) I.Bad (λ end b.
-    I.Times start end (a + b)))
+-- a byte in front of the first piece
+unfoldable pub longer : ℕ → List (List ℕ) → List (List ℕ)
+longer x [] = []
+longer x (piece ∷ pieces) = (x ∷ piece) ∷ pieces
 
--- the stamp: time of 64 bits, writer at most 8, sequence of 32 bits; 10 is a newline
-unfoldable pub stampOf : List ℕ → Stamp
-stampOf text =
-    thenNumber (fieldOf 18446744073709551615 32 text) S.Bad (λ time a.
-    thenNumber (fieldOf 8 32 (drop a text)) S.Bad (λ writer b.
-    thenNumber (fieldOf 4294967295 10 (drop (a + b) text)) S.Bad (λ sequence d.
-    S.Parts time writer sequence (a + b + d))))
+-- the pieces between the bytes c of a text, one more than it has of these bytes
+unfoldable pub split : ℕ → List ℕ → List (List ℕ)
+split c [] = [] ∷ []
+split c (x ∷ text) = pick (eqb x c) ([] ∷ split c text) (longer x (split c text))
 
-unfoldable pub thenInterval : {A : Type 0} → Interval → A → (ℕ → ℕ → ℕ → A) → A
-thenInterval (I.Times start end used) bad f = f start end used
-thenInterval I.Bad bad f = bad
+-- ---- a line
 
-unfoldable pub thenStamp : {A : Type 0} → Stamp → A → (ℕ → ℕ → ℕ → ℕ → A) → A
-thenStamp (S.Parts time writer sequence used) bad f = f time writer sequence used
-thenStamp S.Bad bad f = bad
+unfoldable pub isWrite : List ℕ → Bool
+isWrite field = same field (87 ∷ [])
 
--- an operation at the front of a text
-unfoldable pub operationOf : List ℕ → Line
-operationOf text =
-    pick (ltb (length text) 2) L.Bad
-    (pick (ltb 1 (kindAt (getD text 0 0))) L.Bad
-    (pick (eqb (getD text 1 0) 32)
-    (thenInterval (intervalOf (drop 2 text)) L.Bad (λ start end a.
-    thenStamp (stampOf (drop (2 + a) text)) L.Bad (λ time writer sequence b.
-    L.Record (record { write = eqb (kindAt (getD text 0 0)) 1; start = start; end = end; time = time; writer = writer; sequence = sequence }) (2 + a + b))))
-    L.Bad))
+-- "R or W"
+unfoldable pub isKind : List ℕ → Bool
+isKind field = pick (same field (82 ∷ [])) true (isWrite field)
 
--- what was read takes no more bytes than there are
-abbrev pub WithinInterval : ℕ → Interval → Type 0
-WithinInterval room (I.Times start end used) = used ≤ room
-WithinInterval room I.Bad = Unit {0}
+-- the largest start, end, time, writer and sequence
+unfoldable pub widths : List ℕ
+widths = 4294967295 ∷ 4294967295 ∷ 18446744073709551615 ∷ 8 ∷ 4294967295 ∷ []
 
-abbrev pub WithinStamp : ℕ → Stamp → Type 0
-WithinStamp room (S.Parts time writer sequence used) = used ≤ room
-WithinStamp room S.Bad = Unit {0}
+-- a number for each width
+unfoldable pub areNumbers : List ℕ → List (List ℕ) → Bool
+areNumbers [] [] = true
+areNumbers [] (field ∷ fields) = false
+areNumbers (width ∷ widths) [] = false
+areNumbers (width ∷ widths) (field ∷ fields) = pick (isNumber width field) (areNumbers widths fields) false
 
-abbrev pub WithinLine : ℕ → Line → Type 0
-WithinLine room (L.Record a used) = (1 ≤ used) × (used ≤ room)
-WithinLine room L.Bad = Unit {0}
+-- whether fields are those of a record: a kind and the numbers
+unfoldable pub isFormed : List (List ℕ) → Bool
+isFormed [] = false
+isFormed (kind ∷ numbers) = pick (isKind kind) (areNumbers widths numbers) false
+
+-- the record of a kind and numbers
+abbrev pub recordWith : Bool → List ℕ → Operation
+recordWith write x =
+    record { write = write; start = getD x 0 0; end = getD x 1 0; time = getD x 2 0; writer = getD x 3 0; sequence = getD x 4 0 }
+
+-- the record that fields say
+unfoldable pub recordOf : List (List ℕ) → Operation
+recordOf [] = noOperation
+recordOf (kind ∷ numbers) = recordWith (isWrite kind) (map valueOf numbers)
 
 -- ---- the whole text
 
--- the operations of all lines, or a malformed line
+-- the records of all lines, or a malformed line
 pub data Lines : Type 0 where
   Records : List Operation → Lines
   Malformed : Lines
@@ -80,21 +70,19 @@ unfoldable pub recordThen : Operation → Lines → Lines
 recordThen a (Records ops) = Records (a ∷ ops)
 recordThen a Malformed = Malformed
 
-unfoldable pub thenLine : {A : Type 0} → Line → A → (Operation → ℕ → A) → A
-thenLine (L.Record a used) bad f = f a used
-thenLine L.Bad bad f = bad
+-- "a newline after": behind the last newline there is nothing
+unfoldable pub recordsOf : List (List ℕ) → Lines
+recordsOf [] = Malformed
+recordsOf (rest ∷ []) = pick (same rest []) (Records []) Malformed
+recordsOf (line ∷ next ∷ lines) = pick (isFormed (split 32 line)) (recordThen (recordOf (split 32 line)) (recordsOf (next ∷ lines))) Malformed
 
--- the lines of a text, at most n of them; every line takes a byte, so that the text's length is enough for n
-unfoldable pub linesOf : ℕ → List ℕ → Lines
-linesOf zero [] = Records []
-linesOf zero (c ∷ text) = Malformed
-linesOf (suc n) [] = Records []
-linesOf (suc n) (c ∷ text) = thenLine (operationOf (c ∷ text)) Malformed (λ a used. recordThen a (linesOf n (drop used (c ∷ text))))
+unfoldable pub linesOf : List ℕ → Lines
+linesOf text = recordsOf (split 10 text)
 
--- the answer to a text: 18 where a line is malformed, else what is judged of its operations
+-- the answer to a text: 18 where a line is malformed, else what is judged of its records
 unfoldable pub answerOf : Lines → Verdict
 answerOf (Records ops) = judged ops
 answerOf Malformed = refused 18
 
 unfoldable pub answerTo : List ℕ → Verdict
-answerTo text = answerOf (linesOf (length text) text)
+answerTo text = answerOf (linesOf text)

@@ -5,7 +5,7 @@ use order::operation::Operation;
 ghost use mathlib.Core.Path.{_≡_};
 ghost use Prim.Native.Nat.{_-_, _≤_};
 ghost use lib.ListN.{length, drop};
-ghost use Rattle.history_text.specs.Lines.{kindAt, intervalOf, stampOf, operationOf, WithinInterval, WithinStamp, WithinLine};
+ghost use Rattle.history_text.specs.ReadLines.{kindAt, intervalOf, stampOf, operationOf, WithinInterval, WithinStamp, WithinLine};
 
 // Start and end and how many bytes they take.
 pub enum Interval {

@@ -3,7 +3,7 @@ ghost use mathlib.Core.Path.{_≡_};
 ghost use Prim.Native.Nat.{_+_, _-_, _*_, _<_, _≤_};
 ghost use lib.Dec.{leb};
 ghost use lib.ListN.{length, drop};
-ghost use Rattle.history_text.specs.Numbers.{digitOf, digitsOf, numberOf, fieldOf, Within};
+ghost use Rattle.history_text.specs.ReadNumbers.{digitOf, digitsOf, numberOf, fieldOf, WithinField};
 
 // A number and how many bytes it takes, or no number.
 pub enum Field {
@@ -42,7 +42,7 @@ fn fits(value: u64, d: u64, limit: u64) -> bool
 // The number that the digits from index at on make.
 fn read_digits(s: &[u8], at: usize, limit: u64) -> Field
     requires { ⌜ at ≤ length (now s) ⌝ }
-    ensures { λ r. ⌜ (r ≡ digitsOf limit 0 0 (drop at (now (s .entry)))) × Within limit (length (now (s .entry)) - at) r ⌝ }
+    ensures { λ r. ⌜ (r ≡ digitsOf limit 0 0 (drop at (now (s .entry)))) × WithinField limit (length (now (s .entry)) - at) r ⌝ }
 {
     let mut value: u64 = 0;
     let mut used: usize = 0;
@@ -64,7 +64,7 @@ fn read_digits(s: &[u8], at: usize, limit: u64) -> Field
 // The number from index at on, without leading zeros.
 fn read_number(s: &[u8], at: usize, limit: u64) -> Field
     requires { ⌜ at ≤ length (now s) ⌝ }
-    ensures { λ r. ⌜ (r ≡ numberOf limit (drop at (now (s .entry)))) × Within limit (length (now (s .entry)) - at) r ⌝ }
+    ensures { λ r. ⌜ (r ≡ numberOf limit (drop at (now (s .entry)))) × WithinField limit (length (now (s .entry)) - at) r ⌝ }
 {
     if s.len() <= at {
         return Field::Bad;
@@ -82,7 +82,7 @@ fn read_number(s: &[u8], at: usize, limit: u64) -> Field
 // The number from index at on, with the byte end behind it.
 pub fn read_field(s: &[u8], at: usize, limit: u64, end: u8) -> Field
     requires { ⌜ (at ≤ length (now s)) × (0 < end) ⌝ }
-    ensures { λ r. ⌜ (r ≡ fieldOf limit end (drop at (now (s .entry)))) × Within limit (length (now (s .entry)) - at) r ⌝ }
+    ensures { λ r. ⌜ (r ≡ fieldOf limit end (drop at (now (s .entry)))) × WithinField limit (length (now (s .entry)) - at) r ⌝ }
 {
     let n = read_number(s, at, limit);
     let Field::Number(value, used) = n else {

@@ -9,3 +9,4 @@ pub mod StampLaws
 pub mod Accepts
 pub mod Arranged
 pub mod Theorems
+pub mod Answers

@@ -1,12 +1,13 @@
 -- The outcome of each exported call from what its code's calls promise. Assumes nothing.
 use Prim.Native.Nat.{ℕ, _<_, _≤_}
-use mathlib.Core.Path.{_≡_, refl, sym, ap, ap₂, _∙_}
-use mathlib.Core.Bool.{Bool, true, false, not}
+use mathlib.Core.Path.{_≡_, refl, sym, ap, ap₂, subst, _∙_}
+use mathlib.Core.Bool.{Bool, true, false}
 use mathlib.Core.List.{List}
-use lib.ListN.{length, replicate}
+use lib.ListN.{length, replicate, take}
 use lib.Seq.{sets, length-sets}
 use lib.Dec.{ltb}
-use borrow.Author.Tests.{lt-ltb, le-ltb}
+use native.Mathlib.Omega.{arith}
+use borrow.Author.Tests.{ltb-false, lt-ltb, le-ltb}
 use Rattle.area.specs.Area.{pick}
 use Rattle.blocks.specs.declared.Params.{Params}
 use Rattle.blocks.specs.declared.Coded.{Coded}
@@ -24,7 +25,7 @@ use Rattle.order.specs.Histories.{any, malformed, unlisted, offended, later, ea
 use Rattle.order.specs.declared.judge.Verdict.{Verdict as Judged}
 use Rattle.layout.specs.Clients.{clientSize, clientBytes, clientAt, clientIn}
 use Rattle.register.specs.Answers.{codeAnswer, testAnswer, clientAnswer, historyAnswer}
-use Rattle.register.specs.Calls.{wrote, digestCall, codeCall, hasOrder, judgedCall, historyCall, freshCall, began, isRefusal, stateAfter, beganOf, readCall, writeCall}
+use Rattle.register.specs.Calls.{wrote, digestCall, codeCall, lineCount, judgedCall, historyCall, freshCall, began, isRefusal, stateAfter, beganOf, readCall, writeCall}
 use Rattle.register.specs.Short.{readShort, valueShort}
 
 -- where an area is long enough, or short
@@ -56,6 +57,11 @@ both-ways : {A : Type 0} (P : A → Type 0) (b : Bool) (x y : A) → P x → P y
 unfolding pick
 both-ways P true x y p q = p
 both-ways P false x y p q = q
+
+by-branch : {A : Type 0} (P : A → Type 0) (b : Bool) (x y : A) → P x → (b ≡ false → P y) → P (pick b x y)
+unfolding pick
+by-branch P true x y p q = p
+by-branch P false x y p q = q refl
 
 -- the line numbers of an answer are 64
 abbrev Whole : Judged → Type 0
@@ -90,32 +96,49 @@ whole-lines Malformed = whole-refused 18
 
 pub whole-answer : (text : List ℕ) (v : Judged) → v ≡ answerTo text → length (v .lines) ≡ 64
 unfolding answerTo
-whole-answer text v e = ap (λ w. length (w .lines)) e ∙ whole-lines (linesOf (length text) text)
+whole-answer text v e = ap (λ w. length (w .lines)) e ∙ whole-lines (linesOf text)
 
-off : (b : Bool) → not b ≡ true → b ≡ false
-off true e = sym e
-off false e = refl
+-- an answer gives at most 64 line numbers
+abbrev Few : Judged → Type 0
+Few v = lineCount (v .answer) ≤ 64
 
-on : (b : Bool) → not b ≡ false → b ≡ true
-on true e = refl
-on false e = sym e
+few-refused : (x : ℕ) → Few (refused x)
+unfolding refused lineCount
+few-refused x = omega arith
 
-module _ (text lines : List ℕ) (v : Judged) (e : v ≡ answerTo text) (h : 64 ≤ length lines) (x : ℕ) (p : x ≡ historyAnswer (v .answer)) (b : Bool)
-    (q : b ≡ hasOrder (v .answer)) where
-  told : (o : List ℕ) → o ≡ pick b (sets lines 0 (v .lines)) lines → wrote x o ≡ historyCall text lines
-  unfolding historyCall judgedCall
-  told o r =
-      ap₂ wrote p (r ∙ ap (λ z. pick z (sets lines 0 (v .lines)) lines) q)
-      ∙ ap (λ w. judgedCall w lines) e
-      ∙ enough (length lines) 64 (wrote 10 lines) (judgedCall (answerTo text) lines) h
+few-offending : (a b : ℕ) → Few (offending a b)
+unfolding offending lineCount
+few-offending a b = omega arith
 
-  pub judged-other : not b ≡ true → wrote x lines ≡ historyCall text lines
-  unfolding pick
-  judged-other f = told lines (sym (ap (λ z. pick z (sets lines 0 (v .lines)) lines) (off b f)))
+few-ordered : (ops : List Operation) → length ops ≤ 64 → Few (ordered ops)
+unfolding ordered lineCount
+few-ordered ops h = h
 
-  pub judged-order : not b ≡ false → (o : List ℕ) → o ≡ sets lines 0 (v .lines) → wrote x o ≡ historyCall text lines
-  unfolding pick
-  judged-order f o r = told o (r ∙ sym (ap (λ z. pick z (sets lines 0 (v .lines)) lines) (on b f)))
+few-judged : (ops : List Operation) → Few (judged ops)
+unfolding judged
+few-judged ops =
+    by-branch Few (ltb 64 (length ops)) (refused 18) _ (few-refused 18)
+    (λ h. both-ways Few (any (malformed ops) ops) (refused 18) _ (few-refused 18)
+    (both-ways Few (any (unlisted ops) ops) (refused 19) _ (few-refused 19)
+    (both-ways Few (any (offended ops) ops) (offending (earlier ops) (later ops)) (ordered ops) (few-offending (earlier ops) (later ops))
+    (few-ordered ops (ltb-false 64 (length ops) h)))))
+
+few-lines : (l : Lines) → Few (answerOf l)
+unfolding answerOf
+few-lines (Records ops) = few-judged ops
+few-lines Malformed = few-refused 18
+
+pub few-answer : (text : List ℕ) (v : Judged) (n : ℕ) → v ≡ answerTo text → n ≡ lineCount (v .answer) → n ≤ 64
+unfolding answerTo
+few-answer text v n e q = subst (λ k. k ≤ 64) (sym (q ∙ ap (λ w. lineCount (w .answer)) e)) (few-lines (linesOf text))
+
+pub judged-done : (text lines : List ℕ) (v : Judged) → v ≡ answerTo text → 64 ≤ length lines → (x : ℕ) → x ≡ historyAnswer (v .answer) → (n : ℕ)
+    → n ≡ lineCount (v .answer) → (o : List ℕ) → o ≡ sets lines 0 (take n (v .lines)) → wrote x o ≡ historyCall text lines
+unfolding historyCall judgedCall
+judged-done text lines v e h x p n q o r =
+    ap₂ wrote p (r ∙ ap (λ k. sets lines 0 (take k (v .lines))) q)
+    ∙ ap (λ w. judgedCall w lines) e
+    ∙ enough (length lines) 64 (wrote 10 lines) (judgedCall (answerTo text) lines) h
 
 -- ---- a client
 

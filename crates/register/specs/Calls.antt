@@ -3,7 +3,7 @@
 use Prim.Native.Nat.{ℕ}
 use mathlib.Core.Bool.{Bool, true, false}
 use mathlib.Core.List.{List}
-use lib.ListN.{length}
+use lib.ListN.{length, take}
 use lib.Seq.{sets}
 use lib.Dec.{ltb}
 use Rattle.area.specs.Area.{pick}
@@ -49,14 +49,15 @@ encodeCall g value out = codeCall (encoding g value out)
 unfoldable pub decodeCall : Params → List ℕ → List ℕ → List ℕ → Wrote
 decodeCall g numbers blocks out = codeCall (decoding g numbers blocks out)
 
-unfoldable pub hasOrder : Judgement → Bool
-hasOrder (O.Ordered m) = true
-hasOrder (O.Offending a b) = false
-hasOrder (O.Refused x) = false
+-- how many line numbers an answer gives
+unfoldable pub lineCount : Judgement → ℕ
+lineCount (O.Ordered m) = m
+lineCount (O.Offending a b) = 0
+lineCount (O.Refused x) = 0
 
--- where there is an order its line numbers go to the front of the lent area, 0 behind the last, 64 in all
+-- the line numbers of an order go to the front of the lent area; what is behind them stays as lent
 unfoldable pub judgedCall : Judged → List ℕ → Wrote
-judgedCall v lines = wrote (historyAnswer (v .answer)) (pick (hasOrder (v .answer)) (sets lines 0 (v .lines)) lines)
+judgedCall v lines = wrote (historyAnswer (v .answer)) (sets lines 0 (take (lineCount (v .answer)) (v .lines)))
 
 unfoldable pub historyCall : List ℕ → List ℕ → Wrote
 historyCall text lines = pick (ltb (length lines) 64) (wrote 10 lines) (judgedCall (answerTo text) lines)

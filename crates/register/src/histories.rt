@@ -3,19 +3,20 @@ use crate::answers::history_answer;
 use history_text::text::judge_text;
 use order::judge::Answer;
 ghost use mathlib.Core.Path.{_≡_};
-ghost use Rattle.register.specs.Calls.{wrote, hasOrder, historyCall};
+ghost use Rattle.register.specs.Calls.{wrote, lineCount, historyCall};
 
-fn has_order(a: Answer) -> bool
-    ensures { λ r. ⌜ r ≡ hasOrder a ⌝ }
+// How many line numbers an answer gives.
+fn line_count(a: Answer) -> usize
+    ensures { λ r. ⌜ r ≡ lineCount a ⌝ }
 {
     match a {
-        Answer::Ordered(m) => true,
-        Answer::Offending(x, y) => false,
-        Answer::Refused(x) => false,
+        Answer::Ordered(m) => m,
+        Answer::Offending(x, y) => 0,
+        Answer::Refused(x) => 0,
     }
 }
 
-// Whether the operations of a history have an order; if so its line numbers go to the first 64 bytes of lines.
+// Whether the operations of a history have an order; if so its line numbers go to the front of lines, which has 64 bytes at least.
 #[no_mangle]
 pub extern "C" fn semduoli_judge(text: &[u8], lines: &mut [u8]) -> u64
     ensures { λ r. ⌜ wrote r (now (lines .exit)) ≡ historyCall (now (text .entry)) (now (lines .entry)) ⌝ }
@@ -25,10 +26,8 @@ pub extern "C" fn semduoli_judge(text: &[u8], lines: &mut [u8]) -> u64
     }
     let verdict = judge_text(text);
     let answer = verdict.answer;
-    if !has_order(answer) {
-        return history_answer(answer);
-    }
+    let count = line_count(answer);
     let row = verdict.lines;
-    area::put(lines, 0, &row);
+    area::put(lines, 0, &row[..count]);
     history_answer(answer)
 }

@@ -1,3 +1,4 @@
+-- Safe and ending. Assumes nothing.
 use mathlib.Core.Path.{_≡_}
 use lib.ListN.{length}
 use native.Mathlib.Omega.{arith}
@@ -6,101 +7,105 @@ use Rattle.hall.proofs.read_script.Statement.{statement}
 use Rattle.hall.proofs.read_script.Tie as tie
 use Rattle.hall.proofs.read_script.Reads as reads
 use Rattle.hall.proofs.read_script.Lts as lts
-use Rattle.hall.proofs.end_line.Reads as end-line-reads
-use Rattle.hall.proofs.is_begun.Reads as is-begun-reads
-use Rattle.hall.proofs.left_after.Reads as left-after-reads
+use Rattle.console.proofs.patience.left_after.Reads as left-after-reads
+use Rattle.hall.proofs.end_script.Reads as end-script-reads
 use Rattle.hall.proofs.line.no_line.Reads as no-line-reads
 use Rattle.hall.proofs.parties.no_hall.Reads as no-hall-reads
 use Rattle.hall.proofs.take_piece.Reads as take-piece-reads
 
 abbrev Inv-loop : tie.InvT-loop
-Inv-loop bytes₀ areas₀ initials₀ rows₀ values₀ r₀ left₀ bytes areas initials rows values r left =
-    (length bytes ≡ length bytes₀) × (length areas ≡ length areas₀) × (length initials ≡ length initials₀) × (length rows ≡ length rows₀) × (length values ≡ length values₀) × (length areas ≡ 1070784) × (length initials ≡ 2816) × (length rows ≡ 207360) × (length values ≡ 2304)
+Inv-loop fd bytes₀ areas₀ initials₀ rows₀ values₀ text₀ r₀ failed₀ left₀ bytes areas initials rows values text r failed left =
+    (length bytes ≡ length bytes₀) × (length areas ≡ length areas₀) × (length initials ≡ length initials₀) × (length rows ≡ length rows₀) × (length values ≡ length values₀) × (length text ≡ length text₀)
+    × (length areas ≡ 1070784) × (length initials ≡ 2816) × (length rows ≡ 207360) × (length values ≡ 2304)
 
 abbrev μ-loop : tie.MeasureT-loop
-μ-loop bytes₀ areas₀ initials₀ rows₀ values₀ r₀ left₀ bytes areas initials rows values r left = left
+μ-loop fd bytes₀ areas₀ initials₀ rows₀ values₀ text₀ r₀ failed₀ left₀ bytes areas initials rows values text r failed left = left
 
--- src/main.rt:148:15
+-- src/main.rt:167:15
 no-hall-requires : tie.Need-no-hall-requires Inv-loop μ-loop
 no-hall-requires c κs = search needs
 
--- src/main.rt:149:15
+-- src/main.rt:168:15
 no-line-requires : tie.Need-no-line-requires Inv-loop μ-loop
 no-line-requires c κs = search needs
 
--- src/main.rt:152:5
+-- src/main.rt:172:5
 loop-holds : tie.Need-loop-holds Inv-loop μ-loop
 loop-holds c = search needs
 
--- src/main.rt:153:13
+-- src/main.rt:173:13
 take-piece-requires : tie.Need-take-piece-requires Inv-loop μ-loop
 take-piece-requires c κs = search needs
 
--- src/main.rt:155:9
+-- src/main.rt:176:9
 left-after-requires : tie.Need-left-after-requires Inv-loop μ-loop
 left-after-requires c κs = search needs
 
--- src/main.rt:152:5
+-- src/main.rt:172:5
 loop-less : tie.Need-loop-less Inv-loop μ-loop
 loop-less c = search needs
 
--- src/main.rt:152:5
+-- src/main.rt:172:5
 loop-again : tie.Need-loop-again Inv-loop μ-loop
 loop-again c = search needs
 
--- src/main.rt:158:8
-is-begun-requires : tie.Need-is-begun-requires Inv-loop μ-loop
-is-begun-requires c κs = search needs
+-- src/main.rt:179:9
+end-script-requires : tie.Need-end-script-requires Inv-loop μ-loop
+end-script-requires c κs = search needs
 
--- src/main.rt:159:9
-end-line-requires : tie.Need-end-line-requires Inv-loop μ-loop
-end-line-requires c κs = search needs
-
--- src/main.rt:138:1
+-- src/main.rt:155:1
 same-length : tie.Need-same-length Inv-loop μ-loop
 same-length c = search needs
 
--- src/main.rt:138:1
+-- src/main.rt:155:1
 same-length-2 : tie.Need-same-length-2 Inv-loop μ-loop
 same-length-2 c = search needs
 
--- src/main.rt:138:1
+-- src/main.rt:155:1
 same-length-3 : tie.Need-same-length-3 Inv-loop μ-loop
 same-length-3 c = search needs
 
--- src/main.rt:138:1
+-- src/main.rt:155:1
 same-length-4 : tie.Need-same-length-4 Inv-loop μ-loop
 same-length-4 c = search needs
 
--- src/main.rt:138:1
+-- src/main.rt:155:1
 same-length-5 : tie.Need-same-length-5 Inv-loop μ-loop
 same-length-5 c = search needs
 
--- src/main.rt:138:1
-returns : tie.Need-returns Inv-loop μ-loop
-returns c = search needs
-
--- src/main.rt:138:1
+-- src/main.rt:155:1
 same-length-6 : tie.Need-same-length-6 Inv-loop μ-loop
 same-length-6 c = search needs
 
--- src/main.rt:138:1
+-- src/main.rt:155:1
+returns : tie.Need-returns Inv-loop μ-loop
+returns c = search needs
+
+-- src/main.rt:155:1
 same-length-7 : tie.Need-same-length-7 Inv-loop μ-loop
 same-length-7 c = search needs
 
--- src/main.rt:138:1
+-- src/main.rt:155:1
 same-length-8 : tie.Need-same-length-8 Inv-loop μ-loop
 same-length-8 c = search needs
 
--- src/main.rt:138:1
+-- src/main.rt:155:1
 same-length-9 : tie.Need-same-length-9 Inv-loop μ-loop
 same-length-9 c = search needs
 
--- src/main.rt:138:1
+-- src/main.rt:155:1
 same-length-10 : tie.Need-same-length-10 Inv-loop μ-loop
 same-length-10 c = search needs
 
--- src/main.rt:138:1
+-- src/main.rt:155:1
+same-length-11 : tie.Need-same-length-11 Inv-loop μ-loop
+same-length-11 c = search needs
+
+-- src/main.rt:155:1
+same-length-12 : tie.Need-same-length-12 Inv-loop μ-loop
+same-length-12 c = search needs
+
+-- src/main.rt:155:1
 returns-2 : tie.Need-returns-2 Inv-loop μ-loop
 returns-2 c = search needs
 
@@ -117,17 +122,18 @@ read-script-spec =
     left-after-requires
     loop-less
     loop-again
-    is-begun-requires
-    end-line-requires
+    end-script-requires
     same-length
     same-length-2
     same-length-3
     same-length-4
     same-length-5
-    returns
     same-length-6
+    returns
     same-length-7
     same-length-8
     same-length-9
     same-length-10
+    same-length-11
+    same-length-12
     returns-2)

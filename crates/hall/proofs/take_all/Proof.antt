@@ -1,5 +1,6 @@
-use Prim.Native.Nat.{_≤_, _-_}
+-- Safe and ending. Assumes nothing.
 use mathlib.Core.Path.{_≡_}
+use Prim.Native.Nat.{_-_, _≤_}
 use lib.ListN.{length}
 use native.Mathlib.Omega.{arith}
 use borrow.Author.Needs.{needs}
@@ -7,59 +8,62 @@ use Rattle.hall.proofs.take_all.Statement.{statement}
 use Rattle.hall.proofs.take_all.Tie as tie
 use Rattle.hall.proofs.take_all.Reads as reads
 use Rattle.hall.proofs.take_all.Lts as lts
-use Rattle.hall.proofs.take.Reads as take-reads
+use Rattle.hall.proofs.from_start.Reads as from-start-reads
+use Rattle.hall.proofs.take_next.Reads as take-next-reads
 
 abbrev Inv-loop : tie.InvT-loop
-Inv-loop piece bytes₀ areas₀ initials₀ rows₀ values₀ y₀ i₀ bytes areas initials rows values y i = (i ≤ length piece) × (length piece ≤ 65536) × (length bytes ≡ length bytes₀) × (length areas ≡ 1070784) × (length initials ≡ 2816) × (length rows ≡ 207360) × (length values ≡ 2304)
+Inv-loop piece bytes₀ areas₀ initials₀ rows₀ values₀ text₀ y₀ bytes areas initials rows values text y =
+    (y .at ≤ length piece) × (length bytes ≡ length bytes₀) × (length areas ≡ length areas₀) × (length initials ≡ length initials₀) × (length rows ≡ length rows₀) × (length values ≡ length values₀) × (length text ≡ length text₀)
+    × (length areas ≡ 1070784) × (length initials ≡ 2816) × (length rows ≡ 207360) × (length values ≡ 2304)
 
 abbrev μ-loop : tie.MeasureT-loop
-μ-loop piece bytes₀ areas₀ initials₀ rows₀ values₀ y₀ i₀ bytes areas initials rows values y i = length piece - i
+μ-loop piece bytes₀ areas₀ initials₀ rows₀ values₀ text₀ y₀ bytes areas initials rows values text y = length piece - y .at
 
--- src/main.rt:88:5
+-- src/main.rt:111:9
+from-start-requires : tie.Need-from-start-requires Inv-loop μ-loop
+from-start-requires c κs = search needs
+
+-- src/main.rt:112:5
 loop-holds : tie.Need-loop-holds Inv-loop μ-loop
 loop-holds c = search needs
 
--- src/main.rt:89:21
-shared-slice-read-take : tie.Need-shared-slice-read-take Inv-loop μ-loop
-shared-slice-read-take c = search needs
+-- src/main.rt:113:9
+take-next-requires : tie.Need-take-next-requires Inv-loop μ-loop
+take-next-requires c κs = search needs
 
--- src/main.rt:89:9
-take-requires : tie.Need-take-requires Inv-loop μ-loop
-take-requires c κs = search needs
-
--- src/main.rt:90:9
-add-i : tie.Need-add-i Inv-loop μ-loop
-add-i c = search needs
-
--- src/main.rt:88:5
+-- src/main.rt:112:5
 loop-less : tie.Need-loop-less Inv-loop μ-loop
 loop-less c = search needs
 
--- src/main.rt:88:5
+-- src/main.rt:112:5
 loop-again : tie.Need-loop-again Inv-loop μ-loop
 loop-again c = search needs
 
--- src/main.rt:75:1
+-- src/main.rt:99:1
 same-length : tie.Need-same-length Inv-loop μ-loop
 same-length c = search needs
 
--- src/main.rt:75:1
+-- src/main.rt:99:1
 same-length-2 : tie.Need-same-length-2 Inv-loop μ-loop
 same-length-2 c = search needs
 
--- src/main.rt:75:1
+-- src/main.rt:99:1
 same-length-3 : tie.Need-same-length-3 Inv-loop μ-loop
 same-length-3 c = search needs
 
--- src/main.rt:75:1
+-- src/main.rt:99:1
 same-length-4 : tie.Need-same-length-4 Inv-loop μ-loop
 same-length-4 c = search needs
 
--- src/main.rt:75:1
+-- src/main.rt:99:1
 same-length-5 : tie.Need-same-length-5 Inv-loop μ-loop
 same-length-5 c = search needs
 
--- src/main.rt:75:1
+-- src/main.rt:99:1
+same-length-6 : tie.Need-same-length-6 Inv-loop μ-loop
+same-length-6 c = search needs
+
+-- src/main.rt:99:1
 returns : tie.Need-returns Inv-loop μ-loop
 returns c = search needs
 
@@ -69,10 +73,9 @@ take-all-spec =
     (tie.spec
     Inv-loop
     μ-loop
+    from-start-requires
     loop-holds
-    shared-slice-read-take
-    take-requires
-    add-i
+    take-next-requires
     loop-less
     loop-again
     same-length
@@ -80,4 +83,5 @@ take-all-spec =
     same-length-3
     same-length-4
     same-length-5
+    same-length-6
     returns)

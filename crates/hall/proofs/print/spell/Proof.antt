@@ -1,7 +1,7 @@
 use Prim.Native.Nat.{_≤_, _-_, _*_}
 use mathlib.Core.Path.{_≡_}
 use lib.ListN.{length}
-use Rattle.hall.proofs.Laws.{counted}
+use Rattle.console.proofs.Laws.{counted}
 use native.Mathlib.Omega.{arith}
 use borrow.Author.Needs.{needs}
 use Rattle.hall.proofs.print.spell.Statement.{statement}

@@ -1,7 +1,7 @@
 use mathlib.Core.Path.{_≡_, refl, sym, ap, _∙_}
 use Rattle.order.proofs.Picks.{pick-yes, pick-no}
 use borrow.Author.Tests.{le-leb, lt-leb, lt-ltb, le-ltb, eq-eqb, ne-eqb}
-use Rattle.history_text.specs.Lines.{kindAt}
+use Rattle.history_text.specs.ReadLines.{kindAt}
 use native.Mathlib.Omega.{arith}
 use borrow.Author.Needs.{needs}
 use Rattle.history_text.proofs.line.kind.Statement.{statement}

@@ -1,9 +1,9 @@
 use mathlib.Core.Path.{_≡_, refl, sym, ap, subst, _∙_}
 use Prim.Native.Nat.{ℕ, _+_, _-_, _<_, _≤_}
 use lib.ListN.{length, drop}
-use Rattle.history_text.specs.Numbers.{fieldOf, Within}
+use Rattle.history_text.specs.ReadNumbers.{fieldOf, WithinField}
 use Rattle.history_text.proofs.Laws.{then-number, then-bad, further}
-use Rattle.history_text.specs.Lines.{intervalOf}
+use Rattle.history_text.specs.ReadLines.{intervalOf}
 use native.Mathlib.Omega.{arith}
 use borrow.Author.Needs.{needs}
 use Rattle.history_text.proofs.line.read_interval.Statement.{statement}
@@ -36,7 +36,7 @@ add-read-field c =
     let s = a .s .now in
     let r = c .before .before .before .read-field in
     let f = c .before .f .given in
-    let w = subst (Within 4294967295 (length s - a .at)) (f .1) (r .ensures .1) in
+    let w = subst (WithinField 4294967295 (length s - a .at)) (f .1) (r .ensures .1) in
     record { fits = omega arith }
 
 -- src/line.rt:50:9
@@ -46,7 +46,7 @@ read-field-requires-2 c κs =
     let s = a .s .now in
     let r = c .before .before .before .read-field in
     let f = c .before .f .given in
-    let w = subst (Within 4294967295 (length s - a .at)) (f .1) (r .ensures .1) in
+    let w = subst (WithinField 4294967295 (length s - a .at)) (f .1) (r .ensures .1) in
     (omega arith, omega arith)
 
 -- src/line.rt:51:23
@@ -74,7 +74,7 @@ cast-t10 c =
     let s = a .s .now in
     let r = c .before .before .before .before .before .before .before .read-field in
     let f = c .before .before .before .before .before .f .given in
-    let w = subst (Within 4294967295 (length s - a .at)) (f .1) (r .ensures .1) in
+    let w = subst (WithinField 4294967295 (length s - a .at)) (f .1) (r .ensures .1) in
     record { fits = omega arith }
 
 -- src/line.rt:54:35
@@ -84,10 +84,10 @@ cast-t11 c =
     let s = a .s .now in
     let r = c .before .before .before .before .before .before .before .read-field in
     let f = c .before .before .before .before .before .f .given in
-    let w = subst (Within 4294967295 (length s - a .at)) (f .1) (r .ensures .1) in
+    let w = subst (WithinField 4294967295 (length s - a .at)) (f .1) (r .ensures .1) in
     let r₂ = c .before .before .before .read-field2 in
     let g = c .before .g .given in
-    let w₂ = subst (Within 4294967295 (length s - (a .at + f .0 .1 .0))) (g .1) (r₂ .ensures .1) in
+    let w₂ = subst (WithinField 4294967295 (length s - (a .at + f .0 .1 .0))) (g .1) (r₂ .ensures .1) in
     record { fits = omega arith }
 
 -- src/line.rt:54:47
@@ -97,10 +97,10 @@ add-t9 c =
     let s = a .s .now in
     let r = c .before .before .before .before .before .before .before .read-field in
     let f = c .before .before .before .before .before .f .given in
-    let w = subst (Within 4294967295 (length s - a .at)) (f .1) (r .ensures .1) in
+    let w = subst (WithinField 4294967295 (length s - a .at)) (f .1) (r .ensures .1) in
     let r₂ = c .before .before .before .read-field2 in
     let g = c .before .g .given in
-    let w₂ = subst (Within 4294967295 (length s - (a .at + f .0 .1 .0))) (g .1) (r₂ .ensures .1) in
+    let w₂ = subst (WithinField 4294967295 (length s - (a .at + f .0 .1 .0))) (g .1) (r₂ .ensures .1) in
     record { fits = omega arith }
 
 -- src/line.rt:42:1
@@ -111,10 +111,10 @@ returns-3 c =
     let s = a .s .now in
     let r = c .before .before .before .before .before .before .before .read-field in
     let f = c .before .before .before .before .before .f .given in
-    let w = subst (Within 4294967295 (length s - a .at)) (f .1) (r .ensures .1) in
+    let w = subst (WithinField 4294967295 (length s - a .at)) (f .1) (r .ensures .1) in
     let r₂ = c .before .before .before .read-field2 in
     let g = c .before .g .given in
-    let w₂ = subst (Within 4294967295 (length s - (a .at + f .0 .1 .0))) (g .1) (r₂ .ensures .1) in
+    let w₂ = subst (WithinField 4294967295 (length s - (a .at + f .0 .1 .0))) (g .1) (r₂ .ensures .1) in
     (then-number _ _ _ (f .0 .0) (f .0 .1 .0) (r .ensures .0) (f .1) (then-number _ _ _ (g .0 .0) (g .0 .1 .0) (further 4294967295 32 (a .at) (f .0 .1 .0) s (r₂ .ensures .0)) (g .1) refl), omega arith)
 
 pub read-interval-spec : {M : Type 1} → statement M

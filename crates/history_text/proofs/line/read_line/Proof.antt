@@ -1,7 +1,7 @@
 use mathlib.Core.Path.{_≡_, refl, sym, ap, subst, _∙_}
 use Prim.Native.Nat.{ℕ, _+_, _-_, _<_, _≤_}
 use lib.ListN.{length}
-use Rattle.history_text.specs.Lines.{WithinInterval, WithinStamp}
+use Rattle.history_text.specs.ReadLines.{WithinInterval, WithinStamp}
 use Rattle.history_text.proofs.Lines.{line-short, line-kind, line-space, line-interval, line-stamp, line-whole}
 use native.Mathlib.Omega.{arith}
 use borrow.Author.Needs.{needs}

@@ -1,9 +1,9 @@
 use mathlib.Core.Path.{_≡_, refl, sym, ap, subst, _∙_}
 use Prim.Native.Nat.{ℕ, _+_, _-_, _<_, _≤_}
 use lib.ListN.{length, drop}
-use Rattle.history_text.specs.Numbers.{fieldOf, Within}
+use Rattle.history_text.specs.ReadNumbers.{fieldOf, WithinField}
 use Rattle.history_text.proofs.Laws.{then-number, then-bad, further}
-use Rattle.history_text.specs.Lines.{stampOf}
+use Rattle.history_text.specs.ReadLines.{stampOf}
 use native.Mathlib.Omega.{arith}
 use borrow.Author.Needs.{needs}
 use Rattle.history_text.proofs.line.read_stamp.Statement.{statement}
@@ -36,7 +36,7 @@ add-read-field c =
     let s = a .s .now in
     let r = c .before .before .before .read-field in
     let f = c .before .f .given in
-    let w = subst (Within 18446744073709551615 (length s - a .at)) (f .1) (r .ensures .1) in
+    let w = subst (WithinField 18446744073709551615 (length s - a .at)) (f .1) (r .ensures .1) in
     record { fits = omega arith }
 
 -- src/line.rt:66:9
@@ -46,7 +46,7 @@ read-field-requires-2 c κs =
     let s = a .s .now in
     let r = c .before .before .before .read-field in
     let f = c .before .f .given in
-    let w = subst (Within 18446744073709551615 (length s - a .at)) (f .1) (r .ensures .1) in
+    let w = subst (WithinField 18446744073709551615 (length s - a .at)) (f .1) (r .ensures .1) in
     (omega arith, omega arith)
 
 -- src/line.rt:67:23
@@ -74,7 +74,7 @@ add-read-field-2 c =
     let s = a .s .now in
     let r = c .before .before .before .before .before .before .before .read-field in
     let f = c .before .before .before .before .before .f .given in
-    let w = subst (Within 18446744073709551615 (length s - a .at)) (f .1) (r .ensures .1) in
+    let w = subst (WithinField 18446744073709551615 (length s - a .at)) (f .1) (r .ensures .1) in
     record { fits = omega arith }
 
 -- src/line.rt:70:27
@@ -84,10 +84,10 @@ add-read-field-3 c =
     let s = a .s .now in
     let r = c .before .before .before .before .before .before .before .read-field in
     let f = c .before .before .before .before .before .f .given in
-    let w = subst (Within 18446744073709551615 (length s - a .at)) (f .1) (r .ensures .1) in
+    let w = subst (WithinField 18446744073709551615 (length s - a .at)) (f .1) (r .ensures .1) in
     let r₂ = c .before .before .before .read-field2 in
     let g = c .before .g .given in
-    let w₂ = subst (Within 8 (length s - (a .at + f .0 .1 .0))) (g .1) (r₂ .ensures .1) in
+    let w₂ = subst (WithinField 8 (length s - (a .at + f .0 .1 .0))) (g .1) (r₂ .ensures .1) in
     record { fits = omega arith }
 
 -- src/line.rt:70:9
@@ -97,10 +97,10 @@ read-field-requires-3 c κs =
     let s = a .s .now in
     let r = c .before .before .before .before .before .before .before .read-field in
     let f = c .before .before .before .before .before .f .given in
-    let w = subst (Within 18446744073709551615 (length s - a .at)) (f .1) (r .ensures .1) in
+    let w = subst (WithinField 18446744073709551615 (length s - a .at)) (f .1) (r .ensures .1) in
     let r₂ = c .before .before .before .read-field2 in
     let g = c .before .g .given in
-    let w₂ = subst (Within 8 (length s - (a .at + f .0 .1 .0))) (g .1) (r₂ .ensures .1) in
+    let w₂ = subst (WithinField 8 (length s - (a .at + f .0 .1 .0))) (g .1) (r₂ .ensures .1) in
     (omega arith, omega arith)
 
 -- src/line.rt:71:23
@@ -133,13 +133,13 @@ cast-t14 c =
     let s = a .s .now in
     let r = c .before .before .before .before .before .before .before .before .before .before .before .read-field in
     let f = c .before .before .before .before .before .before .before .before .before .f .given in
-    let w = subst (Within 18446744073709551615 (length s - a .at)) (f .1) (r .ensures .1) in
+    let w = subst (WithinField 18446744073709551615 (length s - a .at)) (f .1) (r .ensures .1) in
     let r₂ = c .before .before .before .before .before .before .before .read-field2 in
     let g = c .before .before .before .before .before .g .given in
-    let w₂ = subst (Within 8 (length s - (a .at + f .0 .1 .0))) (g .1) (r₂ .ensures .1) in
+    let w₂ = subst (WithinField 8 (length s - (a .at + f .0 .1 .0))) (g .1) (r₂ .ensures .1) in
     let r₃ = c .before .before .before .read-field3 in
     let h = c .before .h .given in
-    let w₃ = subst (Within 4294967295 (length s - (a .at + f .0 .1 .0 + g .0 .1 .0))) (h .1) (r₃ .ensures .1) in
+    let w₃ = subst (WithinField 4294967295 (length s - (a .at + f .0 .1 .0 + g .0 .1 .0))) (h .1) (r₃ .ensures .1) in
     record { fits = omega arith }
 
 -- src/line.rt:74:38
@@ -149,13 +149,13 @@ cast-t15 c =
     let s = a .s .now in
     let r = c .before .before .before .before .before .before .before .before .before .before .before .read-field in
     let f = c .before .before .before .before .before .before .before .before .before .f .given in
-    let w = subst (Within 18446744073709551615 (length s - a .at)) (f .1) (r .ensures .1) in
+    let w = subst (WithinField 18446744073709551615 (length s - a .at)) (f .1) (r .ensures .1) in
     let r₂ = c .before .before .before .before .before .before .before .read-field2 in
     let g = c .before .before .before .before .before .g .given in
-    let w₂ = subst (Within 8 (length s - (a .at + f .0 .1 .0))) (g .1) (r₂ .ensures .1) in
+    let w₂ = subst (WithinField 8 (length s - (a .at + f .0 .1 .0))) (g .1) (r₂ .ensures .1) in
     let r₃ = c .before .before .before .read-field3 in
     let h = c .before .h .given in
-    let w₃ = subst (Within 4294967295 (length s - (a .at + f .0 .1 .0 + g .0 .1 .0))) (h .1) (r₃ .ensures .1) in
+    let w₃ = subst (WithinField 4294967295 (length s - (a .at + f .0 .1 .0 + g .0 .1 .0))) (h .1) (r₃ .ensures .1) in
     record { fits = omega arith }
 
 -- src/line.rt:74:55
@@ -165,13 +165,13 @@ add-t12 c =
     let s = a .s .now in
     let r = c .before .before .before .before .before .before .before .before .before .before .before .read-field in
     let f = c .before .before .before .before .before .before .before .before .before .f .given in
-    let w = subst (Within 18446744073709551615 (length s - a .at)) (f .1) (r .ensures .1) in
+    let w = subst (WithinField 18446744073709551615 (length s - a .at)) (f .1) (r .ensures .1) in
     let r₂ = c .before .before .before .before .before .before .before .read-field2 in
     let g = c .before .before .before .before .before .g .given in
-    let w₂ = subst (Within 8 (length s - (a .at + f .0 .1 .0))) (g .1) (r₂ .ensures .1) in
+    let w₂ = subst (WithinField 8 (length s - (a .at + f .0 .1 .0))) (g .1) (r₂ .ensures .1) in
     let r₃ = c .before .before .before .read-field3 in
     let h = c .before .h .given in
-    let w₃ = subst (Within 4294967295 (length s - (a .at + f .0 .1 .0 + g .0 .1 .0))) (h .1) (r₃ .ensures .1) in
+    let w₃ = subst (WithinField 4294967295 (length s - (a .at + f .0 .1 .0 + g .0 .1 .0))) (h .1) (r₃ .ensures .1) in
     record { fits = omega (arith, w .1, w₂ .1, w₃ .1, c .before .before .before .before .before .before .before .before .before .before .before .before .before .good .0 .0) }
 
 -- src/line.rt:74:55
@@ -181,13 +181,13 @@ add-t13 c =
     let s = a .s .now in
     let r = c .before .before .before .before .before .before .before .before .before .before .before .read-field in
     let f = c .before .before .before .before .before .before .before .before .before .f .given in
-    let w = subst (Within 18446744073709551615 (length s - a .at)) (f .1) (r .ensures .1) in
+    let w = subst (WithinField 18446744073709551615 (length s - a .at)) (f .1) (r .ensures .1) in
     let r₂ = c .before .before .before .before .before .before .before .read-field2 in
     let g = c .before .before .before .before .before .g .given in
-    let w₂ = subst (Within 8 (length s - (a .at + f .0 .1 .0))) (g .1) (r₂ .ensures .1) in
+    let w₂ = subst (WithinField 8 (length s - (a .at + f .0 .1 .0))) (g .1) (r₂ .ensures .1) in
     let r₃ = c .before .before .before .read-field3 in
     let h = c .before .h .given in
-    let w₃ = subst (Within 4294967295 (length s - (a .at + f .0 .1 .0 + g .0 .1 .0))) (h .1) (r₃ .ensures .1) in
+    let w₃ = subst (WithinField 4294967295 (length s - (a .at + f .0 .1 .0 + g .0 .1 .0))) (h .1) (r₃ .ensures .1) in
     record { fits = omega (arith, w .1, w₂ .1, w₃ .1, c .before .before .before .before .before .before .before .before .before .before .before .before .before .good .0 .0) }
 
 -- src/line.rt:58:1
@@ -198,13 +198,13 @@ returns-4 c =
     let s = a .s .now in
     let r = c .before .before .before .before .before .before .before .before .before .before .before .read-field in
     let f = c .before .before .before .before .before .before .before .before .before .f .given in
-    let w = subst (Within 18446744073709551615 (length s - a .at)) (f .1) (r .ensures .1) in
+    let w = subst (WithinField 18446744073709551615 (length s - a .at)) (f .1) (r .ensures .1) in
     let r₂ = c .before .before .before .before .before .before .before .read-field2 in
     let g = c .before .before .before .before .before .g .given in
-    let w₂ = subst (Within 8 (length s - (a .at + f .0 .1 .0))) (g .1) (r₂ .ensures .1) in
+    let w₂ = subst (WithinField 8 (length s - (a .at + f .0 .1 .0))) (g .1) (r₂ .ensures .1) in
     let r₃ = c .before .before .before .read-field3 in
     let h = c .before .h .given in
-    let w₃ = subst (Within 4294967295 (length s - (a .at + f .0 .1 .0 + g .0 .1 .0))) (h .1) (r₃ .ensures .1) in
+    let w₃ = subst (WithinField 4294967295 (length s - (a .at + f .0 .1 .0 + g .0 .1 .0))) (h .1) (r₃ .ensures .1) in
     let n : a .at + f .0 .1 .0 + g .0 .1 .0 ≡ a .at + (f .0 .1 .0 + g .0 .1 .0) = omega arith in
     let e₃ = further 4294967295 10 (a .at) (f .0 .1 .0 + g .0 .1 .0) s (r₃ .ensures .0 ∙ ap (λ i. fieldOf 4294967295 10 (drop i s)) n) in
     (then-number _ _ _ (f .0 .0) (f .0 .1 .0) (r .ensures .0) (f .1) (then-number _ _ _ (g .0 .0) (g .0 .1 .0) (further 8 32 (a .at) (f .0 .1 .0) s (r₂ .ensures .0)) (g .1) (then-number _ _ _ (h .0 .0) (h .0 .1 .0) e₃ (h .1) refl)), omega arith)

@@ -4,7 +4,7 @@ use native.Mathlib.Numerals.{add-one}
 use lib.ListN.{length, drop}
 use lib.Dec.{leb}
 use borrow.Author.Tests.{leb-true}
-use Rattle.history_text.specs.Numbers.{digitsOf}
+use Rattle.history_text.specs.ReadNumbers.{digitsOf}
 use Rattle.history_text.proofs.Laws.{digits-stop, digits-over, digits-more, digits-end}
 use native.Mathlib.Omega.{arith}
 use borrow.Author.Needs.{needs}

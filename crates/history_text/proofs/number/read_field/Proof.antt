@@ -1,7 +1,7 @@
 use mathlib.Core.Path.{_≡_, refl, sym, ap, subst, _∙_}
 use Prim.Native.Nat.{ℕ, _+_, _-_, _<_, _≤_}
 use lib.ListN.{length}
-use Rattle.history_text.specs.Numbers.{Within}
+use Rattle.history_text.specs.ReadNumbers.{WithinField}
 use Rattle.history_text.proofs.Laws.{field-bad, field-found, field-other, field-short}
 use native.Mathlib.Omega.{arith}
 use borrow.Author.Needs.{needs}
@@ -39,7 +39,7 @@ returns-2 c =
     let a = c .before .before .before .before .before .before .args in
     let r = c .before .before .before .before .read-number in
     let g = c .before .before .n .given in
-    let w = subst (Within (a .limit) (length (a .s .now) - a .at)) (g .1) (r .ensures .1) in
+    let w = subst (WithinField (a .limit) (length (a .s .now) - a .at)) (g .1) (r .ensures .1) in
     let h : length (a .s .now) ≤ a .at + g .0 .1 .0 = omega arith in
     (field-short (a .limit) (a .end) (a .at) (g .0 .0) (g .0 .1 .0) (a .s .now) (r .ensures .0) (g .1) (search needs) h, tt)
 
@@ -61,7 +61,7 @@ returns-3 c =
     let a = c .before .before .before .before .before .before .before .before .args in
     let r = c .before .before .before .before .before .before .read-number in
     let g = c .before .before .before .before .n .given in
-    let w = subst (Within (a .limit) (length (a .s .now) - a .at)) (g .1) (r .ensures .1) in
+    let w = subst (WithinField (a .limit) (length (a .s .now) - a .at)) (g .1) (r .ensures .1) in
     (field-found (a .limit) (a .end) (a .at) (g .0 .0) (g .0 .1 .0) (a .s .now) (r .ensures .0) (g .1) (c .if2 .taken), (w .0, omega arith))
 
 -- src/number.rt:83:1
@@ -70,7 +70,7 @@ returns-4 c =
     let a = c .before .before .before .before .before .before .before .before .args in
     let r = c .before .before .before .before .before .before .read-number in
     let g = c .before .before .before .before .n .given in
-    let w = subst (Within (a .limit) (length (a .s .now) - a .at)) (g .1) (r .ensures .1) in
+    let w = subst (WithinField (a .limit) (length (a .s .now) - a .at)) (g .1) (r .ensures .1) in
     (field-other (a .limit) (a .end) (a .at) (g .0 .0) (g .0 .1 .0) (a .s .now) (r .ensures .0) (g .1) (c .if2 .left), tt)
 
 pub read-field-spec : {M : Type 1} → statement M

@@ -1,8 +1,10 @@
 use mathlib.Core.Path.{_≡_, refl, sym, ap, subst, _∙_}
 use Prim.Native.Nat.{ℕ, _+_, _-_, _<_, _≤_}
 use lib.ListN.{length, drop}
-use Rattle.history_text.specs.Lines.{WithinLine, linesOf, answerTo}
-use Rattle.history_text.proofs.Lines.{final, final-start, final-bad, final-next, final-end, final-large, final-small}
+use Rattle.history_text.specs.Lines.{answerTo}
+use Rattle.history_text.specs.ReadLines.{WithinLine, linesRead}
+use Rattle.history_text.proofs.Link.{final-start}
+use Rattle.history_text.proofs.Lines.{final, final-bad, final-next, final-end, final-large, final-small}
 use native.Mathlib.Omega.{arith}
 use borrow.Author.Needs.{needs}
 use Rattle.history_text.proofs.text.judge_text.Statement.{statement}
@@ -17,7 +19,7 @@ use Rattle.order.proofs.judge.refuse.Reads as refuse-reads
 
 abbrev Inv-loop : tie.InvT-loop
 Inv-loop s history₀ at₀ history at =
-    (at ≤ length s) × ((n : ℕ) × (length s - at ≤ n) × (final history (linesOf n (drop at s)) ≡ answerTo s))
+    (at ≤ length s) × ((n : ℕ) × (length s - at ≤ n) × (final history (linesRead n (drop at s)) ≡ answerTo s))
 
 abbrev μ-loop : tie.MeasureT-loop
 μ-loop s history₀ at₀ history at = length s - at

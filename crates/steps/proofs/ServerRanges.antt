@@ -23,7 +23,7 @@ use Rattle.frame.specs.Stamps.{zeroStamp, lastTime, partsAgree}
 use Rattle.frame.proofs.Sizes.{Small}
 use Rattle.server_rules.specs.declared.Reader.{Reader}
 use Rattle.server_rules.specs.declared.Server.{Server}
-use Rattle.server_rules.specs.State.{presentBlock, freshReader, freshServer, slotOf, readerOf, withSlot, presentEntry}
+use Rattle.server_rules.specs.State.{presentBlock, freshReader, freshServer, slotOf, withSlot, presentEntry}
 use Rattle.server_rules.specs.WellFormed.{Bounds, Within}
 use Rattle.server_rules.specs.Steps as S
 use Rattle.server_rules.specs.Tests as ST
@@ -194,12 +194,15 @@ module _ (H : List ℕ → List ℕ) (g : Params) (M : Small g) (me : ℕ) (s : 
           counts = λ k. (λ l u. tt, no-time k);
           noted = λ u. record { noted = u; listening = λ l. (f .sequence-low, f .sequence-high) };
           ended = λ u. record { noted = u .noted; listening = λ l. impossible (cc l) };
-          leaves = λ w ec eq l. (record {
-            time-high = omega (arith, l);
-            writer-high = rw ec (f .client-high);
-            sequence-high = rw eq (f .sequence-high);
-            agree = agree-some (w .time) (w .client) (w .sequence) (rw ec (f .client-low)) (rw eq (f .sequence-low));
-          }, tt);
+          leaves = λ w ec eq l. (
+            record {
+              time-high = omega (arith, l);
+              writer-high = rw ec (f .client-high);
+              sequence-high = rw eq (f .sequence-high);
+              agree = agree-some (w .time) (w .client) (w .sequence) (rw ec (f .client-low)) (rw eq (f .sequence-low));
+            },
+            tt,
+          );
         })
 
     pub effect-good : 1 ≤ g .k → g .k + 2 * g .t ≤ g .n → width g ≤ length initial → Good g (S.effect H g me s a initial from m)

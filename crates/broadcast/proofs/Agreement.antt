@@ -8,7 +8,7 @@ use native.Mathlib.Omega.{arith}
 use mathlib.Core.Bool.{Bool, true, false}
 use mathlib.Core.Path.{_≡_, sym, _∙_}
 use mathlib.Core.Logic.{_⊎_, inl, inr, ⊎-elim}
-use mathlib.Core.List.{List, [], _∷_}
+use mathlib.Core.List.{List, _∷_}
 use Rattle.quorum.specs.Quorum.{Among, Faults}
 use Rattle.quorum.proofs.Logic.{impossible}
 use Rattle.quorum.proofs.Quorums.{AtLeast, at-least-map, at-least-fewer, honest-member, quorums-meet, quorum-member}

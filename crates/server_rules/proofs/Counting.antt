@@ -1,7 +1,7 @@
 -- What a counted frame does: to the two parts of its write and to those of other writes, what it says, and what it decodes. Assumes nothing.
 use Prim.Native.Nat.{ℕ, _+_, _≤_, _<_}
 use native.Mathlib.Omega.{arith}
-use mathlib.Core.Bool.{Bool, true, false, not, _&&_}
+use mathlib.Core.Bool.{Bool, true, false, not}
 use mathlib.Core.Path.{_≡_, refl, ap, sym, _∙_}
 use mathlib.Core.Logic.{_⊎_, inl, inr, ⊎-elim}
 use mathlib.Core.Option.{some}
@@ -14,17 +14,17 @@ use Rattle.area.proofs.Tests.{and-right}
 use Rattle.blocks.specs.declared.Params.{Params}
 use Rattle.frame.specs.declared.Party.{Party}
 use Rattle.frame.specs.Chunks.{entryAt, storeEntry, storeIf, presentAt, completeAt, echoAt, readyAt, areaBytes}
-use Rattle.frame.specs.Messages.{Entry, Stage, send, echo, ready, Body, blockIs, timeIs, Message, message, Sending, sending, toAll, Sized, FormedBody}
+use Rattle.frame.specs.Messages.{Entry, Stage, send, echo, ready, Body, blockIs, timeIs, message, Sending, sending, toAll, Sized, FormedBody}
 use Rattle.frame.proofs.Chunks.{length-store, entry-other}
 use Rattle.frame.proofs.Sizes.{Small}
 use Rattle.server_rules.specs.declared.Slot.{Slot}
 use Rattle.server_rules.specs.declared.Server.{Server}
 use Rattle.server_rules.specs.Broadcast.{Rules, Part, due, full}
 use Rattle.server_rules.specs.Rules.{blockRules, timeRules}
-use Rattle.server_rules.specs.State.{slotOf, withBlocks, withTimes, blockView, timeView, blockEcho, blockReady, timeEcho, timeReady}
+use Rattle.server_rules.specs.State.{slotOf, withBlocks, blockView, timeView, blockEcho, blockReady}
 use Rattle.server_rules.specs.Steps as S
 use Rattle.server_rules.proofs.Casts.{mem-all}
-use Rattle.server_rules.proofs.Parts.{withEcho, withReady, settled, counted, Says, flags-set}
+use Rattle.server_rules.proofs.Parts.{settled, counted, Says, flags-set}
 use Rattle.server_rules.proofs.Views as SV
 use Rattle.server_rules.proofs.Views.{shapes, Shaped}
 use Rattle.server_rules.proofs.Decoding.{Has, decodes, coded, due-sized, settled-has}

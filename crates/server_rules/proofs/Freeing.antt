@@ -4,19 +4,16 @@ use native.Mathlib.Omega.{arith}
 use native.Mathlib.Decide.{ℕ-discrete}
 use mathlib.Core.Bool.{Bool, true, false}
 use mathlib.Core.Path.{_≡_, refl, ap, sym, _∙_, subst}
-use mathlib.Core.Logic.{_⊎_, inl, inr, ⊎-elim}
+use mathlib.Core.Logic.{_⊎_, inl, inr}
 use mathlib.Core.Option.{some}
-use mathlib.Core.List.{List, [], _∷_, _++_, List·Memᴰ, List·Memᴰ·head, List·Memᴰ·not-nil, List·Memᴰ·append-cases, Memᴰ·append-left, List·Memᴰ·eq-of-singleton}
-use lib.ListN.{length, drop, length-drop, length-append}
+use mathlib.Core.List.{List, [], _∷_, List·Memᴰ, List·Memᴰ·head, List·Memᴰ·not-nil, List·Memᴰ·eq-of-singleton}
+use lib.ListN.{length, drop, length-drop}
 use lib.Seq.{getD-set-same, getD-set-other, length-take-le}
 use Rattle.quorum.specs.Quorum.{Among}
-use Rattle.quorum.proofs.Logic.{impossible}
 use Rattle.area.specs.Area.{pick}
 use Rattle.blocks.specs.declared.Params.{Params}
-use Rattle.frame.specs.declared.Party.{Party}
-use Rattle.frame.specs.declared.Party.the-variants as P
 use Rattle.frame.specs.Chunks.{entryAt, storeIf, presentAt, completeAt, areaBytes}
-use Rattle.frame.specs.Messages.{Entry, Body, getStamp, ack, askRead, readComplete, stampIs, blockIs, timeIs, valueIs, Message, message, Sending, sending, toAll, Sized}
+use Rattle.frame.specs.Messages.{Entry, Sending, Sized}
 use Rattle.frame.specs.Params.{width, listed}
 use Rattle.frame.specs.Stamps.{older}
 use Rattle.frame.proofs.Chunks.{entry-same}

@@ -2,9 +2,9 @@
 use Prim.Native.Nat.{ℕ, _+_, _≤_}
 use native.Mathlib.Omega.{arith}
 use mathlib.Core.Bool.{Bool, true, false}
-use mathlib.Core.Path.{_≡_, refl, ap, sym, _∙_, subst}
-use mathlib.Core.Logic.{_⊎_, inl, inr, ⊎-elim}
-use mathlib.Core.List.{List, [], _∷_, _++_, List·Memᴰ, List·Memᴰ·not-nil, List·Memᴰ·append-cases, Memᴰ·append-left, List·Memᴰ·eq-of-singleton}
+use mathlib.Core.Path.{_≡_, sym, subst}
+use mathlib.Core.Logic.{_⊎_, ⊎-elim}
+use mathlib.Core.List.{List, [], List·Memᴰ, List·Memᴰ·not-nil, List·Memᴰ·append-cases, Memᴰ·append-left, List·Memᴰ·eq-of-singleton}
 use lib.ListN.{length, length-append}
 use Rattle.quorum.specs.Quorum.{Among}
 use Rattle.area.specs.Area.{pick}
@@ -18,7 +18,7 @@ use Rattle.server_rules.specs.Steps as S
 use Rattle.server_rules.proofs.Casts.{IsCast, all-mem, all-length}
 use Rattle.server_rules.proofs.Counting.{said}
 use Rattle.server_rules.proofs.Freeing.{freed-mem, freed-few}
-use Rattle.server_rules.proofs.Shapes.{Freed, Counted, block, time, Casts, counted-casts, Shape, idle, answers, notes, ends, settles}
+use Rattle.server_rules.proofs.Shapes.{Freed, Counted, Casts, counted-casts, Shape, idle, answers, notes, ends, settles}
 
 -- what an acceptance sends is none
 pub freed-none : {g : Params} {s : Server} {a : List ℕ} {c : ℕ} {r : S.Effect} → Freed g s a c r → (y : Sending) → List·Memᴰ y (r .sends) → IsCast (y .says .body) → ⊥

@@ -6,19 +6,17 @@ use mathlib.Core.Path.{_≡_, refl, ap, sym, _∙_}
 use mathlib.Core.List.{List, [], _∷_}
 use lib.ListN.{length, getD, set, replicate, length-set}
 use lib.Seq.{getD-set-same}
-use Rattle.quorum.specs.Quorum.{Among}
 use Rattle.area.specs.Area.{pick}
 use Rattle.blocks.specs.declared.Params.{Params}
-use Rattle.frame.specs.declared.Stamp.{Stamp}
 use Rattle.frame.specs.declared.Verdict.the-variants as J
 use Rattle.frame.specs.Stamps.{older, zeroStamp, lastTime}
-use Rattle.frame.specs.Messages.{Entry, Stage, send, echo, ready, Body, getStamp, ack, askRead, readComplete, stampIs, blockIs, timeIs, valueIs}
+use Rattle.frame.specs.Messages.{Entry, send, echo, ready, Body, getStamp, ack, askRead, readComplete, stampIs, blockIs, timeIs, valueIs}
 use Rattle.server_rules.specs.declared.BlockPart.{BlockPart}
 use Rattle.server_rules.specs.declared.TimePart.{TimePart}
 use Rattle.server_rules.specs.declared.Slot.{Slot}
 use Rattle.server_rules.specs.declared.Reader.{Reader}
 use Rattle.server_rules.specs.declared.Server.{Server}
-use Rattle.server_rules.specs.State.{freshBlocks, freshTimes, freshSlot, freshReader, freshServer, noSlot, noReader, slotOf, readerOf, withSlot, withReader, withBlocks, withTimes, blockEcho, blockReady, timeEcho, timeReady, timeMarks}
+use Rattle.server_rules.specs.State.{freshBlocks, freshTimes, freshSlot, freshReader, freshServer, noSlot, noReader, slotOf, readerOf, withSlot, withReader, withBlocks, withTimes, blockEcho, blockReady, timeEcho, timeReady}
 use Rattle.server_rules.specs.WellFormed.{Every, Array, Bounds, BlocksWithin, TimesWithin, SlotWithin, Within}
 use Rattle.server_rules.specs.Steps as S
 use Rattle.server_rules.specs.Tests as ST

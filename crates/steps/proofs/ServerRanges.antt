@@ -23,7 +23,7 @@ use Rattle.frame.specs.Stamps.{zeroStamp, lastTime, partsAgree}
 use Rattle.frame.proofs.Sizes.{Small}
 use Rattle.server_rules.specs.declared.Reader.{Reader}
 use Rattle.server_rules.specs.declared.Server.{Server}
-use Rattle.server_rules.specs.State.{presentBlock, freshReader, freshServer, slotOf, readerOf, withSlot, presentEntry}
+use Rattle.server_rules.specs.State.{presentBlock, freshReader, freshServer, slotOf, withSlot, presentEntry}
 use Rattle.server_rules.specs.WellFormed.{Bounds, Within}
 use Rattle.server_rules.specs.Steps as S
 use Rattle.server_rules.specs.Tests as ST

@@ -1,38 +1,42 @@
 -- Agreement and validity of a broadcast, in every run of lawful calls.
--- An honest server echoes one payload for a write. So each ready, delivery and acceptance of x by an honest server is supported: n - t servers, of
--- which the honest ones echoed x. (The first ready follows n - t echoes; a later one may follow t + 1 readies, one of which is an
--- honest server's and supported already.) Two supports share an honest server, which echoed once: agreement. A support has an honest
--- server, which echoed what it had from the client: validity. Assumes nothing.
-use Prim.Native.Nat.{ℕ, zero, suc, _-_, _<_}
+-- An honest server echoes one payload for a write. So each ready of x by an honest server is supported: n - t servers, of which the honest ones echoed x.
+-- (The first ready follows n - t echoes; a later one may follow few readies, one of which is an honest server's and supported already.) Behind
+-- a delivery and an acceptance are all readies, more than t, so they are supported, too. Two supports share an honest server, which echoed
+-- once: agreement. A support has an honest server, which echoed what it had from the client: validity. Assumes nothing.
+use Prim.Native.Nat.{ℕ, _-_, _<_}
 use native.Mathlib.Omega.{arith}
 use mathlib.Core.Bool.{Bool, true, false}
 use mathlib.Core.Path.{_≡_, sym, _∙_}
 use mathlib.Core.Logic.{_⊎_, inl, inr, ⊎-elim}
-use mathlib.Core.List.{List, [], _∷_}
+use mathlib.Core.List.{List, _∷_}
 use Rattle.quorum.specs.Quorum.{Among, Faults}
 use Rattle.quorum.proofs.Logic.{impossible}
-use Rattle.quorum.proofs.Quorums.{AtLeast, at-least-map, honest-member, quorums-meet, quorum-member}
+use Rattle.quorum.proofs.Quorums.{AtLeast, at-least-map, at-least-fewer, honest-member, quorums-meet, quorum-member}
 use Rattle.broadcast.specs.Laws as L
 use Rattle.broadcast.specs.Laws.{Views}
 
-module _ {K P : Type 0} (W : Views K P) (n t : ℕ) (faultyServer faultyClient : ℕ → Bool) where
+module _ {K P : Type 0} (W : Views K P) (n t few all : ℕ) (faultyServer faultyClient : ℕ → Bool) where
   open Views W using (sequence, echoed, KeptEcho, KeptReady, SentEcho, SentReady, Delivered, Accepted, ClientSent)
 
   abbrev HeardEcho : List K → ℕ → ℕ → P → ℕ → Type 0
-  HeardEcho = L.HeardEcho W n t faultyServer faultyClient
+  HeardEcho = L.HeardEcho W n t few all faultyServer faultyClient
 
   abbrev HeardReady : List K → ℕ → ℕ → P → ℕ → Type 0
-  HeardReady = L.HeardReady W n t faultyServer faultyClient
+  HeardReady = L.HeardReady W n t few all faultyServer faultyClient
 
   abbrev Lawful : List K → K → Type 0
-  Lawful = L.Lawful W n t faultyServer faultyClient
+  Lawful = L.Lawful W n t few all faultyServer faultyClient
 
   abbrev Run : List K → Type 0
-  Run = L.Run W n t faultyServer faultyClient
+  Run = L.Run W n t few all faultyServer faultyClient
 
   -- n - t servers, of which the honest ones echoed x
   abbrev pub Support : List K → ℕ → ℕ → P → Type 0
   Support ks c s x = AtLeast n (n - t) (λ j. faultyServer j ≡ false → SentEcho ks j c s x)
+
+  -- all readies: servers of which the honest ones sent a ready of x
+  abbrev pub Readies : List K → ℕ → ℕ → P → Type 0
+  Readies ks c s x = AtLeast n all (λ j. faultyServer j ≡ false → SentReady ks j c s x)
 
   -- an echo of s is of a sequence that is closed, or of the open one with its flag set
   abbrev Past : List K → ℕ → ℕ → ℕ → Type 0
@@ -44,21 +48,28 @@ module _ {K P : Type 0} (W : Views K P) (n t : ℕ) (faultyServer faultyClient :
     pub echo-heard : (i c j : ℕ) (x : P) → Among n j → faultyServer j ≡ false → KeptEcho ks i c j x → SentEcho ks j c (sequence ks i c) x
     pub ready-heard : (i c j : ℕ) (x : P) → Among n j → faultyServer j ≡ false → KeptReady ks i c j x → SentReady ks j c (sequence ks i c) x
     pub ready-supported : (i c s : ℕ) (x : P) → SentReady ks i c s x → Support ks c s x
-    pub delivered-supported : (i c : ℕ) (x : P) → Delivered ks i c x → Support ks c (sequence ks i c) x
-    pub accepted-supported : (i c s : ℕ) (x : P) → Accepted ks i c s x → Support ks c s x
+    pub delivered-readies : (i c : ℕ) (x : P) → Delivered ks i c x → Readies ks c (sequence ks i c) x
+    pub accepted-readies : (i c s : ℕ) (x : P) → Accepted ks i c s x → Readies ks c s x
     pub echo-valid : (i c s : ℕ) (x : P) → faultyClient c ≡ false → SentEcho ks i c s x → ClientSent ks c s x
 
-  module _ (F : Faults n t faultyServer) (ks : List K) (k : K) (M : Lawful ks k) (I : Invariant ks) where
+  module _ (F : Faults n t faultyServer) (more : t < few) (ks : List K) (k : K) (M : Lawful ks k) (I : Invariant ks) where
     support-stays : (c s : ℕ) (x : P) → Support ks c s x → Support (k ∷ ks) c s x
     support-stays c s x = at-least-map (λ j i f g. M .echo-stays j c s x (f g))
 
     by-echoes : (i c : ℕ) (x : P) → AtLeast n (n - t) (HeardEcho ks i c x) → Support ks c (sequence ks i c) x
     by-echoes i c x = at-least-map (λ j is f g. ⊎-elim (I .echo-heard i c j x is g) (λ u. u) (f g))
 
-    by-readies : (i c : ℕ) (x : P) → AtLeast n (suc t) (HeardReady ks i c x) → Support ks c (sequence ks i c) x
+    -- m readies that server i heard of honest servers were sent
+    heard : (i c m : ℕ) (x : P) → AtLeast n m (HeardReady ks i c x) → AtLeast n m (λ j. faultyServer j ≡ false → SentReady ks j c (sequence ks i c) x)
+    heard i c m x = at-least-map (λ j is f g. ⊎-elim (I .ready-heard i c j x is g) (λ u. u) (f g))
+
+    by-readies : (i c : ℕ) (x : P) → AtLeast n few (HeardReady ks i c x) → Support ks c (sequence ks i c) x
     by-readies i c x e =
-        let (j, is, g, f) = honest-member F e in
-        I .ready-supported j c (sequence ks i c) x (⊎-elim (I .ready-heard i c j x is g) (λ u. u) (f g))
+        let (j, is, g, f) = honest-member F (at-least-fewer more (heard i c few x e)) in
+        I .ready-supported j c (sequence ks i c) x (f g)
+
+    readies-stay : (c s : ℕ) (x : P) → Readies ks c s x → Readies (k ∷ ks) c s x
+    readies-stay c s x = at-least-map (λ j i f g. M .ready-stays j c s x (f g))
 
     next-past : (i c s : ℕ) (x : P) → SentEcho (k ∷ ks) i c s x → Past (k ∷ ks) i c s
     next-past i c s x u = ⊎-elim
@@ -96,15 +107,15 @@ module _ {K P : Type 0} (W : Views K P) (n t : ℕ) (faultyServer faultyClient :
         (λ w. rw (w .0) (⊎-elim (by-echoes i c x) (by-readies i c x) (w .1)))
         (M .ready-new i c s x u))
 
-    next-delivered : (i c : ℕ) (x : P) → Delivered (k ∷ ks) i c x → Support (k ∷ ks) c (sequence (k ∷ ks) i c) x
+    next-delivered : (i c : ℕ) (x : P) → Delivered (k ∷ ks) i c x → Readies (k ∷ ks) c (sequence (k ∷ ks) i c) x
     next-delivered i c x u =
         let w = M .delivered-new i c x u in
-        rw (w .0) (support-stays c (sequence ks i c) x (⊎-elim (I .delivered-supported i c x) (by-readies i c x) (w .1)))
+        rw (w .0) (readies-stay c (sequence ks i c) x (⊎-elim (I .delivered-readies i c x) (heard i c all x) (w .1)))
 
-    next-accepted : (i c s : ℕ) (x : P) → Accepted (k ∷ ks) i c s x → Support (k ∷ ks) c s x
-    next-accepted i c s x u = support-stays c s x (⊎-elim
-        (I .accepted-supported i c s x)
-        (λ w. rw (w .0) (⊎-elim (I .delivered-supported i c x) (by-readies i c x) (w .1)))
+    next-accepted : (i c s : ℕ) (x : P) → Accepted (k ∷ ks) i c s x → Readies (k ∷ ks) c s x
+    next-accepted i c s x u = readies-stay c s x (⊎-elim
+        (I .accepted-readies i c s x)
+        (λ w. rw (w .0) (⊎-elim (I .delivered-readies i c x) (heard i c all x) (w .1)))
         (M .accepted-new i c s x u))
 
     next : Invariant (k ∷ ks)
@@ -114,12 +125,12 @@ module _ {K P : Type 0} (W : Views K P) (n t : ℕ) (faultyServer faultyClient :
       echo-heard = next-heard-echo;
       ready-heard = next-heard-ready;
       ready-supported = next-ready;
-      delivered-supported = next-delivered;
-      accepted-supported = next-accepted;
+      delivered-readies = next-delivered;
+      accepted-readies = next-accepted;
       echo-valid = λ i c s x h u. M .client-stays c s x (⊎-elim (I .echo-valid i c s x h) (λ w. w .sent h) (M .echo-new i c s x u));
     }
 
-  module _ (F : Faults n t faultyServer) (E : L.Fresh W n t faultyServer faultyClient) where
+  module _ (F : Faults n t faultyServer) (more : t < few) (most : t < all) (E : L.Fresh W n t few all faultyServer faultyClient) where
     pub invariant : {ks : List K} → Run ks → Invariant ks
     invariant L.fresh = record {
       echo-past = λ i c s x u. absurd (E .no-echo i c s x u);
@@ -127,22 +138,27 @@ module _ {K P : Type 0} (W : Views K P) (n t : ℕ) (faultyServer faultyClient :
       echo-heard = λ i c j x is g u. absurd (E .no-kept-echo i c j x u);
       ready-heard = λ i c j x is g u. absurd (E .no-kept-ready i c j x u);
       ready-supported = λ i c s x u. absurd (E .no-ready i c s x u);
-      delivered-supported = λ i c x u. absurd (E .no-delivered i c x u);
-      accepted-supported = λ i c s x u. absurd (E .no-accepted i c s x u);
+      delivered-readies = λ i c x u. absurd (E .no-delivered i c x u);
+      accepted-readies = λ i c s x u. absurd (E .no-accepted i c s x u);
       echo-valid = λ i c s x h u. absurd (E .no-echo i c s x u);
     }
-    invariant (L.call {ks} k M r) = next F ks k M (invariant r)
+    invariant (L.call {ks} k M r) = next F more ks k M (invariant r)
+
+    -- what an honest server accepts is supported
+    pub supported : {ks : List K} → Run ks → (i c s : ℕ) (x : P) → Accepted ks i c s x → Support ks c s x
+    supported r i c s x u =
+        let I = invariant r in
+        let (j, is, g, f) = honest-member F (at-least-fewer most (I .accepted-readies i c s x u)) in
+        I .ready-supported j c s x (f g)
 
     -- all honest servers accept a write with one payload
     pub agreement : {ks : List K} → Run ks → (i j c s : ℕ) (x y : P) → Accepted ks i c s x → Accepted ks j c s y → x ≡ y
     agreement r i j c s x y u v =
-        let I = invariant r in
-        let (h, is, g, f) = quorums-meet F (I .accepted-supported i c s x u) (I .accepted-supported j c s y v) in
-        I .echo-once h c s x y (f .0 g) (f .1 g)
+        let (h, is, g, f) = quorums-meet F (supported r i c s x u) (supported r j c s y v) in
+        invariant r .echo-once h c s x y (f .0 g) (f .1 g)
 
     -- and an honest client's write with the payload that it sent
     pub validity : {ks : List K} → Run ks → (i c s : ℕ) (x : P) → faultyClient c ≡ false → Accepted ks i c s x → ClientSent ks c s x
     validity r i c s x h u =
-        let I = invariant r in
-        let (j, is, g, f) = quorum-member F (I .accepted-supported i c s x u) in
-        I .echo-valid j c s x h (f g)
+        let (j, is, g, f) = quorum-member F (supported r i c s x u) in
+        invariant r .echo-valid j c s x h (f g)

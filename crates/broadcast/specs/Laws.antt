@@ -1,8 +1,8 @@
 -- What a run shows of one broadcast by echoes and readies, and what one call may do to it.
 -- K is a call, and a run is the list of its calls, latest first. P is the payload: a time, or a digest list. The protocol has both broadcasts in one
--- run and gives an instance for each; nothing here knows frames, areas or thresholds other than n - t echoes and t + 1 readies.
+-- run and gives an instance for each; nothing here knows frames or areas. n - t echoes or few readies bring forth a ready, all readies a delivery.
 -- Throughout i and j are servers, c is a client, s a sequence number, x a payload. Assumes nothing.
-use Prim.Native.Nat.{ℕ, zero, suc, _-_, _<_}
+use Prim.Native.Nat.{ℕ, _-_, _<_}
 use mathlib.Core.Bool.{Bool, true, false}
 use mathlib.Core.Path.{_≡_}
 use mathlib.Core.Logic.{_⊎_}
@@ -27,7 +27,7 @@ pub record Views (K P : Type 0) : Type 1 where
   -- client c sent x for its write s
   pub ClientSent : List K → ℕ → ℕ → P → Type 0
 
-module _ {K P : Type 0} (W : Views K P) (n t : ℕ) (faultyServer faultyClient : ℕ → Bool) where
+module _ {K P : Type 0} (W : Views K P) (n t few all : ℕ) (faultyServer faultyClient : ℕ → Bool) where
   open Views W using (sequence, echoed, KeptEcho, KeptReady, SentEcho, SentReady, Delivered, Accepted, ClientSent)
 
   -- if server j is honest: server i keeps its echo, its ready, of x, or is being handed one that j sent
@@ -70,14 +70,14 @@ module _ {K P : Type 0} (W : Views K P) (n t : ℕ) (faultyServer faultyClient :
         → (sequence (k ∷ ks) i c ≡ sequence ks i c) × (KeptEcho ks i c j x ⊎ SentEcho ks j c (sequence ks i c) x)
     pub ready-kept : (i c j : ℕ) (x : P) → Among n j → faultyServer j ≡ false → KeptReady (k ∷ ks) i c j x
         → (sequence (k ∷ ks) i c ≡ sequence ks i c) × (KeptReady ks i c j x ⊎ SentReady ks j c (sequence ks i c) x)
-    -- a ready is old, or follows n - t echoes or t + 1 readies
+    -- a ready is old, or follows n - t echoes or few readies
     pub ready-new : (i c s : ℕ) (x : P) → SentReady (k ∷ ks) i c s x
-        → SentReady ks i c s x ⊎ ((s ≡ sequence ks i c) × (AtLeast n (n - t) (HeardEcho ks i c x) ⊎ AtLeast n (suc t) (HeardReady ks i c x)))
-    -- a delivery, and an acceptance, is old or follows t + 1 readies
+        → SentReady ks i c s x ⊎ ((s ≡ sequence ks i c) × (AtLeast n (n - t) (HeardEcho ks i c x) ⊎ AtLeast n few (HeardReady ks i c x)))
+    -- a delivery, and an acceptance, is old or follows all readies
     pub delivered-new : (i c : ℕ) (x : P) → Delivered (k ∷ ks) i c x
-        → (sequence (k ∷ ks) i c ≡ sequence ks i c) × (Delivered ks i c x ⊎ AtLeast n (suc t) (HeardReady ks i c x))
+        → (sequence (k ∷ ks) i c ≡ sequence ks i c) × (Delivered ks i c x ⊎ AtLeast n all (HeardReady ks i c x))
     pub accepted-new : (i c s : ℕ) (x : P) → Accepted (k ∷ ks) i c s x
-        → Accepted ks i c s x ⊎ ((s ≡ sequence ks i c) × (Delivered ks i c x ⊎ AtLeast n (suc t) (HeardReady ks i c x)))
+        → Accepted ks i c s x ⊎ ((s ≡ sequence ks i c) × (Delivered ks i c x ⊎ AtLeast n all (HeardReady ks i c x)))
 
   -- all calls of the list are lawful
   pub data Run : List K → Type 0 where

@@ -22,7 +22,7 @@ use Rattle.frame.specs.declared.Party.{Party}
 use Rattle.frame.specs.declared.Verdict.{Verdict}
 use Rattle.frame.specs.declared.Party.the-variants as A
 use Rattle.frame.specs.declared.Verdict.the-variants as J
-use Rattle.frame.specs.Chunks.{storeEntry, rowsBytes, placeAt}
+use Rattle.frame.specs.Chunks.{rowsBytes}
 use Rattle.group_rules.specs.Coded.{entryOf}
 use Rattle.frame.specs.Messages.{Entry, send, Body, getStamp, ack, askRead, readComplete, stampIs, blockIs, timeIs, valueIs, Message, message, Sending, sending, toAll, Sized, FormedBody}
 use Rattle.frame.proofs.Chunks.{length-store}
@@ -31,13 +31,15 @@ use Rattle.frame.proofs.Verdicts.{fine-both}
 use Rattle.client_rules.specs.declared.Phase.{Phase}
 use Rattle.client_rules.specs.declared.Client.{Client}
 use Rattle.client_rules.specs.declared.Phase.the-variants as F
-use Rattle.client_rules.specs.Rows.{used, Kept, placesFrom, rowView, placeFor, rowWith, Found, search}
-use Rattle.client_rules.specs.State.{freshRow, freshClient, noRow, rowOf, inPhase, withRow, heardOf, largest}
+use Rattle.client_rules.specs.Rows.{used, Kept, placesFrom, rowView, rowWith, Found, search}
+use Rattle.client_rules.specs.State.{freshRow, freshClient, noRow, rowOf, inPhase, shut, withRow, heardOf, largest}
 use Rattle.client_rules.specs.Beginning as CB
 use Rattle.client_rules.specs.State as CS
 use Rattle.client_rules.specs.Steps as C
 use Rattle.client_rules.specs.Tests as CT
 use Rattle.client_rules.proofs.Views as CV
+use Rattle.client_rules.proofs.Shapes.{dispersed, largestNow, Keeps, drops, keeps, Shape, idle, hears, shuts, counts, ends, waits, completes, shape-of}
+use Rattle.client_rules.proofs.Shapes.{sends as disperses}
 use Rattle.client_rules.proofs.Agreed.{finds}
 use Rattle.client_rules.proofs.Sends.{mem-all}
 
@@ -226,9 +228,6 @@ module _ (H : List ℕ → List ℕ) (g : Params) (M : Small g) (few : g .n ≤ 
     abbrev Above : ℕ → ℕ → ℕ → Type 0
     Above j T U = (i : ℕ) → Among (g .n) i → getD (timesNow j T) i 0 ≤ U
 
-    abbrev Of : C.Effect → Type 0
-    Of r = ClientFacts (r .client) (r .area) (r .sends) (r .event)
-
     module _ (X : ClientShape s a) (p : s .phase ≡ F.Asking) (v : List ℕ) (j T : ℕ) (ij : Among (g .n) j) (new : N j (message me (s .writes) (stampIs T))) where
       quorum : C.quorate g (heardNow j) ≡ true → (U : ℕ) → Above j T U → (T₁ : ℕ) → T₁ ≡ U → AtLeast (g .n) (g .n - g .t) (λ i. (T′ : ℕ) × (T′ ≤ T₁) × KnowsT i T′)
       unfolding C.quorate
@@ -245,9 +244,9 @@ module _ (H : List ℕ → List ℕ) (g : Params) (M : Small g) (few : g .n ≤ 
       time-same : (T₁ T₂ : ℕ) → timeIs send T₁ ≡ timeIs send T₂ → T₁ ≡ T₂
       time-same T₁ T₂ e = cc
 
-      send-by : (b : Bool) (U : ℕ) → Above j T U → C.quorate g (heardNow j) ≡ true → Of (C.sendBelow H g me b (asked j T) a v U)
-      unfolding C.sendBelow
-      send-by true U above e = record {
+      -- the time that is sent is the largest of them, so at least each
+      send-facts : C.quorate g (heardNow j) ≡ true → ClientFacts (inPhase s F.Acking (replicate 11 false) (timesNow j T)) a (dispersed H g me s a v j (largestNow H g me s a v j T)) C.nothing
+      send-facts e = record {
         client-shape = phase-trim X F.Acking (replicate 11 false) (timesNow j T) refl (length-set (s .times) j T ∙ X .times-many);
         writes-up = omega arith;
         reads-up = omega arith;
@@ -256,7 +255,7 @@ module _ (H : List ℕ → List ℕ) (g : Params) (M : Small g) (few : g .n ≤ 
         v-kept = λ i k is q z. impossible (cc);
         t-sent = λ b d q T₁ u. ⊎-elim
             (λ y. impossible (cc (body-all (λ j. message me (s .writes) (blockIs send (entryOf H g v j))) b _ y .1)))
-            (λ y. (body-all _ b _ y .2, quorum e U above T₁ (time-same T₁ _ (body-all _ b _ y .1))))
+            (λ y. (body-all _ b _ y .2, quorum e _ (λ i is. le-largest (λ m. getD (timesNow j T) m 0) (g .n) i is) T₁ (time-same T₁ _ (body-all _ b _ y .1))))
             (List·Memᴰ·append-cases (toAll g (λ j. message me (s .writes) (blockIs send (entryOf H g v j)))) u);
         g-sent = λ b d q u. ⊎-elim
             (λ y. impossible (cc (body-all (λ j. message me (s .writes) (blockIs send (entryOf H g v j))) b _ y .1)))
@@ -269,7 +268,9 @@ module _ (H : List ℕ → List ℕ) (g : Params) (M : Small g) (few : g .n ≤ 
         write-why = λ z. impossible (cc);
         read-why = λ v z. impossible (cc);
       }
-      send-by false U above e = record {
+
+      shut-facts : ClientFacts (shut (asked j T)) a [] C.outOfStamps
+      shut-facts = record {
         client-shape = record {
           shaped = record { rows-many = X .shaped .rows-many; stamps-many = X .shaped .stamps-many };
           heard-many = length-set (s .heard) j true ∙ X .heard-many;
@@ -288,110 +289,100 @@ module _ (H : List ℕ → List ℕ) (g : Params) (M : Small g) (few : g .n ≤ 
         read-why = λ v z. impossible (cc);
       }
 
-      -- the time that is sent is the largest of them, so at least each
-      gather : (b : Bool) → C.quorate g (heardNow j) ≡ b → Of (C.gatherBy H g me b (asked j T) a v)
-      unfolding C.gatherBy
-      gather true e = send-by _ _ (λ i is. le-largest (λ m. getD (timesNow j T) m 0) (g .n) i is) e
-      gather false e = turn-facts (asked j T) a (asked-trim X j T) refl refl (λ i T′ is q z. stamp-knows X p j T ij new i T′ z) (λ i is q z. impossible (cc)) (λ i k is q z. impossible (cc))
-
-      stamp-facts : Of (C.onStamp H g me s a v j T)
-      unfolding C.onStamp
-      stamp-facts = gather (C.quorate g (heardNow j)) refl
+      hear-facts : ClientFacts (asked j T) a [] C.nothing
+      hear-facts = turn-facts (asked j T) a (asked-trim X j T) refl refl (λ i T′ is q z. stamp-knows X p j T ij new i T′ z) (λ i is q z. impossible (cc)) (λ i k is q z. impossible (cc))
 
     -- ---- acks
 
-    ack-facts : ClientShape s a → s .phase ≡ F.Acking → (j : ℕ) → Among (g .n) j → N j (message me (s .writes) ack)
-        → ClientFacts (C.onAck H g me s a j .client) (C.onAck H g me s a j .area) (C.onAck H g me s a j .sends) (C.onAck H g me s a j .event)
-    unfolding C.onAck C.quorate C.endBy
-    ack-facts X p j ij new = go (C.quorate g (heardNow j)) refl
-      where
-        Of : C.Effect → Type 0
-        Of r = ClientFacts (r .client) (r .area) (r .sends) (r .event)
+    module _ (X : ClientShape s a) (p : s .phase ≡ F.Acking) (j : ℕ) (ij : Among (g .n) j) (new : N j (message me (s .writes) ack)) where
+      knows : (i : ℕ) → getD (heardNow j) i false ≡ true → KnowsA i
+      knows i e = ⊎-elim
+          (λ w. inr (subst (λ y. N y (message me (s .writes) ack)) (sym (w .0)) new))
+          (λ w. inl (p, sym w ∙ e))
+          (set-cases (s .heard) j true false (omega (arith, X .heard-many, few, ij .1)) i)
 
-        knows : (i : ℕ) → getD (heardNow j) i false ≡ true → KnowsA i
-        knows i e = ⊎-elim
-            (λ w. inr (subst (λ y. N y (message me (s .writes) ack)) (sym (w .0)) new))
-            (λ w. inl (p, sym w ∙ e))
-            (set-cases (s .heard) j true false (omega (arith, X .heard-many, few, ij .1)) i)
+      end-facts : C.quorate g (heardNow j) ≡ true → ClientFacts (inPhase s F.Idle (heardNow j) (s .times)) a [] C.written
+      unfolding C.quorate
+      end-facts e = record {
+        client-shape = phase-trim X F.Idle (heardNow j) (s .times) (length-set (s .heard) j true ∙ X .heard-many) (X .times-many);
+        writes-up = omega arith;
+        reads-up = omega arith;
+        t-kept = λ i T′ is q z. impossible (cc);
+        a-kept = λ i is q z. impossible (cc);
+        v-kept = λ i k is q z. impossible (cc);
+        t-sent = λ b d q T u. absurd (List·Memᴰ·not-nil u);
+        g-sent = λ b d q u. absurd (List·Memᴰ·not-nil u);
+        r-sent = λ b d q u. absurd (List·Memᴰ·not-nil u);
+        write-why = λ z. record {
+          member = λ i. getD (heardNow j) i false;
+          many = omega (arith, leb-true (g .n) (count (λ i. getD (heardNow j) i false) (g .n) + g .t) e);
+          each = λ i is b. knows i b;
+        };
+        read-why = λ v z. impossible (cc);
+      }
 
-        go : (b : Bool) → C.quorate g (heardNow j) ≡ b → Of (C.endBy H g me b s a (heardNow j))
-        go true e = record {
-          client-shape = phase-trim X F.Idle (heardNow j) (s .times) (length-set (s .heard) j true ∙ X .heard-many) (X .times-many);
-          writes-up = omega arith;
-          reads-up = omega arith;
-          t-kept = λ i T′ is q z. impossible (cc);
-          a-kept = λ i is q z. impossible (cc);
-          v-kept = λ i k is q z. impossible (cc);
-          t-sent = λ b d q T u. absurd (List·Memᴰ·not-nil u);
-          g-sent = λ b d q u. absurd (List·Memᴰ·not-nil u);
-          r-sent = λ b d q u. absurd (List·Memᴰ·not-nil u);
-          write-why = λ z. record {
-            member = λ i. getD (heardNow j) i false;
-            many = omega (arith, leb-true (g .n) (count (λ i. getD (heardNow j) i false) (g .n) + g .t) e);
-            each = λ i is b. knows i b;
-          };
-          read-why = λ v z. impossible (cc);
-        }
-        go false e = turn-facts (inPhase s F.Acking (heardNow j) (s .times)) a
-            (phase-trim X F.Acking (heardNow j) (s .times) (length-set (s .heard) j true ∙ X .heard-many) (X .times-many)) refl refl
-            (λ i T′ is q z. impossible (cc)) (λ i is q z. knows i z) (λ i k is q z. impossible (cc))
+      count-facts : ClientFacts (inPhase s F.Acking (heardNow j) (s .times)) a [] C.nothing
+      count-facts = turn-facts (inPhase s F.Acking (heardNow j) (s .times)) a
+          (phase-trim X F.Acking (heardNow j) (s .times) (length-set (s .heard) j true ∙ X .heard-many) (X .times-many)) refl refl
+          (λ i T′ is q z. impossible (cc)) (λ i is q z. knows i z) (λ i k is q z. impossible (cc))
 
     -- ---- values
 
-    settle-facts : (s′ : Client) (a′ : List ℕ) → ClientShape s′ a′ → s′ .writes ≡ s .writes → s′ .reads ≡ s .reads → s′ .phase ≡ F.Reading
-        → ((i : ℕ) (k : Kept) → Among (g .n) i → List·Memᴰ k (rowView g s′ a′ i) → KnowsV i k)
-        → ClientFacts (C.settle H g me s′ a′ .client) (C.settle H g me s′ a′ .area) (C.settle H g me s′ a′ .sends) (C.settle H g me s′ a′ .event)
-    unfolding C.settle C.completeBy
-    settle-facts s′ a′ X ew er p f = go (search g (rowView g s′ a′)) refl
-      where
-        Of : C.Effect → Type 0
-        Of r = ClientFacts (r .client) (r .area) (r .sends) (r .event)
+    -- the rows s′ and a′ are searched
+    module _ (s′ : Client) (a′ : List ℕ) (X : ClientShape s′ a′) (ew : s′ .writes ≡ s .writes) (er : s′ .reads ≡ s .reads) (p : s′ .phase ≡ F.Reading)
+        (f : (i : ℕ) (k : Kept) → Among (g .n) i → List·Memᴰ k (rowView g s′ a′ i) → KnowsV i k) where
+      wait-facts : ClientFacts s′ a′ [] C.nothing
+      wait-facts = turn-facts s′ a′ X ew er (λ i T′ is q z. impossible (cc)) (λ i is q z. impossible (cc)) (λ i k is q z. f i k is z)
 
-        go : (o : Option Found) → search g (rowView g s′ a′) ≡ o → Of (C.completeBy H g me o s′ a′)
-        go none e = turn-facts s′ a′ X ew er (λ i T′ is q z. impossible (cc)) (λ i is q z. impossible (cc)) (λ i k is q z. f i k is z)
-        go (some y) e = record {
-          client-shape = record {
-            shaped = record { rows-many = X .shaped .rows-many; stamps-many = X .shaped .stamps-many };
-            heard-many = X .heard-many;
-            times-many = X .times-many;
-            room = X .room;
-          };
-          writes-up = omega (arith, ew);
-          reads-up = omega (arith, er);
-          t-kept = λ i T′ is q z. impossible (cc);
-          a-kept = λ i is q z. impossible (cc);
-          v-kept = λ i k is q z. impossible (cc);
-          t-sent = λ b d q T u. impossible (cc (body-all _ b _ u .1));
-          g-sent = λ b d q u. impossible (cc (body-all _ b _ u .1));
-          r-sent = λ b d q u. impossible (cc (body-all _ b _ u .1));
-          write-why = λ z. impossible (cc);
-          read-why = λ v z.
-              let w : y ≡ v = cc in
-              at-least-map (λ i is h. (h .it, h .stamp, h .digests, f i (h .it) is (h .in-row))) (finds H g (rowView g s′ a′) v (e ∙ ap some w));
-        }
+      complete-facts : (y : Found) → search g (rowView g s′ a′) ≡ some y
+          → ClientFacts (inPhase s′ F.Idle (s′ .heard) (s′ .times)) a′ (toAll g (λ i. message me (s′ .reads) readComplete)) (C.completed y)
+      complete-facts y e = record {
+        client-shape = record {
+          shaped = record { rows-many = X .shaped .rows-many; stamps-many = X .shaped .stamps-many };
+          heard-many = X .heard-many;
+          times-many = X .times-many;
+          room = X .room;
+        };
+        writes-up = omega (arith, ew);
+        reads-up = omega (arith, er);
+        t-kept = λ i T′ is q z. impossible (cc);
+        a-kept = λ i is q z. impossible (cc);
+        v-kept = λ i k is q z. impossible (cc);
+        t-sent = λ b d q T u. impossible (cc (body-all _ b _ u .1));
+        g-sent = λ b d q u. impossible (cc (body-all _ b _ u .1));
+        r-sent = λ b d q u. impossible (cc (body-all _ b _ u .1));
+        write-why = λ z. impossible (cc);
+        read-why = λ v z.
+            let w : y ≡ v = cc in
+            at-least-map (λ i is h. (h .it, h .stamp, h .digests, f i (h .it) is (h .in-row))) (finds H g (rowView g s′ a′) v (e ∙ ap some w));
+      }
 
-    value-facts : ClientShape s a → s .phase ≡ F.Reading → (j : ℕ) (x : Stamp) (e : Entry) → Sized g e → Among (g .n) j → N j (message me (s .reads) (valueIs x e))
-        → ClientFacts (C.onValue H g me s a j x e .client) (C.onValue H g me s a j x e .area) (C.onValue H g me s a j x e .sends) (C.onValue H g me s a j x e .event)
-    unfolding C.onValue C.keepBy
-    value-facts X p j x e Q ij new = go (placeFor (rowOf s j) x) refl
-      where
-        Of : C.Effect → Type 0
-        Of r = ClientFacts (r .client) (r .area) (r .sends) (r .event)
+    -- a value of server j, kept or dropped
+    pub record Kept-facts (s′ : Client) (a′ : List ℕ) : Type 0 where
+      pub shape : ClientShape s′ a′
+      pub writes : s′ .writes ≡ s .writes
+      pub reads : s′ .reads ≡ s .reads
+      pub phase : s′ .phase ≡ F.Reading
+      pub each : (i : ℕ) (k : Kept) → Among (g .n) i → List·Memᴰ k (rowView g s′ a′ i) → KnowsV i k
 
-        go : (o : Option ℕ) → placeFor (rowOf s j) x ≡ o → Of (C.keepBy H g me o s a j x e)
-        go none z = settle-facts s a X refl refl p (λ i k is u. inl (p, u))
-        go (some i) z = settle-facts (withRow s j (rowWith (rowOf s j) i x)) (storeEntry a (placeAt j i) e)
-            (record {
-              shaped = row-shaped s (X .shaped) j (omega (arith, few, ij .1)) i x;
-              heard-many = X .heard-many;
-              times-many = X .times-many;
-              room = rw length-store (X .room);
-            })
-            refl refl p
-            (λ m k is u. ⊎-elim
-            (λ w. inr (subst (λ y. N m (message me (s .reads) (valueIs (y .stamp) (y .entry)))) (sym (w .1)) (subst (λ y. N y (message me (s .reads) (valueIs x e))) (sym (w .0)) new)))
-            (λ w. inl (p, w))
-            (CV.row-kept g M s (X .shaped) a (X .room) j (ij .0, omega (arith, few, ij .1)) x e Q i (CV.goes (rowOf s j) x i z) m (is .0) k u))
+    keep-facts : ClientShape s a → s .phase ≡ F.Reading → (v : List ℕ) (j : ℕ) (x : Stamp) (e : Entry) → Sized g e → Among (g .n) j → N j (message me (s .reads) (valueIs x e))
+        → {s′ : Client} {a′ : List ℕ} → Keeps H g me s a v j x e s′ a′ → Kept-facts s′ a′
+    keep-facts X p v j x e Q ij new (drops z) = record { shape = X; writes = refl; reads = refl; phase = p; each = λ i k is u. inl (p, u) }
+    keep-facts X p v j x e Q ij new (keeps i z) = record {
+      shape = record {
+        shaped = row-shaped s (X .shaped) j (omega (arith, few, ij .1)) i x;
+        heard-many = X .heard-many;
+        times-many = X .times-many;
+        room = rw length-store (X .room);
+      };
+      writes = refl;
+      reads = refl;
+      phase = p;
+      each = λ m k is u. ⊎-elim
+          (λ w. inr (subst (λ y. N m (message me (s .reads) (valueIs (y .stamp) (y .entry)))) (sym (w .1)) (subst (λ y. N y (message me (s .reads) (valueIs x e))) (sym (w .0)) new)))
+          (λ w. inl (p, w))
+          (CV.row-kept g M s (X .shaped) a (X .room) j (ij .0, omega (arith, few, ij .1)) x e Q i (CV.goes (rowOf s j) x i z) m (is .0) k u);
+    }
 
   asking-is : (p : Phase) → CS.asking p ≡ true → p ≡ F.Asking
   asking-is F.Idle e = impossible (cc)
@@ -415,32 +406,49 @@ module _ (H : List ℕ → List ℕ) (g : Params) (M : Small g) (few : g .n ≤ 
   abbrev pub Brought : ℕ → Message → ℕ → Message → Type 0
   Brought j m i m′ = (j ≡ i) × (m ≡ m′)
 
-  body-facts : (s : Client) (a v : List ℕ) → ClientShape s a → (j q : ℕ) (b : Body) → Among (g .n) j → FormedBody g b → CT.orderTest H g me s j q b ≡ J.Fine
-      → ClientFacts s a (Brought j (message me q b)) (C.onBody H g me s a v j b .client) (C.onBody H g me s a v j b .area) (C.onBody H g me s a v j b .sends) (C.onBody H g me s a v j b .event)
-  unfolding CT.orderTest C.onBody
-  body-facts s a v X j q getStamp ij f o = quiet-facts s a _ X
-  body-facts s a v X j q ack ij f o =
+  -- what each kind's test has shown: the phase, and that the frame is of the open operation
+  ack-open : (s : Client) (j q : ℕ) → CT.orderTest H g me s j q ack ≡ J.Fine → (s .phase ≡ F.Acking) × (q ≡ s .writes)
+  unfolding CT.orderTest
+  ack-open s j q o =
       let w = and-split (CS.acking (s .phase)) _ (awaited-true H g me _ o) in
-      let z : q ≡ s .writes = eqb-true q (s .writes) (and-split (eqb q (s .writes)) _ (w .1) .0) in
-      ack-facts s a _ X (acking-is (s .phase) (w .0)) j ij (refl, ap (λ y. message me y ack) z)
-  body-facts s a v X j q askRead ij f o = quiet-facts s a _ X
-  body-facts s a v X j q readComplete ij f o = quiet-facts s a _ X
-  body-facts s a v X j q (stampIs T) ij f o =
+      (acking-is (s .phase) (w .0), eqb-true q (s .writes) (and-split (eqb q (s .writes)) _ (w .1) .0))
+
+  stamp-open : (s : Client) (j q T : ℕ) → CT.orderTest H g me s j q (stampIs T) ≡ J.Fine → (s .phase ≡ F.Asking) × (q ≡ s .writes)
+  unfolding CT.orderTest
+  stamp-open s j q T o =
       let w = and-split (CS.asking (s .phase)) _ (awaited-true H g me _ o) in
-      let z : q ≡ s .writes = eqb-true q (s .writes) (and-split (eqb q (s .writes)) _ (w .1) .0) in
-      stamp-facts s a _ X (asking-is (s .phase) (w .0)) v j T ij (refl, ap (λ y. message me y (stampIs T)) z)
-  body-facts s a v X j q (blockIs z e) ij f o = quiet-facts s a _ X
-  body-facts s a v X j q (timeIs z T) ij f o = quiet-facts s a _ X
-  body-facts s a v X j q (valueIs x e) ij f o =
+      (asking-is (s .phase) (w .0), eqb-true q (s .writes) (and-split (eqb q (s .writes)) _ (w .1) .0))
+
+  value-open : (s : Client) (j q : ℕ) (x : Stamp) (e : Entry) → CT.orderTest H g me s j q (valueIs x e) ≡ J.Fine → (s .phase ≡ F.Reading) × (q ≡ s .reads)
+  unfolding CT.orderTest
+  value-open s j q x e o =
       let w = and-split (CS.reading (s .phase)) _ (awaited-true H g me _ (fine-both _ _ o .0)) in
-      let z : q ≡ s .reads = eqb-true q (s .reads) (and-split (eqb q (s .reads)) _ (w .1) .0) in
-      value-facts s a _ X (reading-is (s .phase) (w .0)) j x e (f .0) ij (refl, ap (λ y. message me y (valueIs x e)) z)
+      (reading-is (s .phase) (w .0), eqb-true q (s .reads) (and-split (eqb q (s .reads)) _ (w .1) .0))
+
+  module _ (s : Client) (a v : List ℕ) (X : ClientShape s a) (j q : ℕ) (ij : Among (g .n) j) where
+    abbrev Of : Body → C.Effect → Type 0
+    Of b r = ClientFacts s a (Brought j (message me q b)) (r .client) (r .area) (r .sends) (r .event)
+
+    shape-facts : {b : Body} {r : C.Effect} → FormedBody g b → CT.orderTest H g me s j q b ≡ J.Fine → Shape H g me s a v j b r → Of b r
+    shape-facts f o (idle b) = quiet-facts s a _ X
+    shape-facts f o (hears T z) = let w = stamp-open s j q T o in hear-facts s a _ X (w .0) v j T ij (refl, ap (λ y. message me y (stampIs T)) (w .1))
+    shape-facts f o (disperses T z l) = let w = stamp-open s j q T o in send-facts s a _ X (w .0) v j T ij (refl, ap (λ y. message me y (stampIs T)) (w .1)) z
+    shape-facts f o (shuts T z l) = let w = stamp-open s j q T o in shut-facts s a _ X (w .0) v j T ij (refl, ap (λ y. message me y (stampIs T)) (w .1))
+    shape-facts f o (counts z) = let w = ack-open s j q o in count-facts s a _ X (w .0) j ij (refl, ap (λ y. message me y ack) (w .1))
+    shape-facts f o (ends z) = let w = ack-open s j q o in end-facts s a _ X (w .0) j ij (refl, ap (λ y. message me y ack) (w .1)) z
+    shape-facts f o (waits x e k z) =
+        let w = value-open s j q x e o in
+        let K = keep-facts s a (Brought j (message me q (valueIs x e))) X (w .0) v j x e (f .0) ij (refl, ap (λ y. message me y (valueIs x e)) (w .1)) k in
+        wait-facts s a (Brought j (message me q (valueIs x e))) _ _ (K .shape) (K .writes) (K .reads) (K .phase) (K .each)
+    shape-facts f o (completes x e k y z) =
+        let w = value-open s j q x e o in
+        let K = keep-facts s a (Brought j (message me q (valueIs x e))) X (w .0) v j x e (f .0) ij (refl, ap (λ y. message me y (valueIs x e)) (w .1)) k in
+        complete-facts s a (Brought j (message me q (valueIs x e))) _ _ (K .shape) (K .writes) (K .reads) (K .phase) (K .each) y z
 
   pub effect-facts : (s : Client) (a v : List ℕ) → ClientShape s a → (j q : ℕ) (b : Body) → Among (g .n) j → FormedBody g b → CT.orderTest H g me s j q b ≡ J.Fine
       → ClientFacts s a (Brought j (message me q b)) (C.effect H g me s a v (A.Server j) (message me q b) .client) (C.effect H g me s a v (A.Server j) (message me q b) .area)
       (C.effect H g me s a v (A.Server j) (message me q b) .sends) (C.effect H g me s a v (A.Server j) (message me q b) .event)
-  unfolding C.effect CT.orderTest C.onBody
-  effect-facts s a v X j q b ij f o = body-facts s a v X j q b ij f o
+  effect-facts s a v X j q b ij f o = shape-facts s a v X j q ij f o (shape-of H g me s a v (A.Server j) (message me q b))
 
   -- ---- beginnings
 

@@ -1,4 +1,5 @@
 pub mod Views
 pub mod Sends
+pub mod Shapes
 pub mod Agreed
 pub mod CallFacts

@@ -14,7 +14,9 @@ use Rattle.area.proofs.Fills.{length-table, getD-table, table-agree}
 use Rattle.frame.specs.declared.Stamp.{Stamp}
 use Rattle.frame.specs.Frames.{stampBytes}
 use Rattle.layout.specs.Fields.{flagByte, flagIn, flagAt, stampAt, rowBytes, rowAt, flagsBytes, flagsAt, numbersBytes, numbersAt}
-use Rattle.layout.specs.Typed.{Word, Long, Every, Array, TypedStamp}
+use Rattle.layout.specs.Typed.{Word, Long, TypedStamp}
+use Rattle.server_rules.proofs.Within.{getD-every}
+use Rattle.server_rules.specs.WellFormed.{Every, Array}
 
 -- ---- where bytes stand
 
@@ -110,11 +112,6 @@ entry-at F w e l (suc m) (suc k) s i h p =
     let q = back (F s) (joined F (suc s) m) w (i + w) (e s) refl p in
     let u : i + suc k * w ≡ i + w + k * w = rw suc-mul (omega arith) in
     rw (u, add-suc s k, ← suc-add s k) (entry-at F w e l m k (suc s) (i + w) (omega arith) q)
-
-pub getD-every : {A : Type 0} (P : A → Type 0) (xs : List A) (k : ℕ) (d : A) → Every P xs → k < length xs → P (getD xs k d)
-getD-every P [] k d p h = absurd (not-suc-le-zero h)
-getD-every P (x ∷ xs) zero d p h = p .0
-getD-every P (x ∷ xs) (suc k) d p h = getD-every P xs k d (p .1) (omega arith)
 
 -- element k of an array that is read
 pub row-entry : {A : Type 0} (g : List ℕ → ℕ → A) (m w : ℕ) (l : List ℕ) (i k : ℕ) (d : A) → k < m → getD (rowAt g m w l i) k d ≡ g l (i + k * w)

@@ -18,7 +18,8 @@ use Rattle.server_rules.specs.declared.Server.{Server}
 use Rattle.server_rules.specs.State.{noSlot, noReader}
 use Rattle.layout.specs.Fields.{flagByte, flagAt, flagsBytes, flagsAt, numbersBytes}
 use Rattle.layout.specs.Servers.{serverSize, marksBytes, votesBytes, blocksBytes, blocksAt, timesBytes, timesAt, slotBytes, slotAt, slotsBytes, slotsAt, readerBytes, readerAt, readersBytes, readersAt, serverBytes, serverAt, serverIn}
-use Rattle.layout.specs.Typed.{Array, TypedBlocks, TypedTimes, TypedSlot, TypedReader, TypedServer}
+use Rattle.layout.specs.Typed.{TypedBlocks, TypedTimes, TypedSlot, TypedReader, TypedServer}
+use Rattle.server_rules.specs.WellFormed.{Array}
 use Rattle.layout.proofs.Lengths.{length-flags, length-numbers, length-marks, length-votes, length-blocks, length-slot, length-slots, length-reader, length-server}
 use Rattle.layout.proofs.Reading.{Stands, front, back, alone, stored, flag-at, word-at, long-at, stamp-at, row-at, flags-at, numbers-at}
 

@@ -4,7 +4,6 @@ use native.Mathlib.Omega.{arith}
 use borrow.Author.Tests.{ltb-true, leb-false}
 use mathlib.Core.Path.{_≡_, refl, ap, _∙_}
 use mathlib.Core.Bool.{Bool, true, false, not}
-use mathlib.Core.Option.{Option, none, some}
 use mathlib.Core.List.{List, [], _∷_}
 use lib.ListN.{length, getD, set, replicate, length-set}
 use lib.Dec.{leb, ltb}
@@ -20,7 +19,7 @@ use Rattle.frame.specs.declared.Verdict.the-variants as J
 use Rattle.frame.specs.Refusals.{andThen}
 use Rattle.frame.specs.Params.{paramsTest}
 use Rattle.frame.specs.Stamps.{zeroStamp, lastSequence, lastClient}
-use Rattle.frame.specs.Messages.{Entry, Body, getStamp, ack, askRead, readComplete, stampIs, blockIs, timeIs, valueIs, FormedBody, Message, numberIn, judgedBy, after}
+use Rattle.frame.specs.Messages.{Entry, Body, FormedBody, Message, numberIn, judgedBy, after}
 use Rattle.frame.specs.Frames.{headerIn, frameTest, openedBy, opened, messageIn}
 use Rattle.frame.proofs.Verdicts.{fine-not, fine-both}
 use Rattle.frame.proofs.Converse.{formed-opened}
@@ -28,15 +27,19 @@ use Rattle.client_rules.specs.declared.Phase.{Phase}
 use Rattle.client_rules.specs.declared.Row.{Row}
 use Rattle.client_rules.specs.declared.Client.{Client}
 use Rattle.client_rules.specs.State.{freshRow, freshClient, idle, rowOf, inPhase, noRow, withRow}
-use Rattle.client_rules.specs.Rows.{placeFor, rowWith, Found, search, rowView}
+use Rattle.client_rules.specs.Rows.{rowWith}
 use Rattle.client_rules.specs.Tests.{sendRoom, roomTest, valueTest, messageTest, judgeOpened, judge}
-use Rattle.client_rules.specs.Steps.{Effect, sendBelow, gatherBy, onStamp, endBy, onAck, completeBy, settle, keepBy, onValue, onBody, effect}
+use Rattle.client_rules.specs.Steps.{Effect}
+use Rattle.client_rules.proofs.Shapes.{Keeps, drops, keeps, Shape, hears, shuts, counts, ends, waits, completes, shape-of}
+use Rattle.client_rules.proofs.Shapes.{idle as rests, sends as disperses}
 use Rattle.client_rules.specs.Beginning.{idleTest, closedTest, lengthTest, readTest, writeTest, openRead, openWrite, beginBy, readBegun, writeBegun, begunOf, readBeginning, writeBeginning}
 use Rattle.client_rules.specs.Delivery.{effectBy, delivered, outcomeOf, delivery}
 use Rattle.layout.specs.Fields.{flagAt, stampAt, flagsAt, numbersAt}
 use Rattle.layout.specs.Clients.{stampsAt, keptAt, rowsAt, clientAt, clientIn}
-use Rattle.layout.specs.Typed.{Word, Long, Every, Array, TypedStamp, TypedRow, TypedClient}
-use Rattle.layout.proofs.TypedSteps.{array-set, every-replicate, array-row, stamp-in}
+use Rattle.layout.specs.Typed.{Word, Long, TypedStamp, TypedRow, TypedClient}
+use Rattle.server_rules.specs.WellFormed.{Every, Array}
+use Rattle.layout.proofs.TypedSteps.{array-row, stamp-in}
+use Rattle.server_rules.proofs.Within.{array-set, every-replicate}
 
 -- ---- what bytes say
 
@@ -152,50 +155,34 @@ row-with r i x y t = record { count = count-kept (ltb (r .count) 4) (r .count) r
 -- ---- any frame
 
 module _ (H : List ℕ → List ℕ) (g : Params) (me : ℕ) where
-  typed-below : (b : Bool) (s : Client) (a v : List ℕ) (M : ℕ) → TypedClient s → TypedClient (sendBelow H g me b s a v M .client)
-  unfolding sendBelow
-  typed-below true s a v M t = phase-kept s _ _ _ t refl (t .times)
-  typed-below false s a v M t = record { writes = t .writes; reads = t .reads; heard = t .heard; times = t .times; rows = t .rows }
+  typed-keeps : (s : Client) (a v : List ℕ) (j : ℕ) {x : Stamp} {e : Entry} {s′ : Client} {a′ : List ℕ} → TypedStamp x → TypedClient s → Keeps H g me s a v j x e s′ a′ → TypedClient s′
+  typed-keeps s a v j y t (drops z) = t
+  typed-keeps s a v j {x} y t (keeps i z) = row-kept s j _ t (row-with (rowOf s j) i x y)
 
-  typed-gather : (b : Bool) (s : Client) (a v : List ℕ) → TypedClient s → TypedClient (gatherBy H g me b s a v .client)
-  unfolding gatherBy
-  typed-gather true s a v t = typed-below _ s a v _ t
-  typed-gather false s a v t = t
-
-  typed-end : (b : Bool) (s : Client) (a : List ℕ) (h : List Bool) → TypedClient s → length h ≡ 11 → TypedClient (endBy H g me b s a h .client)
-  unfolding endBy
-  typed-end true s a h t u = phase-kept s _ h (s .times) t u (t .times)
-  typed-end false s a h t u = phase-kept s _ h (s .times) t u (t .times)
-
-  typed-complete : (o : Option Found) (s : Client) (a : List ℕ) → TypedClient s → TypedClient (completeBy H g me o s a .client)
-  unfolding completeBy
-  typed-complete none s a t = t
-  typed-complete (some x) s a t = phase-kept s _ (s .heard) (s .times) t (t .heard) (t .times)
-
-  typed-keep : (o : Option ℕ) (s : Client) (a : List ℕ) (j : ℕ) (x : Stamp) (e : Entry) → TypedStamp x → TypedClient s → TypedClient (keepBy H g me o s a j x e .client)
-  unfolding keepBy settle
-  typed-keep none s a j x e y t = typed-complete (search g (rowView g s a)) s a t
-  typed-keep (some i) s a j x e y t = typed-complete _ _ _ (row-kept s j _ t (row-with (rowOf s j) i x y))
-
-  typed-body : (s : Client) (a v : List ℕ) (j : ℕ) (b : Body) → FormedBody g b → TypedClient s → TypedClient (onBody H g me s a v j b .client)
-  unfolding onBody onAck onStamp onValue
-  typed-body s a v j getStamp h t = t
-  typed-body s a v j ack h t = typed-end _ s a _ t (length-set (s .heard) j true ∙ t .heard)
-  typed-body s a v j askRead h t = t
-  typed-body s a v j readComplete h t = t
-  typed-body s a v j (stampIs T) h t =
-      typed-gather _ _ a v (phase-kept s _ _ _ t (length-set (s .heard) j true ∙ t .heard) (array-set Long 11 (s .times) j T (t .times) h))
-  typed-body s a v j (blockIs z e) h t = t
-  typed-body s a v j (timeIs z T) h t = t
-  typed-body s a v j (valueIs x e) h t =
+  typed-shape : (s : Client) (a v : List ℕ) (j : ℕ) {b : Body} {r : Effect} → FormedBody g b → TypedClient s → Shape H g me s a v j b r → TypedClient (r .client)
+  typed-shape s a v j h t (rests b) = t
+  typed-shape s a v j h t (hears T z) = phase-kept s _ _ _ t (length-set (s .heard) j true ∙ t .heard) (array-set Long 11 (s .times) j T (t .times) h)
+  typed-shape s a v j h t (disperses T z l) = phase-kept s _ _ _ t refl (array-set Long 11 (s .times) j T (t .times) h)
+  typed-shape s a v j h t (shuts T z l) = record {
+    writes = t .writes;
+    reads = t .reads;
+    heard = length-set (s .heard) j true ∙ t .heard;
+    times = array-set Long 11 (s .times) j T (t .times) h;
+    rows = t .rows;
+  }
+  typed-shape s a v j h t (counts z) = phase-kept s _ _ (s .times) t (length-set (s .heard) j true ∙ t .heard) (t .times)
+  typed-shape s a v j h t (ends z) = phase-kept s _ _ (s .times) t (length-set (s .heard) j true ∙ t .heard) (t .times)
+  typed-shape s a v j h t (waits x e k z) = let w = h .2 in typed-keeps s a v j (record { time = h .1; writer = omega (arith, w); sequence = h .3 }) t k
+  typed-shape s a v j h t (completes x e {s′} k y z) =
       let w = h .2 in
-      typed-keep (placeFor (rowOf s j) x) s a j x e (record { time = h .1; writer = omega (arith, w); sequence = h .3 }) t
+      let u = typed-keeps s a v j (record { time = h .1; writer = omega (arith, w); sequence = h .3 }) t k in
+      phase-kept s′ _ (s′ .heard) (s′ .times) u (u .heard) (u .times)
 
   module _ (s : Client) (t : TypedClient s) (a value : List ℕ) (from : Party) where
     -- the verdict is of 10 to 14; a frame that is turned down changes nothing
     typed-judged : (v : Verdict) (m : Message) → FormedBody g (m .body) → TypedClient (effectBy H g me (judgedBy v m) s a value from .client)
-    unfolding effectBy effect
-    typed-judged J.Fine m h = typed-body s a value (numberIn from) (m .body) h t
+    unfolding effectBy
+    typed-judged J.Fine m h = typed-shape s a value (numberIn from) h t (shape-of H g me s a value from m)
     typed-judged (J.Bad r) m h = t
 
     -- p is of 1 to 3, u of 4 to 9, v of 10

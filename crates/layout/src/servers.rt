@@ -18,7 +18,7 @@ ghost use mathlib.Core.Path.{_≡_};
 ghost use Prim.Native.Nat.{_+_, _≤_};
 ghost use lib.ListN.{length};
 ghost use lib.Seq.{sets};
-ghost use Rattle.server_rules.specs.State.{scopeOf};
+ghost use Rattle.server_rules.specs.Scopes.{scopeOf};
 ghost use Rattle.layout.specs.Servers.{serverSize, marksBytes, votesBytes, blocksBytes, blocksAt, timesBytes, timesAt, slotBytes, slotAt, slotsBytes, readerBytes, readerAt, readersBytes, readersAt, serverBytes, serverIn, scopeSets};
 
 // ---- the parts of a slot

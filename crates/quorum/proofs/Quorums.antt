@@ -21,6 +21,9 @@ pub record AtLeast (n m : ℕ) (Q : ℕ → Type 0) : Type 0 where
 pub at-least-map : {n m : ℕ} {Q R : ℕ → Type 0} → ((j : ℕ) → Among n j → Q j → R j) → AtLeast n m Q → AtLeast n m R
 at-least-map f s = record { member = s .member; many = s .many; each = λ j i b. f j i (s .each j i b) }
 
+pub at-least-fewer : {n m k : ℕ} {Q : ℕ → Type 0} → k ≤ m → AtLeast n m Q → AtLeast n k Q
+at-least-fewer h s = record { member = s .member; many = omega (arith, s .many); each = s .each }
+
 -- a server with Q that is honest
 abbrev pub HonestWith : ℕ → (ℕ → Bool) → (ℕ → Type 0) → Type 0
 HonestWith n faulty Q = (j : ℕ) × Among n j × (faulty j ≡ false) × Q j

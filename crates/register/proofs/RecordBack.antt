@@ -23,7 +23,8 @@ use Rattle.server_deliver.proofs.OneClient.{one-client}
 use Rattle.layout.specs.Servers.{serverSize, serverIn, scopeSets}
 use Rattle.layout.specs.Typed.{TypedServer}
 use Rattle.layout.proofs.ScopeBack.{scope-back}
-use Rattle.layout.proofs.TypedSteps.{typed-in, typed-delivery, slot-typed, reader-typed}
+use Rattle.layout.proofs.TypedSteps.{typed-in, typed-delivery}
+use Rattle.server_rules.proofs.Within.{slot-within, reader-within}
 use Rattle.register.specs.Answers.{testAnswer}
 use Rattle.register.specs.Short.{frameShort}
 use Rattle.register.specs.ServerCalls.{isTurnedDown, scopeAfter, serverGot, serverGotOf, serverCall}
@@ -82,7 +83,7 @@ module _ (g : Params) (me : ℕ) (from : Party) (f area initial state out to : L
   says t true e = sym (stays digestOf g me (serverIn state) area initial from f out to e)
   says t false e =
       let h = few digestOf g me (serverIn state) area initial from f out to e in
-      scope-back state named _ _ _ long h (t .stamp) (slot-typed (handed .server) t named h) (reader-typed (handed .server) t named h)
+      scope-back state named _ _ _ long h (t .stamp) (slot-within _ t named h) (reader-within _ t named h)
       ∙ sym (one-client digestOf g me (serverIn state) area initial from f out to)
 
   -- after a call the record's bytes say the server that the delivery leaves, whether it was turned down or not

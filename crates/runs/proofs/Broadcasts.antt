@@ -1,38 +1,33 @@
 -- The runs of the register keep the laws of a broadcast, for the times and for the blocks: each call is lawful by the facts of its step. That what honest
 -- parties send can be said in a frame is a hypothesis here, proved in Formation. Assumes nothing else.
-use Prim.Native.Nat.{ℕ, suc, _-_, _≤_}
+use Prim.Native.Nat.{ℕ, _-_}
 use native.Mathlib.Omega.{arith}
 use mathlib.Core.Bool.{Bool, true, false, _&&_}
 use mathlib.Core.Path.{_≡_, refl, ap, sym, _∙_, subst}
 use mathlib.Core.Logic.{_⊎_, inl, inr, ⊎-elim}
 use mathlib.Core.Option.{Option, some}
 use mathlib.Core.List.{List, [], _∷_, List·Memᴰ, List·Memᴰ·not-nil}
-use lib.ListN.{length}
 use lib.Dec.{leb}
 use borrow.Author.Tests.{leb-true, le-leb}
 use Rattle.quorum.specs.Quorum.{Among}
 use Rattle.quorum.proofs.Logic.{impossible, and-split, and-true, and-false}
 use Rattle.quorum.proofs.Quorums as B
 use Rattle.broadcast.specs.Laws as BL
-use Rattle.frame.specs.declared.Stamp.{Stamp}
 use Rattle.frame.specs.declared.Party.{Party}
 use Rattle.frame.specs.declared.Party.the-variants as A
 use Rattle.frame.specs.declared.Opened.the-variants as O
-use Rattle.frame.specs.Chunks.{storeIf, areaBytes}
 use Rattle.frame.specs.Frames.{build, opened, messageIn, headerFor}
-use Rattle.frame.specs.Messages.{Entry, Stage, send, echo, ready, Body, ack, valueIs, Message, message, Sending, sending, Sized, Formed}
+use Rattle.frame.specs.Messages.{Stage, send, echo, ready, Body, Message, message, Sending, sending, Formed}
 use Rattle.frame.proofs.RoundTrip.{opened-build}
 use Rattle.frame.proofs.Sizes.{Small}
-use Rattle.server_rules.specs.declared.Slot.{Slot}
 use Rattle.server_rules.specs.declared.Server.{Server}
 use Rattle.server_rules.specs.Broadcast.{Part}
-use Rattle.server_rules.specs.State.{freshSlot, slotOf, blockView, timeView}
+use Rattle.server_rules.specs.State.{slotOf}
 use Rattle.server_rules.specs.Steps as S
-use Rattle.server_rules.proofs.Parts.{put-same, noPart, put-cases}
-use Rattle.server_rules.proofs.Views as SV
+use Rattle.server_rules.proofs.Parts.{put-same, put-cases}
 use Rattle.steps.proofs.PartFacts.{Heard}
-use Rattle.steps.proofs.ServerFacts.{ServerShape, BroadcastFacts, New}
-use Rattle.steps.proofs.ServerFits.{Delivered, refused, taken, delivered, shape-delivered, shape-fresh}
+use Rattle.steps.proofs.CastFacts.{Cast, BroadcastFacts, New}
+use Rattle.steps.proofs.ServerFits.{ServerShape, Delivered, refused, taken, delivered, shape-effect, shape-fresh}
 use Rattle.steps.proofs.ServerTaken.{Taken}
 use Rattle.runs.specs.Admissible.{Sent, Honest, Proper, Admissible}
 use Rattle.runs.specs.Events.{At, Accepts}
@@ -77,7 +72,7 @@ module _ (Z : Setup) (G : Assumed Z) (M : Small (Z .g)) where
   Next ks k j = (serverAt (k ∷ ks) j ≡ serverAt ks j) ⊎ ((C : Takes ks k j) × (serverAt (k ∷ ks) j ≡ serverLeft Z (effectOf C)))
 
   at-server : (ks : List Call) (i : ℕ) (from : Party) (f out to : List ℕ) (h : ServerSide) → h ≡ serverLeft Z (serverEffect Z (run Z ks) i from f out to)
-      → {r : S.Effect} → serverEffect Z (run Z ks) i from f out to ≡ r → Delivered H g M (G .bounded .servers-high) i (serverAt ks i .server) (serverAt ks i .area) (initialOf Z i) from f r
+      → {r : S.Effect} → serverEffect Z (run Z ks) i from f out to ≡ r → Delivered H g (G .bounded .servers-high) i (serverAt ks i .server) (serverAt ks i .area) (initialOf Z i) from f r
       → (h ≡ serverAt ks i) ⊎ ((C : Takes ks (toServer i from f out to) i) × (h ≡ serverLeft Z (effectOf C)))
   at-server ks i from f out to h e q (refused z) = inl (e ∙ ap (serverLeft Z) (q ∙ z))
   at-server ks i from f out to h e q (taken m T z) =
@@ -88,7 +83,7 @@ module _ (Z : Setup) (G : Assumed Z) (M : Small (Z .g)) where
   server-next ks (toServer i from f out to) j = ⊎-elim
       (λ w. subst (λ y. Next ks (toServer i from f out to) y) (sym (w .0))
       (at-server ks i from f out to (serverAt (toServer i from f out to ∷ ks) i) (ap (put (run Z ks .servers) i _) (sym (w .0)) ∙ w .1) refl
-      (delivered H g M (G .bounded .servers-high) i (serverAt ks i .server) (serverAt ks i .area) (initialOf Z i) from f out to)))
+      (delivered H g (G .bounded .servers-high) i (serverAt ks i .server) (serverAt ks i .area) (initialOf Z i) from f out to)))
       (λ w. inl w)
       (put-cases (run Z ks .servers) i (serverLeft Z (serverEffect Z (run Z ks) i from f out to)) j)
   server-next ks (toClient c from f result out to) j = inl refl
@@ -101,32 +96,32 @@ module _ (Z : Setup) (G : Assumed Z) (M : Small (Z .g)) where
 
   pub shape : (ks : List Call) (i : ℕ) → ServerShape (serverAt ks i .server) (serverAt ks i .area)
   unfolding run start
-  shape [] i = shape-fresh H g M (G .bounded .servers-high) i initialValue (stateAreas i) (initialAreas i) (G .state-room i)
+  shape [] i = shape-fresh H g (G .bounded .servers-high) i initialValue (stateAreas i) (initialAreas i) (G .state-room i)
   shape (k ∷ ks) i = go (shape ks i) (server-next ks k i)
     where
       go : ServerShape (serverAt ks i .server) (serverAt ks i .area) → Next ks k i → ServerShape (serverAt (k ∷ ks) i .server) (serverAt (k ∷ ks) i .area)
       go F (inl e) = subst (λ h. ServerShape (h .server) (h .area)) (sym e) F
       go F (inr (C, e)) = subst (λ h. ServerShape (h .server) (h .area)) (sym e)
-          (shape-delivered H g M (G .bounded .servers-high) i (serverAt ks i .server) (serverAt ks i .area) (initialOf Z i) F (C .from) (C .f) (effectOf C) (taken (C .m) (C .took) refl))
+          (shape-effect H g (G .bounded .servers-high) i (serverAt ks i .server) (serverAt ks i .area) (initialOf Z i) F (C .from) (C .f) (C .m) (C .took))
 
   sent-by : (ks : List Call) (i : ℕ) (from : Party) (f out to : List ℕ) (x : Sending) {r : S.Effect} → serverEffect Z (run Z ks) i from f out to ≡ r
-      → Delivered H g M (G .bounded .servers-high) i (serverAt ks i .server) (serverAt ks i .area) (initialOf Z i) from f r → List·Memᴰ x (r .sends)
+      → Delivered H g (G .bounded .servers-high) i (serverAt ks i .server) (serverAt ks i .area) (initialOf Z i) from f r → List·Memᴰ x (r .sends)
       → (C : Takes ks (toServer i from f out to) i) × List·Memᴰ x (effectOf C .sends)
   sent-by ks i from f out to x q (refused z) u = absurd (List·Memᴰ·not-nil (subst (λ y. List·Memᴰ x (y .sends)) z u))
   sent-by ks i from f out to x q (taken m T z) u =
       (record { from = from; f = f; out = out; to = to; is = refl; m = m; took = T; moves = q ∙ z }, subst (λ y. List·Memᴰ x (y .sends)) z u)
 
   took-by : (ks : List Call) (i : ℕ) (from : Party) (f out to : List ℕ) (x : S.Write) {r : S.Effect} → serverEffect Z (run Z ks) i from f out to ≡ r
-      → Delivered H g M (G .bounded .servers-high) i (serverAt ks i .server) (serverAt ks i .area) (initialOf Z i) from f r → r .accepted ≡ some x
-      → (C : Takes ks (toServer i from f out to) i) × (effectOf C .accepted ≡ some x)
-  took-by ks i from f out to x q (refused z) u = impossible (cc (ap (λ y. y .accepted) z, u))
+      → Delivered H g (G .bounded .servers-high) i (serverAt ks i .server) (serverAt ks i .area) (initialOf Z i) from f r → List·Memᴰ x (r .accepted)
+      → (C : Takes ks (toServer i from f out to) i) × List·Memᴰ x (effectOf C .accepted)
+  took-by ks i from f out to x q (refused z) u = absurd (List·Memᴰ·not-nil (subst (λ y. List·Memᴰ x (y .accepted)) z u))
   took-by ks i from f out to x q (taken m T z) u =
-      (record { from = from; f = f; out = out; to = to; is = refl; m = m; took = T; moves = q ∙ z }, ap (λ y. y .accepted) (sym z) ∙ u)
+      (record { from = from; f = f; out = out; to = to; is = refl; m = m; took = T; moves = q ∙ z }, subst (λ y. List·Memᴰ x (y .accepted)) z u)
 
-  pub accepts-new : (ks : List Call) (k : Call) (j : ℕ) (x : S.Write) → Accepts Z j x ks k → (C : Takes ks k j) × (effectOf C .accepted ≡ some x)
+  pub accepts-new : (ks : List Call) (k : Call) (j : ℕ) (x : S.Write) → Accepts Z j x ks k → (C : Takes ks k j) × List·Memᴰ x (effectOf C .accepted)
   accepts-new ks (toServer i from f out to) j x u =
-      subst (λ y. (C : Takes ks (toServer i from f out to) y) × (effectOf C .accepted ≡ some x)) (sym (u .0))
-      (took-by ks i from f out to x refl (delivered H g M (G .bounded .servers-high) i (serverAt ks i .server) (serverAt ks i .area) (initialOf Z i) from f out to) (u .1))
+      subst (λ y. (C : Takes ks (toServer i from f out to) y) × List·Memᴰ x (effectOf C .accepted)) (sym (u .0))
+      (took-by ks i from f out to x refl (delivered H g (G .bounded .servers-high) i (serverAt ks i .server) (serverAt ks i .area) (initialOf Z i) from f out to) (u .1))
   accepts-new ks (toClient c from f result out to) j x u = absurd u
   accepts-new ks (beginRead c out to) j x u = absurd u
   accepts-new ks (beginWrite c v out to) j x u = absurd u
@@ -145,7 +140,7 @@ module _ (Z : Setup) (G : Assumed Z) (M : Small (Z .g)) where
   sent-new ks (toServer i from f out to) j b m (inl u) =
       let e : i ≡ j = cc (u .0) in
       inr (subst (λ y. (C : Takes ks (toServer i from f out to) y) × List·Memᴰ (sending b m) (effectOf C .sends)) e
-      (sent-by ks i from f out to (sending b m) refl (delivered H g M (G .bounded .servers-high) i (serverAt ks i .server) (serverAt ks i .area) (initialOf Z i) from f out to) (u .1)))
+      (sent-by ks i from f out to (sending b m) refl (delivered H g (G .bounded .servers-high) i (serverAt ks i .server) (serverAt ks i .area) (initialOf Z i) from f out to) (u .1)))
   sent-new ks (toClient c from f result out to) j b m (inl u) = impossible (cc (u .0))
   sent-new ks (beginRead c out to) j b m (inl u) = impossible (cc (u .0))
   sent-new ks (beginWrite c v out to) j b m (inl u) = impossible (cc (u .0))
@@ -174,47 +169,39 @@ module _ (Z : Setup) (G : Assumed Z) (M : Small (Z .g)) where
     range-in : (c : ℕ) → Among 8 c → inRange c ≡ true
     range-in c i = rw (le-leb 1 c (i .0), le-leb c 8 (i .1))
 
-    module _ {P D : Type 0} (view : List ℕ → ℕ → Slot → Part P) (wrap : Stage → P → Body)
-        (no-value : (z : Stage) (p : P) (x : Stamp) (e : Entry) → wrap z p ≡ valueIs x e → ⊥) (no-ack : (z : Stage) (p : P) → wrap z p ≡ ack → ⊥)
-        (fresh : (a : List ℕ) (c q : ℕ) → view a c (freshSlot q) ≡ noPart)
-        (present : (a : List ℕ) → areaBytes ≤ length a → (c : ℕ) → Among 8 c → (x : Slot) → SV.Shaped x → (t : Bool) (e : Entry) → (t ≡ true → Sized g e)
-        → view (storeIf t a 0 e) c x ≡ view a c x)
-        (sel : S.Write → P)
-        (sel-done : (a : List ℕ) (c : ℕ) (x : Slot) (T : ℕ) (y : Entry) (q : ℕ) → timeView x .done ≡ some T → blockView g a c x .done ≡ some y
-        → view a c x .done ≡ some (sel (record { client = c; sequence = q; time = T; entry = y })))
-        (ρ : P → D) (inj : (z : Stage) (p q : P) → wrap z p ≡ wrap z q → p ≡ q)
-        (facts : (ks : List Call) (k : Call) (j : ℕ) (C : Takes ks k j)
-        → BroadcastFacts H g M j view wrap no-value no-ack fresh present sel sel-done ρ (g .n) (g .t) (serverAt ks j .server) (serverAt ks j .area) (C .from) (C .m) (effectOf C)) where
+    module _ {P D : Type 0} (K : Cast H g P D) (facts : (ks : List Call) (k : Call) (j : ℕ) (C : Takes ks k j)
+        → BroadcastFacts K (serverAt ks j .server) (serverAt ks j .area) (C .from) (C .m) (effectOf C)) where
+      open Cast K using (view, wrap, rules, sel, what, inj)
+
       abbrev pub part : List Call → ℕ → ℕ → Part P
       part ks i c = view (serverAt ks i .area) c (slotOf (serverAt ks i .server) c)
 
       abbrev pub SaidBy : Stage → List Call → ℕ → ℕ → ℕ → D → Type 0
-      SaidBy z ks i c s d = (b : Party) × (p : P) × (ρ p ≡ d) × SentMessage ks (A.Server i) b (message c s (wrap z p))
+      SaidBy z ks i c s d = (b : Party) × (p : P) × (what p ≡ d) × SentMessage ks (A.Server i) b (message c s (wrap z p))
 
       abbrev pub views : BL.Views Call D
       views = record {
         sequence = λ ks i c. slotOf (serverAt ks i .server) c .sequence;
         echoed = λ ks i c. inRange c && part ks i c .sent;
-        KeptEcho = λ ks i c j d. Among 8 c × (p : P) × (ρ p ≡ d) × (part ks i c .echoes j ≡ some p);
-        KeptReady = λ ks i c j d. Among 8 c × (p : P) × (ρ p ≡ d) × (part ks i c .readies j ≡ some p);
+        KeptEcho = λ ks i c j d. Among 8 c × (p : P) × (what p ≡ d) × (part ks i c .echoes j ≡ some p);
+        KeptReady = λ ks i c j d. Among 8 c × (p : P) × (what p ≡ d) × (part ks i c .readies j ≡ some p);
         SentEcho = SaidBy echo;
         SentReady = SaidBy ready;
-        Delivered = λ ks i c d. Among 8 c × (p : P) × (ρ p ≡ d) × (part ks i c .done ≡ some p);
-        Accepted = λ ks i c s d. (x : S.Write) × (n : ℕ) × At (Accepts Z i x) ks n × (x .client ≡ c) × (x .sequence ≡ s) × (ρ (sel x) ≡ d);
-        ClientSent = λ ks c s d. (b : Party) × (p : P) × (ρ p ≡ d) × SentMessage ks (A.Client c) b (message c s (wrap send p));
+        Delivered = λ ks i c d. Among 8 c × (p : P) × (what p ≡ d) × (part ks i c .done ≡ some p);
+        Accepted = λ ks i c s d. (x : S.Write) × (n : ℕ) × At (Accepts Z i x) ks n × (x .client ≡ c) × (x .sequence ≡ s) × (what (sel x) ≡ d);
+        ClientSent = λ ks c s d. (b : Party) × (p : P) × (what p ≡ d) × SentMessage ks (A.Client c) b (message c s (wrap send p));
       }
 
       module _ (ks : List Call) (k : Call) (adm : Admissible Z ks) (pr : Proper Z ks k) where
-        F : (j : ℕ) (C : Takes ks k j)
-            → BroadcastFacts H g M j view wrap no-value no-ack fresh present sel sel-done ρ (g .n) (g .t) (serverAt ks j .server) (serverAt ks j .area) (C .from) (C .m) (effectOf C)
+        F : (j : ℕ) (C : Takes ks k j) → BroadcastFacts K (serverAt ks j .server) (serverAt ks j .area) (C .from) (C .m) (effectOf C)
         F j C = facts ks k j C
 
         owner : (i c : ℕ) (C : Takes ks k i) (q : ℕ) (b : Body) → C .m ≡ message c q b → Among 8 c
         owner i c C q b e = subst (Among 8) (ap (λ m. m .client) e) (C .took .client)
 
         -- a frame of an honest server was sent by it
-        this : (i : ℕ) (C : Takes ks k i) (c j : ℕ) (z : Stage) (x : P) (d : D) → ρ x ≡ d → faultyServer j ≡ false → Among (g .n) j
-            → New H g M i view wrap no-value no-ack fresh present sel sel-done ρ (g .n) (g .t) (serverAt ks i .server) (C .from) (C .m) c z j x
+        this : (i : ℕ) (C : Takes ks k i) (c j : ℕ) (z : Stage) (x : P) (d : D) → what x ≡ d → faultyServer j ≡ false → Among (g .n) j
+            → New K (serverAt ks i .server) (C .from) (C .m) c z j x
             → SaidBy z ks j c (slotOf (serverAt ks i .server) c .sequence) d
         this i C c j z x d e ok is n = (
           A.Server i,
@@ -225,8 +212,8 @@ module _ (Z : Setup) (G : Assumed Z) (M : Small (Z .g)) where
         )
 
         known : (i : ℕ) (C : Takes ks k i) (c : ℕ) → Among 8 c → (f : ℕ → Option P) (z : Stage) (d : D) (m : ℕ)
-            → B.AtLeast (g .n) m (Heard ρ f (New H g M i view wrap no-value no-ack fresh present sel sel-done ρ (g .n) (g .t) (serverAt ks i .server) (C .from) (C .m) c z) d)
-            → B.AtLeast (g .n) m (λ j. faultyServer j ≡ false → (Among 8 c × (x : P) × (ρ x ≡ d) × (f j ≡ some x)) ⊎ SaidBy z ks j c (slotOf (serverAt ks i .server) c .sequence) d)
+            → B.AtLeast (g .n) m (Heard rules (g .n) (g .t) what f (New K (serverAt ks i .server) (C .from) (C .m) c z) d)
+            → B.AtLeast (g .n) m (λ j. faultyServer j ≡ false → (Among 8 c × (x : P) × (what x ≡ d) × (f j ≡ some x)) ⊎ SaidBy z ks j c (slotOf (serverAt ks i .server) c .sequence) d)
         known i C c ic f z d m = B.at-least-map (λ j is y ok. ⊎-elim (λ a. inl (ic, y .0, y .1, a)) (λ a. inr (this i C c j z (y .0) d (y .1) ok is a)) (y .2))
 
         moved : (i c : ℕ) (C : Takes ks k i) → part (k ∷ ks) i c ≡ view (effectOf C .area) c (slotOf (effectOf C .server) c)
@@ -238,7 +225,7 @@ module _ (Z : Setup) (G : Assumed Z) (M : Small (Z .g)) where
         on-sent : (i c : ℕ) (u v : Bool) → (Among 8 c → u ≡ true → v ≡ true) → (inRange c && u) ≡ true → (inRange c && v) ≡ true
         on-sent i c u v f e = let w = and-split (inRange c) u e in rw (w .0) (f (in-range c (w .0)) (w .1))
 
-        lawful : BL.Lawful views (g .n) (g .t) faultyServer faultyClient ks k
+        lawful : BL.Lawful views (g .n) (g .t) (rules .few) (rules .all) faultyServer faultyClient ks k
         lawful = record {
           echo-stays = λ i c s d u. (u .0, u .1, u .2, inr (u .3));
           ready-stays = λ i c s d u. (u .0, u .1, u .2, inr (u .3));
@@ -278,7 +265,7 @@ module _ (Z : Setup) (G : Assumed Z) (M : Small (Z .g)) where
               (λ N′.
               let e1 = F i (N .0) .an-echo c (u .0) s (u .1) (N .1) .4 in
               let e2 = F i (N′ .0) .an-echo c (v .0) s (v .1) (N′ .1) .4 in
-              inl (sym (u .2) ∙ ap ρ (inj send (u .1) (v .1) (ap (λ z. z .body) (sym e1 ∙ one-message ks k i (N .0) (N′ .0) ∙ e2))) ∙ v .2))
+              inl (sym (u .2) ∙ ap what (inj send (u .1) (v .1) (ap (λ z. z .body) (sym e1 ∙ one-message ks k i (N .0) (N′ .0) ∙ e2))) ∙ v .2))
               (sent-new ks k i (v .0) _ (v .3)))
               (sent-new ks k i (u .0) _ (u .3));
           echo-kept = λ i c j d is ok u. ⊎-elim
@@ -303,8 +290,8 @@ module _ (Z : Setup) (G : Assumed Z) (M : Small (Z .g)) where
               inr (
                 w .1,
                 rw (← u .2) (⊎-elim
-                    (λ a. inl (known i C c (w .0) (part ks i c .echoes) echo (ρ (u .1)) (g .n - g .t) a))
-                    (λ a. inr (known i C c (w .0) (part ks i c .readies) ready (ρ (u .1)) (suc (g .t)) a)) (w .2)),
+                    (λ a. inl (known i C c (w .0) (part ks i c .echoes) echo (what (u .1)) (g .n - g .t) a))
+                    (λ a. inr (known i C c (w .0) (part ks i c .readies) ready (what (u .1)) (rules .few) a)) (w .2)),
               ))
               (sent-new ks k i (u .0) _ (u .3));
           accepted-new = λ i c s d u. ⊎-elim
@@ -316,7 +303,7 @@ module _ (Z : Setup) (G : Assumed Z) (M : Small (Z .g)) where
                 w .1,
                 ⊎-elim
                     (λ a. inl (w .0, sel (u .0), refl, a))
-                    (λ a. inr (known i C (u .0 .client) (w .0) (part ks i (u .0 .client) .readies) ready (ρ (sel (u .0))) (suc (g .t)) a)) (w .2),
+                    (λ a. inr (known i C (u .0 .client) (w .0) (part ks i (u .0 .client) .readies) ready (what (sel (u .0))) (rules .all) a)) (w .2),
               )))
               (λ o. inl (u .0, u .1, o, u .3, u .4, u .5))
               (u .2);
@@ -328,11 +315,11 @@ module _ (Z : Setup) (G : Assumed Z) (M : Small (Z .g)) where
                 moved-seq i c C ∙ w .0,
                 ⊎-elim
                     (λ a. inl (u .0, u .1, u .2, a))
-                    (λ a. inr (rw (← u .2) (known i C c (u .0) (part ks i c .readies) ready (ρ (u .1)) (suc (g .t)) a))) (w .1),
+                    (λ a. inr (rw (← u .2) (known i C c (u .0) (part ks i c .readies) ready (what (u .1)) (rules .all) a))) (w .1),
               ))
               (server-next ks k i);
         }
 
-      pub lawful-run : (ks : List Call) → Admissible Z ks → BL.Run views (g .n) (g .t) faultyServer faultyClient ks
+      pub lawful-run : (ks : List Call) → Admissible Z ks → BL.Run views (g .n) (g .t) (rules .few) (rules .all) faultyServer faultyClient ks
       lawful-run [] a = BL.fresh
       lawful-run (k ∷ ks) a = BL.call k (lawful ks k (a .1) (a .0)) (lawful-run ks (a .1))

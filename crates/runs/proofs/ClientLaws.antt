@@ -28,7 +28,7 @@ use Rattle.client_rules.specs.Rows.{Found, Kept, rowView}
 use Rattle.client_rules.specs.State.{heardOf}
 use Rattle.client_rules.specs.Steps as C
 use Rattle.client_rules.specs.Tests as CT
-use Rattle.steps.proofs.BlockFacts.{is-server}
+use Rattle.server_rules.proofs.Passing.{is-server}
 use Rattle.client_rules.proofs.CallFacts.{timeOf, ClientShape, client-shape-fresh, ClientFacts, KnowsV, Brought, Nought, quiet-facts, effect-facts, read-facts, write-facts}
 use Rattle.steps.proofs.ClientTaken.{Taken, Delivered, refused, taken, delivered, passed}
 use Rattle.runs.specs.Admissible.{Sent, Honest, Proper, Admissible}
@@ -108,7 +108,7 @@ module _ (Z : Setup) (G : Assumed Z) (M : Small (Z .g)) where
         let a = home ks c .area in
         let v = home ks c .value in
         let P = passed H g c s from m (T .passes) in
-        let j = is-server H g c from (P .server) in
+        let j = is-server g from (P .server) in
         let em : m ≡ message c (m .sequence) (m .body) = λ i. message (P .mine i) (m .sequence) (m .body) in
         let fm : Formed g m = subst (Formed g) (T .says) (formed-opened g f (T .header) (pr .1) (T .opens)) in
         let er : r ≡ C.effect H g c s a v (A.Server (j .0)) (message c (m .sequence) (m .body)) = e ∙ (λ i. C.effect H g c s a v (j .1 i) (em i)) in

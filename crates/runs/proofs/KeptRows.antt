@@ -1,13 +1,13 @@
 -- Each entry in a client's rows has the digest at its server's place, and its block came in a frame. Assumes nothing.
 use Prim.Native.Nat.{ℕ, _≤_}
 use native.Mathlib.Omega.{arith}
-use mathlib.Core.Bool.{Bool, true, false, not, _&&_}
+use mathlib.Core.Bool.{true, not, _&&_}
 use mathlib.Core.Path.{_≡_, refl, ap, sym, _∙_, subst}
 use mathlib.Core.Logic.{inl, inr, ⊎-elim}
-use mathlib.Core.Option.{Option, none, some}
+use mathlib.Core.Option.{some}
 use mathlib.Core.List.{List, [], _∷_, List·Memᴰ}
-use lib.ListN.{length, getD, set, replicate}
-use lib.Dec.{ltb, eqb}
+use lib.ListN.{length, getD, replicate}
+use lib.Dec.{eqb}
 use Rattle.quorum.specs.Quorum.{Among}
 use Rattle.blocks.specs.declared.Params.{Params}
 use Rattle.frame.specs.declared.Stamp.{Stamp}
@@ -20,25 +20,24 @@ use Rattle.frame.specs.declared.Opened.the-variants as O
 use Rattle.frame.specs.Chunks.{storeEntry, rowsBytes, placeAt}
 use Rattle.group_rules.specs.Coded.{fits}
 use Rattle.frame.specs.Frames.{messageIn, opened}
-use Rattle.frame.specs.Messages.{Entry, Body, getStamp, ack, askRead, readComplete, stampIs, blockIs, timeIs, valueIs, numberIn, Carries, Sized}
-use Rattle.frame.specs.Stamps.{lastTime}
+use Rattle.frame.specs.Messages.{Entry, Body, valueIs, Message, numberIn, Carries, Sized}
 use Rattle.frame.proofs.Chunks.{length-store}
 use Rattle.frame.proofs.Sizes.{Small}
 use Rattle.frame.proofs.Verdicts.{fine-both, fine-is}
 use Rattle.server_rules.proofs.Parts.{put-cases}
 use Rattle.client_rules.specs.declared.Client.{Client}
-use Rattle.client_rules.specs.declared.Phase.the-variants as F
-use Rattle.client_rules.specs.Rows.{used, Kept, placesFrom, rowView, hasStamp, placeFor, rowWith, Found, search}
-use Rattle.client_rules.specs.State.{freshRow, freshClient, noRow, rowOf, inPhase, withRow, largest}
+use Rattle.client_rules.specs.Rows.{used, Kept, placesFrom, rowView, hasStamp, placeFor, rowWith, Found}
+use Rattle.client_rules.specs.State.{freshRow, freshClient, noRow, rowOf, withRow}
 use Rattle.client_rules.specs.Beginning as CB
 use Rattle.client_rules.specs.Delivery as CD
 use Rattle.client_rules.specs.State as CS
 use Rattle.client_rules.specs.Steps as C
+use Rattle.client_rules.proofs.Shapes.{Keeps, drops, keeps, Shape, idle, hears, sends, shuts, counts, ends, waits, completes, Delivery, refused, taken, shape-delivered}
 use Rattle.client_rules.specs.Tests as CT
 use Rattle.client_rules.proofs.Views as CV
-use Rattle.steps.proofs.ClientTaken.{passed, Delivered, refused, taken, delivered}
+use Rattle.steps.proofs.ClientTaken.{passed, took}
 use Rattle.client_rules.proofs.CallFacts.{row-shaped, rows-shaped, no-rows}
-use Rattle.steps.proofs.BlockFacts.{SizedIn, is-server}
+use Rattle.server_rules.proofs.Passing.{SizedIn, is-server}
 use Rattle.steps.proofs.ServerTaken.{message-sized}
 use Rattle.runs.specs.Admissible.{Admissible}
 use Rattle.runs.specs.Blocks.{InFrame}
@@ -94,69 +93,47 @@ stored-holds g M Q s a j is x e z new i p X = record {
 
 module _ (H : List ℕ → List ℕ) (g : Params) (me : ℕ) where
   module _ (M : Small g) (few : g .n ≤ 10) (Q : ℕ → Entry → Type 0) where
-    gather-holds : (s : Client) (a v : List ℕ) (b : Bool) → Holds g Q s a → Held g Q (C.gatherBy H g me b s a v)
-    unfolding C.sendBelow C.gatherBy
-    gather-holds s a v false X = X
-    gather-holds s a v true X = go (ltb (largest (λ j. getD (s .times) j 0) (g .n)) lastTime) (largest (λ j. getD (s .times) j 0) (g .n))
-      where
-        go : (b : Bool) (T : ℕ) → Held g Q (C.sendBelow H g me b s a v T)
-        go true T = same-rows g Q s _ a refl X
-        go false T = same-rows g Q s _ a refl X
+    keeps-holds : (s : Client) (a v : List ℕ) (j : ℕ) → Among 10 j → (x : Stamp) (e : Entry) → Sized g e → Q j e → {s′ : Client} {a′ : List ℕ}
+        → Keeps H g me s a v j x e s′ a′ → Holds g Q s a → Holds g Q s′ a′
+    keeps-holds s a v j is x e z new (drops o) X = X
+    keeps-holds s a v j is x e z new (keeps i o) X = stored-holds g M Q s a j is x e z new i o X
 
-    end-holds : (s : Client) (a : List ℕ) (h : List Bool) (b : Bool) → Holds g Q s a → Held g Q (C.endBy H g me b s a h)
-    unfolding C.endBy
-    end-holds s a h true X = same-rows g Q s _ a refl X
-    end-holds s a h false X = same-rows g Q s _ a refl X
+    -- a value of server j that is kept has its digest there
+    shape-holds : (s : Client) (a v : List ℕ) (j : ℕ) {b : Body} {r : C.Effect} → SizedIn g b
+        → ((x : Stamp) (e : Entry) → b ≡ valueIs x e → Among 10 j × Q j e) → Shape H g me s a v j b r → Holds g Q s a → Held g Q r
+    shape-holds s a v j z new (idle b) X = X
+    shape-holds s a v j z new (hears T q) X = same-rows g Q s _ a refl X
+    shape-holds s a v j z new (sends T q l) X = same-rows g Q s _ a refl X
+    shape-holds s a v j z new (shuts T q l) X = same-rows g Q s _ a refl X
+    shape-holds s a v j z new (counts q) X = same-rows g Q s _ a refl X
+    shape-holds s a v j z new (ends q) X = same-rows g Q s _ a refl X
+    shape-holds s a v j z new (waits x e k o) X = let w = new x e refl in keeps-holds s a v j (w .0) x e z (w .1) k X
+    shape-holds s a v j z new (completes x e k y o) X = let w = new x e refl in same-rows g Q _ _ _ refl (keeps-holds s a v j (w .0) x e z (w .1) k X)
 
-    settle-holds : (s : Client) (a : List ℕ) → Holds g Q s a → Held g Q (C.settle H g me s a)
-    unfolding C.settle C.completeBy
-    settle-holds s a X = go (search g (rowView g s a))
-      where
-        go : (o : Option Found) → Held g Q (C.completeBy H g me o s a)
-        go none = X
-        go (some x) = same-rows g Q s _ a refl X
-
-    keep-holds : (s : Client) (a : List ℕ) (j : ℕ) → Among 10 j → (x : Stamp) (e : Entry) → Sized g e → Q j e → (o : Option ℕ) → placeFor (rowOf s j) x ≡ o
-        → Holds g Q s a → Held g Q (C.keepBy H g me o s a j x e)
-    unfolding C.keepBy
-    keep-holds s a j is x e z new none p X = settle-holds s a X
-    keep-holds s a j is x e z new (some i) p X = settle-holds _ _ (stored-holds g M Q s a j is x e z new i p X)
-
-    body-holds : (s : Client) (a v : List ℕ) (from : Party) (c q : ℕ) (b : Body) → CT.messageTest H g me s from (record { client = c; sequence = q; body = b }) ≡ J.Fine
-        → SizedIn g b → ((x : Stamp) (e : Entry) → b ≡ valueIs x e → fits H e (numberIn from) ≡ true → Q (numberIn from) e)
-        → Holds g Q s a → Held g Q (C.onBody H g me s a v (numberIn from) b)
-    unfolding C.onAck C.onStamp C.onValue CT.fitTest C.onBody C.gatherBy C.sendBelow C.endBy C.keepBy CT.orderTest
-    body-holds s a v from c q getStamp t z new X = X
-    body-holds s a v from c q ack t z new X =
-        end-holds s a (set (s .heard) (numberIn from) true) (C.quorate g (set (s .heard) (numberIn from) true)) X
-    body-holds s a v from c q askRead t z new X = X
-    body-holds s a v from c q readComplete t z new X = X
-    body-holds s a v from c q (stampIs T) t z new X =
-        gather-holds _ a v (C.quorate g (set (s .heard) (numberIn from) true))
-        (same-rows g Q s (inPhase s F.Asking (set (s .heard) (numberIn from) true) (set (s .times) (numberIn from) T)) a refl X)
-    body-holds s a v from c q (blockIs y e) t z new X = X
-    body-holds s a v from c q (timeIs y T) t z new X = X
-    body-holds s a v from c q (valueIs x e) t z new X =
+    value-fits : (s : Client) (from : Party) (m : Message) → CT.messageTest H g me s from m ≡ J.Fine → (x : Stamp) (e : Entry) → m .body ≡ valueIs x e
+        → Among 10 (numberIn from) × (fits H e (numberIn from) ≡ true)
+    unfolding CT.fitTest CT.orderTest
+    value-fits s from m t x e p =
         let w = passed H g me s from _ t in
-        let (j, ej, is) = is-server H g me from (w .server) in
+        let (j, ej, is) = is-server g from (w .server) in
         let at : Among (g .n) (numberIn from) = rw ej is in
-        let y = CT.awaited (CS.reading (s .phase) && (eqb q (s .reads) && not (hasStamp (rowOf s (numberIn from) .stamps) (used (rowOf s (numberIn from))) x))) in
-        let o = fine-is (fits H e (numberIn from)) R.Digest J.Fine (fine-both y (CT.fitTest H e (numberIn from)) (w .order) .1) .0 in
-        let low : Among 10 (numberIn from) = (at .0, omega (arith, at .1, few)) in
-        keep-holds s a (numberIn from) low x e z (new x e refl o) (placeFor (rowOf s (numberIn from)) x) refl X
+        let y = CT.awaited (CS.reading (s .phase) && (eqb (m .sequence) (s .reads) && not (hasStamp (rowOf s (numberIn from) .stamps) (used (rowOf s (numberIn from))) x))) in
+        let o = ap (CT.orderTest H g me s (numberIn from) (m .sequence)) (sym p) ∙ w .order in
+        ((at .0, omega (arith, at .1, few)), fine-is (fits H e (numberIn from)) R.Digest J.Fine (fine-both y (CT.fitTest H e (numberIn from)) o .1) .0)
 
     delivered-holds : (s : Client) (a v : List ℕ) (from : Party) (f result out to : List ℕ)
         → ((j : ℕ) (h : Header) (x : Stamp) (e : Entry) → opened g f ≡ O.Frame h → messageIn g h f .body ≡ valueIs x e → fits H e j ≡ true → Q j e)
         → Holds g Q s a → Held g Q (CD.delivered H g me s a v from f result out to)
-    unfolding C.effect C.onBody
-    delivered-holds s a v from f result out to new X = go (delivered H g me s a v from f result out to)
+    delivered-holds s a v from f result out to new X = go (shape-delivered H g me s a v from f result out to)
       where
-        go : {r : C.Effect} → Delivered H g me s a v from f r → Held g Q r
-        go {r} (refused e) = rw e X
-        go {r} (taken m T e) =
+        go : {r : C.Effect} → Delivery H g me s a v from (CT.judge H g me s a v from f result out to) r → Held g Q r
+        go (refused x e) = X
+        go (taken m e h) =
+            let T = took H g me s a v from f result out to m e in
             let z : SizedIn g (m .body) = subst (λ y. SizedIn g (y .body)) (T .says) (message-sized g f (T .header) (T .opens)) in
-            rw e (body-holds s a v from (m .client) (m .sequence) (m .body) (T .passes) z
-            (λ x y b o. new (numberIn from) (T .header) x y (T .opens) (ap (λ z. z .body) (T .says) ∙ b) o) X)
+            shape-holds s a v (numberIn from) z
+            (λ x y b. let w = value-fits s from m (T .passes) x y b in
+            (w .0, new (numberIn from) (T .header) x y (T .opens) (ap (λ z. z .body) (T .says) ∙ b) (w .1))) h X
 
   read-holds : (Q : ℕ → Entry → Type 0) (s : Client) (a out to : List ℕ) → Holds g Q s a → Holds g Q (CB.readBegun g me s out to .client) a
   unfolding CB.readBegun CB.openRead CB.beginBy

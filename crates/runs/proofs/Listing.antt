@@ -1,10 +1,9 @@
 -- The completed reads and the accepted writes of a run, as a list. Assumes nothing.
 use Prim.Native.Nat.{ℕ}
 use mathlib.Core.Bool.{true, false}
-use mathlib.Core.Path.{_≡_, refl, ap, sym}
+use mathlib.Core.Path.{_≡_, refl, sym}
 use mathlib.Core.Logic.{inl, inr, ⊎-elim}
-use mathlib.Core.Option.{Option, none, some}
-use mathlib.Core.List.{List, [], _∷_, _++_, List·Memᴰ·head, List·Memᴰ·not-nil, List·Memᴰ·append-cases, Memᴰ·append-left, Memᴰ·append-right, List·Memᴰ·eq-of-singleton}
+use mathlib.Core.List.{List, [], _∷_, _++_, map, Memᴰ·map, Memᴰ·of-map, List·Memᴰ·head, List·Memᴰ·not-nil, List·Memᴰ·append-cases, Memᴰ·append-left, Memᴰ·append-right, List·Memᴰ·eq-of-singleton}
 use lib.ListN.{length}
 use Rattle.quorum.proofs.Logic.{impossible}
 use Rattle.frame.specs.declared.Stamp.{Stamp}
@@ -38,21 +37,12 @@ module _ (Z : Setup) where
   Now ks k E p = (p ≡ length ks) × E ks k
 
   news : (ks : List Call) (k : Call) → Items (Now ks k)
-  news ks (toServer j from f out to) = go (serverEffect Z (run Z ks) j from f out to .accepted) refl
-    where
-      go : (o : Option S.Write) → serverEffect Z (run Z ks) j from f out to .accepted ≡ o → Items (Now ks (toServer j from f out to))
-      go none e = record {
-        list = [];
-        sound = λ y m. absurd (List·Memᴰ·not-nil m);
-        reads = λ c q p x u. absurd (u .1);
-        accepts = λ i p x u. impossible (cc (u .1 .1, e));
-      }
-      go (some y) e = record {
-        list = writeItem y ∷ [];
-        sound = λ z m. rw (List·Memᴰ·eq-of-singleton m) (by-accept j (length ks) y (refl, (refl, e)));
-        reads = λ c q p x u. absurd (u .1);
-        accepts = λ i p x u. let h : x ≡ y = cc (u .1 .1, e) in List·Memᴰ·head (ap writeItem h);
-      }
+  news ks (toServer j from f out to) = record {
+    list = map writeItem (serverEffect Z (run Z ks) j from f out to .accepted);
+    sound = λ y m. let (x, u, e) = Memᴰ·of-map writeItem (serverEffect Z (run Z ks) j from f out to .accepted) m in rw (← e) (by-accept j (length ks) x (refl, (refl, u)));
+    reads = λ c q p x u. absurd (u .1);
+    accepts = λ i p x u. Memᴰ·map writeItem (u .1 .1);
+  }
   news ks (toClient d from f result out to) = go (clientEffect Z (run Z ks) d from f result out to .event) refl
     where
       go : (o : C.Event) → clientEffect Z (run Z ks) d from f result out to .event ≡ o → Items (Now ks (toClient d from f result out to))

@@ -81,7 +81,7 @@ module _ (Z : Setup) (G : Assumed Z) (M : Small (Z .g)) where
     where
       go : (b : Verdict) → b ≡ J.Fine → _≡_ {A = Stamped Z G M} (
         SD.constructBy H g j b initialValue (stateAreas j) (initialAreas j) .server .stamp,
-        presentEntry g (SD.constructBy H g j b initialValue (stateAreas j) (initialAreas j) .server) (SD.constructBy H g j b initialValue (stateAreas j) (initialAreas j) .area) (SD.constructBy H g j b initialValue (stateAreas j) (initialAreas j) .initial) .digests,
+        presentEntry g (SD.constructBy H g j b initialValue (stateAreas j) (initialAreas j) .server .stamp) (SD.constructBy H g j b initialValue (stateAreas j) (initialAreas j) .area) (SD.constructBy H g j b initialValue (stateAreas j) (initialAreas j) .initial) .digests,
       ) (zeroStamp, digestsOf H g initialValue)
       go (J.Bad r) e = impossible (cc)
       go J.Fine e = λ i. (zeroStamp, present-digests (stateAreas j) (digestsOf H g initialValue) (listed g) (digests-size H g j (G .digest-size) initialValue) (omega (arith, G .state-room j, M .list-room)) i)

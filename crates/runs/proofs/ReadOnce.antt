@@ -5,10 +5,10 @@ use native.Mathlib.Decide.{decLe}
 use mathlib.Core.Bool.{Bool, true, false}
 use mathlib.Core.Path.{_≡_, refl, ap, sym, _∙_, subst}
 use mathlib.Core.Logic.{_⊎_, inl, inr, ⊎-elim}
-use mathlib.Core.Option.{Option, none, some}
+use mathlib.Core.Option.{some}
 use mathlib.Core.List.{List, [], _∷_}
-use lib.ListN.{length, getD, set}
-use lib.Dec.{ltb, eqb}
+use lib.ListN.{length}
+use lib.Dec.{eqb}
 use borrow.Author.Tests.{eqb-true}
 use Rattle.quorum.proofs.Logic.{impossible, and-split}
 use Rattle.area.specs.Area.{Bytes}
@@ -17,20 +17,17 @@ use Rattle.frame.specs.declared.Stamp.{Stamp}
 use Rattle.frame.specs.declared.Party.{Party}
 use Rattle.frame.specs.declared.Verdict.{Verdict}
 use Rattle.frame.specs.declared.Verdict.the-variants as J
-use Rattle.frame.specs.Chunks.{storeEntry, placeAt}
-use Rattle.frame.specs.Messages.{Entry, Body, getStamp, ack, askRead, readComplete, stampIs, blockIs, timeIs, valueIs, Judged, bad, good, numberIn}
+use Rattle.frame.specs.Messages.{Entry, Body, valueIs, numberIn}
 use Rattle.frame.specs.Params.{paramsTest}
-use Rattle.frame.specs.Stamps.{lastTime}
 use Rattle.frame.proofs.Verdicts.{fine-both, fine-is}
 use Rattle.server_rules.proofs.Parts.{put-same, put-cases}
 use Rattle.client_rules.specs.declared.Client.{Client}
-use Rattle.client_rules.specs.declared.Phase.the-variants as F
-use Rattle.client_rules.specs.Rows.{Found, rowView, search, placeFor, rowWith}
-use Rattle.client_rules.specs.State.{largest, rowOf, withRow, inPhase}
+use Rattle.client_rules.specs.Rows.{Found, rowView, search}
 use Rattle.client_rules.specs.Beginning as CB
 use Rattle.client_rules.specs.Delivery as CD
 use Rattle.client_rules.specs.State as CS
 use Rattle.client_rules.specs.Steps as C
+use Rattle.client_rules.proofs.Shapes.{Keeps, drops, keeps, Shape, idle, hears, sends, shuts, counts, ends, waits, completes, Delivery, refused, taken, shape-delivered}
 use Rattle.client_rules.specs.Tests as CT
 use Rattle.steps.proofs.ClientTaken.{awaited-true, took}
 use Rattle.steps.proofs.ClientTaken as Passing
@@ -56,54 +53,42 @@ module _ (H : List ℕ → List ℕ) (g : Params) (me : ℕ) where
   quiet-does : (s : Client) (a : List ℕ) → Does s (C.quiet s a)
   quiet-does s a = record { number = refl; still = λ h. h; gives = λ x e. impossible (cc e); found = λ x e. impossible (cc e) }
 
-  stamp-does : (s : Client) (a v : List ℕ) (h : List Bool) (ts : List ℕ) (b : Bool) → Does s (C.gatherBy H g me b (inPhase s F.Asking h ts) a v)
-  unfolding C.sendBelow C.gatherBy
-  stamp-does s a v h ts false = record { number = refl; still = λ h. impossible (cc h); gives = λ x e. impossible (cc e); found = λ x e. impossible (cc e) }
-  stamp-does s a v h ts true = go (ltb (largest (λ j. getD ts j 0) (g .n)) lastTime) (largest (λ j. getD ts j 0) (g .n))
-    where
-      go : (b : Bool) (M : ℕ) → Does s (C.sendBelow H g me b (inPhase s F.Asking h ts) a v M)
-      go true M = record { number = refl; still = λ h. impossible (cc h); gives = λ x e. impossible (cc e); found = λ x e. impossible (cc e) }
-      go false M = record { number = refl; still = λ h. impossible (cc h); gives = λ x e. impossible (cc e); found = λ x e. impossible (cc e) }
+  -- nothing of a read
+  none-does : (s : Client) (r : C.Effect) → r .client .reads ≡ s .reads → CS.reading (r .client .phase) ≡ false → ((x : Found) → r .event ≡ C.completed x → ⊥) → Does s r
+  none-does s r e p n = record { number = e; still = λ h. impossible (cc (p, h)); gives = λ x z. absurd (n x z); found = λ x z. absurd (n x z) }
 
-  ack-does : (s : Client) (a : List ℕ) (h : List Bool) (b : Bool) → Does s (C.endBy H g me b s a h)
-  unfolding C.endBy
-  ack-does s a h true = record { number = refl; still = λ h. impossible (cc h); gives = λ x e. impossible (cc e); found = λ x e. impossible (cc e) }
-  ack-does s a h false = record { number = refl; still = λ h. impossible (cc h); gives = λ x e. impossible (cc e); found = λ x e. impossible (cc e) }
+  keeps-number : (s : Client) (a v : List ℕ) (j : ℕ) {x : Stamp} {e : Entry} {s′ : Client} {a′ : List ℕ} → Keeps H g me s a v j x e s′ a′ → s′ .reads ≡ s .reads
+  keeps-number s a v j (drops z) = refl
+  keeps-number s a v j (keeps i z) = refl
 
-  settle-does : (s t : Client) (a : List ℕ) → CS.reading (s .phase) ≡ true → t .reads ≡ s .reads → (o : Option Found) → search g (rowView g t a) ≡ o
-      → Does s (C.completeBy H g me o t a)
-  unfolding rowView C.completeBy
-  settle-does s t a r e none f = record { number = e; still = λ h. r; gives = λ x e. impossible (cc e); found = λ x e. impossible (cc e) }
-  settle-does s t a r e (some y) f = record { number = e; still = λ h. r; gives = λ x e. (r, refl); found = λ x e. let h : y ≡ x = cc e in f ∙ ap some h }
-
-  settled-does : (s t : Client) (a : List ℕ) → CS.reading (s .phase) ≡ true → t .reads ≡ s .reads → Does s (C.settle H g me t a)
-  unfolding C.settle C.completeBy
-  settled-does s t a r e = settle-does s t a r e (search g (rowView g t a)) refl
-
-  value-does : (s : Client) (a : List ℕ) (j : ℕ) (x : Stamp) (e : Entry) → CS.reading (s .phase) ≡ true → (o : Option ℕ) → Does s (C.keepBy H g me o s a j x e)
-  unfolding C.keepBy
-  value-does s a j x e r none = settled-does s s a r refl
-  value-does s a j x e r (some i) = settled-does s (withRow s j (rowWith (rowOf s j) i x)) (storeEntry a (placeAt j i) e) r refl
-
-  move-does : (s : Client) (a v : List ℕ) (from : Party) (c q : ℕ) (b : Body) → CT.messageTest H g me s from (record { client = c; sequence = q; body = b }) ≡ J.Fine
-      → Does s (C.onBody H g me s a v (numberIn from) b)
-  unfolding C.onAck C.onStamp C.onValue C.onBody C.gatherBy C.sendBelow C.endBy C.keepBy
-  move-does s a v from c q getStamp h = quiet-does s a
-  move-does s a v from c q ack h = ack-does s a (set (s .heard) (numberIn from) true) (C.quorate g (set (s .heard) (numberIn from) true))
-  move-does s a v from c q askRead h = quiet-does s a
-  move-does s a v from c q readComplete h = quiet-does s a
-  move-does s a v from c q (stampIs T) h = stamp-does s a v (set (s .heard) (numberIn from) true) (set (s .times) (numberIn from) T) (C.quorate g (set (s .heard) (numberIn from) true))
-  move-does s a v from c q (blockIs z e) h = quiet-does s a
-  move-does s a v from c q (timeIs z T) h = quiet-does s a
-  move-does s a v from c q (valueIs x e) h = value-does s a (numberIn from) x e (value-awaited s from c q x e h) (placeFor (rowOf s (numberIn from)) x)
+  shape-does : (s : Client) (a v : List ℕ) (from : Party) (c q : ℕ) {b : Body} {r : C.Effect} → CT.messageTest H g me s from (record { client = c; sequence = q; body = b }) ≡ J.Fine
+      → Shape H g me s a v (numberIn from) b r → Does s r
+  unfolding rowView
+  shape-does s a v from c q h (idle b) = quiet-does s a
+  shape-does s a v from c q h (hears T z) = none-does s _ refl refl (λ x e. impossible (cc e))
+  shape-does s a v from c q h (sends T z l) = none-does s _ refl refl (λ x e. impossible (cc e))
+  shape-does s a v from c q h (shuts T z l) = none-does s _ refl refl (λ x e. impossible (cc e))
+  shape-does s a v from c q h (counts z) = none-does s _ refl refl (λ x e. impossible (cc e))
+  shape-does s a v from c q h (ends z) = none-does s _ refl refl (λ x e. impossible (cc e))
+  shape-does s a v from c q h (waits x e k z) = record {
+    number = keeps-number s a v (numberIn from) k;
+    still = λ y. value-awaited s from c q x e h;
+    gives = λ x e. impossible (cc e);
+    found = λ x e. impossible (cc e);
+  }
+  shape-does s a v from c q h (completes x e k y z) = record {
+    number = keeps-number s a v (numberIn from) k;
+    still = λ w. value-awaited s from c q x e h;
+    gives = λ w i. (value-awaited s from c q x e h, refl);
+    found = λ w i. let u : y ≡ w = cc i in z ∙ ap some u;
+  }
 
   pub delivered-does : (s : Client) (a v : List ℕ) (from : Party) (f result out to : List ℕ) → Does s (CD.delivered H g me s a v from f result out to)
-  unfolding CD.delivered C.effect CD.effectBy C.onBody
-  delivered-does s a v from f result out to = go (CT.judge H g me s a v from f result out to) refl
+  delivered-does s a v from f result out to = go (shape-delivered H g me s a v from f result out to)
     where
-      go : (j : Judged) → CT.judge H g me s a v from f result out to ≡ j → Does s (CD.effectBy H g me j s a v from)
-      go (bad r) e = quiet-does s a
-      go (good m) e = move-does s a v from (m .client) (m .sequence) (m .body) (took H g me s a v from f result out to m e .passes)
+      go : {r : C.Effect} → Delivery H g me s a v from (CT.judge H g me s a v from f result out to) r → Does s r
+      go (refused x e) = quiet-does s a
+      go (taken m e h) = shape-does s a v from (m .client) (m .sequence) (took H g me s a v from f result out to m e .passes) h
 
 -- ---- in a run
 

@@ -5,8 +5,7 @@ use native.Mathlib.Numerals.{add-one}
 use mathlib.Core.Bool.{Bool, true, false, _&&_}
 use mathlib.Core.Path.{_≡_, refl, ap, sym, _∙_, subst}
 use mathlib.Core.Logic.{_⊎_, inl, inr, ⊎-elim}
-use mathlib.Core.Option.{some}
-use mathlib.Core.List.{List, _∷_}
+use mathlib.Core.List.{List, _∷_, List·Memᴰ}
 use lib.ListN.{length}
 use lib.Dec.{leb}
 use borrow.Author.Tests.{leb-true, le-leb}
@@ -22,7 +21,6 @@ use Rattle.frame.proofs.Sizes.{Small}
 use Rattle.server_rules.specs.declared.Server.{Server}
 use Rattle.server_rules.specs.State.{readerOf, presentEntry}
 use Rattle.server_rules.specs.Steps as S
-use Rattle.steps.proofs.Decoding.{coded}
 use Rattle.steps.proofs.ServerStamps.{StampFacts, order-facts}
 use Rattle.steps.proofs.Keys.{key}
 use Rattle.runs.specs.Admissible.{Honest, Proper, Admissible}
@@ -73,9 +71,9 @@ module _ (Z : Setup) (G : Assumed Z) (M : Small (Z .g)) where
 
   module _ (ks : List Call) (k : Call) (adm : Admissible Z ks) (pr : Proper Z ks k) where
     SF : (j : ℕ) (C : Takes Z G M ks k j)
-        → StampFacts H g M j (serverAt Z G M ks j .server) (serverAt Z G M ks j .area) (initialOf Z j) (C .from) (C .m) (effectOf Z G M C)
-    SF j C = order-facts H g M j (coded H g (G .bounded .blocks-low) j) (serverAt Z G M ks j .server) (in-bounds Z G M ks adm j) (serverAt Z G M ks j .area) (initialOf Z j) (shape Z G M ks j)
-        (C .from) (C .m) (heard Z G M pr C) (C .took .passes)
+        → StampFacts H g (serverAt Z G M ks j .server) (serverAt Z G M ks j .area) (initialOf Z j) (C .from) (C .m) (effectOf Z G M C)
+    SF j C = order-facts H g (G .bounded .servers-high) M (G .bounded .blocks-low) j (serverAt Z G M ks j .server) (in-bounds Z G M ks adm j) (serverAt Z G M ks j .area) (initialOf Z j)
+        (shape Z G M ks j) (C .from) (C .m) (heard Z G M pr C) (C .took .sized) (C .took .passes)
 
     -- only servers among 1 to n take frames
     one-of : (j : ℕ) → Takes Z G M ks k j → Among (g .n) j
@@ -89,10 +87,10 @@ module _ (Z : Setup) (G : Assumed Z) (M : Small (Z .g)) where
         let r = message-sent Z G M (formed Z G M) adm pr C (subst (Honest Z) (sym ef) (is, h)) in
         (A.Server j, subst (λ a. SentMessage Z G M ks a (A.Server j) m) ef (subst (SentMessage Z G M ks (C .from) (A.Server j)) em r))
 
-    taken : (j : ℕ) (C : Takes Z G M ks k j) (tk : S.Write) → effectOf Z G M C .accepted ≡ some tk → At (Accepts Z j tk) (k ∷ ks) (length ks)
-    taken j C tk e = inl (refl, subst (λ y. Accepts Z j tk ks y) (sym (C .is)) (refl, ap (λ r. r .accepted) (C .moves) ∙ e))
+    taken : (j : ℕ) (C : Takes Z G M ks k j) (tk : S.Write) → List·Memᴰ tk (effectOf Z G M C .accepted) → At (Accepts Z j tk) (k ∷ ks) (length ks)
+    taken j C tk e = inl (refl, subst (λ y. Accepts Z j tk ks y) (sym (C .is)) (refl, subst (λ r. List·Memᴰ tk (r .accepted)) (sym (C .moves)) e))
 
-    accepted : (j : ℕ) (C : Takes Z G M ks k j) (tk : S.Write) → effectOf Z G M C .accepted ≡ some tk → (c q : ℕ) → tk .client ≡ c → tk .sequence ≡ q
+    accepted : (j : ℕ) (C : Takes Z G M ks k j) (tk : S.Write) → List·Memᴰ tk (effectOf Z G M C .accepted) → (c q : ℕ) → tk .client ≡ c → tk .sequence ≡ q
         → Vw .Accepted (k ∷ ks) j c q (tk .time, tk .entry .digests)
     accepted j C tk e c q ec eq = (tk, length ks, taken j C tk e, ec, eq, refl, refl)
 
@@ -199,12 +197,12 @@ module _ (Z : Setup) (G : Assumed Z) (M : Small (Z .g)) where
     unfolding presentEntry
     present-new j = ⊎-elim
         (λ is. ⊎-elim
-        (λ e. inl (stamp-at (k ∷ ks) j is ∙ (λ i. (e i .server .stamp, presentEntry g (e i .server) (e i .area) (initialOf Z j) .digests)) ∙ sym (stamp-at ks j is)))
+        (λ e. inl (stamp-at (k ∷ ks) j is ∙ (λ i. (e i .server .stamp, presentEntry g (e i .server .stamp) (e i .area) (initialOf Z j) .digests)) ∙ sym (stamp-at ks j is)))
         (λ N.
         let C = N .0 in
         let a = ap (λ h. h .server .stamp) (N .1) in
-        let b : presentEntry g (serverAt Z G M (k ∷ ks) j .server) (serverAt Z G M (k ∷ ks) j .area) (initialOf Z j) .digests ≡ presentEntry g (effectOf Z G M C .server) (effectOf Z G M C .area) (initialOf Z j) .digests =
-        λ i. presentEntry g (N .1 i .server) (N .1 i .area) (initialOf Z j) .digests in
+        let b : presentEntry g (serverAt Z G M (k ∷ ks) j .server .stamp) (serverAt Z G M (k ∷ ks) j .area) (initialOf Z j) .digests ≡ presentEntry g (effectOf Z G M C .server .stamp) (effectOf Z G M C .area) (initialOf Z j) .digests =
+        λ i. presentEntry g (N .1 i .server .stamp) (N .1 i .area) (initialOf Z j) .digests in
         ⊎-elim
         (λ w. inl (stamp-at (k ∷ ks) j is ∙ (λ i. ((a ∙ w .0) i, (b ∙ w .1) i)) ∙ sym (stamp-at ks j is)))
         (λ w. inr (

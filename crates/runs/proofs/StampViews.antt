@@ -53,7 +53,7 @@ module _ (Z : Setup) (G : Assumed Z) (M : Small (Z .g)) where
 
   -- what a server among 1 to n shows; one that is none shows the start
   abbrev pub shown : List Call → ℕ → Stamped
-  shown ks j = (serverAt Z G M ks j .server .stamp, presentEntry g (serverAt Z G M ks j .server) (serverAt Z G M ks j .area) (initialOf Z j) .digests)
+  shown ks j = (serverAt Z G M ks j .server .stamp, presentEntry g (serverAt Z G M ks j .server .stamp) (serverAt Z G M ks j .area) (initialOf Z j) .digests)
 
   abbrev pub views : PL.Views Call Agreed Stamped
   views = record {

@@ -24,7 +24,7 @@ use Rattle.server_rules.specs.Steps.{Write, stampOf}
 use Rattle.client_rules.specs.Rows.{Found}
 use Rattle.client_rules.specs.Beginning as CB
 use Rattle.client_rules.specs.Steps as C
-use Rattle.steps.proofs.Decoding.{all-pieces}
+use Rattle.server_rules.proofs.Decoding.{all-pieces}
 use Rattle.runs.specs.Blocks.{Origin, in-frame, of-initial, of-written, of-decoded, Collision}
 use Rattle.runs.specs.Demand.{Values}
 use Rattle.runs.specs.Events.{At, Accepts, CompletesRead, OpensWrite}

@@ -1,13 +1,9 @@
 -- What is accepted of an honest client's write has the digests of the value that it opened. Assumes nothing.
 use Prim.Native.Nat.{ℕ, _+_, _≤_}
 use native.Mathlib.Omega.{arith}
-use mathlib.Core.Bool.{Bool, true, false}
 use mathlib.Core.Path.{_≡_, refl, ap, sym, _∙_, subst}
 use mathlib.Core.Logic.{_⊎_, inl, inr, ⊎-elim}
-use mathlib.Core.Option.{Option, none, some}
 use mathlib.Core.List.{List, [], _∷_, List·Memᴰ, List·Memᴰ·not-nil, List·Memᴰ·append-cases}
-use lib.ListN.{getD, set}
-use lib.Dec.{ltb}
 use Rattle.quorum.proofs.Logic.{impossible}
 use Rattle.blocks.specs.declared.Params.{Params}
 use Rattle.frame.specs.declared.Stamp.{Stamp}
@@ -15,22 +11,17 @@ use Rattle.frame.specs.declared.Party.{Party}
 use Rattle.frame.specs.declared.Verdict.{Verdict}
 use Rattle.frame.specs.declared.Party.the-variants as A
 use Rattle.frame.specs.declared.Verdict.the-variants as J
-use Rattle.frame.specs.Chunks.{storeEntry, placeAt}
 use Rattle.group_rules.specs.Coded.{digestsOf, entryOf}
-use Rattle.frame.specs.Messages.{Entry, send, Body, getStamp, ack, askRead, readComplete, stampIs, blockIs, timeIs, valueIs, Message, message, Sending, sending, toAll, Judged, bad, good, numberIn}
-use Rattle.frame.specs.Stamps.{lastTime}
+use Rattle.frame.specs.Messages.{Entry, send, Body, getStamp, askRead, readComplete, blockIs, timeIs, Message, message, Sending, sending, toAll, Judged, numberIn}
 use Rattle.frame.proofs.Sizes.{Small}
 use Rattle.server_rules.specs.Steps.{Write}
 use Rattle.server_rules.proofs.Parts.{put-same, put-cases}
 use Rattle.client_rules.specs.declared.Client.{Client}
-use Rattle.client_rules.specs.declared.Phase.the-variants as F
-use Rattle.client_rules.specs.Rows.{Found, rowView, search, placeFor, rowWith}
-use Rattle.client_rules.specs.State.{largest, rowOf, withRow, inPhase}
 use Rattle.client_rules.specs.Beginning as CB
 use Rattle.client_rules.specs.Delivery as CD
 use Rattle.client_rules.specs.Steps as C
-use Rattle.client_rules.specs.Tests as CT
-use Rattle.steps.proofs.ServerFacts.{mem-all}
+use Rattle.client_rules.proofs.Shapes.{Keeps, drops, keeps, Shape, idle, hears, shuts, counts, ends, waits, completes, Delivery, refused, taken, shape-delivered, sends as disperses}
+use Rattle.server_rules.proofs.Casts.{mem-all}
 use Rattle.runs.specs.Admissible.{Admissible}
 use Rattle.runs.specs.Events.{At, Accepts, OpensWrite}
 use Rattle.runs.specs.World.{Setup, Call, toServer, toClient, beginRead, beginWrite, caller, ClientSide, clientLeft, lentBy, run, step, sends, put, clientEffect, readEffect, writeEffect}
@@ -65,63 +56,36 @@ module _ (H : List ℕ → List ℕ) (g : Params) (me : ℕ) where
   unfolding entryOf
   entry-own v j e h = let w : e ≡ entryOf H g v j = cc h in sym (ap (λ z. z .digests) w)
 
-  send-tells : (s : Client) (a v : List ℕ) (h : List Bool) (ts : List ℕ) (b : Bool) (M : ℕ) → Tells s v (C.sendBelow H g me b (inPhase s F.Asking h ts) a v M)
-  unfolding C.sendBelow
-  send-tells s a v h ts false M = record { number = refl; own = none-own (s .writes) v }
-  send-tells s a v h ts true M = record {
+  keeps-number : (s : Client) (a v : List ℕ) (j : ℕ) {x : Stamp} {e : Entry} {s′ : Client} {a′ : List ℕ} → Keeps H g me s a v j x e s′ a′ → s′ .writes ≡ s .writes
+  keeps-number s a v j (drops z) = refl
+  keeps-number s a v j (keeps i z) = refl
+
+  shape-tells : (s : Client) (a v : List ℕ) (j : ℕ) {b : Body} {r : C.Effect} → Shape H g me s a v j b r → Tells s v r
+  shape-tells s a v j (idle b) = quiet-tells s a v
+  shape-tells s a v j (hears T q) = record { number = refl; own = none-own (s .writes) v }
+  shape-tells s a v j (disperses T q l) = record {
     number = refl;
     own = λ b d q e u. ⊎-elim
-        (λ y. let w = from-all (λ j. message me (s .writes) (blockIs send (entryOf H g v j))) b _ y in
+        (λ y. let w = from-all (λ i. message me (s .writes) (blockIs send (entryOf H g v i))) b _ y in
         (ap (λ z. z .sequence) (w .1), entry-own v (w .0) e (ap (λ z. z .body) (w .1))))
-        (λ y. let w = from-all (λ j. message me (s .writes) (timeIs send M)) b _ y in impossible (cc (ap (λ z. z .body) (w .1))))
-        (List·Memᴰ·append-cases (toAll g (λ j. message me (s .writes) (blockIs send (entryOf H g v j)))) u);
+        (λ y. let w = from-all (λ i. message me (s .writes) (timeIs send _)) b _ y in impossible (cc (ap (λ z. z .body) (w .1))))
+        (List·Memᴰ·append-cases (toAll g (λ i. message me (s .writes) (blockIs send (entryOf H g v i)))) u);
   }
-
-  gather-tells : (s : Client) (a v : List ℕ) (h : List Bool) (ts : List ℕ) (b : Bool) → Tells s v (C.gatherBy H g me b (inPhase s F.Asking h ts) a v)
-  unfolding C.gatherBy C.sendBelow
-  gather-tells s a v h ts false = record { number = refl; own = none-own (s .writes) v }
-  gather-tells s a v h ts true = send-tells s a v h ts (ltb (largest (λ j. getD ts j 0) (g .n)) lastTime) (largest (λ j. getD ts j 0) (g .n))
-
-  end-tells : (s : Client) (a v : List ℕ) (h : List Bool) (b : Bool) → Tells s v (C.endBy H g me b s a h)
-  unfolding C.endBy
-  end-tells s a v h true = record { number = refl; own = none-own (s .writes) v }
-  end-tells s a v h false = record { number = refl; own = none-own (s .writes) v }
-
-  settle-tells : (s t : Client) (a v : List ℕ) → t .writes ≡ s .writes → (o : Option Found) → Tells s v (C.completeBy H g me o t a)
-  unfolding C.completeBy
-  settle-tells s t a v e none = record { number = e; own = none-own (s .writes) v }
-  settle-tells s t a v e (some x) = record {
-    number = e;
-    own = λ b d q y u. let w = from-all (λ j. message me (t .reads) readComplete) b _ u in impossible (cc (ap (λ z. z .body) (w .1)));
+  shape-tells s a v j (shuts T q l) = record { number = refl; own = none-own (s .writes) v }
+  shape-tells s a v j (counts q) = record { number = refl; own = none-own (s .writes) v }
+  shape-tells s a v j (ends q) = record { number = refl; own = none-own (s .writes) v }
+  shape-tells s a v j (waits x e k z) = record { number = keeps-number s a v j k; own = none-own (s .writes) v }
+  shape-tells s a v j (completes x e {s′} k y z) = record {
+    number = keeps-number s a v j k;
+    own = λ b d q y u. let w = from-all (λ i. message me (s′ .reads) readComplete) b _ u in impossible (cc (ap (λ z. z .body) (w .1)));
   }
-
-  settled-tells : (s t : Client) (a v : List ℕ) → t .writes ≡ s .writes → Tells s v (C.settle H g me t a)
-  unfolding C.settle C.completeBy
-  settled-tells s t a v e = settle-tells s t a v e (search g (rowView g t a))
-
-  keep-tells : (s : Client) (a v : List ℕ) (j : ℕ) (x : Stamp) (e : Entry) (o : Option ℕ) → Tells s v (C.keepBy H g me o s a j x e)
-  unfolding C.keepBy
-  keep-tells s a v j x e none = settled-tells s s a v refl
-  keep-tells s a v j x e (some i) = settled-tells s (withRow s j (rowWith (rowOf s j) i x)) (storeEntry a (placeAt j i) e) v refl
-
-  body-tells : (s : Client) (a v : List ℕ) (j : ℕ) (b : Body) → Tells s v (C.onBody H g me s a v j b)
-  unfolding C.onAck C.onStamp C.onValue C.onBody C.gatherBy C.sendBelow C.endBy C.keepBy
-  body-tells s a v j getStamp = quiet-tells s a v
-  body-tells s a v j ack = end-tells s a v (set (s .heard) j true) (C.quorate g (set (s .heard) j true))
-  body-tells s a v j askRead = quiet-tells s a v
-  body-tells s a v j readComplete = quiet-tells s a v
-  body-tells s a v j (stampIs T) = gather-tells s a v (set (s .heard) j true) (set (s .times) j T) (C.quorate g (set (s .heard) j true))
-  body-tells s a v j (blockIs z e) = quiet-tells s a v
-  body-tells s a v j (timeIs z T) = quiet-tells s a v
-  body-tells s a v j (valueIs x e) = keep-tells s a v j x e (placeFor (rowOf s j) x)
 
   delivered-tells : (s : Client) (a v : List ℕ) (from : Party) (f result out to : List ℕ) → Tells s v (CD.delivered H g me s a v from f result out to)
-  unfolding CD.delivered C.effect CD.effectBy C.onBody
-  delivered-tells s a v from f result out to = go (CT.judge H g me s a v from f result out to)
+  delivered-tells s a v from f result out to = go (shape-delivered H g me s a v from f result out to)
     where
-      go : (j : Judged) → Tells s v (CD.effectBy H g me j s a v from)
-      go (bad r) = quiet-tells s a v
-      go (good m) = body-tells s a v (numberIn from) (m .body)
+      go : {j : Judged} {r : C.Effect} → Delivery H g me s a v from j r → Tells s v r
+      go (refused x e) = quiet-tells s a v
+      go (taken m e h) = shape-tells s a v (numberIn from) h
 
   read-tells : (s : Client) (v out to : List ℕ) → Tells s v (CB.readBegun g me s out to)
   unfolding CB.readBegun CB.openRead CB.beginBy

@@ -2,7 +2,6 @@
 use Prim.Native.Nat.{ℕ, _+_}
 use mathlib.Core.Path.{_≡_}
 use mathlib.Core.Logic.{_⊎_}
-use mathlib.Core.Option.{some}
 use mathlib.Core.List.{List, [], _∷_, List·Memᴰ}
 use lib.ListN.{length}
 use Rattle.frame.specs.declared.Verdict.the-variants as J
@@ -24,9 +23,9 @@ At E (k ∷ ks) p = ((p ≡ length ks) × E ks k) ⊎ At E ks p
 module _ (Z : Setup) where
   open Setup Z using (H, g)
 
-  -- server i accepts a write; calls are on honest parties, so i is honest
+  -- server i accepts a write, and maybe others in the same call; calls are on honest parties, so i is honest
   abbrev pub Accepts : ℕ → Write → Event
-  Accepts i x ks (toServer j from f out to) = (i ≡ j) × (serverEffect Z (run Z ks) j from f out to .accepted ≡ some x)
+  Accepts i x ks (toServer j from f out to) = (i ≡ j) × List·Memᴰ x (serverEffect Z (run Z ks) j from f out to .accepted)
   Accepts i x ks (toClient c from f result out to) = ⊥
   Accepts i x ks (beginRead c out to) = ⊥
   Accepts i x ks (beginWrite c v out to) = ⊥

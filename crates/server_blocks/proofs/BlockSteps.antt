@@ -7,6 +7,7 @@ use lib.ListN.{getD}
 use borrow.Author.Tests.{not-true, not-false}
 use Rattle.area.specs.Area.{pick}
 use Rattle.sha256.specs.Hash.{digestOf}
+use Rattle.frame.specs.declared.Place.{Place}
 use Rattle.frame.specs.declared.Refusal.{Refusal}
 use Rattle.frame.specs.declared.Refusal.the-variants as R
 use Rattle.frame.specs.declared.Verdict.{Verdict}
@@ -15,16 +16,17 @@ use Rattle.frame.specs.Refusals.{andThen}
 use Rattle.frame.specs.Messages.{Entry, Stage, message, send, echo, ready, blockIs, toAll, numberIn, fromServer}
 use Rattle.group_rules.specs.Coded.{fits}
 use Rattle.frame.specs.Chunks.{storeEntry}
-use Rattle.frame.specs.Outbox.{Outbox, sent}
-use Rattle.frame.proofs.Verdicts.{fine-is, fine-both}
+use Rattle.frame.specs.Outbox.{Outbox, outbox, sent}
+use Rattle.frame.proofs.Verdicts.{fine-both}
 use Rattle.frame.proofs.Within.{stop-first, go-second}
 use Rattle.server_rules.specs.declared.Slot.{Slot}
 use Rattle.server_rules.specs.State.{withBlocks, blockSent}
 use Rattle.server_rules.specs.Tests.{fromOwner, openTest, fitTest, senderRight, counted}
 use Rattle.server_rules.specs.Steps.{votedBlock, onBlock}
 use Rattle.server.specs.declared.Call.{Call}
-use Rattle.server.specs.Stages.{Left, left, counts, Handled, handledBy, sentBy, blockFrame}
+use Rattle.server.specs.Stages.{Left, left, counts, handled, sentBy, blockFrame}
 use Rattle.server.proofs.Answers.{Voted, voted, owned}
+use Rattle.server.proofs.Handling.{refused-frame, counted-frame}
 use Rattle.server_blocks.specs.Stage.{verdictOf, voteVerdict}
 
 -- ---- the tests
@@ -37,39 +39,44 @@ pub fit-fine : (H : List ℕ → List ℕ) (e : Entry) (j : ℕ) (b : Bool) → 
 unfolding fitTest pick
 fit-fine H e j b p q = let d : fits H e j ≡ true = sym p ∙ not-false b q in rw d
 
--- the sender is tested first
-split : (b : Bool) (r : Refusal) (u w : Verdict) → andThen (pick b u (J.Bad r)) w ≡ pick b (andThen u w) (J.Bad r)
+-- the sender is tested first, by b, and then u and w in that order
+split : (b : Bool) (u w : Verdict) → andThen (pick b u (J.Bad R.Sender)) w ≡ pick b (andThen u w) (J.Bad R.Sender)
 unfolding pick
-split true r u w = refl
-split false r u w = refl
+split true u w = refl
+split false u w = refl
+
+bad-then : (b : Bool) (u w v : Verdict) (r : Refusal) → v ≡ pick b u (J.Bad R.Sender) → v ≡ J.Bad r → J.Bad r ≡ pick b (andThen u w) (J.Bad R.Sender)
+bad-then b u w v r h f = stop-first (pick b u (J.Bad R.Sender)) w v r h f ∙ split b u w
+
+fine-then : (b : Bool) (u w v z : Verdict) → v ≡ pick b u (J.Bad R.Sender) → v ≡ J.Fine → z ≡ w → z ≡ pick b (andThen u w) (J.Bad R.Sender)
+fine-then b u w v z h f m = go-second (pick b u (J.Bad R.Sender)) w v z h f m ∙ split b u w
+
+fine-first : (b : Bool) (u w v : Verdict) → v ≡ pick b (andThen u w) (J.Bad R.Sender) → v ≡ J.Fine → pick b u (J.Bad R.Sender) ≡ J.Fine
+fine-first b u w v h f = fine-both (pick b u (J.Bad R.Sender)) w (split b u w ∙ sym h ∙ f) .0
 
 module _ (k : Call) (x : Slot) (e : Entry) (v : Verdict) where
   module _ (h : v ≡ pick (fromOwner (k .from) (k .header .client)) (openTest x (k .header .sequence) (x .blocks .sent)) (J.Bad R.Sender)) where
     pub send-bad : (r : Refusal) → v ≡ J.Bad r → J.Bad r ≡ verdictOf k x send e
     unfolding verdictOf sentBy senderRight counted
     send-bad r f =
-        stop-first (pick (fromOwner (k .from) (k .header .client)) (openTest x (k .header .sequence) (x .blocks .sent)) (J.Bad R.Sender)) (fitTest digestOf e (k .me)) v r h f
-        ∙ split (fromOwner (k .from) (k .header .client)) R.Sender (openTest x (k .header .sequence) (x .blocks .sent)) (fitTest digestOf e (k .me))
+        bad-then (fromOwner (k .from) (k .header .client)) (openTest x (k .header .sequence) (x .blocks .sent)) (fitTest digestOf e (k .me)) v r h f
 
     pub send-fine : (w : Verdict) → v ≡ J.Fine → w ≡ fitTest digestOf e (k .me) → w ≡ verdictOf k x send e
     unfolding verdictOf sentBy senderRight counted
     send-fine w f m =
-        go-second (pick (fromOwner (k .from) (k .header .client)) (openTest x (k .header .sequence) (x .blocks .sent)) (J.Bad R.Sender)) (fitTest digestOf e (k .me)) v w h f m
-        ∙ split (fromOwner (k .from) (k .header .client)) R.Sender (openTest x (k .header .sequence) (x .blocks .sent)) (fitTest digestOf e (k .me))
+        fine-then (fromOwner (k .from) (k .header .client)) (openTest x (k .header .sequence) (x .blocks .sent)) (fitTest digestOf e (k .me)) v w h f m
 
   module _ (again : Bool) (h : v ≡ pick (fromServer (k .params) (k .from)) (openTest x (k .header .sequence) again) (J.Bad R.Sender)) where
     pub vote-bad : (r : Refusal) → v ≡ J.Bad r → J.Bad r ≡ voteVerdict k x again e
     unfolding voteVerdict
     vote-bad r f =
-        stop-first (pick (fromServer (k .params) (k .from)) (openTest x (k .header .sequence) again) (J.Bad R.Sender)) (fitTest digestOf e (numberIn (k .from))) v r h f
-        ∙ split (fromServer (k .params) (k .from)) R.Sender (openTest x (k .header .sequence) again) (fitTest digestOf e (numberIn (k .from)))
+        bad-then (fromServer (k .params) (k .from)) (openTest x (k .header .sequence) again) (fitTest digestOf e (numberIn (k .from))) v r h f
 
     pub vote-fine : (w : Verdict) (j : ℕ) → v ≡ J.Fine → w ≡ fitTest digestOf e j → j ≡ numberIn (k .from) → w ≡ voteVerdict k x again e
     unfolding voteVerdict
     vote-fine w j f m n =
-        go-second (pick (fromServer (k .params) (k .from)) (openTest x (k .header .sequence) again) (J.Bad R.Sender)) (fitTest digestOf e (numberIn (k .from))) v w h f
+        fine-then (fromServer (k .params) (k .from)) (openTest x (k .header .sequence) again) (fitTest digestOf e (numberIn (k .from))) v w h f
         (m ∙ ap (fitTest digestOf e) n)
-        ∙ split (fromServer (k .params) (k .from)) R.Sender (openTest x (k .header .sequence) again) (fitTest digestOf e (numberIn (k .from)))
 
   -- what is known where nothing spoke against a frame
   pub sent-open : v ≡ verdictOf k x send e → v ≡ J.Fine → x .sequence ≡ k .header .sequence
@@ -78,7 +85,7 @@ module _ (k : Call) (x : Slot) (e : Entry) (v : Verdict) where
       let b = fromOwner (k .from) (k .header .client) in
       let u = openTest x (k .header .sequence) (x .blocks .sent) in
       owned (k .from) (k .header .client) x (k .header .sequence) (x .blocks .sent) (pick b u (J.Bad R.Sender)) refl
-      (fine-both (pick b u (J.Bad R.Sender)) (fitTest digestOf e (k .me)) (split b R.Sender u (fitTest digestOf e (k .me)) ∙ sym h ∙ f) .0)
+      (fine-first b u (fitTest digestOf e (k .me)) v h f)
 
   pub vote-open : (again : Bool) → v ≡ voteVerdict k x again e → v ≡ J.Fine → Voted (k .params) (k .from) x (k .header .sequence)
   unfolding voteVerdict
@@ -86,7 +93,7 @@ module _ (k : Call) (x : Slot) (e : Entry) (v : Verdict) where
       let b = fromServer (k .params) (k .from) in
       let u = openTest x (k .header .sequence) again in
       voted (k .params) (k .from) x (k .header .sequence) again (pick b u (J.Bad R.Sender)) refl
-      (fine-both (pick b u (J.Bad R.Sender)) (fitTest digestOf e (numberIn (k .from))) (split b R.Sender u (fitTest digestOf e (numberIn (k .from))) ∙ sym h ∙ f) .0)
+      (fine-first b u (fitTest digestOf e (numberIn (k .from))) v h f)
 
   pub echo-verdict : v ≡ voteVerdict k x (getD (x .blocks .echoes) (numberIn (k .from)) false) e → v ≡ verdictOf k x echo e
   unfolding voteVerdict verdictOf sentBy senderRight counted
@@ -98,21 +105,17 @@ module _ (k : Call) (x : Slot) (e : Entry) (v : Verdict) where
 
   -- ---- the steps
 
-  module _ (z : Stage) (a : List ℕ) (q : Outbox) (h : v ≡ verdictOf k x z e) where
-    -- turned down
-    pub turned-down : (r : Refusal) → v ≡ J.Bad r → _≡_ {A = Handled} (record { verdict = J.Bad r; slot = x; area = a; box = q }) (blockFrame digestOf k x a z e q)
-    unfolding blockFrame handledBy verdictOf
-    turned-down r f =
-        ap (λ (u : Verdict). handledBy u x a (onBlock digestOf (k .params) (k .me) a (k .header .client) x (numberIn (k .from)) z e) q) (sym f ∙ h)
+  module _ (z : Stage) (a out to : List ℕ) (p : Place) (h : v ≡ verdictOf k x z e) where
+    pub turned-down : (r : Refusal) → v ≡ J.Bad r
+        → handled (record { verdict = J.Bad r; slot = x; place = p }) a out to ≡ blockFrame digestOf k x a z e (outbox out to p)
+    unfolding blockFrame verdictOf
+    turned-down r f = refused-frame (J.Bad r) (verdictOf k x z e) r x a out to _ p (sym f ∙ h) refl
 
-    -- counted
-    pub let-in : (y : Slot) (a′ : List ℕ) (q′ : Outbox) → v ≡ J.Fine
-        → left y a′ q′ ≡ counts (onBlock digestOf (k .params) (k .me) a (k .header .client) x (numberIn (k .from)) z e) q
-        → _≡_ {A = Handled} (record { verdict = J.Fine; slot = y; area = a′; box = q′ }) (blockFrame digestOf k x a z e q)
-    unfolding blockFrame handledBy verdictOf counts
-    let-in y a′ q′ f l =
-        ap (λ (u : Left). record { verdict = J.Fine; slot = u .slot; area = u .area; box = u .box }) l
-        ∙ ap (λ (u : Verdict). handledBy u x a (onBlock digestOf (k .params) (k .me) a (k .header .client) x (numberIn (k .from)) z e) q) (sym f ∙ h)
+    pub let-in : (y : Slot) (a′ : List ℕ) (q : Outbox) → v ≡ J.Fine
+        → left y a′ (outbox out to p) ≡ counts (onBlock digestOf (k .params) (k .me) a (k .header .client) x (numberIn (k .from)) z e) q
+        → handled (record { verdict = J.Fine; slot = y; place = p }) a′ out to ≡ blockFrame digestOf k x a z e q
+    unfolding blockFrame verdictOf
+    let-in y a′ q f l = counted-frame J.Fine (verdictOf k x z e) x y a a′ out to _ p q (sym f ∙ h) refl l
 
 -- the owner's digest list and block are echoed
 pub block-echoed : (k : Call) (a : List ℕ) (j : ℕ) (e : Entry) (x y : Slot) (q q′ : Outbox)

@@ -61,12 +61,14 @@ module _ (g : Params) (v : Voters) (c : ℕ) (a : List ℕ) (R : Regaining g v c
   from-readies : quota g ≤ v .readied → groupValue g v c a ≡ valueFrom g (v .readies) (placesFrom (21 * c - 10)) a
   unfolding groupValue pick
   from-readies h =
-      ap (λ (t : Bool). pick t (valueFrom g (v .readies) (placesFrom (21 * c - 10)) a) (valueFrom g (v .echoes) (placesFrom (21 * c - 20)) a)) (le-leb (quota g) (v .readied) h)
+      ap (λ (t : Bool). pick t (valueFrom g (v .readies) (placesFrom (21 * c - 10)) a) (valueFrom g (v .echoes) (placesFrom (21 * c - 20)) a))
+      (le-leb (quota g) (v .readied) h)
 
   from-echoes : v .readied < quota g → groupValue g v c a ≡ valueFrom g (v .echoes) (placesFrom (21 * c - 20)) a
   unfolding groupValue pick
   from-echoes h =
-      ap (λ (t : Bool). pick t (valueFrom g (v .readies) (placesFrom (21 * c - 10)) a) (valueFrom g (v .echoes) (placesFrom (21 * c - 20)) a)) (lt-leb (quota g) (v .readied) h)
+      ap (λ (t : Bool). pick t (valueFrom g (v .readies) (placesFrom (21 * c - 10)) a) (valueFrom g (v .echoes) (placesFrom (21 * c - 20)) a))
+      (lt-leb (quota g) (v .readied) h)
 
   module _ (at u w : List ℕ) (q : ℕ) (q-is : q ≡ quota g) where
     pub regained-readies : at ≡ placesFrom (21 * c - 10) → q ≤ v .readied → w ≡ sets u 0 (valueFrom g (v .readies) at a) → w ≡ sets u 0 (groupValue g v c a)
@@ -82,7 +84,8 @@ module _ (g : Params) (v : Voters) (c : ℕ) (a : List ℕ) (R : Regaining g v c
   unfolding valueFrom
   length-from on at h =
       let n = length-lowest (marked on) (g .k) (g .n) h in
-      length-valueOf (lowest (marked on) (g .k) (g .n)) (blocksIn g at a (lowest (marked on) (g .k) (g .n))) (g .size) (omega (arith, n, R .stored .bounded .blocks-low))
+      length-valueOf (lowest (marked on) (g .k) (g .n)) (blocksIn g at a (lowest (marked on) (g .k) (g .n))) (g .size)
+      (omega (arith, n, R .stored .bounded .blocks-low))
 
   length-value : length (groupValue g v c a) ≡ g .size
   length-value = go (decLe (quota g) (v .readied))

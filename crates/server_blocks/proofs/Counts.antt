@@ -109,7 +109,8 @@ module _ (H : List ℕ → List ℕ) (g : Params) (B : Bounded g) (a d b : List 
       let q : valueFrom g (v .echoes) (placesFrom (21 * c - 20)) a ≡ decoded g (blockView g a c x .echoes) d =
       matched-value g (x .blocks .echoes) (placesFrom (21 * c - 20)) a d (blockView g a c x .echoes) (echo-agree g B a d c x) (B .servers-high) in
       ap (λ m. decoded g (pick (leb (quota g) m) (blockView g a c x .readies) (blockView g a c x .echoes)) d) (sym ready-number)
-      ∙ sym (picked-value g d (leb (quota g) (v .readied)) (valueFrom g (v .readies) (placesFrom (21 * c - 10)) a) (valueFrom g (v .echoes) (placesFrom (21 * c - 20)) a)
+      ∙ sym (picked-value g d (leb (quota g) (v .readied))
+      (valueFrom g (v .readies) (placesFrom (21 * c - 10)) a) (valueFrom g (v .echoes) (placesFrom (21 * c - 20)) a)
       (blockView g a c x .readies) (blockView g a c x .echoes) p q)
 
   enough-is : enough (blockRules H g) (g .n) (g .t) (blockView g a c x) (entry d b)

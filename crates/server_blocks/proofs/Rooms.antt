@@ -9,7 +9,7 @@ use lib.ListN.{length}
 use Rattle.area.specs.Area.{pick}
 use Rattle.blocks.specs.declared.Params.{Params}
 use Rattle.frame.specs.declared.Place.{Place}
-use Rattle.frame.specs.Params.{Bounded, width, listed, largestFrame}
+use Rattle.frame.specs.Params.{Bounded, largestFrame}
 use Rattle.frame.specs.Messages.{Entry, entry, Stage, message, toAll, blockIs}
 use Rattle.frame.specs.Outbox.{outbox, sent, firstPlace, Room}
 use Rattle.frame.specs.Chunks.{areaBytes, storeEntry}
@@ -24,7 +24,8 @@ pub entry-room : (g : Params) (p : Place) (k d b out to : ℕ) → Carried g d b
 unfolding largestFrame
 entry-room g p k d b out to C R =
     let h : 9 + (d + b) ≤ largestFrame g = omega (arith, C .list-is, C .block-is) in
-    room-smaller p (g .n) (9 + (d + b)) (largestFrame g) out to (mul-le-mul-left (g .n) h) (room-fewer p (g .n + k) (g .n) (largestFrame g) out to (omega arith) R)
+    room-smaller p (g .n) (9 + (d + b)) (largestFrame g) out to (mul-le-mul-left (g .n) h)
+    (room-fewer p (g .n + k) (g .n) (largestFrame g) out to (omega arith) R)
 
 -- an entry fits into its chunk
 pub entry-fits : (g : Params) (d b : ℕ) → Bounded g → Carried g d b → (d ≤ 320) × (b ≤ 256)
@@ -49,6 +50,7 @@ module _ (g : Params) (o₀ t₀ : List ℕ) (R : Room firstPlace (g .n + 9) (la
       all-room g r (message c q (blockIs z (entry d b))) firstPlace p o t o₀ t₀ 9 (largestFrame g)
       (build-room g (message c q (blockIs z (entry d b))) (record { list-is = C .list-is; block-is = C .block-is })) k R
 
-  pub room-sent : outbox o t p ≡ sent (outbox o₀ t₀ firstPlace) (toAll g (λ j. message c q (blockIs z (entry d b)))) → Room p 9 (largestFrame g) (length o) (length t)
+  pub room-sent : outbox o t p ≡ sent (outbox o₀ t₀ firstPlace) (toAll g (λ j. message c q (blockIs z (entry d b))))
+      → Room p 9 (largestFrame g) (length o) (length t)
   unfolding pick
   room-sent k = room-behind true k

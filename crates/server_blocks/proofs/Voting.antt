@@ -103,10 +103,14 @@ skipped-by k a x v u own q h =
 -- ---- the stage by flags and numbers
 
 module _ (H : List ℕ → List ℕ) (k : Call) (B : Bounded (k .params)) (a d b : List ℕ) (x : Slot) (o : x .sequence ≡ k .header .sequence) (q : Outbox) where
-  -- the votes v for the list and the comparison u bring forth
+  -- the own entry, by the votes v for the list
+  abbrev own : Voters → Entry
+  own v = entry d (blockOf (k .params .k) (groupValue (k .params) v (k .header .client) a) (k .me))
+
+  -- what the votes v and the comparison u bring forth
   unfoldable brings : Voters → Bool → Left
   brings v u =
-      counts (answeredBy k a x (dueFor (k .params) (x .blocks) v u) (entry d (blockOf (k .params .k) (groupValue (k .params) v (k .header .client) a) (k .me)))) q
+      counts (answeredBy k a x (dueFor (k .params) (x .blocks) v u) (own v)) q
 
   stage-is : counts (votedBlock H (k .params) (k .me) a (k .header .client) x (entry d b)) q
       ≡ brings (votersOf (k .params) a (k .header .client) (x .blocks) d)
@@ -130,18 +134,18 @@ module _ (H : List ℕ → List ℕ) (k : Call) (B : Bounded (k .params)) (a d b
   unfolding brings
   skipped v e h =
       sym (stage-is ∙ ap (λ (w : Voters). brings w (groupEqual H (k .params) w (k .header .client) a d)) (sym e)
-      ∙ skipped-by k a x v (groupEqual H (k .params) v (k .header .client) a d) (entry d (blockOf (k .params .k) (groupValue (k .params) v (k .header .client) a) (k .me))) q h)
+      ∙ skipped-by k a x v (groupEqual H (k .params) v (k .header .client) a d) (own v) q h)
 
   -- it is made, and u tells whether it is equal
-  pub compared : (v : Voters) (u : Bool) (m : Due) (own : List ℕ) (l : Left)
+  pub compared : (v : Voters) (u : Bool) (m : Due) (w : List ℕ) (l : Left)
       → v ≡ votersOf (k .params) a (k .header .client) (x .blocks) d
-      → own ≡ blockOf (k .params .k) (groupValue (k .params) v (k .header .client) a) (k .me)
+      → w ≡ blockOf (k .params .k) (groupValue (k .params) v (k .header .client) a) (k .me)
       → u ≡ groupEqual H (k .params) v (k .header .client) a d
       → m ≡ dueFor (k .params) (x .blocks) v u
-      → l ≡ counts (answeredBy k a x m (entry d own)) q
+      → l ≡ counts (answeredBy k a x m (entry d w)) q
       → l ≡ counts (votedBlock H (k .params) (k .me) a (k .header .client) x (entry d b)) q
   unfolding brings
-  compared v u m own l e h f n z =
+  compared v u m w l e h f n z =
       z ∙ (λ i. counts (answeredBy k a x (n i) (entry d (h i))) q)
       ∙ ap (brings v) f
       ∙ ap (λ (w : Voters). brings w (groupEqual H (k .params) w (k .header .client) a d)) e

@@ -1,4 +1,11 @@
 pub mod Parts
+pub mod Casts
+pub mod Decoding
 pub mod Views
 pub mod Accepting
 pub mod Shapes
+pub mod Passing
+pub mod Within
+pub mod Counting
+pub mod Freeing
+pub mod Speaking

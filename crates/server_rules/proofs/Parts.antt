@@ -12,6 +12,7 @@ use lib.Seq.{getD-set-same, getD-set-other}
 use lib.Dec.{eqb}
 use borrow.Author.Tests.{eqb-true, eqb-false}
 use Rattle.quorum.proofs.Logic.{impossible}
+use Rattle.frame.specs.Messages.{Stage, send, echo, ready}
 use Rattle.server_rules.specs.Broadcast.{Rules, Part, kept, due, full}
 
 -- ---- parts
@@ -68,6 +69,27 @@ settled R n t i s x = record {
   readies = s .readies;
   done = firstOf (s .done) (kept (full R n t s x) (R .own i (s .echoes) (s .readies) x));
 }
+
+-- ---- a counted frame
+
+-- a frame of stage z with x from party j came to the part s
+abbrev pub heard : {P : Type 0} → Part P → ℕ → Stage → P → Part P
+heard s j send x = withSent s
+heard s j echo x = withEcho s j x
+heard s j ready x = withReady s j x
+
+module _ {P : Type 0} (R : Rules P) (n t i : ℕ) where
+  -- and what follows at server i
+  abbrev pub counted : Part P → ℕ → Stage → P → Part P
+  counted s j send x = withSent s
+  counted s j echo x = settled R n t i (withEcho s j x) x
+  counted s j ready x = settled R n t i (withReady s j x) x
+
+  -- what server i then says to all: an echo of the client's own frame, or a ready that is due
+  abbrev pub Says : Part P → ℕ → Stage → P → Stage → P → Type 0
+  Says s j send x z p = (z ≡ echo) × (p ≡ x)
+  Says s j echo x z p = (z ≡ ready) × (due R n t (withEcho s j x) x ≡ true) × (p ≡ R .own i (withEcho s j x .echoes) (s .readies) x)
+  Says s j ready x z p = (z ≡ ready) × (due R n t (withReady s j x) x ≡ true) × (p ≡ R .own i (s .echoes) (withReady s j x .readies) x)
 
 -- ---- flags, and what lies beside them
 

@@ -24,6 +24,7 @@ use Rattle.server_rules.specs.Rules.{blockRules, timeRules}
 use Rattle.server_rules.specs.Steps as S
 use Rattle.server_rules.specs.Tests.{judge}
 use Rattle.server_rules.specs.Delivery as SD
+use Rattle.server_rules.proofs.Casts.{IsCast}
 
 -- ---- acceptance
 
@@ -92,6 +93,7 @@ module _ (H : List ℕ → List ℕ) (g : Params) (me : ℕ) (s : Server) (a ini
   pub record Casts (l : List Sending) : Type 0 where
     pub speaks : Bool
     pub says : Body
+    pub is : IsCast says
     pub sends : l ≡ pick speaks (toAll g (λ i. message c (slotOf s c .sequence) says)) []
 
   voted-casts : (a : List ℕ) (x : Slot) (e : Entry) → x .sequence ≡ slotOf s c .sequence → Casts (S.votedBlock H g me a c x e .sends)
@@ -99,19 +101,20 @@ module _ (H : List ℕ → List ℕ) (g : Params) (me : ℕ) (s : Server) (a ini
   voted-casts a x e q = record {
     speaks = due (blockRules H g) (g .n) (g .t) (blockView g a c x) e;
     says = blockIs ready (blockRules H g .own me (blockView g a c x .echoes) (blockView g a c x .readies) e);
+    is = tt;
     sends = rw q;
   }
 
   timed-casts : (a : List ℕ) (x : Slot) (T : ℕ) → x .sequence ≡ slotOf s c .sequence → Casts (S.votedTime H g me a c x T .sends)
   unfolding S.votedTime
-  timed-casts a x T q = record { speaks = due (timeRules H g) (g .n) (g .t) (timeView x) T; says = timeIs ready T; sends = rw q }
+  timed-casts a x T q = record { speaks = due (timeRules H g) (g .n) (g .t) (timeView x) T; says = timeIs ready T; is = tt; sends = rw q }
 
   pub counted-casts : {b : Body} {p : S.Counting} → Counted b p → Casts (p .sends)
   unfolding S.onBlock S.onTime pick
-  counted-casts (block send e) = record { speaks = true; says = blockIs echo e; sends = refl }
+  counted-casts (block send e) = record { speaks = true; says = blockIs echo e; is = tt; sends = refl }
   counted-casts (block echo e) = voted-casts _ _ e refl
   counted-casts (block ready e) = voted-casts _ _ e refl
-  counted-casts (time send T) = record { speaks = true; says = timeIs echo T; sends = refl }
+  counted-casts (time send T) = record { speaks = true; says = timeIs echo T; is = tt; sends = refl }
   counted-casts (time echo T) = timed-casts _ _ T refl
   counted-casts (time ready T) = timed-casts _ _ T refl
 
@@ -136,6 +139,13 @@ module _ (H : List ℕ → List ℕ) (g : Params) (me : ℕ) (s : Server) (a ini
         (sending (P.Client c) (message c q (valueIs (s .stamp) (presentEntry g (s .stamp) a initial))) ∷ []))
     ends : Shape q readComplete (S.sendOnly (withReader s c (record { sequence = q; listening = false; noted = readerOf s c .noted })) a [])
     settles : (b : Body) (p : S.Counting) → Counted b p → {r : S.Effect} → Freed g (withSlot s c (p .slot)) (p .area) c r → Shape q b (S.behind p r)
+
+  pub step-length : {q : ℕ} {b : Body} {r : S.Effect} → Shape q b r → length (r .area) ≡ length a
+  step-length (idle b) = refl
+  step-length answers = refl
+  step-length notes = refl
+  step-length ends = refl
+  step-length (settles b p k f) = freed-length f ∙ counted-length k
 
   pub shape : (q : ℕ) (b : Body) → Shape q b (S.onBody H g me s a initial j c q b)
   unfolding S.onBody S.onRead S.onReadComplete S.settle

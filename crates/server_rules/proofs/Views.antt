@@ -3,10 +3,10 @@ use Prim.Native.Nat.{ℕ, _+_, _≤_}
 use native.Mathlib.Omega.{arith}
 use native.Mathlib.Decide.{decLe}
 use mathlib.Core.Bool.{Bool, true, false, not, _&&_, _||_}
-use mathlib.Core.Path.{_≡_, refl, ap, _∙_}
+use mathlib.Core.Path.{_≡_, refl, ap}
 use mathlib.Core.Option.{some}
 use mathlib.Core.List.{List}
-use lib.ListN.{length, getD, set, replicate, length-set, getD-replicate, List·getD-eq-default}
+use lib.ListN.{length, getD, set, replicate, getD-replicate, List·getD-eq-default}
 use lib.Seq.{getD-set-same, getD-set-other}
 use Rattle.quorum.specs.Quorum.{Among}
 use Rattle.area.specs.Area.{pick}
@@ -16,20 +16,18 @@ use Rattle.frame.specs.Chunks.{entryAt, storeEntry, storeIf, completeAt, echoAt
 use Rattle.frame.specs.Messages.{Entry, Sized}
 use Rattle.frame.proofs.Chunks.{entry-same, entry-other}
 use Rattle.frame.proofs.Sizes.{Small}
-use Rattle.server_rules.specs.declared.BlockPart.{BlockPart}
 use Rattle.server_rules.specs.declared.Slot.{Slot}
 use Rattle.server_rules.specs.Broadcast.{kept}
+use Rattle.server_rules.specs.WellFormed.{Bounds, SlotWithin}
 use Rattle.server_rules.specs.State.{freshSlot, freshBlocks, freshTimes, withBlocks, withTimes, blockView, timeView, blockSent, blockEcho, blockReady, blockMarks, timeSent, timeEcho, timeReady, timeMarks}
-use Rattle.server_rules.proofs.Parts.{same-part, firstOf, noPart, withSent, withEcho, withReady, Flags, flag-place, flags-set, kept-set, kept-when}
+use Rattle.server_rules.proofs.Parts.{same-part, firstOf, noPart, withSent, withEcho, withReady, Flags, flag-place, kept-set, kept-when}
 
 -- a slot's arrays have eleven places, of which the first is never set
-pub record Shaped (x : Slot) : Type 0 where
-  pub block-echoes : Flags (x .blocks .echoes)
-  pub block-readies : Flags (x .blocks .readies)
-  pub time-echoes : Flags (x .times .echoes)
-  pub time-readies : Flags (x .times .readies)
-  pub echoed : length (x .times .echoed) ≡ 11
-  pub readied : length (x .times .readied) ≡ 11
+abbrev pub shapes : Bounds
+shapes = record { flags = Flags; time = λ T. Unit {0}; sequence = λ q. Unit {0}; stamp = λ x. Unit {0}; reader = λ x. Unit {0} }
+
+abbrev pub Shaped : Slot → Type 0
+Shaped = SlotWithin shapes
 
 module _ (g : Params) (M : Small g) (a : List ℕ) (room : areaBytes ≤ length a) (c : ℕ) (x : Slot) (X : Shaped x) where
   -- a store to a chunk that holds nothing of this slot
@@ -37,8 +35,8 @@ module _ (g : Params) (M : Small g) (a : List ℕ) (room : areaBytes ≤ length 
       → blockView g (storeEntry a p e) c x ≡ blockView g a c x
   unfolding blockView
   other-chunk p e Q f h = same-part _ _ refl refl
-      (λ m. kept-when _ _ _ (λ b. let w = flag-place (x .blocks .echoes) (X .block-echoes) m b in entry-other g M a p e Q (echoAt c m) (f m (w .0) (w .1) .0)))
-      (λ m. kept-when _ _ _ (λ b. let w = flag-place (x .blocks .readies) (X .block-readies) m b in entry-other g M a p e Q (readyAt c m) (f m (w .0) (w .1) .1)))
+      (λ m. kept-when _ _ _ (λ b. let w = flag-place (x .blocks .echoes) (X .blocks .echoes) m b in entry-other g M a p e Q (echoAt c m) (f m (w .0) (w .1) .0)))
+      (λ m. kept-when _ _ _ (λ b. let w = flag-place (x .blocks .readies) (X .blocks .readies) m b in entry-other g M a p e Q (readyAt c m) (f m (w .0) (w .1) .1)))
       (ap (kept (x .blocks .complete)) (entry-other g M a p e Q (completeAt c) h))
 
   module _ (is : Among 8 c) where
@@ -69,11 +67,11 @@ module _ (g : Params) (M : Small g) (a : List ℕ) (room : areaBytes ≤ length 
       unfolding blockView
       echo-view = same-part _ _ refl refl
           (kept-set (x .blocks .echoes) (λ m. entryAt g a (echoAt c m)) (λ m. entryAt g (storeEntry a (echoAt c j) e) (echoAt c m)) j e
-          (omega (arith, X .block-echoes .many))
+          (omega (arith, X .blocks .echoes .many))
           (entry-same g M a (echoAt c j) e Q (omega arith))
           (λ m ne. entry-other g M a (echoAt c j) e Q (echoAt c m) (λ z. ne (omega arith))))
           (λ m. kept-when _ _ _ (λ b.
-          let w = flag-place (x .blocks .readies) (X .block-readies) m b in
+          let w = flag-place (x .blocks .readies) (X .blocks .readies) m b in
           entry-other g M a (echoAt c j) e Q (readyAt c m) (λ z. omega (arith, w .0, w .1))))
           (ap (kept (x .blocks .complete)) (entry-other g M a (echoAt c j) e Q (completeAt c) (λ z. omega arith)))
 
@@ -81,10 +79,10 @@ module _ (g : Params) (M : Small g) (a : List ℕ) (room : areaBytes ≤ length 
       unfolding blockView
       ready-view = same-part _ _ refl refl
           (λ m. kept-when _ _ _ (λ b.
-          let w = flag-place (x .blocks .echoes) (X .block-echoes) m b in
+          let w = flag-place (x .blocks .echoes) (X .blocks .echoes) m b in
           entry-other g M a (readyAt c j) e Q (echoAt c m) (λ z. omega (arith, w .0, w .1))))
           (kept-set (x .blocks .readies) (λ m. entryAt g a (readyAt c m)) (λ m. entryAt g (storeEntry a (readyAt c j) e) (readyAt c m)) j e
-          (omega (arith, X .block-readies .many))
+          (omega (arith, X .blocks .readies .many))
           (entry-same g M a (readyAt c j) e Q (omega arith))
           (λ m ne. entry-other g M a (readyAt c j) e Q (readyAt c m) (λ z. ne (omega arith))))
           (ap (kept (x .blocks .complete)) (entry-other g M a (readyAt c j) e Q (completeAt c) (λ z. omega arith)))
@@ -112,10 +110,10 @@ module _ (g : Params) (M : Small g) (a : List ℕ) (room : areaBytes ≤ length 
     unfolding blockView
     marks-view r f own Q = same-part _ _ refl refl
         (λ m. kept-when _ _ _ (λ b.
-        let w = flag-place (x .blocks .echoes) (X .block-echoes) m b in
+        let w = flag-place (x .blocks .echoes) (X .blocks .echoes) m b in
         if-other (not (x .blocks .complete) && f) own (λ z. Q (and-right (not (x .blocks .complete)) f z)) (echoAt c m) (λ z. omega (arith, w .0, w .1))))
         (λ m. kept-when _ _ _ (λ b.
-        let w = flag-place (x .blocks .readies) (X .block-readies) m b in
+        let w = flag-place (x .blocks .readies) (X .blocks .readies) m b in
         if-other (not (x .blocks .complete) && f) own (λ z. Q (and-right (not (x .blocks .complete)) f z)) (readyAt c m) (λ z. omega (arith, w .0, w .1))))
         (if-done (x .blocks .complete) f own Q)
 
@@ -126,8 +124,8 @@ module _ (x : Slot) (X : Shaped x) (j : ℕ) (at : Among 10 j) (T : ℕ) where
   unfolding timeView
   time-echo-view = same-part _ _ refl refl
       (kept-set (x .times .echoes) (λ m. getD (x .times .echoed) m 0) (λ m. getD (set (x .times .echoed) j T) m 0) j T
-      (omega (arith, X .time-echoes .many))
-      (getD-set-same (x .times .echoed) j T 0 (omega (arith, X .echoed)))
+      (omega (arith, X .times .echoes .many))
+      (getD-set-same (x .times .echoed) j T 0 (omega (arith, X .times .echoed .0)))
       (λ m ne. getD-set-other (x .times .echoed) j m T 0 ne))
       (λ m. refl) refl
 
@@ -136,8 +134,8 @@ module _ (x : Slot) (X : Shaped x) (j : ℕ) (at : Among 10 j) (T : ℕ) where
   time-ready-view = same-part _ _ refl refl
       (λ m. refl)
       (kept-set (x .times .readies) (λ m. getD (x .times .readied) m 0) (λ m. getD (set (x .times .readied) j T) m 0) j T
-      (omega (arith, X .time-readies .many))
-      (getD-set-same (x .times .readied) j T 0 (omega (arith, X .readied)))
+      (omega (arith, X .times .readies .many))
+      (getD-set-same (x .times .readied) j T 0 (omega (arith, X .times .readied .0)))
       (λ m ne. getD-set-other (x .times .readied) j m T 0 ne))
       refl
 
@@ -161,69 +159,6 @@ pub time-marks-view : (x : Slot) (r f : Bool) (T : ℕ) → timeView (withTimes 
     }
 unfolding timeView
 time-marks-view x r f T = same-part _ _ refl refl (λ m. refl) (λ m. refl) (time-done (x .times .delivered) f T (x .times .time))
-
--- ---- shapes are kept
-
-pub shaped-echo : (x : Slot) → Shaped x → (j : ℕ) → 1 ≤ j → Shaped (withBlocks x (blockEcho (x .blocks) j))
-shaped-echo x X j h = record {
-  block-echoes = flags-set (x .blocks .echoes) (X .block-echoes) j h;
-  block-readies = X .block-readies;
-  time-echoes = X .time-echoes;
-  time-readies = X .time-readies;
-  echoed = X .echoed;
-  readied = X .readied;
-}
-
-pub shaped-ready : (x : Slot) → Shaped x → (j : ℕ) → 1 ≤ j → Shaped (withBlocks x (blockReady (x .blocks) j))
-shaped-ready x X j h = record {
-  block-echoes = X .block-echoes;
-  block-readies = flags-set (x .blocks .readies) (X .block-readies) j h;
-  time-echoes = X .time-echoes;
-  time-readies = X .time-readies;
-  echoed = X .echoed;
-  readied = X .readied;
-}
-
-pub shaped-blocks : (x : Slot) → Shaped x → (b : BlockPart) → b .echoes ≡ x .blocks .echoes → b .readies ≡ x .blocks .readies → Shaped (withBlocks x b)
-shaped-blocks x X b e r = record {
-  block-echoes = rw e (X .block-echoes);
-  block-readies = rw r (X .block-readies);
-  time-echoes = X .time-echoes;
-  time-readies = X .time-readies;
-  echoed = X .echoed;
-  readied = X .readied;
-}
-
-pub shaped-time-echo : (x : Slot) → Shaped x → (j T : ℕ) → 1 ≤ j → Shaped (withTimes x (timeEcho (x .times) j T))
-shaped-time-echo x X j T h = record {
-  block-echoes = X .block-echoes;
-  block-readies = X .block-readies;
-  time-echoes = flags-set (x .times .echoes) (X .time-echoes) j h;
-  time-readies = X .time-readies;
-  echoed = length-set (x .times .echoed) j T ∙ X .echoed;
-  readied = X .readied;
-}
-
-pub shaped-time-ready : (x : Slot) → Shaped x → (j T : ℕ) → 1 ≤ j → Shaped (withTimes x (timeReady (x .times) j T))
-shaped-time-ready x X j T h = record {
-  block-echoes = X .block-echoes;
-  block-readies = X .block-readies;
-  time-echoes = X .time-echoes;
-  time-readies = flags-set (x .times .readies) (X .time-readies) j h;
-  echoed = X .echoed;
-  readied = length-set (x .times .readied) j T ∙ X .readied;
-}
-
-pub shaped-fresh : (q : ℕ) → Shaped (freshSlot q)
-unfolding freshSlot freshBlocks freshTimes
-shaped-fresh q = record {
-  block-echoes = record { many = refl; none-first = refl };
-  block-readies = record { many = refl; none-first = refl };
-  time-echoes = record { many = refl; none-first = refl };
-  time-readies = record { many = refl; none-first = refl };
-  echoed = refl;
-  readied = refl;
-}
 
 -- a fresh slot shows nothing
 fresh-flag : (m : ℕ) → getD (replicate 11 false) m false ≡ false

@@ -5,11 +5,10 @@ use native.Mathlib.Nat.{mul-comm}
 use mathlib.Core.Bool.{Bool, true, false, not, _&&_}
 use mathlib.Core.Path.{_≡_, refl, _∙_, subst}
 use mathlib.Core.Logic.{⊎-elim}
-use mathlib.Core.Option.{Option, none, some}
 use mathlib.Core.List.{List, [], _++_, List·Memᴰ·not-nil, List·Memᴰ·append-cases}
-use lib.ListN.{length, getD, set}
-use lib.Dec.{ltb, eqb}
-use borrow.Author.Tests.{ltb-true, leb-false, eqb-true, not-false}
+use lib.ListN.{length}
+use lib.Dec.{eqb}
+use borrow.Author.Tests.{leb-false, eqb-true, not-false}
 use Rattle.quorum.specs.Quorum.{Among}
 use Rattle.quorum.proofs.Logic.{impossible, and-split}
 use Rattle.area.specs.Area.{Bytes, pick}
@@ -23,28 +22,28 @@ use Rattle.frame.specs.declared.Opened.{Opened}
 use Rattle.frame.specs.declared.Refusal.the-variants as R
 use Rattle.frame.specs.declared.Verdict.the-variants as J
 use Rattle.frame.specs.declared.Opened.the-variants as O
-use Rattle.frame.specs.Chunks.{storeEntry, placeAt}
 use Rattle.group_rules.specs.Coded.{digestsOf, entryOf, blockAt}
 use Rattle.frame.specs.Frames.{opened, messageIn}
-use Rattle.frame.specs.Messages.{Entry, send, Body, getStamp, ack, askRead, readComplete, stampIs, blockIs, timeIs, valueIs, Message, message, Sending, numberIn, fromServer, Judged, bad, good, judgedBy, after, Sized, Formed, FormedBody}
+use Rattle.frame.specs.Messages.{Entry, send, Body, getStamp, askRead, readComplete, blockIs, timeIs, Message, message, Sending, numberIn, fromServer, Judged, bad, good, judgedBy, after, Sized, Formed, FormedBody}
 use Rattle.frame.specs.Params.{paramsTest, listed}
 use Rattle.frame.specs.Refusals.{andThen}
-use Rattle.frame.specs.Stamps.{lastTime, lastSequence}
+use Rattle.frame.specs.Stamps.{lastSequence}
 use Rattle.frame.proofs.Verdicts.{fine-both, fine-not}
 use Rattle.frame.proofs.Converse.{formed-opened}
 use Rattle.client_rules.specs.declared.Phase.{Phase}
 use Rattle.client_rules.specs.declared.Client.{Client}
 use Rattle.client_rules.specs.declared.Phase.the-variants as F
-use Rattle.client_rules.specs.Rows.{rowView, rowWith, placeFor, Found, search}
-use Rattle.client_rules.specs.State.{rowOf, withRow, writing, inPhase, largest}
+use Rattle.client_rules.specs.State.{writing}
 use Rattle.client_rules.specs.Beginning as CB
 use Rattle.client_rules.specs.Delivery as CD
 use Rattle.client_rules.specs.State as CS
 use Rattle.client_rules.specs.Steps as C
+use Rattle.client_rules.proofs.Shapes.{Keeps, drops, keeps, Shape, idle, hears, shuts, counts, ends, waits, completes, shape-of}
+use Rattle.client_rules.proofs.Shapes.{sends as disperses}
 use Rattle.client_rules.specs.Tests as CT
 pub use Rattle.client_rules.proofs.CallFacts.{awaited-true}
 use Rattle.steps.proofs.ServerRanges.{AllFormed, formed-all}
-use Rattle.steps.proofs.Decoding.{block-width}
+use Rattle.server_rules.proofs.Decoding.{block-width}
 
 module _ (H : List ℕ → List ℕ) (g : Params) (me : ℕ) where
   pub record Taken (s : Client) (v : List ℕ) (from : Party) (f : List ℕ) (m : Message) : Type 0 where
@@ -140,71 +139,42 @@ module _ (H : List ℕ → List ℕ) (g : Params) (me : ℕ) where
     said : (q : ℕ) → 1 ≤ q → q < 4294967296 → (b : Body) → FormedBody g b → Formed g (message me q b)
     said q lo hi b f = record { client-low = is .0; client-high = is .1; sequence-low = lo; sequence-high = hi; body = f }
 
-    stamp-formed : (s : Client) (a v : List ℕ) (j T : ℕ) → 1 ≤ s .writes → s .writes < 4294967296 → length v ≡ g .size → AllFormed g (C.onStamp H g me s a v j T .sends)
-    unfolding C.onStamp C.sendBelow C.gatherBy
-    stamp-formed s a v j T lo hi e = gather (C.quorate g (set (s .heard) j true)) (inPhase s F.Asking (set (s .heard) j true) (set (s .times) j T)) lo hi
-      where
-        send-by : (b : Bool) (s : Client) (M : ℕ) → ltb M lastTime ≡ b → 1 ≤ s .writes → s .writes < 4294967296 → AllFormed g (C.sendBelow H g me b s a v M .sends)
-        send-by true s M h lo hi = both-formed _ _
-            (formed-all g _ (λ i. said (s .writes) lo hi (blockIs send (entryOf H g v i)) (entry-size D v e i)))
-            (formed-all g _ (λ i. said (s .writes) lo hi (timeIs send M) (omega (arith, ltb-true M lastTime h))))
-        send-by false s M h lo hi = none-formed
+    keeps-reads : (s : Client) (a v : List ℕ) (j : ℕ) {x : Stamp} {e : Entry} {s′ : Client} {a′ : List ℕ} → Keeps H g me s a v j x e s′ a′ → s′ .reads ≡ s .reads
+    keeps-reads s a v j (drops z) = refl
+    keeps-reads s a v j (keeps i z) = refl
 
-        gather : (b : Bool) (s : Client) → 1 ≤ s .writes → s .writes < 4294967296 → AllFormed g (C.gatherBy H g me b s a v .sends)
-        gather true s lo hi = send-by (ltb (largest (λ j. getD (s .times) j 0) (g .n)) lastTime) s _ refl lo hi
-        gather false s lo hi = none-formed
-
-    ack-formed : (s : Client) (a : List ℕ) (j : ℕ) → AllFormed g (C.onAck H g me s a j .sends)
-    unfolding C.onAck C.endBy
-    ack-formed s a j = go (C.quorate g (set (s .heard) j true))
-      where
-        go : (b : Bool) → AllFormed g (C.endBy H g me b s a (set (s .heard) j true) .sends)
-        go true = none-formed
-        go false = none-formed
-
-    settle-formed : (s : Client) (a : List ℕ) → 1 ≤ s .reads → s .reads < 4294967296 → AllFormed g (C.settle H g me s a .sends)
-    unfolding C.settle C.completeBy
-    settle-formed s a lo hi = go (search g (rowView g s a))
-      where
-        go : (o : Option Found) → AllFormed g (C.completeBy H g me o s a .sends)
-        go none = none-formed
-        go (some x) = formed-all g _ (λ i. said (s .reads) lo hi readComplete tt)
-
-    value-formed : (s : Client) (a : List ℕ) (j : ℕ) (x : Stamp) (e : Entry) → 1 ≤ s .reads → s .reads < 4294967296 → AllFormed g (C.onValue H g me s a j x e .sends)
-    unfolding C.onValue C.keepBy
-    value-formed s a j x e lo hi = go (placeFor (rowOf s j) x)
-      where
-        go : (o : Option ℕ) → AllFormed g (C.keepBy H g me o s a j x e .sends)
-        go none = settle-formed s a lo hi
-        go (some i) = settle-formed (withRow s j (rowWith (rowOf s j) i x)) (storeEntry a (placeAt j i) e) lo hi
-
-    body-formed : (s : Client) (a v : List ℕ) (j c q : ℕ) (b : Body) → Formed g (message c q b) → CT.orderTest H g me s j q b ≡ J.Fine → CT.valueTest g s (length v) ≡ J.Fine
-        → AllFormed g (C.onBody H g me s a v j b .sends)
-    unfolding CT.orderTest C.onBody
-    body-formed s a v j c q getStamp f o t = none-formed
-    body-formed s a v j c q ack f o t = ack-formed s a j
-    body-formed s a v j c q askRead f o t = none-formed
-    body-formed s a v j c q readComplete f o t = none-formed
-    body-formed s a v j c q (stampIs T) f o t =
+    shape-formed : (s : Client) (a v : List ℕ) (j c q : ℕ) {b : Body} {r : C.Effect} → Formed g (message c q b) → CT.orderTest H g me s j q b ≡ J.Fine
+        → CT.valueTest g s (length v) ≡ J.Fine → Shape H g me s a v j b r → AllFormed g (r .sends)
+    unfolding CT.orderTest
+    shape-formed s a v j c q f o t (idle b) = none-formed
+    shape-formed s a v j c q f o t (hears T z) = none-formed
+    shape-formed s a v j c q f o t (disperses T z l) =
         let w = and-split (CS.asking (s .phase)) _ (awaited-true H g me _ o) in
-        let z : q ≡ s .writes = eqb-true q (s .writes) (and-split (eqb q (s .writes)) _ (w .1) .0) in
-        stamp-formed s a v j T (omega (arith, z, f .sequence-low)) (omega (arith, z, f .sequence-high)) (value-long s (length v) t (asking-writing (s .phase) (w .0)))
-    body-formed s a v j c q (blockIs z e) f o t = none-formed
-    body-formed s a v j c q (timeIs z T) f o t = none-formed
-    body-formed s a v j c q (valueIs x e) f o t =
+        let y : q ≡ s .writes = eqb-true q (s .writes) (and-split (eqb q (s .writes)) _ (w .1) .0) in
+        let lo : 1 ≤ s .writes = omega (arith, y, f .sequence-low) in
+        let hi : s .writes < 4294967296 = omega (arith, y, f .sequence-high) in
+        let e = value-long s (length v) t (asking-writing (s .phase) (w .0)) in
+        both-formed _ _
+        (formed-all g _ (λ i. said (s .writes) lo hi (blockIs send (entryOf H g v i)) (entry-size D v e i)))
+        (formed-all g _ (λ i. said (s .writes) lo hi (timeIs send _) (omega (arith, l))))
+    shape-formed s a v j c q f o t (shuts T z l) = none-formed
+    shape-formed s a v j c q f o t (counts z) = none-formed
+    shape-formed s a v j c q f o t (ends z) = none-formed
+    shape-formed s a v j c q f o t (waits x e k z) = none-formed
+    shape-formed s a v j c q f o t (completes x e {s′} k y z) =
         let w = and-split (CS.reading (s .phase)) _ (awaited-true H g me _ (fine-both _ _ o .0)) in
-        let z : q ≡ s .reads = eqb-true q (s .reads) (and-split (eqb q (s .reads)) _ (w .1) .0) in
-        value-formed s a j x e (omega (arith, z, f .sequence-low)) (omega (arith, z, f .sequence-high))
+        let h : q ≡ s .reads = eqb-true q (s .reads) (and-split (eqb q (s .reads)) _ (w .1) .0) in
+        let n = keeps-reads s a v j k in
+        formed-all g _ (λ i. said (s′ .reads) (omega (arith, h, n, f .sequence-low)) (omega (arith, h, n, f .sequence-high)) readComplete tt)
 
     pub delivered-formed : (s : Client) (a v : List ℕ) (from : Party) (f result out to : List ℕ) → Bytes f → AllFormed g (CD.delivered H g me s a v from f result out to .sends)
-    unfolding C.effect C.onBody
     delivered-formed s a v from f result out to bs = go (delivered s a v from f result out to)
       where
         go : {r : C.Effect} → Delivered s a v from f r → AllFormed g (r .sends)
         go {r} (refused e) = rw e none-formed
         go {r} (taken m T e) =
             let F′ : Formed g m = subst (Formed g) (T .says) (formed-opened g f (T .header) bs (T .opens)) in
-            rw e (body-formed s a v (numberIn from) (m .client) (m .sequence) (m .body) F′ (passed s from m (T .passes) .order) (T .value))
+            rw e (shape-formed s a v (numberIn from) (m .client) (m .sequence) F′ (passed s from m (T .passes) .order) (T .value) (shape-of H g me s a v from m))
 
     idle-low : (s : Client) (last : ℕ) → CB.idleTest s last ≡ J.Fine → last < lastSequence
     unfolding CB.idleTest

@@ -1,10 +1,8 @@
 pub mod PartFacts
-pub mod ServerFacts
-pub mod BlockFacts
-pub mod TimeFacts
 pub mod ServerTaken
 pub mod ServerFits
-pub mod Decoding
+pub mod CastFacts
+pub mod DecodedFacts
 pub mod ServerRanges
 pub mod Keys
 pub mod ServerStamps

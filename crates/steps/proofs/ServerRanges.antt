@@ -1,44 +1,40 @@
 -- A server whose stamps are within their bounds sends messages that can be said in a frame, and stays so. Assumes nothing.
-use Prim.Native.Nat.{ℕ, zero, suc, _+_, _*_, _≤_, _<_}
+use Prim.Native.Nat.{ℕ, _+_, _*_, _≤_, _<_}
 use native.Mathlib.Omega.{arith}
-use native.Mathlib.Decide.{ℕ-discrete}
-use mathlib.Core.Bool.{Bool, true, false, not, _&&_, _||_}
+use mathlib.Core.Bool.{Bool, true, false}
 use mathlib.Core.Path.{_≡_, refl, ap, sym, _∙_, subst}
 use mathlib.Core.Logic.{⊎-elim}
-use mathlib.Core.Option.{some}
-use mathlib.Core.List.{List, [], _∷_, List·Memᴰ, List·Memᴰ·not-nil, List·Memᴰ·cases-cons, List·Memᴰ·append-cases, List·Memᴰ·eq-of-singleton}
-use lib.ListN.{length, getD, take, drop, replicate, length-set, length-drop}
-use lib.Seq.{getD-set-same, getD-set-other, length-take-le}
-use lib.Dec.{leb, eqb}
-use borrow.Author.Tests.{leb-true, leb-false, ne-eqb}
-use Rattle.quorum.specs.Quorum.{count, Among}
-use Rattle.quorum.proofs.Logic.{impossible, and-split, or-split}
+use mathlib.Core.List.{List, [], _∷_, List·Memᴰ, List·Memᴰ·not-nil, List·Memᴰ·append-cases, List·Memᴰ·eq-of-singleton}
+use lib.ListN.{length, take, drop, length-drop}
+use lib.Seq.{length-take-le}
+use lib.Dec.{eqb}
+use borrow.Author.Tests.{ne-eqb}
+use Rattle.quorum.specs.Quorum.{Among}
+use Rattle.quorum.proofs.Logic.{impossible}
 use Rattle.area.specs.Area.{pick}
 use Rattle.blocks.specs.declared.Params.{Params}
 use Rattle.frame.specs.declared.Stamp.{Stamp}
 use Rattle.frame.specs.declared.Party.{Party}
-use Rattle.frame.specs.declared.Party.the-variants as A
 use Rattle.frame.specs.declared.Verdict.the-variants as J
-use Rattle.frame.specs.Chunks.{storeEntry, echoAt, readyAt, areaBytes}
-use Rattle.group_rules.specs.Coded.{hasList, decoded}
-use Rattle.frame.specs.Messages.{Entry, send, echo, ready, Body, getStamp, ack, askRead, readComplete, stampIs, blockIs, timeIs, valueIs, Message, message, Sending, sending, toAll, numberIn, Sized, Formed, FormedBody}
-use Rattle.frame.specs.Params.{width, listed, quota}
-use Rattle.frame.specs.Stamps.{older, zeroStamp, lastTime, partsAgree}
-use Rattle.frame.proofs.Chunks.{length-store}
+use Rattle.frame.specs.Chunks.{areaBytes}
+use Rattle.frame.specs.Messages.{Entry, Body, getStamp, askRead, stampIs, valueIs, Message, message, Sending, toAll, numberIn, Sized, Formed, FormedBody}
+use Rattle.frame.specs.Params.{width, listed}
+use Rattle.frame.specs.Stamps.{zeroStamp, lastTime, partsAgree}
 use Rattle.frame.proofs.Sizes.{Small}
-use Rattle.frame.proofs.Verdicts.{fine-both}
-use Rattle.server_rules.specs.declared.Slot.{Slot}
 use Rattle.server_rules.specs.declared.Reader.{Reader}
 use Rattle.server_rules.specs.declared.Server.{Server}
-use Rattle.server_rules.specs.Broadcast.{Part, votes, enough, due}
-use Rattle.server_rules.specs.Rules.{chosen, regained, blockRules}
-use Rattle.server_rules.specs.State.{presentBlock, noReader, freshReader, freshServer, slotOf, readerOf, withReader, withBlocks, withTimes, blockView, presentEntry, blockEcho, blockReady, timeEcho, timeReady}
+use Rattle.server_rules.specs.State.{presentBlock, freshReader, freshServer, slotOf, withSlot, presentEntry}
+use Rattle.server_rules.specs.WellFormed.{Bounds, Within}
 use Rattle.server_rules.specs.Steps as S
 use Rattle.server_rules.specs.Tests as ST
-use Rattle.steps.proofs.BlockFacts.{open-passed, test-split}
-use Rattle.steps.proofs.Decoding.{quota-blocks, block-width, decoded-size, votes-are}
-use Rattle.steps.proofs.ServerFacts.{mem-all, mem-pick, ServerShape, length-if, done-sized}
-use Rattle.server_rules.proofs.Settling.{Settling, waits, accepts, settling}
+use Rattle.server_rules.proofs.Casts.{mem-all}
+use Rattle.server_rules.proofs.Views.{shapes}
+use Rattle.server_rules.proofs.Shapes.{Freed, Counted, block, time, counted-sequence, counted-length, Shape, idle, answers, notes, ends, settles, shape-of}
+use Rattle.server_rules.proofs.Passing.{test-split, counted-open}
+use Rattle.server_rules.proofs.Within.{TimeIn, server-within, reader-within, this-slot, step-within}
+use Rattle.server_rules.proofs.Counting.{counted-word}
+use Rattle.server_rules.proofs.Freeing.{freed-client, freed-ripe, freed-sized, freed-mem}
+use Rattle.steps.proofs.ServerFits.{ServerShape}
 
 -- ---- stamps in range
 
@@ -51,10 +47,6 @@ pub record StampInBounds (x : Stamp) : Type 0 where
 pub zero-in-bounds : StampInBounds zeroStamp
 unfolding zeroStamp partsAgree pick
 zero-in-bounds = record { time-high = omega arith; writer-high = omega arith; sequence-high = omega arith; agree = refl }
-
-pub ranged-none : StampInBounds (noReader .noted)
-unfolding partsAgree pick
-ranged-none = record { time-high = omega arith; writer-high = omega arith; sequence-high = omega arith; agree = refl }
 
 agree-some : (T c q : ℕ) → 1 ≤ c → 1 ≤ q → partsAgree (T + 1) c q ≡ true
 unfolding partsAgree pick
@@ -82,57 +74,19 @@ write-stamp-in-bounds g k Q = record {
 
 -- ---- a server
 
-pub record InBounds (s : Server) : Type 0 where
-  pub stamp : StampInBounds (s .stamp)
-  pub many : length (s .readers) ≡ 9
-  pub noted : (c : ℕ) → StampInBounds (readerOf s c .noted)
-  pub listening : (c : ℕ) → readerOf s c .listening ≡ true → (1 ≤ readerOf s c .sequence) × (readerOf s c .sequence < 4294967296)
+pub record ReaderInBounds (x : Reader) : Type 0 where
+  pub noted : StampInBounds (x .noted)
+  pub listening : x .listening ≡ true → (1 ≤ x .sequence) × (x .sequence < 4294967296)
+
+abbrev pub ranges : Bounds
+ranges = record { flags = λ l. Unit {0}; time = λ T. Unit {0}; sequence = λ q. Unit {0}; stamp = StampInBounds; reader = ReaderInBounds }
+
+abbrev pub InBounds : Server → Type 0
+InBounds = Within ranges
 
 pub in-bounds-fresh : InBounds freshServer
-unfolding freshServer freshReader
-in-bounds-fresh = record {
-  stamp = zero-in-bounds;
-  many = refl;
-  noted = λ c. reader c .0;
-  listening = λ c e. impossible (cc (reader c .1, e));
-}
-  where
-    at : (n c : ℕ) → StampInBounds (getD (replicate n freshReader) c noReader .noted) × (getD (replicate n freshReader) c noReader .listening ≡ false)
-    at zero c = (ranged-none, refl)
-    at (suc n) zero = (zero-in-bounds, refl)
-    at (suc n) (suc c) = at n c
-
-    reader : (c : ℕ) → StampInBounds (getD (replicate 9 freshReader) c noReader .noted) × (getD (replicate 9 freshReader) c noReader .listening ≡ false)
-    reader c = at 9 c
-
-pub in-bounds-readers : (s s′ : Server) → InBounds s → StampInBounds (s′ .stamp) → s′ .readers ≡ s .readers → InBounds s′
-in-bounds-readers s s′ B R e = record {
-  stamp = R;
-  many = ap length e ∙ B .many;
-  noted = λ c. subst (λ l. StampInBounds (getD l c noReader .noted)) (sym e) (B .noted c);
-  listening = λ c. subst (λ l. getD l c noReader .listening ≡ true → (1 ≤ getD l c noReader .sequence) × (getD l c noReader .sequence < 4294967296)) (sym e) (B .listening c);
-}
-
-pub in-bounds-reader : (s : Server) → InBounds s → (c : ℕ) → Among 8 c → (r : Reader) → StampInBounds (r .noted) → (1 ≤ r .sequence) × (r .sequence < 4294967296) → InBounds (withReader s c r)
-in-bounds-reader s B c is r R q = record {
-  stamp = B .stamp;
-  many = length-set (s .readers) c r ∙ B .many;
-  noted = λ d. go d (ℕ-discrete d c) .0;
-  listening = λ d. go d (ℕ-discrete d c) .1;
-}
-  where
-    Ok : Reader → Type 0
-    Ok y = StampInBounds (y .noted) × (y .listening ≡ true → (1 ≤ y .sequence) × (y .sequence < 4294967296))
-
-    go : (d : ℕ) → Dec (d ≡ c) → Ok (readerOf (withReader s c r) d)
-    go d (yes z) = subst Ok (sym (ap (λ y. readerOf (withReader s c r) y) z ∙ getD-set-same (s .readers) c r noReader (omega (arith, B .many)))) (R, λ e. q)
-    go d (no z) = subst Ok (sym (getD-set-other (s .readers) c d r noReader z)) (B .noted d, B .listening d)
-
--- what a move leaves and sends
-pub record Good (g : Params) (r : S.Effect) : Type 0 where
-  pub in-bounds : InBounds (r .server)
-  pub formed : (x : Sending) → List·Memᴰ x (r .sends) → Formed g (x .says)
-  pub write-in-bounds : (k : S.Write) → r .accepted ≡ some k → WriteInBounds g k
+unfolding freshReader
+in-bounds-fresh = server-within ranges (record { flags = tt; time = tt }) tt zero-in-bounds (record { noted = zero-in-bounds; listening = λ e. impossible (cc e) })
 
 abbrev pub AllFormed : Params → List Sending → Type 0
 AllFormed g l = (x : Sending) → List·Memᴰ x l → Formed g (x .says)
@@ -141,10 +95,13 @@ pub formed-all : (g : Params) (f : ℕ → Message) → ((j : ℕ) → Formed g 
 unfolding toAll
 formed-all g f h x u = let w = mem-all f 1 (g .n) x u in rw (w .1) (h (w .0))
 
-formed-pick : (g : Params) (b : Bool) (l : List Sending) → (b ≡ true → AllFormed g l) → AllFormed g (pick b l [])
-formed-pick g b l h x u = let w = mem-pick b l x u in h (w .0) x (w .1)
+-- what a step leaves and sends
+pub record Good (g : Params) (r : S.Effect) : Type 0 where
+  pub in-bounds : InBounds (r .server)
+  pub formed : AllFormed g (r .sends)
+  pub write-in-bounds : (k : S.Write) → List·Memᴰ k (r .accepted) → WriteInBounds g k
 
-pub with-body : (g : Params) (c q : ℕ) (b b′ : Body) → Formed g (message c q b) → FormedBody g b′ → Formed g (message c q b′)
+with-body : (g : Params) (c q : ℕ) (b b′ : Body) → Formed g (message c q b) → FormedBody g b′ → Formed g (message c q b′)
 with-body g c q b b′ F h = record { client-low = F .client-low; client-high = F .client-high; sequence-low = F .sequence-low; sequence-high = F .sequence-high; body = h }
 
 value-formed : (g : Params) (x : Stamp) (e : Entry) → StampInBounds x → Sized g e → FormedBody g (valueIs x e)
@@ -153,142 +110,103 @@ value-formed g x e R Q = (Q, R .time-high, R .writer-high, R .sequence-high, R .
 take-sized : (w i : ℕ) (a : List ℕ) → i + w ≤ length a → length (take w (drop i a)) ≡ w
 take-sized w i a h = length-take-le w (drop i a) (rw length-drop (omega arith))
 
-module _ (H : List ℕ → List ℕ) (g : Params) (M : Small g) (me : ℕ) where
-  pub present-sized : (s : Server) (a initial : List ℕ) → areaBytes ≤ length a → width g ≤ length initial → Sized g (presentEntry g s a initial)
-  unfolding presentEntry presentBlock pick
-  present-sized s a initial R I = record {
-    list-is = take-sized (listed g) 0 a (omega (arith, M .list-room));
-    block-is = go (eqb (s .stamp .time) 0);
-  }
-    where
-      go : (b : Bool) → length (pick b (take (width g) initial) (take (width g) (drop 320 a))) ≡ width g
-      go true = length-take-le (width g) initial I
-      go false = take-sized (width g) 320 a (omega (arith, M .block-room))
+present-sized : (g : Params) → Small g → (x : Stamp) (a initial : List ℕ) → areaBytes ≤ length a → width g ≤ length initial → Sized g (presentEntry g x a initial)
+unfolding presentEntry presentBlock pick
+present-sized g M x a initial R I = record {
+  list-is = take-sized (listed g) 0 a (omega (arith, M .list-room));
+  block-is = go (eqb (x .time) 0);
+}
+  where
+    go : (b : Bool) → length (pick b (take (width g) initial) (take (width g) (drop 320 a))) ≡ width g
+    go true = length-take-le (width g) initial I
+    go false = take-sized (width g) 320 a (omega (arith, M .block-room))
 
-  tell-formed : (s : Server) → InBounds s → (x : Stamp) (e : Entry) → FormedBody g (valueIs x e) → (c m : ℕ) → 1 ≤ c → c + m ≤ 9 → AllFormed g (S.tellFrom s x e c m)
-  unfolding S.tellFrom pick
-  tell-formed s B x e f c zero lo hi y u = absurd (List·Memᴰ·not-nil u)
-  tell-formed s B x e f c (suc m) lo hi y u = go (tell-formed s B x e f (suc c) m (omega arith) (omega arith) y) (readerOf s c .listening && older (readerOf s c .noted) x) refl u
-    where
-      go : (List·Memᴰ y (S.tellFrom s x e (suc c) m) → Formed g (y .says)) → (b : Bool) → (readerOf s c .listening && older (readerOf s c .noted) x) ≡ b
-          → List·Memᴰ y (pick b (sending (A.Client c) (message c (readerOf s c .sequence) (valueIs x e)) ∷ S.tellFrom s x e (suc c) m) (S.tellFrom s x e (suc c) m))
-          → Formed g (y .says)
-      go k true z v =
-          let w = B .listening c (and-split _ _ z .0) in
-          ⊎-elim
-          (λ q. rw q (record { client-low = lo; client-high = omega arith; sequence-low = w .0; sequence-high = w .1; body = f }))
-          k (List·Memᴰ·cases-cons v)
-      go k false z v = k v
+no-time : {H : List ℕ → List ℕ} {g : Params} {me : ℕ} {s : Server} {a initial : List ℕ} {j c : ℕ} {b : Body} {p : S.Counting} → Counted H g me s a initial j c b p → TimeIn ranges b
+no-time (block z e) = tt
+no-time (time z T) = tt
 
-  accept-good : (s : Server) → InBounds s → (a : List ℕ) (k : S.Write) → WriteInBounds g k → (l : List Sending) (vs : List (List ℕ)) → AllFormed g l → Good g (S.accept s a k l vs)
-  unfolding S.accept pick
-  accept-good s B a k Q l vs L = record {
-    in-bounds = in-bounds-readers s _ B (stamp-ok (older (s .stamp) (S.stampOf k))) refl;
-    formed = λ x u. ⊎-elim
-        (L x)
-        (λ v. ⊎-elim
-        (tell-formed s B (S.stampOf k) (k .entry) (value-formed g (S.stampOf k) (k .entry) (write-stamp-in-bounds g k Q) (Q .sized)) 1 8 (omega arith) (omega arith) x)
-        (λ t. subst (λ z. Formed g (z .says)) (sym (List·Memᴰ·eq-of-singleton t))
-        (record { client-low = Q .client .0; client-high = Q .client .1; sequence-low = Q .low; sequence-high = Q .high; body = tt }))
-        (List·Memᴰ·append-cases (S.tellFrom s (S.stampOf k) (k .entry) 1 8) v))
-        (List·Memᴰ·append-cases l u);
-    write-in-bounds = λ k′ e. let h : k ≡ k′ = cc in subst (WriteInBounds g) h Q;
-  }
-    where
-      stamp-ok : (b : Bool) → StampInBounds (pick b (S.stampOf k) (s .stamp))
-      stamp-ok true = write-stamp-in-bounds g k Q
-      stamp-ok false = B .stamp
+one-formed : (g : Params) (y : Sending) → Formed g (y .says) → AllFormed g (y ∷ [])
+one-formed g y f x u = subst (λ z. Formed g (z .says)) (sym (List·Memᴰ·eq-of-singleton u)) f
 
-  settle-good : (s : Server) → InBounds s → (a : List ℕ) → areaBytes ≤ length a → (c : ℕ) → Among 8 c → (x : Slot) → 1 ≤ x .sequence → x .sequence < 4294967296
-      → (l : List Sending) (vs : List (List ℕ)) → AllFormed g l → Good g (S.settle g s a c x l vs)
-  settle-good s B a R c is x lo hi l vs L = go (settling g s a c x l vs)
-    where
-      go : {r : S.Effect} → Settling g s a c x l vs r → Good g r
-      go {r} (waits e) = rw e (record { in-bounds = in-bounds-readers s _ B (B .stamp) refl; formed = L; write-in-bounds = λ k q. impossible (cc) })
-      go {r} (accepts T y p q h e) = rw e (accept-good s B a _ (record { client = is; low = lo; high = hi; time-high = h; sized = done-sized H g M me a R c is x y q }) l vs L)
+module _ (H : List ℕ → List ℕ) (g : Params) (M : Small g) (me : ℕ) (s : Server) (B : InBounds s) (a initial : List ℕ) (F : ServerShape s a) (from : Party) where
+  abbrev j : ℕ
+  j = numberIn from
 
-  -- ---- the moves
+  -- ---- behind a counted frame
 
-  one-good : (s : Server) → InBounds s → (s′ : Server) → InBounds s′ → (a : List ℕ) (x : Sending) → Formed g (x .says) → Good g (S.sendOnly s′ a (x ∷ []))
-  one-good s B s′ B′ a x f = record { in-bounds = B′; formed = λ y u. subst (λ z. Formed g (z .says)) (sym (List·Memᴰ·eq-of-singleton u)) f; write-in-bounds = λ k q. impossible (cc) }
+  module _ (c q : ℕ) (b : Body) (f : Formed g (message c q b)) (o : ST.orderTest H g me s j c q b ≡ J.Fine) {p : S.Counting} (k : Counted H g me s a initial j c b p)
+      {r : S.Effect} (x : Freed g (withSlot s c (p .slot)) (p .area) c r) where
+    room : areaBytes ≤ length (p .area)
+    room = let l = counted-length H g me s a initial j c k in omega (arith, l, F .room)
 
-  module _ (kk : 1 ≤ g .k) (kn : g .k + 2 * g .t ≤ g .n) where
-    -- a block that is due has its size
-    due-sized : (w : Part Entry) (x : Entry) → Sized g x → due (blockRules H g) (g .n) (g .t) w x ≡ true → Sized g (blockRules H g .own me (w .echoes) (w .readies) x)
-    unfolding due enough regained chosen pick votes
-    due-sized w x Q e =
-        let z = and-split _ _ (and-split (not (w .ready)) _ e .1) .0 in
-        record {
-          list-is = Q .list-is;
-          block-is = block-width g (regained g (w .echoes) (w .readies) (x .digests)) me
-              (go (leb (quota g) (count (λ j. hasList (w .readies j) (x .digests)) (g .n))) refl z);
-        }
-      where
-        go : (b : Bool) → leb (quota g) (count (λ j. hasList (w .readies j) (x .digests)) (g .n)) ≡ b
-            → (leb (g .n) (votes (blockRules H g) (g .n) (g .t) (w .echoes) x + g .t) || leb (quota g) (votes (blockRules H g) (g .n) (g .t) (w .readies) x)) ≡ true
-            → length (decoded g (pick b (w .readies) (w .echoes)) (x .digests)) ≡ g .size
-        go true p z = decoded-size H g kk (w .readies) (x .digests) (omega (arith, quota-blocks g, leb-true (quota g) (count (λ j. hasList (w .readies j) (x .digests)) (g .n)) p))
-        go false p z =
-            let n = leb-false (quota g) (count (λ j. hasList (w .readies j) (x .digests)) (g .n)) p in
-            let vr = votes-are H g kk (w .readies) x in
-            let ve = votes-are H g kk (w .echoes) x in
-            decoded-size H g kk (w .echoes) (x .digests)
-            (⊎-elim
-            (λ a. omega (arith, leb-true (g .n) (votes (blockRules H g) (g .n) (g .t) (w .echoes) x + g .t) a, ve))
-            (λ a. absurd (omega (arith, leb-true (quota g) (votes (blockRules H g) (g .n) (g .t) (w .readies) x) a, vr, n)))
-            (or-split (leb (g .n) (votes (blockRules H g) (g .n) (g .t) (w .echoes) x + g .t)) (leb (quota g) (votes (blockRules H g) (g .n) (g .t) (w .readies) x)) z))
+    -- an accepted write is within its bounds
+    pub freed-in-bounds : (w : S.Write) → List·Memᴰ w (r .accepted) → WriteInBounds g w
+    freed-in-bounds w u =
+        let (i, R) = freed-ripe (f .client-low, f .client-high) x w u in
+        let e : w .sequence ≡ q = R .sequence ∙ ap (λ d. slotOf (withSlot s c (p .slot)) d .sequence) (freed-client x w u)
+        ∙ ap (λ x. x .sequence) (this-slot shapes (F .within) c (f .client-high) (p .slot)) ∙ counted-sequence H g me s a initial j c k ∙ sym (counted-open k q o) in
+        record { client = i; low = rw e (f .sequence-low); high = rw e (f .sequence-high); time-high = R .below; sized = freed-sized M room (f .client-low, f .client-high) x w u }
 
-    module _ (s : Server) (B : InBounds s) (a initial : List ℕ) (F : ServerShape s a) (I : width g ≤ length initial) where
-      blocks-good : (a′ : List ℕ) → areaBytes ≤ length a′ → (c : ℕ) (b : Body) (x : Slot) → Formed g (message c (x .sequence) b) → (e : Entry) → Sized g e
-          → Good g (S.settleBlocks H g me s a′ c x e)
-      unfolding S.settleBlocks
-      blocks-good a′ R c b x f e Q = settle-good s B _ (rw length-if R) c (f .client-low, f .client-high) _ (f .sequence-low) (f .sequence-high) _ _
-          (formed-pick g _ _ (λ d. formed-all g _ (λ j. with-body g c (x .sequence) b _ f (due-sized (blockView g a′ c x) e Q d))))
+    -- and what is sent of it can be said in a frame
+    freed-formed : AllFormed g (r .sends)
+    freed-formed y u =
+        let (w, v, h) = freed-mem x y u in
+        let W = freed-in-bounds w v in
+        ⊎-elim
+        (λ (d, l, m, t).
+        let n = reader-within ranges B d m .listening (t .listens) in
+        subst (λ z. Formed g (z .says)) (sym (t .is))
+        (record { client-low = l; client-high = m; sequence-low = n .0; sequence-high = n .1; body = value-formed g (S.stampOf w) (w .entry) (write-stamp-in-bounds g w W) (W .sized) }))
+        (λ e. subst (λ z. Formed g (z .says)) (sym e) (record { client-low = W .client .0; client-high = W .client .1; sequence-low = W .low; sequence-high = W .high; body = tt }))
+        h
 
-      times-good : (c : ℕ) (b : Body) (x : Slot) → Formed g (message c (x .sequence) b) → (T : ℕ) → T < 18446744073709551616 → Good g (S.settleTimes H g me s a c x T)
-      unfolding S.settleTimes
-      times-good c b x f T h = settle-good s B a (F .room) c (f .client-low, f .client-high) _ (f .sequence-low) (f .sequence-high) _ _
-          (formed-pick g _ _ (λ d. formed-all g _ (λ j. with-body g c (x .sequence) b (timeIs ready T) f h)))
+  -- ---- a step
 
-      at-slot : (c q : ℕ) (b : Body) → Formed g (message c q b) → (again : Bool) → ST.openTest (slotOf s c) q again ≡ J.Fine → Formed g (message c (slotOf s c .sequence) b)
-      at-slot c q b f again o = subst (λ z. Formed g (message c z b)) (open-passed H g me (slotOf s c) q again o .0) f
+  step-writes : {c q : ℕ} {b : Body} {r : S.Effect} → Shape H g me s a initial j c q b r → Formed g (message c q b) → ST.orderTest H g me s j c q b ≡ J.Fine
+      → (w : S.Write) → List·Memᴰ w (r .accepted) → WriteInBounds g w
+  step-writes (idle b) f o w u = absurd (List·Memᴰ·not-nil u)
+  step-writes answers f o w u = absurd (List·Memᴰ·not-nil u)
+  step-writes notes f o w u = absurd (List·Memᴰ·not-nil u)
+  step-writes ends f o w u = absurd (List·Memᴰ·not-nil u)
+  step-writes {c} {q} (settles b p k x) f o w u = freed-in-bounds c q b f o k x w u
 
-      body-good : (from : Party) (c q : ℕ) (b : Body) → Formed g (message c q b) → ST.orderTest H g me s (numberIn from) c q b ≡ J.Fine
-          → Good g (S.onBody H g me s a initial (numberIn from) c q b)
-      unfolding S.onRead S.onReadComplete ST.orderTest S.onBody ST.counted S.onBlock S.onTime
-      body-good from c q getStamp f o = one-good s B s B a _ (with-body g c q getStamp (stampIs (s .stamp .time)) f (B .stamp .time-high))
-      body-good from c q ack f o = record { in-bounds = B; formed = λ x u. absurd (List·Memᴰ·not-nil u); write-in-bounds = λ k q. impossible (cc) }
-      body-good from c q askRead f o = one-good s B _ (in-bounds-reader s B c (f .client-low, f .client-high) _ (B .stamp) (f .sequence-low, f .sequence-high)) a _
-          (with-body g c q askRead (valueIs (s .stamp) (presentEntry g s a initial)) f (value-formed g (s .stamp) _ (B .stamp) (present-sized s a initial (F .room) I)))
-      body-good from c q readComplete f o = record {
-        in-bounds = in-bounds-reader s B c (f .client-low, f .client-high) _ (B .noted c) (f .sequence-low, f .sequence-high);
-        formed = λ x u. absurd (List·Memᴰ·not-nil u);
-        write-in-bounds = λ k q. impossible (cc);
-      }
-      body-good from c q (stampIs T) f o = record { in-bounds = B; formed = λ x u. absurd (List·Memᴰ·not-nil u); write-in-bounds = λ k q. impossible (cc) }
-      body-good from c q (blockIs send e) f o =
-          let w = at-slot c q (blockIs send e) f _ (fine-both _ _ o .0) in
-          record {
-            in-bounds = in-bounds-readers s _ B (B .stamp) refl;
-            formed = formed-all g _ (λ j. with-body g c (slotOf s c .sequence) (blockIs send e) (blockIs echo e) w (f .body));
-            write-in-bounds = λ k q. impossible (cc);
-          }
-      body-good from c q (blockIs echo e) f o = blocks-good (storeEntry a (echoAt c (numberIn from)) e) (rw length-store (F .room)) c (blockIs echo e)
-          (withBlocks (slotOf s c) (blockEcho (slotOf s c .blocks) (numberIn from))) (at-slot c q (blockIs echo e) f _ (fine-both _ _ o .0)) e (f .body)
-      body-good from c q (blockIs ready e) f o = blocks-good (storeEntry a (readyAt c (numberIn from)) e) (rw length-store (F .room)) c (blockIs ready e)
-          (withBlocks (slotOf s c) (blockReady (slotOf s c .blocks) (numberIn from))) (at-slot c q (blockIs ready e) f _ (fine-both _ _ o .0)) e (f .body)
-      body-good from c q (timeIs send T) f o =
-          let w = at-slot c q (timeIs send T) f _ o in
-          record {
-            in-bounds = in-bounds-readers s _ B (B .stamp) refl;
-            formed = formed-all g _ (λ j. with-body g c (slotOf s c .sequence) (timeIs send T) (timeIs echo T) w (f .body));
-            write-in-bounds = λ k q. impossible (cc);
-          }
-      body-good from c q (timeIs echo T) f o = times-good c (timeIs echo T) (withTimes (slotOf s c) (timeEcho (slotOf s c .times) (numberIn from) T)) (at-slot c q (timeIs echo T) f _ o) T (f .body)
-      body-good from c q (timeIs ready T) f o = times-good c (timeIs ready T) (withTimes (slotOf s c) (timeReady (slotOf s c .times) (numberIn from) T)) (at-slot c q (timeIs ready T) f _ o) T (f .body)
-      body-good from c q (valueIs x e) f o = record { in-bounds = B; formed = λ x u. absurd (List·Memᴰ·not-nil u); write-in-bounds = λ k q. impossible (cc) }
+  step-formed : 1 ≤ g .k → g .k + g .t ≤ g .n → width g ≤ length initial → {c q : ℕ} {b : Body} {r : S.Effect} → Shape H g me s a initial j c q b r → Formed g (message c q b)
+      → ST.orderTest H g me s j c q b ≡ J.Fine → AllFormed g (r .sends)
+  step-formed kk kn I (idle b) f o y u = absurd (List·Memᴰ·not-nil u)
+  step-formed kk kn I {c} {q} answers f o y u = one-formed g _ (with-body g c q getStamp (stampIs (s .stamp .time)) f (B .stamp .time-high)) y u
+  step-formed kk kn I {c} {q} notes f o y u = one-formed g _
+      (with-body g c q askRead (valueIs (s .stamp) (presentEntry g (s .stamp) a initial)) f (value-formed g (s .stamp) _ (B .stamp) (present-sized g M (s .stamp) a initial (F .room) I))) y u
+  step-formed kk kn I ends f o y u = absurd (List·Memᴰ·not-nil u)
+  step-formed kk kn I {c} {q} (settles b p k {r} x) f o y u = ⊎-elim
+      (λ v.
+      let (b′, e, h) = counted-word H g kk kn me s a initial j c k (f .body) y v in
+      subst (Formed g) (sym (e ∙ ap (λ n. message c n b′) (sym (counted-open k q o)))) (with-body g c q b b′ f h))
+      (λ v. freed-formed c q b f o k x y v)
+      (List·Memᴰ·append-cases (p .sends) u)
 
-      -- each frame that passes the tests
-      pub effect-good : (from : Party) (m : Message) → Formed g m → ST.messageTest H g me s from m ≡ J.Fine → Good g (S.effect H g me s a initial from m)
-      unfolding S.effect S.onBody S.onBlock S.onTime
-      effect-good from m f e = body-good from (m .client) (m .sequence) (m .body) f (test-split H g me s from m e .1)
+  -- each frame that passes the tests
+  module _ (m : Message) (f : Formed g m) (e : ST.messageTest H g me s from m ≡ J.Fine) where
+    pub effect-in-bounds : InBounds (S.effect H g me s a initial from m .server)
+    effect-in-bounds =
+        let (h, o) = test-split H g me s from m e in
+        step-within ranges H g me s a initial j (m .client) (m .sequence) B (f .client-high) (shape-of H g me s a initial from m) o (record {
+          empty = record { flags = tt; time = tt };
+          counts = λ k. (λ l u. tt, no-time k);
+          noted = λ u. record { noted = u; listening = λ l. (f .sequence-low, f .sequence-high) };
+          ended = λ u. record { noted = u .noted; listening = λ l. impossible (cc l) };
+          leaves = λ w ec eq l. (
+            record {
+              time-high = omega (arith, l);
+              writer-high = rw ec (f .client-high);
+              sequence-high = rw eq (f .sequence-high);
+              agree = agree-some (w .time) (w .client) (w .sequence) (rw ec (f .client-low)) (rw eq (f .sequence-low));
+            },
+            tt,
+          );
+        })
+
+    pub effect-good : 1 ≤ g .k → g .k + 2 * g .t ≤ g .n → width g ≤ length initial → Good g (S.effect H g me s a initial from m)
+    effect-good kk kn I =
+        let (h, o) = test-split H g me s from m e in
+        let x = shape-of H g me s a initial from m in
+        record { in-bounds = effect-in-bounds; formed = step-formed kk (omega arith) I x f o; write-in-bounds = step-writes x f o }

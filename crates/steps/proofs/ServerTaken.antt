@@ -1,4 +1,4 @@
--- What is known of a frame that a server takes, and that both broadcasts' rules are sound. Assumes nothing.
+-- What is known of a frame that a server takes. Assumes nothing.
 use Prim.Native.Nat.{ℕ, _+_, _≤_}
 use native.Mathlib.Omega.{arith}
 use mathlib.Core.Bool.{Bool, true, false}
@@ -11,7 +11,6 @@ use borrow.Author.Tests.{eqb-true}
 use Rattle.quorum.specs.Quorum.{Among}
 use Rattle.quorum.proofs.Logic.{impossible}
 use Rattle.area.specs.Area.{pick}
-use Rattle.area.proofs.Same.{same-true}
 use Rattle.blocks.specs.declared.Params.{Params}
 use Rattle.frame.specs.declared.Party.{Party}
 use Rattle.frame.specs.declared.Header.{Header}
@@ -26,29 +25,8 @@ use Rattle.frame.specs.Refusals.{andThen}
 use Rattle.frame.proofs.Opening.{opens-facts}
 use Rattle.frame.proofs.Verdicts.{fine-both}
 use Rattle.server_rules.specs.declared.Server.{Server}
-use Rattle.server_rules.specs.Rules.{blockRules, timeRules}
 use Rattle.server_rules.specs.Tests as ST
-use Rattle.steps.proofs.Decoding.{quota-faults}
-use Rattle.steps.proofs.BlockFacts.{SizedIn}
-use Rattle.steps.proofs.PartFacts.{Sane}
-
--- ---- the rules
-
-pub sane-blocks : (H : List ℕ → List ℕ) (g : Params) → 1 ≤ g .t → Sane (blockRules H g) (g .t) (λ e. e .digests)
-sane-blocks H g h = record {
-  same-true = λ x y e. same-true (x .digests) (y .digests) e;
-  own-same = λ i es rs x. refl;
-  few-many = quota-faults g;
-  all-many = omega (arith, quota-faults g);
-}
-
-pub sane-times : (H : List ℕ → List ℕ) (g : Params) → Sane (timeRules H g) (g .t) (λ T. T)
-sane-times H g = record {
-  same-true = λ x y e. eqb-true x y e;
-  own-same = λ i es rs x. refl;
-  few-many = omega arith;
-  all-many = omega arith;
-}
+use Rattle.server_rules.proofs.Passing.{SizedIn}
 
 -- ---- opening
 

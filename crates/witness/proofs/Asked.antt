@@ -26,12 +26,11 @@ use Rattle.client_rules.specs.Steps as C
 use Rattle.client_rules.specs.Tests as CT
 use Rattle.client_rules.specs.Delivery as CD
 use Rattle.client_rules.proofs.Views as CV
-use Rattle.steps.proofs.BlockFacts.{SizedIn, is-server}
+use Rattle.server_rules.proofs.Passing.{SizedIn, is-server}
 use Rattle.steps.proofs.ClientTaken.{took, passed}
 use Rattle.steps.proofs.ServerTaken.{message-sized}
 use Rattle.runs.specs.World.{put}
 use Rattle.witness.proofs.Areas.{Shows, stored}
-use Rattle.witness.proofs.Served.{numbered}
 
 -- what a delivery leaves and does, the entries in place of the area
 pub record Heard : Type 0 where
@@ -166,6 +165,6 @@ module _ (H : List ℕ → List ℕ) (g : Params) (B : Bounded g) (M : Small g) 
       go (bad r) e = record { client = refl; sends = refl; event = refl; area = X }
       go (good m) e =
           let T = took H g me s a v from f result out to m e in
-          let w = is-server H g me from (passed H g me s from m (T .passes) .server) in
-          body-seen s a h X v (numberIn from) (rw (w .1) (w .2 .0)) (numbered from (w .0) (w .1) (omega (arith, w .2 .1, B .servers-high))) (m .body)
+          let w = is-server g from (passed H g me s from m (T .passes) .server) in
+          body-seen s a h X v (numberIn from) (rw (w .1) (w .2 .0)) (rw (w .1) (let h : w .0 ≤ 10 = omega (arith, w .2 .1, B .servers-high) in h)) (m .body)
           (subst (λ y. SizedIn g (y .body)) (T .says) (message-sized g f (T .header) (T .opens)))

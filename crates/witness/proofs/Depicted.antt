@@ -4,7 +4,6 @@ use Prim.Native.Nat.{ℕ, zero, suc, _+_}
 use mathlib.Core.Bool.{Bool, true, false, not, cond, _&&_}
 use mathlib.Core.Path.{_≡_, refl, ap, sym, _∙_, subst}
 use mathlib.Core.Logic.{_⊎_, inl, inr, ⊎-elim}
-use mathlib.Core.Option.{some}
 use mathlib.Core.List.{List, [], _∷_, List·Memᴰ, List·Memᴰ·head, List·Memᴰ·tail}
 use lib.ListN.{length, drop}
 use lib.Seq.{length-sets}
@@ -252,10 +251,10 @@ module _ (Z : Setup) (G : Exact Z) where
 
   -- ---- events
 
-  pub accepts-by : (ks : List Call) (k : Call) (i : ℕ) (x : Write) → caller k ≡ P.Server i → acceptedIn Z (image Z ks) k ≡ some x → Accepts Z i x ks k
+  pub accepts-by : (ks : List Call) (k : Call) (i : ℕ) (x : Write) → caller k ≡ P.Server i → List·Memᴰ x (acceptedIn Z (image Z ks) k) → Accepts Z i x ks k
   unfolding acceptedIn
   accepts-by ks (toServer j from f out to) i x h e =
-      (ap numberIn (sym h), server-at (run Z ks) (image Z ks) (depicts ks) j from f out to .accepted ∙ e)
+      (ap numberIn (sym h), subst (List·Memᴰ x) (sym (server-at (run Z ks) (image Z ks) (depicts ks) j from f out to .accepted)) e)
   accepts-by ks (toClient c from f result out to) i x h e = impossible (cc)
   accepts-by ks (beginRead c out to) i x h e = impossible (cc)
   accepts-by ks (beginWrite c v out to) i x h e = impossible (cc)

@@ -2,7 +2,6 @@
 -- list, so that it can be computed. Assumes nothing.
 use Prim.Native.Nat.{ℕ}
 use mathlib.Core.Bool.{Bool, true, false, not, _&&_, _||_}
-use mathlib.Core.Option.{Option, none}
 use mathlib.Core.List.{List, [], _∷_}
 use lib.Dec.{eqb, leb, ltb}
 use Rattle.area.specs.Area.{same}
@@ -143,11 +142,11 @@ module _ (Z : Setup) where
   image (k ∷ ks) = advance (image ks) k
 
   -- what a call accepts, and what it ends
-  unfoldable pub acceptedIn : Image → Call → Option Write
+  unfoldable pub acceptedIn : Image → Call → List Write
   acceptedIn w (toServer i from f out to) = seenServer w i from f out to .accepted
-  acceptedIn w (toClient c from f result out to) = none
-  acceptedIn w (beginRead c out to) = none
-  acceptedIn w (beginWrite c v out to) = none
+  acceptedIn w (toClient c from f result out to) = []
+  acceptedIn w (beginRead c out to) = []
+  acceptedIn w (beginWrite c v out to) = []
 
   unfoldable pub endIn : Image → Call → C.Event
   endIn w (toServer i from f out to) = C.nothing

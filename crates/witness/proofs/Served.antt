@@ -1,36 +1,35 @@
 -- A delivery to a server, with what its chunks hold in place of its area: the same server, frames and acceptance. Assumes nothing.
-use Prim.Native.Nat.{ℕ, _≤_}
+use Prim.Native.Nat.{ℕ}
 use native.Mathlib.Omega.{arith}
 use mathlib.Core.Bool.{Bool, true, false, not, _&&_}
 use mathlib.Core.Path.{_≡_, refl, ap, subst}
 use mathlib.Core.Option.{Option, none, some}
-use mathlib.Core.List.{List, [], _∷_}
+use mathlib.Core.List.{List, [], _∷_, _++_}
 use lib.ListN.{length, getD, take}
 use lib.Dec.{ltb, eqb}
 use Rattle.quorum.specs.Quorum.{Among}
 use Rattle.quorum.proofs.Logic.{and-split}
 use Rattle.area.specs.Area.{pick}
 use Rattle.blocks.specs.declared.Params.{Params}
-use Rattle.frame.specs.declared.Stamp.{Stamp}
 use Rattle.frame.specs.declared.Party.{Party}
 use Rattle.frame.specs.declared.Party.the-variants as P
 use Rattle.frame.specs.Params.{width, Bounded, paramsTest}
 use Rattle.frame.specs.Stamps.{older, lastTime}
 use Rattle.frame.specs.Frames.{opened}
-use Rattle.frame.specs.Messages.{Entry, entry, Sized, send, echo, ready, Body, getStamp, ack, askRead, readComplete, stampIs, blockIs, timeIs, valueIs, message, Sending, sending, toAll, numberIn, Judged, bad, good, after}
+use Rattle.frame.specs.Messages.{Entry, entry, Sized, Stage, send, echo, ready, Body, getStamp, ack, askRead, readComplete, stampIs, blockIs, timeIs, valueIs, message, Sending, sending, toAll, numberIn, Judged, bad, good, after}
 use Rattle.frame.specs.Chunks.{entryAt, completeAt, echoAt, readyAt, areaBytes}
 use Rattle.frame.proofs.Sizes.{Small}
 use Rattle.server_rules.specs.declared.Slot.{Slot}
 use Rattle.server_rules.specs.declared.Server.{Server}
 use Rattle.server_rules.specs.Broadcast.{Part, kept, due, full}
-use Rattle.server_rules.specs.Rules.{blockRules, timeRules}
-use Rattle.server_rules.specs.State.{slotOf, withReader, withBlocks, withTimes, blockView, timeView, presentBlock, presentEntry, blockEcho, blockReady, blockMarks, timeEcho, timeReady, timeMarks}
+use Rattle.server_rules.specs.Rules.{blockRules}
+use Rattle.server_rules.specs.State.{slotOf, withSlot, withReader, withBlocks, blockView, timeView, presentBlock, presentEntry, blockEcho, blockReady, blockMarks}
 use Rattle.server_rules.specs.Steps as S
 use Rattle.server_rules.specs.Tests as ST
 use Rattle.server_rules.specs.Delivery as SD
-use Rattle.steps.proofs.BlockFacts.{SizedIn, is-server, test-split}
-use Rattle.steps.proofs.Decoding.{coded}
-use Rattle.steps.proofs.ServerFacts.{done-sized}
+use Rattle.server_rules.proofs.Decoding.{coded}
+use Rattle.server_rules.proofs.Freeing.{done-sized}
+use Rattle.server_rules.proofs.Passing.{SizedIn, SenderIs, block-sender, test-split}
 use Rattle.steps.proofs.ServerTaken.{took}
 use Rattle.runs.specs.World.{put}
 use Rattle.witness.proofs.Areas.{putIf, Shows, stored, stored-if}
@@ -40,15 +39,19 @@ pub record Seen : Type 0 where
   pub server : Server
   pub entries : ℕ → Entry
   pub sends : List Sending
-  pub accepted : Option S.Write
+  pub accepted : List S.Write
 
 abbrev pub seen : S.Effect → (ℕ → Entry) → Seen
 seen r f = record { server = r .server; entries = f; sends = r .sends; accepted = r .accepted }
 
--- the present entry after an acceptance, x being the server's stamp before
-abbrev pub presentBy : Option S.Write → Stamp → (ℕ → Entry) → ℕ → Entry
-presentBy none x f = f
-presentBy (some w) x f = putIf (older x (S.stampOf w)) f 0 (w .entry)
+-- what a counted frame does before anything is accepted
+pub record Counted : Type 0 where
+  pub slot : Slot
+  pub entries : ℕ → Entry
+  pub sends : List Sending
+
+abbrev pub counted : S.Counting → (ℕ → Entry) → Counted
+counted p f = record { slot = p .slot; entries = f; sends = p .sends }
 
 -- the blocks of client c's slot x
 abbrev pub viewBy : (ℕ → Entry) → ℕ → Slot → Part Entry
@@ -60,25 +63,42 @@ viewBy f c x = record {
   done = kept (x .blocks .complete) (f (completeAt c));
 }
 
-unfoldable pub settledBy : Server → (ℕ → Entry) → ℕ → Slot → List Sending → Seen
-settledBy s f c x l =
-    let r = S.acceptDone (timeView x .done) (viewBy f c x .done) s [] c x l [] in
-    seen r (presentBy (r .accepted) (s .stamp) f)
+-- a write is accepted if there is one
+unfoldable pub freeBy : Option S.Write → Server → (ℕ → Entry) → Seen
+freeBy none s f = seen (S.sendOnly s [] []) f
+freeBy (some w) s f = seen (S.accept s [] w) (putIf (older (s .stamp) (S.stampOf w)) f 0 (w .entry))
+
+unfoldable pub freedBy : Stage → Server → (ℕ → Entry) → ℕ → Seen
+freedBy send s f c = seen (S.sendOnly s [] []) f
+freedBy echo s f c = freeBy (S.bothDone s c (slotOf s c .sequence) (timeView (slotOf s c) .done) (viewBy f c (slotOf s c) .done)) s f
+freedBy ready s f c = freeBy (S.bothDone s c (slotOf s c .sequence) (timeView (slotOf s c) .done) (viewBy f c (slotOf s c) .done)) s f
+
+abbrev pub behindBy : List Sending → Seen → Seen
+behindBy l r = record { server = r .server; entries = r .entries; sends = l ++ r .sends; accepted = r .accepted }
+
+unfoldable pub settledBy : Server → ℕ → Stage → Counted → Seen
+settledBy s c z n = behindBy (n .sends) (freedBy z (withSlot s c (n .slot)) (n .entries) c)
 
 module _ (H : List ℕ → List ℕ) (g : Params) (me : ℕ) where
-  unfoldable pub blocksBy : Part Entry → Server → (ℕ → Entry) → ℕ → Slot → Entry → Seen
-  blocksBy w s f c x e =
+  unfoldable pub votedBy : Part Entry → (ℕ → Entry) → ℕ → Slot → Entry → Counted
+  votedBy w f c x e =
       let r = due (blockRules H g) (g .n) (g .t) w e in
       let u = full (blockRules H g) (g .n) (g .t) w e in
       let own = blockRules H g .own me (w .echoes) (w .readies) e in
-      settledBy s (putIf (not (x .blocks .complete) && u) f (completeAt c) own) c (withBlocks x (blockMarks (x .blocks) r u))
-      (pick r (toAll g (λ j. message c (x .sequence) (blockIs ready own))) [])
+      record {
+        slot = withBlocks x (blockMarks (x .blocks) r u);
+        entries = putIf (not (x .blocks .complete) && u) f (completeAt c) own;
+        sends = pick r (toAll g (λ j. message c (x .sequence) (blockIs ready own))) [];
+      }
 
-  unfoldable pub timesBy : Server → (ℕ → Entry) → ℕ → Slot → ℕ → Seen
-  timesBy s f c x T =
-      let r = due (timeRules H g) (g .n) (g .t) (timeView x) T in
-      let u = full (timeRules H g) (g .n) (g .t) (timeView x) T in
-      settledBy s f c (withTimes x (timeMarks (x .times) r u T)) (pick r (toAll g (λ j. message c (x .sequence) (timeIs ready T))) [])
+  unfoldable pub blockBy : (ℕ → Entry) → ℕ → Slot → ℕ → Stage → Entry → Counted
+  blockBy f c x j send e = counted (S.onBlock H g me [] c x j send e) f
+  blockBy f c x j echo e =
+      let y = withBlocks x (blockEcho (x .blocks) j) in
+      votedBy (viewBy (put f (echoAt c j) e) c y) (put f (echoAt c j) e) c y e
+  blockBy f c x j ready e =
+      let y = withBlocks x (blockReady (x .blocks) j) in
+      votedBy (viewBy (put f (readyAt c j) e) c y) (put f (readyAt c j) e) c y e
 
   -- what a read is answered with
   abbrev pub answerBy : Server → (ℕ → Entry) → List ℕ → Entry
@@ -91,20 +111,12 @@ module _ (H : List ℕ → List ℕ) (g : Params) (me : ℕ) where
     server = withReader s c (record { sequence = q; listening = true; noted = s .stamp });
     entries = f;
     sends = sending (P.Client c) (message c q (valueIs (s .stamp) (answerBy s f initial))) ∷ [];
-    accepted = none;
+    accepted = [];
   }
   bodyBy s f initial j c q readComplete = seen (S.onBody H g me s [] initial j c q readComplete) f
   bodyBy s f initial j c q (stampIs T) = seen (S.onBody H g me s [] initial j c q (stampIs T)) f
-  bodyBy s f initial j c q (blockIs send e) = seen (S.onBody H g me s [] initial j c q (blockIs send e)) f
-  bodyBy s f initial j c q (blockIs echo e) =
-      let x = withBlocks (slotOf s c) (blockEcho (slotOf s c .blocks) j) in
-      blocksBy (viewBy (put f (echoAt c j) e) c x) s (put f (echoAt c j) e) c x e
-  bodyBy s f initial j c q (blockIs ready e) =
-      let x = withBlocks (slotOf s c) (blockReady (slotOf s c .blocks) j) in
-      blocksBy (viewBy (put f (readyAt c j) e) c x) s (put f (readyAt c j) e) c x e
-  bodyBy s f initial j c q (timeIs send T) = seen (S.onBody H g me s [] initial j c q (timeIs send T)) f
-  bodyBy s f initial j c q (timeIs echo T) = timesBy s f c (withTimes (slotOf s c) (timeEcho (slotOf s c .times) j T)) T
-  bodyBy s f initial j c q (timeIs ready T) = timesBy s f c (withTimes (slotOf s c) (timeReady (slotOf s c .times) j T)) T
+  bodyBy s f initial j c q (blockIs z e) = settledBy s c z (blockBy f c (slotOf s c) j z e)
+  bodyBy s f initial j c q (timeIs z T) = settledBy s c z (counted (S.onTime H g me [] c (slotOf s c) j z T) f)
   bodyBy s f initial j c q (valueIs x e) = seen (S.onBody H g me s [] initial j c q (valueIs x e)) f
 
   unfoldable pub servedBy : Judged → Server → (ℕ → Entry) → List ℕ → Party → Seen
@@ -138,62 +150,72 @@ view-seen g a f h c x i = record {
   done = kept (x .blocks .complete) (h (completeAt c) i);
 }
 
--- the number of a server is at most 10
-pub numbered : (from : Party) (j : ℕ) → from ≡ P.Server j → (j ≤ 10) → numberIn from ≤ 10
-numbered from j e h = rw e h
-
 module _ (H : List ℕ → List ℕ) (g : Params) (B : Bounded g) (M : Small g) (me : ℕ) where
-  below-seen : (s : Server) (a : List ℕ) (f : ℕ → Entry) → Shows g areaBytes a f → (c : ℕ) (x : Slot) (T : ℕ) (e : Entry) → Sized g e
-      → (l : List Sending) (vs : List (List ℕ)) (b : Bool)
-      → Sees g (S.acceptBelow b s a c x T e l vs) (seen (S.acceptBelow b s [] c x T e l []) (presentBy (S.acceptBelow b s [] c x T e l [] .accepted) (s .stamp) f))
-  unfolding S.acceptBelow S.accept
-  below-seen s a f X c x T e Q l vs true = record {
-    server = refl;
-    sends = refl;
-    accepted = refl;
-    area = stored-if g M areaBytes a f X 0 (omega arith) e (older (s .stamp) (S.stampOf (record { client = c; sequence = x .sequence; time = T; entry = e }))) (λ h. Q);
-  }
-  below-seen s a f X c x T e Q l vs false = record { server = refl; sends = refl; accepted = refl; area = X }
+  done-seen : (s : Server) (a : List ℕ) (f : ℕ → Entry) → Shows g areaBytes a f → (c q : ℕ) (o : Option ℕ) (d : Option Entry) → ((y : Entry) → d ≡ some y → Sized g y)
+      → Sees g (S.freeBy (S.bothDone s c q o d) s a) (freeBy (S.bothDone s c q o d) s f)
+  unfolding S.freeBy S.bothDone S.accept freeBy pick
+  done-seen s a f X c q none d Q = record { server = refl; sends = refl; accepted = refl; area = X }
+  done-seen s a f X c q (some T) none Q = record { server = refl; sends = refl; accepted = refl; area = X }
+  done-seen s a f X c q (some T) (some e) Q = go (ltb T lastTime)
+    where
+      w : S.Write
+      w = record { client = c; sequence = q; time = T; entry = e }
 
-  done-seen : (s : Server) (a : List ℕ) (f : ℕ → Entry) → Shows g areaBytes a f → (c : ℕ) (x : Slot) (l : List Sending) (vs : List (List ℕ)) (o : Option ℕ) (d : Option Entry)
-      → ((y : Entry) → d ≡ some y → Sized g y)
-      → Sees g (S.acceptDone o d s a c x l vs) (seen (S.acceptDone o d s [] c x l []) (presentBy (S.acceptDone o d s [] c x l [] .accepted) (s .stamp) f))
-  unfolding S.acceptDone
-  done-seen s a f X c x l vs none d Q = record { server = refl; sends = refl; accepted = refl; area = X }
-  done-seen s a f X c x l vs (some T) none Q = record { server = refl; sends = refl; accepted = refl; area = X }
-  done-seen s a f X c x l vs (some T) (some e) Q = below-seen s a f X c x T e (Q e refl) l vs (ltb T lastTime)
+      go : (b : Bool) → Sees g (S.freeBy (pick b (some w) none) s a) (freeBy (pick b (some w) none) s f)
+      go true = record { server = refl; sends = refl; accepted = refl; area = stored-if g M areaBytes a f X 0 (omega arith) e (older (s .stamp) (S.stampOf w)) (λ h. Q e refl) }
+      go false = record { server = refl; sends = refl; accepted = refl; area = X }
 
-  settle-seen : (s : Server) (a : List ℕ) (f : ℕ → Entry) → Shows g areaBytes a f → (c : ℕ) → Among 8 c → (x : Slot) (l : List Sending) (vs : List (List ℕ))
-      → Sees g (S.settle g s a c x l vs) (settledBy s f c x l)
+  free-seen : (s : Server) (a : List ℕ) (f : ℕ → Entry) → Shows g areaBytes a f → (c : ℕ) → Among 8 c
+      → Sees g (S.free g s a c) (freeBy (S.bothDone s c (slotOf s c .sequence) (timeView (slotOf s c) .done) (viewBy f c (slotOf s c) .done)) s f)
+  unfolding S.free S.ripe
+  free-seen s a f X c is =
+      subst (λ v. Sees g (S.free g s a c) (freeBy (S.bothDone s c (slotOf s c .sequence) (timeView (slotOf s c) .done) (v .done)) s f)) (view-seen g a f (X .at) c (slotOf s c))
+      (done-seen s a f X c (slotOf s c .sequence) (timeView (slotOf s c) .done) (blockView g a c (slotOf s c) .done) (λ y e. done-sized g M a (omega (arith, X .long)) c is (slotOf s c) y e))
+
+  freed-seen : (s : Server) (a : List ℕ) (f : ℕ → Entry) → Shows g areaBytes a f → (c : ℕ) → Among 8 c → (z : Stage) → Sees g (S.freed g z s a c) (freedBy z s f c)
+  unfolding S.freed freedBy
+  freed-seen s a f X c is send = record { server = refl; sends = refl; accepted = refl; area = X }
+  freed-seen s a f X c is echo = free-seen s a f X c is
+  freed-seen s a f X c is ready = free-seen s a f X c is
+
+  settle-seen : (s : Server) (c : ℕ) → Among 8 c → (p : S.Counting) (f : ℕ → Entry) → Shows g areaBytes (p .area) f → (z : Stage) → Sees g (S.settle g s c z p) (settledBy s c z (counted p f))
   unfolding S.settle settledBy
-  settle-seen s a f X c is x l vs =
-      let h = view-seen g a f (X .at) c x in
-      subst (λ d. Sees g (S.acceptDone (timeView x .done) (blockView g a c x .done) s a c x l vs) (seen (S.acceptDone (timeView x .done) d s [] c x l []) (presentBy (S.acceptDone (timeView x .done) d s [] c x l [] .accepted) (s .stamp) f)))
-      (ap (λ w. w .done) h)
-      (done-seen s a f X c x l vs (timeView x .done) (blockView g a c x .done) (λ y e. done-sized H g M me a (omega (arith, X .long)) c is x y e))
+  settle-seen s c is p f X z =
+      let r = freed-seen (withSlot s c (p .slot)) (p .area) f X c is z in
+      record { server = r .server; sends = ap (λ l. p .sends ++ l) (r .sends); accepted = r .accepted; area = r .area }
 
-  blocks-seen : (s : Server) (a : List ℕ) (f : ℕ → Entry) → Shows g areaBytes a f → (c : ℕ) → Among 8 c → (x : Slot) (e : Entry) → Sized g e
-      → Sees g (S.settleBlocks H g me s a c x e) (blocksBy H g me (viewBy f c x) s f c x e)
-  unfolding S.settleBlocks blocksBy
-  blocks-seen s a f X c is x e Q =
-      subst (λ w. Sees g (S.settleBlocks H g me s a c x e) (blocksBy H g me w s f c x e)) (view-seen g a f (X .at) c x)
-      (settle-seen s _ _
+  voted-seen : (s : Server) (a : List ℕ) (f : ℕ → Entry) → Shows g areaBytes a f → (c : ℕ) → Among 8 c → (z : Stage) (x : Slot) (e : Entry) → Sized g e
+      → Sees g (S.settle g s c z (S.votedBlock H g me a c x e)) (settledBy s c z (votedBy H g me (viewBy f c x) f c x e))
+  unfolding S.votedBlock votedBy
+  voted-seen s a f X c is z x e Q =
+      subst (λ w. Sees g (S.settle g s c z (S.votedBlock H g me a c x e)) (settledBy s c z (votedBy H g me w f c x e))) (view-seen g a f (X .at) c x)
+      (settle-seen s c is (S.votedBlock H g me a c x e) _
       (stored-if g M areaBytes a f X (completeAt c) (omega (arith, is .0, is .1)) _ (not (x .blocks .complete) && full (blockRules H g) (g .n) (g .t) (blockView g a c x) e)
-      (λ h. coded H g (B .blocks-low) me (blockView g a c x) e Q (and-split (not (x .blocks .complete)) _ h .1)))
-      c is _ _ _)
+      (λ h. coded H g (B .blocks-low) me (blockView g a c x) e Q (and-split (not (x .blocks .complete)) _ h .1))) z)
 
-  times-seen : (s : Server) (a : List ℕ) (f : ℕ → Entry) → Shows g areaBytes a f → (c : ℕ) → Among 8 c → (x : Slot) (T : ℕ)
-      → Sees g (S.settleTimes H g me s a c x T) (timesBy H g me s f c x T)
-  unfolding S.settleTimes timesBy
-  times-seen s a f X c is x T = settle-seen s a f X c is _ _ _
+  block-seen : (s : Server) (a : List ℕ) (f : ℕ → Entry) → Shows g areaBytes a f → (c : ℕ) → Among 8 c → (j : ℕ) (z : Stage) (e : Entry) → Sized g e → (from : Party) → SenderIs g from c z → j ≡ numberIn from
+      → Sees g (S.settle g s c z (S.onBlock H g me a c (slotOf s c) j z e)) (settledBy s c z (blockBy H g me f c (slotOf s c) j z e))
+  unfolding S.onBlock blockBy
+  block-seen s a f X c is j send e Q from h n = settle-seen s c is (S.onBlock H g me a c (slotOf s c) j send e) f X send
+  block-seen s a f X c is j echo e Q from h n =
+      voted-seen s _ _ (stored g M areaBytes a f X (echoAt c j) (omega (arith, is .0, is .1, n, h .1 .1, B .servers-high)) e Q) c is echo (withBlocks (slotOf s c) (blockEcho (slotOf s c .blocks) j)) e Q
+  block-seen s a f X c is j ready e Q from h n =
+      voted-seen s _ _ (stored g M areaBytes a f X (readyAt c j) (omega (arith, is .0, is .1, n, h .1 .1, B .servers-high)) e Q) c is ready (withBlocks (slotOf s c) (blockReady (slotOf s c .blocks) j)) e Q
 
-  present-seen : (s : Server) (a : List ℕ) (f : ℕ → Entry) → Shows g areaBytes a f → (initial : List ℕ) → presentEntry g s a initial ≡ answerBy H g me s f initial
+  time-seen : (s : Server) (a : List ℕ) (f : ℕ → Entry) → Shows g areaBytes a f → (c : ℕ) → Among 8 c → (j : ℕ) (z : Stage) (T : ℕ)
+      → Sees g (S.settle g s c z (S.onTime H g me a c (slotOf s c) j z T)) (settledBy s c z (counted (S.onTime H g me [] c (slotOf s c) j z T) f))
+  unfolding S.onTime S.votedTime
+  time-seen s a f X c is j send T = settle-seen s c is (S.onTime H g me a c (slotOf s c) j send T) f X send
+  time-seen s a f X c is j echo T = settle-seen s c is (S.onTime H g me a c (slotOf s c) j echo T) f X echo
+  time-seen s a f X c is j ready T = settle-seen s c is (S.onTime H g me a c (slotOf s c) j ready T) f X ready
+
+  present-seen : (s : Server) (a : List ℕ) (f : ℕ → Entry) → Shows g areaBytes a f → (initial : List ℕ) → presentEntry g (s .stamp) a initial ≡ answerBy H g me s f initial
   unfolding presentEntry presentBlock entryAt
   present-seen s a f X initial i = entry (X .at 0 i .digests) (pick (eqb (s .stamp .time) 0) (take (width g) initial) (X .at 0 i .block))
 
   body-seen : (s : Server) (a : List ℕ) (f : ℕ → Entry) → Shows g areaBytes a f → (initial : List ℕ) (from : Party) (c q : ℕ) → Among 8 c → (b : Body) → SizedIn g b
       → ST.senderRight g from c b ≡ true → Sees g (S.onBody H g me s a initial (numberIn from) c q b) (bodyBy H g me s f initial (numberIn from) c q b)
-  unfolding S.onBody S.onRead S.onReadComplete S.onBlock S.onTime bodyBy ST.senderRight
+  unfolding S.onBody S.onRead S.onReadComplete bodyBy
   body-seen s a f X initial from c q is getStamp Q p = record { server = refl; sends = refl; accepted = refl; area = X }
   body-seen s a f X initial from c q is ack Q p = record { server = refl; sends = refl; accepted = refl; area = X }
   body-seen s a f X initial from c q is askRead Q p = record {
@@ -204,18 +226,8 @@ module _ (H : List ℕ → List ℕ) (g : Params) (B : Bounded g) (M : Small g) 
   }
   body-seen s a f X initial from c q is readComplete Q p = record { server = refl; sends = refl; accepted = refl; area = X }
   body-seen s a f X initial from c q is (stampIs T) Q p = record { server = refl; sends = refl; accepted = refl; area = X }
-  body-seen s a f X initial from c q is (blockIs send e) Q p = record { server = refl; sends = refl; accepted = refl; area = X }
-  body-seen s a f X initial from c q is (blockIs echo e) Q p =
-      let h = is-server H g me from p in
-      let r = numbered from (h .0) (h .1) (omega (arith, h .2 .1, B .servers-high)) in
-      blocks-seen s _ _ (stored g M areaBytes a f X (echoAt c (numberIn from)) (omega (arith, is .0, is .1, r)) e Q) c is _ e Q
-  body-seen s a f X initial from c q is (blockIs ready e) Q p =
-      let h = is-server H g me from p in
-      let r = numbered from (h .0) (h .1) (omega (arith, h .2 .1, B .servers-high)) in
-      blocks-seen s _ _ (stored g M areaBytes a f X (readyAt c (numberIn from)) (omega (arith, is .0, is .1, r)) e Q) c is _ e Q
-  body-seen s a f X initial from c q is (timeIs send T) Q p = record { server = refl; sends = refl; accepted = refl; area = X }
-  body-seen s a f X initial from c q is (timeIs echo T) Q p = times-seen s a f X c is _ T
-  body-seen s a f X initial from c q is (timeIs ready T) Q p = times-seen s a f X c is _ T
+  body-seen s a f X initial from c q is (blockIs z e) Q p = block-seen s a f X c is (numberIn from) z e Q from (block-sender g from c z e p) refl
+  body-seen s a f X initial from c q is (timeIs z T) Q p = time-seen s a f X c is (numberIn from) z T
   body-seen s a f X initial from c q is (valueIs x e) Q p = record { server = refl; sends = refl; accepted = refl; area = X }
 
   judge-seen : (s : Server) (a initial : List ℕ) (from : Party) (f out to : List ℕ) → length a ≡ areaBytes → length initial ≡ width g

@@ -3,8 +3,7 @@ use Prim.Native.Nat.{ℕ, _+_}
 use mathlib.Core.Bool.{true}
 use mathlib.Core.Path.{_≡_, refl}
 use mathlib.Core.Logic.{inl, inr}
-use mathlib.Core.Option.{some}
-use mathlib.Core.List.{[], _∷_, _++_}
+use mathlib.Core.List.{[], _∷_, _++_, List·Memᴰ·head}
 use native.Mathlib.Omega.{arith}
 use lib.ListN.{replicate, length-replicate, length-append}
 use lib.Seq.{length-take-le}
@@ -95,7 +94,7 @@ pub record Computed : Type 0 where
   -- all calls are proper
   pub proper : image Z calls .proper ≡ true
   -- server 2 accepts the write, it ends, and the read completes
-  pub accepted : acceptedIn Z (image Z times) (time ready 2 2) ≡ some (writeAt 2)
+  pub accepted : acceptedIn Z (image Z times) (time ready 2 2) ≡ writeAt 2 ∷ []
   pub ended : endIn Z (image Z accepting) (ackFrom 4) ≡ written
   pub completed-is : endIn Z (image Z reading) (valueFrom 4) ≡ completed found
   -- the numbers of the operations
@@ -108,7 +107,7 @@ pub record Computed : Type 0 where
       × (CB.readTest g 2 (image Z (ackFrom 4 ∷ accepting) .clients 2 .client) (Toy.zeros (outRoom g (clientFrames g))) (Toy.zeros (toRoom (clientFrames g))) ≡ J.Fine)
 
 computed : Computed
-unfolding Toy.toy Toy.zeros Toy.four Toy.setup Toy.handServer Toy.handClient Toy.startRead Toy.startWrite g initial value Z entryFor stamp stampAsked stampFrom blockTo timeTo block time ackFrom readAsked valueFrom asking blocks times accepting reading calls writeAt found Served.settledBy Served.blocksBy Served.timesBy Served.bodyBy Served.servedBy Served.judgeBy Served.served Asked.searchedBy Asked.keptBy Asked.bodyBy Asked.heardBy Asked.judgeBy Asked.asked sameParty amongSends wasSent allBytes honest properFrame properCall advance image acceptedIn endIn QuQuorum.count ArArea.pick ArArea.same ArArea.compared ArArea.tableFrom ArArea.table ArArea.joined ArNumbers.be2 ArNumbers.be4 ArNumbers.be8 ArNumbers.bytes2 ArNumbers.bytes4 ArNumbers.bytes8 _⊕_ FiField.reduction FiField.xtime FiField.shiftAdd _⊗_ FiField.powerOf FiField.Powers FiField.Logs BlCode.blockLength BlCode.padded BlCode.stripe BlCode.blockByte BlCode.blockOf BlCode.encoded BlCode.row BlCode.valueOf BlCode.blocksOf BlParams.partiesFit BlParams.thresholdFits BlParams.lengthFits BlPoly.eval BlPoly.plus BlPoly.scale BlPoly.withRoot BlPoly.vanishing BlPoly.newtonStep BlPoly.through FrCoded.pieces FrCoded.decoded FrCoded.digestsOf FrCoded.entryOf FrCoded.fits FrFrames.kindOf FrFrames.lengthOf FrFrames.bodyLength FrFrames.entryBytes FrFrames.stampBytes FrFrames.bodyBytes FrFrames.headerBytes FrFrames.frameOf FrFrames.build FrFrames.framingTest FrFrames.headerIn FrFrames.headerTest FrFrames.bodyTest FrFrames.stampIn FrFrames.stampTest FrFrames.contentTest FrFrames.frameTest FrFrames.opened FrFrames.openedUnder FrFrames.bodyIn FrFrames.messageIn FrMessages.toFrom FrMessages.toAll FrParams.width FrParams.quota FrParams.largestFrame FrParams.outRoom FrParams.toRoom FrParams.ownTest FrParams.codeTest FrParams.boundsTest FrParams.paramsTest FrStamps.older FrStamps.sameStamp FrStamps.zeroStamp FrStamps.partsAgree SeBroadcast.votes SeBroadcast.enough SeBroadcast.due SeBroadcast.full SeBroadcast.matters SeRules.chosen SeRules.regained SeState.freshBlocks SeState.freshTimes SeState.freshSlot SeState.freshReader SeState.freshServer SeState.blockView SeState.timeView SeState.presentBlock SeState.presentEntry SeSteps.tellFrom SeSteps.accept SeSteps.acceptBelow SeSteps.acceptDone SeSteps.settle SeSteps.settleBlocks SeSteps.onBlock SeSteps.settleTimes SeSteps.onTime SeSteps.onRead SeSteps.onReadComplete SeSteps.onBody SeSteps.effect SeTests.roomTest SeTests.senderRight SeTests.counted SeTests.openTest SeTests.readTest SeTests.doneTest SeTests.fitTest SeTests.orderTest SeTests.messageTest SeTests.judgeOpened SeTests.judge CB.idleTest CB.closedTest CB.lengthTest CB.readTest CB.writeTest CB.openRead CB.openWrite CB.beginBy CB.readBegun CB.writeBegun CB.beginAnswer CB.begunOf CB.readBeginning CB.writeBeginning ClRows.placesFrom ClRows.rowView ClRows.hasStamp ClRows.smallest ClRows.placeFor ClRows.atStamp ClRows.rowsFrom ClRows.agreed ClRows.firstBy ClRows.firstAgreed ClRows.foundOf ClRows.foundBy ClRows.search ClState.freshRow ClState.freshClient ClState.largest ClSteps.quorate ClSteps.sendBelow ClSteps.gatherBy ClSteps.onStamp ClSteps.endBy ClSteps.onAck ClSteps.completeBy ClSteps.settle ClSteps.keepBy ClSteps.onValue ClSteps.onBody ClSteps.effect ClTests.sendRoom ClTests.roomTest ClTests.valueTest ClTests.answers ClTests.awaited ClTests.fitTest ClTests.orderTest ClTests.messageTest ClTests.judgeOpened ClTests.judge
+unfolding Toy.toy Toy.zeros Toy.four Toy.setup Toy.handServer Toy.handClient Toy.startRead Toy.startWrite g initial value Z entryFor stamp stampAsked stampFrom blockTo timeTo block time ackFrom readAsked valueFrom asking blocks times accepting reading calls writeAt found Served.freeBy Served.freedBy Served.settledBy Served.votedBy Served.blockBy Served.bodyBy Served.servedBy Served.judgeBy Served.served Asked.searchedBy Asked.keptBy Asked.bodyBy Asked.heardBy Asked.judgeBy Asked.asked sameParty amongSends wasSent allBytes honest properFrame properCall advance image acceptedIn endIn QuQuorum.count ArArea.pick ArArea.same ArArea.compared ArArea.tableFrom ArArea.table ArArea.joined ArNumbers.be2 ArNumbers.be4 ArNumbers.be8 ArNumbers.bytes2 ArNumbers.bytes4 ArNumbers.bytes8 _⊕_ FiField.reduction FiField.xtime FiField.shiftAdd _⊗_ FiField.powerOf FiField.Powers FiField.Logs BlCode.blockLength BlCode.padded BlCode.stripe BlCode.blockByte BlCode.blockOf BlCode.encoded BlCode.row BlCode.valueOf BlCode.blocksOf BlParams.partiesFit BlParams.thresholdFits BlParams.lengthFits BlPoly.eval BlPoly.plus BlPoly.scale BlPoly.withRoot BlPoly.vanishing BlPoly.newtonStep BlPoly.through FrCoded.pieces FrCoded.decoded FrCoded.digestsOf FrCoded.entryOf FrCoded.fits FrFrames.kindOf FrFrames.lengthOf FrFrames.bodyLength FrFrames.entryBytes FrFrames.stampBytes FrFrames.bodyBytes FrFrames.headerBytes FrFrames.frameOf FrFrames.build FrFrames.framingTest FrFrames.headerIn FrFrames.headerTest FrFrames.bodyTest FrFrames.stampIn FrFrames.stampTest FrFrames.contentTest FrFrames.frameTest FrFrames.opened FrFrames.openedUnder FrFrames.bodyIn FrFrames.messageIn FrMessages.toFrom FrMessages.toAll FrParams.width FrParams.quota FrParams.largestFrame FrParams.outRoom FrParams.toRoom FrParams.ownTest FrParams.codeTest FrParams.boundsTest FrParams.paramsTest FrStamps.older FrStamps.sameStamp FrStamps.zeroStamp FrStamps.partsAgree SeBroadcast.votes SeBroadcast.enough SeBroadcast.due SeBroadcast.full SeBroadcast.matters SeRules.chosen SeRules.regained SeState.freshBlocks SeState.freshTimes SeState.freshSlot SeState.freshReader SeState.freshServer SeState.blockView SeState.timeView SeState.presentBlock SeState.presentEntry SeSteps.votedBlock SeSteps.onBlock SeSteps.votedTime SeSteps.onTime SeSteps.tellFrom SeSteps.accept SeSteps.bothDone SeSteps.ripe SeSteps.freeBy SeSteps.free SeSteps.freed SeSteps.settle SeSteps.onRead SeSteps.onReadComplete SeSteps.onBody SeSteps.effect SeTests.roomTest SeTests.senderRight SeTests.counted SeTests.openTest SeTests.readTest SeTests.doneTest SeTests.fitTest SeTests.orderTest SeTests.messageTest SeTests.judgeOpened SeTests.judge CB.idleTest CB.closedTest CB.lengthTest CB.readTest CB.writeTest CB.openRead CB.openWrite CB.beginBy CB.readBegun CB.writeBegun CB.beginAnswer CB.begunOf CB.readBeginning CB.writeBeginning ClRows.placesFrom ClRows.rowView ClRows.hasStamp ClRows.smallest ClRows.placeFor ClRows.atStamp ClRows.rowsFrom ClRows.agreed ClRows.firstBy ClRows.firstAgreed ClRows.foundOf ClRows.foundBy ClRows.search ClState.freshRow ClState.freshClient ClState.largest ClSteps.quorate ClSteps.sendBelow ClSteps.gatherBy ClSteps.onStamp ClSteps.endBy ClSteps.onAck ClSteps.completeBy ClSteps.settle ClSteps.keepBy ClSteps.onValue ClSteps.onBody ClSteps.effect ClTests.sendRoom ClTests.roomTest ClTests.valueTest ClTests.answers ClTests.awaited ClTests.fitTest ClTests.orderTest ClTests.messageTest ClTests.judgeOpened ClTests.judge
 computed = record { proper = refl; accepted = refl; ended = refl; completed-is = refl; write-number = refl; read-number = refl; write-opens = (refl, refl); read-opens = (refl, refl) }
 
 -- ---- so
@@ -124,7 +123,7 @@ writes = at-drop (OpensWrite Z 1 1 value) 36 calls 0 (inl (refl, opens-write-by 
 -- server 2, which is honest, accepts client 1's write 1
 pub accepts : At (Accepts Z 2 (writeAt 2)) calls 24
 unfolding asking blocks times accepting reading calls time Toy.handServer
-accepts = at-drop (Accepts Z 2 (writeAt 2)) 12 calls 24 (inl (refl, accepts-by Z exact times (time ready 2 2) 2 (writeAt 2) refl (computed .accepted)))
+accepts = at-drop (Accepts Z 2 (writeAt 2)) 12 calls 24 (inl (refl, accepts-by Z exact times (time ready 2 2) 2 (writeAt 2) refl (rw (computed .accepted) (List·Memᴰ·head refl))))
 
 -- the write ends
 pub ends : At (EndsWrite Z 1 1) calls 30

@@ -8,7 +8,8 @@ use Rattle.frame.specs.declared.Stamp.{Stamp}
 use Rattle.server_rules.specs.declared.Slot.{Slot}
 use Rattle.server_rules.specs.declared.Reader.{Reader}
 use Rattle.server_rules.specs.declared.Scope.{Scope}
-use Rattle.server_rules.specs.State.{noSlot, noReader, scopeOf}
+use Rattle.server_rules.specs.State.{noSlot, noReader}
+use Rattle.server_rules.specs.Scopes.{scopeOf}
 use Rattle.layout.specs.Fields.{stampAt}
 use Rattle.layout.specs.Servers.{slotAt, slotsAt, readerAt, readersAt, serverAt, serverIn}
 use Rattle.layout.proofs.Reading.{row-entry}

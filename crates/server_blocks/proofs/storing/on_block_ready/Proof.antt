@@ -26,7 +26,7 @@ returns c =
     let k = a .k in
     let e = entry (a .list .now) (a .block .now) in
     record {
-      handles = turned-down k (a .x) e _ ready (a .area .now) _ (ready-verdict k (a .x) e _ (c .before .before .before .vote-test .ensures)) _ (c .before .v .given .1);
+      handles = turned-down k (a .x) e _ ready (a .area .now) _ _ _ (ready-verdict k (a .x) e _ (c .before .before .before .vote-test .ensures)) _ (c .before .v .given .1);
       room = room-before _ _ _ (c .before .before .before .before .before .before .before .before .before .before .before .pre .0 .room);
     }
 
@@ -97,7 +97,7 @@ returns-2 c =
     let k = a .k in
     let e = entry (a .list .now) (a .block .now) in
     record {
-      handles = let-in k (a .x) e _ ready (a .area .now) _ (ready-verdict k (a .x) e _ (c .before .before .before .before .before .before .before .before .before .before .before .before .before .before .before .before .before .before .before .before .before .before .vote-test .ensures)) _ _ _ (c .before .before .before .before .before .before .before .before .before .before .before .before .before .before .before .before .before .before .before .before .enum-told .given .1)
+      handles = let-in k (a .x) e _ ready (a .area .now) _ _ _ (ready-verdict k (a .x) e _ (c .before .before .before .before .before .before .before .before .before .before .before .before .before .before .before .before .before .before .before .before .before .before .vote-test .ensures)) _ _ _ (c .before .before .before .before .before .before .before .before .before .before .before .before .before .before .before .before .before .before .before .before .enum-told .given .1)
           (block-voted k (a .area .now) _ (λ (j : ℕ). readyAt (k .header .client) j) (λ (j : ℕ). withBlocks (a .x) (blockReady (a .x .blocks) j)) _ _ _ e _ _ (c .before .before .before .before .before .before .before .before .before .before .before .before .before .before .before .before .before .number-in .ensures) (c .before .before .before .before .before .before .before .before .before .before .before .before .before .before .before .put-entry .ensures) (c .before .before .before .before .before .before .before .before .before .before .before .before .block-ready .ensures) (c .before .before .before .before .before .before .before .before .voted-block .ensures .leaves (a .block .now)));
       room = c .before .before .before .before .before .before .before .before .voted-block .ensures .room;
     }

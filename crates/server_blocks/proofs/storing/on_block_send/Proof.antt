@@ -17,7 +17,7 @@ returns : tie.Need-returns
 returns c =
     let a = c .before .before .before .before .before .before .before .before .args in
     λ w. record {
-      handles = turned-down (a .k) (a .x) (entry (a .list .now) (a .block .now)) _ send w _ (c .before .before .before .send-test .ensures) _ (c .before .v .given .1);
+      handles = turned-down (a .k) (a .x) (entry (a .list .now) (a .block .now)) _ send w _ _ _ (c .before .before .before .send-test .ensures) _ (c .before .v .given .1);
       room = room-before _ _ _ (c .before .before .before .before .before .before .before .before .pre .1);
     }
 
@@ -43,7 +43,7 @@ returns-2 c =
     let k = a .k in
     let e = entry (a .list .now) (a .block .now) in
     λ w. record {
-      handles = let-in k (a .x) e _ send w _ (c .before .before .before .before .before .before .before .before .before .before .before .before .send-test .ensures) _ _ _ (c .before .before .before .before .before .before .before .before .before .before .enum-told .given .1)
+      handles = let-in k (a .x) e _ send w _ _ _ (c .before .before .before .before .before .before .before .before .before .before .before .before .send-test .ensures) _ _ _ (c .before .before .before .before .before .before .before .before .before .before .enum-told .given .1)
           (block-echoed k w _ e (a .x) _ _ _ (sent-open k (a .x) e _ (c .before .before .before .before .before .before .before .before .before .before .before .before .send-test .ensures) (c .before .before .before .before .before .before .before .before .before .before .enum-told .given .1)) (c .block-sent .ensures) (c .before .before .before .before .before .block-all .ensures));
       room = room-sent (k .params) _ _ (P .1) (k .header .client) (k .header .sequence) echo (a .list .now) (a .block .now) (P .2) _ _ _ (c .before .before .before .before .before .block-all .ensures);
     }

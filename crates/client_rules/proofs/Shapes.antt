@@ -1,0 +1,146 @@
+-- The law of a client's step: what forms it can have. Who needs to know what a step does goes by these cases and never by a step's text. Assumes nothing.
+use Prim.Native.Nat.{ℕ, _≤_, _<_}
+use mathlib.Core.Bool.{Bool, true, false}
+use mathlib.Core.Path.{_≡_, refl}
+use mathlib.Core.Option.{Option, none, some}
+use mathlib.Core.List.{List, [], _++_}
+use lib.ListN.{length, getD, set, replicate}
+use lib.Dec.{ltb}
+use borrow.Author.Tests.{ltb-true, ltb-false}
+use Rattle.blocks.specs.declared.Params.{Params}
+use Rattle.frame.specs.declared.Stamp.{Stamp}
+use Rattle.frame.specs.declared.Party.{Party}
+use Rattle.frame.specs.declared.Refusal.{Refusal}
+use Rattle.frame.specs.Stamps.{lastTime}
+use Rattle.frame.specs.Chunks.{storeEntry, placeAt}
+use Rattle.frame.specs.Messages.{Entry, send, Body, getStamp, ack, askRead, readComplete, stampIs, blockIs, timeIs, valueIs, Message, message, Sending, toAll, numberIn, Judged, bad, good}
+use Rattle.frame.proofs.Chunks.{length-store}
+use Rattle.group_rules.specs.Coded.{entryOf}
+use Rattle.client_rules.specs.declared.Client.{Client}
+use Rattle.client_rules.specs.declared.Phase.the-variants as F
+use Rattle.client_rules.specs.State.{rowOf, largest, inPhase, shut, withRow}
+use Rattle.client_rules.specs.Rows.{rowView, placeFor, rowWith, Found, search}
+use Rattle.client_rules.specs.Steps as C
+use Rattle.client_rules.specs.Tests.{judge}
+use Rattle.client_rules.specs.Delivery as CD
+
+module _ (H : List ℕ → List ℕ) (g : Params) (me : ℕ) (s : Client) (a v : List ℕ) (j : ℕ) where
+  -- server j's stamp or ack is counted
+  abbrev pub heardNow : List Bool
+  heardNow = set (s .heard) j true
+
+  -- its time T, too
+  abbrev pub asked : ℕ → Client
+  asked T = inPhase s F.Asking heardNow (set (s .times) j T)
+
+  abbrev pub largestNow : ℕ → ℕ
+  largestNow T = largest (λ i. getD (set (s .times) j T) i 0) (g .n)
+
+  -- the value's blocks, then the time M, to all
+  abbrev pub dispersed : ℕ → List Sending
+  dispersed M = toAll g (λ i. message me (s .writes) (blockIs send (entryOf H g v i))) ++ toAll g (λ i. message me (s .writes) (timeIs send M))
+
+  -- server j's value (x, e) is kept at a place of its row, or dropped
+  pub data Keeps (x : Stamp) (e : Entry) : Client → List ℕ → Type 0 where
+    drops : placeFor (rowOf s j) x ≡ none → Keeps x e s a
+    keeps : (i : ℕ) → placeFor (rowOf s j) x ≡ some i → Keeps x e (withRow s j (rowWith (rowOf s j) i x)) (storeEntry a (placeAt j i) e)
+
+  -- what a frame of server j does
+  pub data Shape : Body → C.Effect → Type 0 where
+    idle : (b : Body) → Shape b (C.quiet s a)
+    hears : (T : ℕ) → C.quorate g heardNow ≡ false → Shape (stampIs T) (C.quiet (asked T) a)
+    sends : (T : ℕ) → C.quorate g heardNow ≡ true → largestNow T < lastTime → Shape (stampIs T) (record {
+      client = inPhase (asked T) F.Acking (replicate 11 false) (set (s .times) j T);
+      area = a;
+      sends = dispersed (largestNow T);
+      event = C.nothing;
+    })
+    shuts : (T : ℕ) → C.quorate g heardNow ≡ true → lastTime ≤ largestNow T → Shape (stampIs T) (record { client = shut (asked T); area = a; sends = []; event = C.outOfStamps })
+    counts : C.quorate g heardNow ≡ false → Shape ack (C.quiet (inPhase s F.Acking heardNow (s .times)) a)
+    ends : C.quorate g heardNow ≡ true → Shape ack (record { client = inPhase s F.Idle heardNow (s .times); area = a; sends = []; event = C.written })
+    waits : (x : Stamp) (e : Entry) {s′ : Client} {a′ : List ℕ} → Keeps x e s′ a′ → search g (rowView g s′ a′) ≡ none → Shape (valueIs x e) (C.quiet s′ a′)
+    completes : (x : Stamp) (e : Entry) {s′ : Client} {a′ : List ℕ} → Keeps x e s′ a′ → (y : Found) → search g (rowView g s′ a′) ≡ some y → Shape (valueIs x e) (record {
+      client = inPhase s′ F.Idle (s′ .heard) (s′ .times);
+      area = a′;
+      sends = toAll g (λ i. message me (s′ .reads) readComplete);
+      event = C.completed y;
+    })
+
+  on-stamp : (T : ℕ) → Shape (stampIs T) (C.onStamp H g me s a v j T)
+  unfolding C.onStamp C.gatherBy C.sendBelow
+  on-stamp T = go (C.quorate g heardNow) refl
+    where
+      below : (b : Bool) → ltb (largestNow T) lastTime ≡ b → C.quorate g heardNow ≡ true → Shape (stampIs T) (C.sendBelow H g me b (asked T) a v (largestNow T))
+      below true e q = sends T q (ltb-true (largestNow T) lastTime e)
+      below false e q = shuts T q (ltb-false (largestNow T) lastTime e)
+
+      go : (b : Bool) → C.quorate g heardNow ≡ b → Shape (stampIs T) (C.gatherBy H g me b (asked T) a v)
+      go true q = below (ltb (largestNow T) lastTime) refl q
+      go false q = hears T q
+
+  on-ack : Shape ack (C.onAck H g me s a j)
+  unfolding C.onAck C.endBy
+  on-ack = go (C.quorate g heardNow) refl
+    where
+      go : (b : Bool) → C.quorate g heardNow ≡ b → Shape ack (C.endBy H g me b s a heardNow)
+      go true q = ends q
+      go false q = counts q
+
+  on-value : (x : Stamp) (e : Entry) → Shape (valueIs x e) (C.onValue H g me s a j x e)
+  unfolding C.onValue C.keepBy C.settle C.completeBy
+  on-value x e = go (placeFor (rowOf s j) x) refl
+    where
+      settled : (s′ : Client) (a′ : List ℕ) → Keeps x e s′ a′ → (o : Option Found) → search g (rowView g s′ a′) ≡ o → Shape (valueIs x e) (C.completeBy H g me o s′ a′)
+      settled s′ a′ k none z = waits x e k z
+      settled s′ a′ k (some y) z = completes x e k y z
+
+      go : (o : Option ℕ) → placeFor (rowOf s j) x ≡ o → Shape (valueIs x e) (C.keepBy H g me o s a j x e)
+      go none z = settled _ _ (drops z) (search g (rowView g s a)) refl
+      go (some i) z = settled _ _ (keeps i z) (search g (rowView g (withRow s j (rowWith (rowOf s j) i x)) (storeEntry a (placeAt j i) e))) refl
+
+  pub shape : (b : Body) → Shape b (C.onBody H g me s a v j b)
+  unfolding C.onBody
+  shape getStamp = idle getStamp
+  shape ack = on-ack
+  shape askRead = idle askRead
+  shape readComplete = idle readComplete
+  shape (stampIs T) = on-stamp T
+  shape (blockIs z e) = idle (blockIs z e)
+  shape (timeIs z T) = idle (timeIs z T)
+  shape (valueIs x e) = on-value x e
+
+  -- ---- what every step keeps
+
+  keeps-length : {x : Stamp} {e : Entry} {s′ : Client} {a′ : List ℕ} → Keeps x e s′ a′ → length a′ ≡ length a
+  keeps-length (drops z) = refl
+  keeps-length {e = e} (keeps i z) = length-store a (placeAt j i) e
+
+  pub shape-length : {b : Body} {r : C.Effect} → Shape b r → length (r .area) ≡ length a
+  shape-length (idle b) = refl
+  shape-length (hears T q) = refl
+  shape-length (sends T q l) = refl
+  shape-length (shuts T q l) = refl
+  shape-length (counts q) = refl
+  shape-length (ends q) = refl
+  shape-length (waits x e k z) = keeps-length k
+  shape-length (completes x e k y z) = keeps-length k
+
+module _ (H : List ℕ → List ℕ) (g : Params) (me : ℕ) (s : Client) (a v : List ℕ) (from : Party) where
+  -- the same of a message
+  pub shape-of : (m : Message) → Shape H g me s a v (numberIn from) (m .body) (C.effect H g me s a v from m)
+  unfolding C.effect
+  shape-of m = shape H g me s a v (numberIn from) (m .body)
+
+  -- of a delivery: refused, and nothing is done, or a message taken
+  pub data Delivery (j : Judged) : C.Effect → Type 0 where
+    refused : (x : Refusal) → j ≡ bad x → Delivery j (C.quiet s a)
+    taken : (m : Message) → j ≡ good m → {r : C.Effect} → Shape H g me s a v (numberIn from) (m .body) r → Delivery j r
+
+  pub shape-delivered : (f result out to : List ℕ) → Delivery (judge H g me s a v from f result out to) (CD.delivered H g me s a v from f result out to)
+  unfolding CD.delivered CD.effectBy
+  shape-delivered f result out to = go (judge H g me s a v from f result out to) refl
+    where
+      go : (j : Judged) → judge H g me s a v from f result out to ≡ j
+          → Delivery (judge H g me s a v from f result out to) (CD.effectBy H g me j s a v from)
+      go (bad x) e = refused x e
+      go (good m) e = taken m e (shape-of m)

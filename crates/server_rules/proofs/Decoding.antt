@@ -1,0 +1,173 @@
+-- What a server decodes of a write's frames: what it computes from enough of one digest list has the sizes of an entry, and a block part becomes complete with the
+-- digests of a value that was decoded. Assumes nothing.
+use Prim.Native.Nat.{ℕ, zero, suc, _+_, _≤_, _<_}
+use native.Mathlib.Omega.{arith}
+use mathlib.Core.Bool.{Bool, true, false, not, _&&_}
+use mathlib.Core.Path.{_≡_, refl, ap, _∙_, subst}
+use mathlib.Core.Logic.{_⊎_, inl, inr, ⊎-elim}
+use mathlib.Core.Option.{Option, none, some}
+use mathlib.Core.List.{List, [], _∷_, List·Memᴰ, List·Memᴰ·head}
+use lib.ListN.{length, take, length-map}
+use lib.Seq.{length-take-le}
+use lib.Dec.{leb}
+use borrow.Author.Tests.{leb-true, le-leb}
+use Rattle.quorum.specs.Quorum.{count, bit}
+use Rattle.quorum.proofs.Logic.{impossible, and-split, and-true, or-split, or-right}
+use Rattle.area.specs.Area.{Bytes, pick, same}
+use Rattle.area.proofs.Same.{same-true}
+use Rattle.blocks.specs.declared.Params.{Params}
+use Rattle.blocks.specs.Code.{blockOf, blockLength}
+use Rattle.blocks.proofs.Stripes.{length-blockOf}
+use Rattle.blocks.proofs.Values.{length-valueOf}
+use Rattle.blocks.proofs.RoundTrip.{Bytes-valueOf}
+use Rattle.group_rules.specs.Coded.{Piece, hasList, pieceOf, pieces, numbers, joinedBytes, decoded, digestsOf}
+use Rattle.frame.specs.Messages.{Entry, Sized}
+use Rattle.frame.specs.Params.{width, quota}
+use Rattle.server_rules.specs.Broadcast.{Rules, Part, kept, undone, isLike, votes, enough, due, full, matters}
+use Rattle.server_rules.specs.Rules.{chosen, regained, blockRules}
+use Rattle.server_rules.proofs.Parts.{firstOf, settled}
+
+piece-size : (o : Option Entry) (d : List ℕ) (j : ℕ) (l : List Piece) → length (pieceOf o d j l) ≡ bit (hasList o d) + length l
+unfolding pick
+piece-size none d j l = omega arith
+piece-size (some e) d j l = go (same (e .digests) d)
+  where
+    go : (b : Bool) → length (pick b (record { number = j; bytes = e .block } ∷ l) l) ≡ bit b + length l
+    go true = omega arith
+    go false = omega arith
+
+pieces-size : (f : ℕ → Option Entry) (d : List ℕ) (i m : ℕ) → length (pieces f d (suc i) m) + count (λ j. hasList (f j) d) i ≡ count (λ j. hasList (f j) d) (i + m)
+unfolding pieces count
+pieces-size f d i zero =
+    let a : i ≡ i + 0 = omega arith in
+    let e : count (λ j. hasList (f j) d) i ≡ count (λ j. hasList (f j) d) (i + 0) = ap (count (λ j. hasList (f j) d)) a in
+    omega arith
+pieces-size f d i (suc m) =
+    let a = piece-size (f (suc i)) d (suc i) (pieces f d (suc (suc i)) m) in
+    let b = pieces-size f d (suc i) m in
+    let c : suc i + m ≡ i + suc m = omega arith in
+    let e : count (λ j. hasList (f j) d) (suc i + m) ≡ count (λ j. hasList (f j) d) (i + suc m) = ap (count (λ j. hasList (f j) d)) c in
+    omega arith
+
+pub all-pieces : (f : ℕ → Option Entry) (d : List ℕ) (n : ℕ) → length (pieces f d 1 n) ≡ count (λ j. hasList (f j) d) n
+unfolding count
+all-pieces f d n =
+    let a = pieces-size f d 0 n in
+    let b : count (λ j. hasList (f j) d) (0 + n) ≡ count (λ j. hasList (f j) d) n = ap (count (λ j. hasList (f j) d)) (let h : 0 + n ≡ n = omega arith in h) in
+    omega arith
+
+-- q is at least k, and above t
+pub quota-blocks : (g : Params) → g .k ≤ quota g
+unfolding quota
+quota-blocks g = omega arith
+
+pub quota-faults : (g : Params) → g .t < quota g
+unfolding quota
+quota-faults g = omega arith
+
+-- a block of a value of the right length
+pub block-width : (g : Params) (v : List ℕ) (j : ℕ) → length v ≡ g .size → length (blockOf (g .k) v j) ≡ width g
+unfolding width
+block-width g v j e = length-blockOf (g .k) v j ∙ ap (λ l. blockLength l (g .k)) e
+
+module _ (H : List ℕ → List ℕ) (g : Params) where
+  abbrev Rb : Rules Entry
+  Rb = blockRules H g
+
+  -- one of the values has these digests
+  abbrev pub Has : List (List ℕ) → List ℕ → Type 0
+  Has vs d = (v : List ℕ) × List·Memᴰ v vs × (digestsOf H g v ≡ d) × (length v ≡ g .size) × Bytes v
+
+  -- what is decoded as the part w meets x
+  abbrev pub decodes : Part Entry → Entry → List (List ℕ)
+  decodes w x = pick (matters Rb (g .n) (g .t) w x) (regained g (w .echoes) (w .readies) (x .digests) ∷ []) []
+
+module _ (H : List ℕ → List ℕ) (g : Params) (kk : 1 ≤ g .k) where
+  pub decoded-size : (f : ℕ → Option Entry) (d : List ℕ) → g .k ≤ count (λ j. hasList (f j) d) (g .n) → length (decoded g f d) ≡ g .size
+  unfolding decoded
+  decoded-size f d h =
+      let p = all-pieces f d (g .n) in
+      let t : length (take (g .k) (pieces f d 1 (g .n))) ≡ g .k = length-take-le (g .k) (pieces f d 1 (g .n)) (omega arith) in
+      let m : length (numbers (take (g .k) (pieces f d 1 (g .n)))) ≡ length (take (g .k) (pieces f d 1 (g .n))) = length-map (take (g .k) (pieces f d 1 (g .n))) (λ p. p .number) in
+      length-valueOf (numbers (take (g .k) (pieces f d 1 (g .n)))) _ (g .size) (omega arith)
+
+  like : (o : Option Entry) (x : Entry) → isLike (blockRules H g) (g .n) (g .t) o x ≡ hasList o (x .digests)
+  like none x = refl
+  like (some y) x = refl
+
+  pub votes-are : (f : ℕ → Option Entry) (x : Entry) → votes (blockRules H g) (g .n) (g .t) f x ≡ count (λ j. hasList (f j) (x .digests)) (g .n)
+  unfolding votes
+  votes-are f x i = count (λ j. like (f j) x i) (g .n)
+
+  -- from q readies, and from the echoes where there are fewer
+  by-readies : (es rs : ℕ → Option Entry) (x : Entry) → quota g ≤ votes (blockRules H g) (g .n) (g .t) rs x → length (regained g es rs (x .digests)) ≡ g .size
+  unfolding regained chosen pick votes
+  by-readies es rs x v =
+      let c = votes-are rs x in
+      let q : quota g ≤ count (λ j. hasList (rs j) (x .digests)) (g .n) = omega arith in
+      rw (le-leb (quota g) _ q) (decoded-size rs (x .digests) (omega (arith, quota-blocks g)))
+
+  by-echoes : (es rs : ℕ → Option Entry) (x : Entry) → g .k ≤ votes (blockRules H g) (g .n) (g .t) es x → length (regained g es rs (x .digests)) ≡ g .size
+  unfolding regained chosen pick votes
+  by-echoes es rs x v = go (leb (quota g) (count (λ j. hasList (rs j) (x .digests)) (g .n))) refl
+    where
+      go : (b : Bool) → leb (quota g) (count (λ j. hasList (rs j) (x .digests)) (g .n)) ≡ b → length (decoded g (pick b rs es) (x .digests)) ≡ g .size
+      go true e = decoded-size rs (x .digests) (omega (arith, quota-blocks g, leb-true (quota g) _ e))
+      go false e = decoded-size es (x .digests) (omega (arith, v, votes-are es x))
+
+  sized-own : (me : ℕ) (w : Part Entry) (x : Entry) → Sized g x → length (regained g (w .echoes) (w .readies) (x .digests)) ≡ g .size
+      → Sized g (blockRules H g .own me (w .echoes) (w .readies) x)
+  sized-own me w x Q s = record { list-is = Q .list-is; block-is = block-width g (regained g (w .echoes) (w .readies) (x .digests)) me s }
+
+  full-votes : (w : Part Entry) (x : Entry) → full (blockRules H g) (g .n) (g .t) w x ≡ true → quota g + g .t ≤ votes (blockRules H g) (g .n) (g .t) (w .readies) x
+  unfolding full votes
+  full-votes w x e = leb-true (quota g + g .t) (votes (blockRules H g) (g .n) (g .t) (w .readies) x) (and-split _ _ e .0)
+
+  -- an entry that completes the part, and one that is due
+  pub coded : (me : ℕ) (w : Part Entry) (x : Entry) → Sized g x → full (blockRules H g) (g .n) (g .t) w x ≡ true → Sized g (blockRules H g .own me (w .echoes) (w .readies) x)
+  coded me w x Q e = sized-own me w x Q (by-readies (w .echoes) (w .readies) x (omega (arith, full-votes w x e)))
+
+  pub due-sized : g .k + g .t ≤ g .n → (me : ℕ) (w : Part Entry) (x : Entry) → Sized g x → due (blockRules H g) (g .n) (g .t) w x ≡ true
+      → Sized g (blockRules H g .own me (w .echoes) (w .readies) x)
+  unfolding due enough votes
+  due-sized kn me w x Q e = sized-own me w x Q (⊎-elim
+      (λ a. by-echoes (w .echoes) (w .readies) x (omega (arith, leb-true (g .n) (votes (blockRules H g) (g .n) (g .t) (w .echoes) x + g .t) a)))
+      (λ a. by-readies (w .echoes) (w .readies) x (leb-true (quota g) (votes (blockRules H g) (g .n) (g .t) (w .readies) x) a))
+      (or-split (leb (g .n) (votes (blockRules H g) (g .n) (g .t) (w .echoes) x + g .t)) (leb (quota g) (votes (blockRules H g) (g .n) (g .t) (w .readies) x))
+      (and-split _ _ (and-split (not (w .ready)) _ e .1) .0)))
+
+  -- ---- what was decoded
+
+  regained-bytes : (es rs : ℕ → Option Entry) (d : List ℕ) → Bytes (regained g es rs d)
+  unfolding regained decoded
+  regained-bytes es rs d =
+      let l = take (g .k) (pieces (chosen g es rs d) d 1 (g .n)) in
+      Bytes-valueOf (numbers l) (g .size) (joinedBytes l)
+
+  in-pick : (b : Bool) (v : List ℕ) → b ≡ true → List·Memᴰ v (pick b (v ∷ []) [])
+  unfolding pick
+  in-pick true v e = List·Memᴰ·head refl
+  in-pick false v e = impossible (cc e)
+
+  full-has : (w : Part Entry) (x : Entry) → w .done ≡ none → full (blockRules H g) (g .n) (g .t) w x ≡ true → Has H g (decodes H g w x) (x .digests)
+  unfolding full matters votes
+  full-has w x n h =
+      let u = and-split (leb (quota g + g .t) (votes (blockRules H g) (g .n) (g .t) (w .readies) x)) _ h in
+      let m = or-right (not (w .ready) && enough (blockRules H g) (g .n) (g .t) w x) _ (and-true _ _ (u .0) (ap undone n)) in (
+        regained g (w .echoes) (w .readies) (x .digests),
+        in-pick _ _ m,
+        same-true _ (x .digests) (u .1),
+        by-readies (w .echoes) (w .readies) x (omega (arith, full-votes w x h)),
+        regained-bytes (w .echoes) (w .readies) (x .digests),
+      )
+
+  pub settled-has : (me : ℕ) (w : Part Entry) (x y : Entry) → settled (blockRules H g) (g .n) (g .t) me w x .done ≡ some y → (w .done ≡ some y) ⊎ Has H g (decodes H g w x) (y .digests)
+  settled-has me w x y = go (w .done) (full (blockRules H g) (g .n) (g .t) w x) refl refl
+    where
+      go : (o : Option Entry) (b : Bool) → w .done ≡ o → full (blockRules H g) (g .n) (g .t) w x ≡ b → firstOf o (kept b (blockRules H g .own me (w .echoes) (w .readies) x)) ≡ some y
+          → (w .done ≡ some y) ⊎ Has H g (decodes H g w x) (y .digests)
+      go (some z) b p q u = inl (p ∙ u)
+      go none true p q u =
+          let i : blockRules H g .own me (w .echoes) (w .readies) x ≡ y = cc u in
+          inr (subst (λ z. Has H g (decodes H g w x) (z .digests)) i (full-has w x p q))
+      go none false p q u = impossible (cc u)

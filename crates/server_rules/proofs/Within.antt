@@ -1,0 +1,203 @@
+-- Every step keeps a well-formed server, whatever its bounds are: by the law of a step. Assumes nothing.
+use Prim.Native.Nat.{ℕ, zero, suc, _+_, _≤_, _<_}
+use native.Mathlib.Omega.{arith}
+use mathlib.Core.Bool.{Bool, true, false}
+use mathlib.Core.Path.{_≡_, refl, ap, sym, _∙_}
+use mathlib.Core.List.{List, [], _∷_}
+use lib.ListN.{length, getD, set, replicate, length-set}
+use lib.Seq.{getD-set-same}
+use Rattle.area.specs.Area.{pick}
+use Rattle.blocks.specs.declared.Params.{Params}
+use Rattle.frame.specs.declared.Verdict.the-variants as J
+use Rattle.frame.specs.Stamps.{older, zeroStamp, lastTime}
+use Rattle.frame.specs.Messages.{Entry, send, echo, ready, Body, getStamp, ack, askRead, readComplete, stampIs, blockIs, timeIs, valueIs}
+use Rattle.server_rules.specs.declared.BlockPart.{BlockPart}
+use Rattle.server_rules.specs.declared.TimePart.{TimePart}
+use Rattle.server_rules.specs.declared.Slot.{Slot}
+use Rattle.server_rules.specs.declared.Reader.{Reader}
+use Rattle.server_rules.specs.declared.Server.{Server}
+use Rattle.server_rules.specs.State.{freshBlocks, freshTimes, freshSlot, freshReader, freshServer, noSlot, noReader, slotOf, readerOf, withSlot, withReader, withBlocks, withTimes, blockEcho, blockReady, timeEcho, timeReady}
+use Rattle.server_rules.specs.WellFormed.{Every, Array, Bounds, BlocksWithin, TimesWithin, SlotWithin, Within}
+use Rattle.server_rules.specs.Steps as S
+use Rattle.server_rules.specs.Tests as ST
+use Rattle.server_rules.proofs.Shapes.{Ripe, Freed, nothing, accepts, Counted, block, time, counted-sequence, Shape, idle, answers, notes, ends, settles}
+use Rattle.server_rules.proofs.Passing.{counted-open}
+
+-- ---- arrays, and one of two
+
+module _ {A : Type 0} (P : A → Type 0) where
+  every-set : (xs : List A) (i : ℕ) (x : A) → Every P xs → P x → Every P (set xs i x)
+  every-set [] i x e p = e
+  every-set (y ∷ xs) zero x e p = (p, e .1)
+  every-set (y ∷ xs) (suc i) x e p = (e .0, every-set xs i x (e .1) p)
+
+  pub array-set : (m : ℕ) (xs : List A) (i : ℕ) (x : A) → Array m P xs → P x → Array m P (set xs i x)
+  array-set m xs i x t p = (length-set xs i x ∙ t .0, every-set xs i x (t .1) p)
+
+  pub every-replicate : (m : ℕ) (x : A) → P x → Every P (replicate m x)
+  every-replicate zero x p = tt
+  every-replicate (suc m) x p = (p, every-replicate m x p)
+
+  pub getD-every : (xs : List A) (i : ℕ) (d : A) → Every P xs → i < length xs → P (getD xs i d)
+  getD-every [] i d e h = absurd (omega arith)
+  getD-every (x ∷ xs) zero d e h = e .0
+  getD-every (x ∷ xs) (suc i) d e h = getD-every xs i d (e .1) (omega arith)
+
+  pub either : (b : Bool) (x y : A) → P x → P y → P (pick b x y)
+  unfolding pick
+  either true x y p q = p
+  either false x y p q = q
+
+-- ---- the places of a server
+
+module _ (B : Bounds) where
+  -- the time that a body brings
+  abbrev pub TimeIn : Body → Type 0
+  TimeIn getStamp = Unit {0}
+  TimeIn ack = Unit {0}
+  TimeIn askRead = Unit {0}
+  TimeIn readComplete = Unit {0}
+  TimeIn (stampIs T) = Unit {0}
+  TimeIn (blockIs z e) = Unit {0}
+  TimeIn (timeIs z T) = B .time T
+  TimeIn (valueIs x e) = Unit {0}
+
+  -- nothing has come
+  pub record Empty : Type 0 where
+    pub flags : B .flags (replicate 11 false)
+    pub time : B .time 0
+
+  pub fresh-within : Empty → (q : ℕ) → B .sequence q → SlotWithin B (freshSlot q)
+  unfolding freshSlot freshBlocks freshTimes
+  fresh-within E q h =
+      let n : Array 11 (B .time) (replicate 11 0) = (refl, every-replicate (B .time) 11 0 (E .time)) in record {
+        sequence = h;
+        blocks = record { echoes = E .flags; readies = E .flags };
+        times = record { time = E .time; echoes = E .flags; readies = E .flags; echoed = n; readied = n };
+      }
+
+  pub server-within : Empty → B .sequence 1 → B .stamp zeroStamp → B .reader freshReader → Within B freshServer
+  unfolding freshServer
+  server-within E h x r = record {
+    stamp = x;
+    slots = (refl, every-replicate (SlotWithin B) 9 (freshSlot 1) (fresh-within E 1 h));
+    readers = (refl, every-replicate (B .reader) 9 freshReader r);
+  }
+
+  module _ {s : Server} (W : Within B s) (c : ℕ) where
+    pub slot-within : c ≤ 8 → SlotWithin B (slotOf s c)
+    slot-within h = getD-every (SlotWithin B) (s .slots) c noSlot (W .slots .1) (omega (arith, W .slots .0))
+
+    pub reader-within : c ≤ 8 → B .reader (readerOf s c)
+    reader-within h = getD-every (B .reader) (s .readers) c noReader (W .readers .1) (omega (arith, W .readers .0))
+
+    pub with-slot : (x : Slot) → SlotWithin B x → Within B (withSlot s c x)
+    with-slot x y = record { stamp = W .stamp; slots = array-set (SlotWithin B) 9 (s .slots) c x (W .slots) y; readers = W .readers }
+
+    with-reader : (x : Reader) → B .reader x → Within B (withReader s c x)
+    with-reader x y = record { stamp = W .stamp; slots = W .slots; readers = array-set (B .reader) 9 (s .readers) c x (W .readers) y }
+
+    pub this-slot : c ≤ 8 → (x : Slot) → slotOf (withSlot s c x) c ≡ x
+    this-slot h x = getD-set-same (s .slots) c x noSlot (omega (arith, W .slots .0))
+
+  -- ---- a frame is counted
+
+  abbrev Setting : ℕ → Type 0
+  Setting j = (l : List Bool) → B .flags l → B .flags (set l j true)
+
+  module _ (x : Slot) (X : SlotWithin B x) where
+    blocks-within : (b : BlockPart) → BlocksWithin B b → SlotWithin B (withBlocks x b)
+    blocks-within b u = record { sequence = X .sequence; blocks = u; times = X .times }
+
+    times-within : (b : TimePart) → TimesWithin B b → SlotWithin B (withTimes x b)
+    times-within b u = record { sequence = X .sequence; blocks = X .blocks; times = u }
+
+    module _ (j : ℕ) (flag : Setting j) where
+      pub echo-within : SlotWithin B (withBlocks x (blockEcho (x .blocks) j))
+      echo-within = blocks-within _ (record { echoes = flag _ (X .blocks .echoes); readies = X .blocks .readies })
+
+      pub ready-within : SlotWithin B (withBlocks x (blockReady (x .blocks) j))
+      ready-within = blocks-within _ (record { echoes = X .blocks .echoes; readies = flag _ (X .blocks .readies) })
+
+      module _ (T : ℕ) (h : B .time T) where
+        time-echo-within : SlotWithin B (withTimes x (timeEcho (x .times) j T))
+        time-echo-within = let u = X .times in times-within _ (record {
+          time = u .time;
+          echoes = flag _ (u .echoes);
+          readies = u .readies;
+          echoed = array-set (B .time) 11 (x .times .echoed) j T (u .echoed) h;
+          readied = u .readied;
+        })
+
+        time-ready-within : SlotWithin B (withTimes x (timeReady (x .times) j T))
+        time-ready-within = let u = X .times in times-within _ (record {
+          time = u .time;
+          echoes = u .echoes;
+          readies = flag _ (u .readies);
+          echoed = u .echoed;
+          readied = array-set (B .time) 11 (x .times .readied) j T (u .readied) h;
+        })
+
+    same-blocks : (b : BlockPart) → b .echoes ≡ x .blocks .echoes → b .readies ≡ x .blocks .readies → SlotWithin B (withBlocks x b)
+    same-blocks b e r = blocks-within b (record { echoes = rw e (X .blocks .echoes); readies = rw r (X .blocks .readies) })
+
+    same-times : (b : TimePart) → B .time (b .time) → b .echoes ≡ x .times .echoes → b .readies ≡ x .times .readies → b .echoed ≡ x .times .echoed → b .readied ≡ x .times .readied
+        → SlotWithin B (withTimes x b)
+    same-times b h e r f k = let u = X .times in times-within b
+        (record { time = h; echoes = rw e (u .echoes); readies = rw r (u .readies); echoed = rw f (u .echoed); readied = rw k (u .readied) })
+
+  module _ (H : List ℕ → List ℕ) (g : Params) (me : ℕ) (s : Server) (a initial : List ℕ) (j c : ℕ) where
+    voted-within : (a : List ℕ) (x : Slot) (e : Entry) → SlotWithin B x → SlotWithin B (S.votedBlock H g me a c x e .slot)
+    unfolding S.votedBlock
+    voted-within a x e X = same-blocks x X _ refl refl
+
+    timed-within : (a : List ℕ) (x : Slot) (T : ℕ) → SlotWithin B x → B .time T → SlotWithin B (S.votedTime H g me a c x T .slot)
+    unfolding S.votedTime
+    timed-within a x T X h = same-times x X _ (either (B .time) _ T (x .times .time) h (X .times .time)) refl refl refl refl
+
+    pub counted-within : Setting j → SlotWithin B (slotOf s c) → {b : Body} {p : S.Counting} → Counted H g me s a initial j c b p → TimeIn b → SlotWithin B (p .slot)
+    unfolding S.onBlock S.onTime
+    counted-within flag X (block send e) h = same-blocks (slotOf s c) X _ refl refl
+    counted-within flag X (block echo e) h = voted-within _ _ e (echo-within (slotOf s c) X j flag)
+    counted-within flag X (block ready e) h = voted-within _ _ e (ready-within (slotOf s c) X j flag)
+    counted-within flag X (time send T) h = same-times (slotOf s c) X _ (X .times .time) refl refl refl refl
+    counted-within flag X (time echo T) h = timed-within a _ T (time-echo-within (slotOf s c) X j flag T h) h
+    counted-within flag X (time ready T) h = timed-within a _ T (time-ready-within (slotOf s c) X j flag T h) h
+
+  -- ---- a step
+
+  -- a write that is accepted leaves its stamp and opens the next sequence
+  abbrev pub Leaves : S.Write → Type 0
+  Leaves w = B .stamp (S.stampOf w) × B .sequence (w .sequence + 1)
+
+  freed-within : Empty → {g : Params} {s : Server} {a : List ℕ} {c : ℕ} {r : S.Effect} → Freed g s a c r → Within B s
+      → ((w : S.Write) → w .client ≡ c → Ripe g s a w → Leaves w) → Within B (r .server)
+  unfolding S.accept
+  freed-within E nothing W f = W
+  freed-within E {g} {s} (accepts w e R) W f =
+      let (x, q) = f w e R in record {
+        stamp = either (B .stamp) (older (s .stamp) (S.stampOf w)) (S.stampOf w) (s .stamp) x (W .stamp);
+        slots = array-set (SlotWithin B) 9 (s .slots) (w .client) _ (W .slots) (fresh-within E (w .sequence + 1) q);
+        readers = W .readers;
+      }
+
+  module _ (H : List ℕ → List ℕ) (g : Params) (me : ℕ) (s : Server) (a initial : List ℕ) (j c q : ℕ) where
+    -- what the bounds have to grant to a step from party j, for client c's operation q
+    pub record Grants (b : Body) : Type 0 where
+      pub empty : Empty
+      pub counts : {p : S.Counting} → Counted H g me s a initial j c b p → ((l : List Bool) → B .flags l → B .flags (set l j true)) × TimeIn b
+      pub noted : B .stamp (s .stamp) → B .reader (record { sequence = q; listening = true; noted = s .stamp })
+      pub ended : B .reader (readerOf s c) → B .reader (record { sequence = q; listening = false; noted = readerOf s c .noted })
+      pub leaves : (w : S.Write) → w .client ≡ c → w .sequence ≡ q → w .time < lastTime → Leaves w
+
+    pub step-within : Within B s → c ≤ 8 → {b : Body} {r : S.Effect} → Shape H g me s a initial j c q b r → ST.orderTest H g me s j c q b ≡ J.Fine → Grants b → Within B (r .server)
+    step-within W few (idle b) o G = W
+    step-within W few answers o G = W
+    step-within W few notes o G = with-reader W c _ (G .noted (W .stamp))
+    step-within W few ends o G = with-reader W c _ (G .ended (reader-within W c few))
+    step-within W few (settles b p k f) o G =
+        freed-within (G .empty) f (with-slot W c (p .slot) (counted-within H g me s a initial j c (G .counts k .0) (slot-within W c few) k (G .counts k .1)))
+        (λ w e R. G .leaves w e
+        (R .sequence ∙ ap (λ d. slotOf (withSlot s c (p .slot)) d .sequence) e ∙ ap (λ x. x .sequence) (this-slot W c few (p .slot))
+        ∙ counted-sequence H g me s a initial j c k ∙ sym (counted-open k q o))
+        (R .below))

@@ -56,7 +56,7 @@ step-is v u s a a′ x out to out′ to′ c y p r e f h i j =
     z ∙ ap (λ (w : Verdict). answered w s a x out to) (sym f ∙ e)
 
 -- the open write
-open-fine : (x : Slot) (q : ℕ) (again : Bool) → openTest x q again ≡ J.Fine → x .sequence ≡ q
+pub open-fine : (x : Slot) (q : ℕ) (again : Bool) → openTest x q again ≡ J.Fine → x .sequence ≡ q
 unfolding openTest
 open-fine x q again e =
     let a = fine-not (ltb q (x .sequence)) R.Stale _ e in

@@ -24,7 +24,7 @@ use Rattle.server_rules.specs.declared.Scope.{Scope}
 use Rattle.server_rules.specs.declared.Slot.{Slot}
 use Rattle.server_rules.specs.declared.Server.{Server}
 use Rattle.server_rules.specs.Broadcast.{kept}
-use Rattle.server_rules.specs.State.{noReader, readerAt, slotOf, freshSlot, timeView, blockView}
+use Rattle.server_rules.specs.State.{noReader, readerAt, freshSlot, timeView, blockView}
 use Rattle.server_rules.specs.Scopes.{withScope}
 use Rattle.server_rules.specs.Steps.{Write, stampOf, tellFrom, accept, bothDone, ripe, freeBy, free}
 use Rattle.server.specs.Stages.{Holds, Progress, progress, moved}

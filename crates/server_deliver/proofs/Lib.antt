@@ -1,4 +1,6 @@
-pub mod BlockSteps
-pub mod KindSteps
-pub mod OneClient
 pub mod Openings
+pub mod OneClient
+pub mod Settling
+pub mod Votes
+pub mod KindSteps
+pub mod Writes

@@ -15,114 +15,123 @@ use Rattle.frame.specs.declared.Refusal.{Refusal}
 use Rattle.frame.specs.declared.Refusal.the-variants as R
 use Rattle.frame.specs.declared.Verdict.{Verdict}
 use Rattle.frame.specs.declared.Verdict.the-variants as J
+use Rattle.frame.specs.Refusals.{andThen}
 use Rattle.frame.specs.Params.{width, largestFrame, outRoom, toRoom, paramsTest}
-use Rattle.frame.specs.Messages.{Message, bad, judgedBy, after}
+use Rattle.frame.specs.Messages.{Message, Judged, bad, good, judgedBy, after}
 use Rattle.frame.specs.Frames.{clientAt, headerIn, frameTest, openedBy, opened, messageIn}
 use Rattle.frame.specs.Chunks.{areaBytes}
 use Rattle.frame.specs.Outbox.{frames, receivers, firstPlace, Room}
-use Rattle.frame.proofs.Verdicts.{fine-not}
-use Rattle.frame.proofs.Within.{admitted-of}
+use Rattle.frame.proofs.Verdicts.{fine-not, fine-both, fine-opened}
+use Rattle.frame.proofs.Within.{Admitted, admitted-of}
 use Rattle.frame.proofs.Opening.{opens-facts}
 use Rattle.quorum.proofs.Logic.{impossible}
 use Rattle.server_rules.specs.declared.Server.{Server}
 use Rattle.server_rules.specs.declared.Reply.the-variants as Y
+use Rattle.server_rules.specs.Scopes.{withScope}
 use Rattle.server_rules.specs.Tests.{roomTest, messageTest, judgeOpened, judge}
 use Rattle.server_rules.specs.Steps.{effect}
 use Rattle.server_rules.specs.Delivery.{Outcome, outcome, effectBy, delivered, replyOf, outcomeOf, delivery}
+use Rattle.server.specs.declared.Call.{Call}
 use Rattle.server.specs.declared.Taken.{Taken}
-use Rattle.server_rules.specs.State.{withScope}
 use Rattle.server.specs.Stages.{outcomeIn, stepped, answered}
-use Rattle.server_deliver.specs.Handed.{Own, Handed, refusalIn, unless, admittedBy, admitted, stepFor, deliveryBy}
+use Rattle.server_deliver.specs.Handed.{Handed, refusalIn, admitted, stepFor}
 
--- ---- what the tests leave
+-- ---- the tests one after the other: p says what 1 to 3 find, t what 4 to 9 and v what 10
 
-pub own-of : (g : Params) (me : ℕ) (v : Verdict) → v ≡ paramsTest g me (g .n) → v ≡ J.Fine → Own g me
-own-of g me v e f =
-    let A = admitted-of g me (g .n) (sym e ∙ f) in
-    record { bounded = A .bounded; own-low = A .own-low; own-high = A .own-high }
+bad-opened : (v : Verdict) (h : Header) (r : Refusal) → openedBy v h ≡ O.Refused r → v ≡ J.Bad r
+bad-opened J.Fine h r e = impossible (cc e)
+bad-opened (J.Bad s) h r e = ap J.Bad (ap refusalIn e)
+
+module _ (g : Params) (me : ℕ) (f : List ℕ) (area initial out to : ℕ) where
+  all-said : (p t v : Verdict) → p ≡ paramsTest g me (g .n) → t ≡ frameTest g f → v ≡ roomTest g area initial out to
+      → openedBy (andThen p (andThen t v)) (headerIn f) ≡ admitted g me f area initial out to
+  unfolding admitted
+  all-said p t v e h i = λ l. openedBy (andThen (e l) (andThen (h l) (i l))) (headerIn f)
+
+  module _ (p : Verdict) (e : p ≡ paramsTest g me (g .n)) where
+    pub out-of-bounds : (r : Refusal) → p ≡ J.Bad r → O.Refused r ≡ admitted g me f area initial out to
+    out-of-bounds r h = all-said (J.Bad r) (frameTest g f) (roomTest g area initial out to) (sym h ∙ e) refl refl
+
+    module _ (h : p ≡ J.Fine) (q : Opened) (i : q ≡ opened g f) where
+      pub not-opened : (r : Refusal) → q ≡ O.Refused r → q ≡ admitted g me f area initial out to
+      unfolding opened
+      not-opened r j =
+          j ∙ all-said J.Fine (J.Bad r) (roomTest g area initial out to) (sym h ∙ e) (sym (bad-opened (frameTest g f) (headerIn f) r (sym i ∙ j))) refl
+
+      module _ (k : Header) (j : q ≡ O.Frame k) (v : Verdict) (l : v ≡ roomTest g area initial out to) where
+        frame-fine : (frameTest g f ≡ J.Fine) × (headerIn f ≡ k)
+        unfolding opened
+        frame-fine = fine-opened (frameTest g f) (headerIn f) k (sym i ∙ j)
+
+        pub no-room : (r : Refusal) → v ≡ J.Bad r → O.Refused r ≡ admitted g me f area initial out to
+        no-room r m = all-said J.Fine J.Fine (J.Bad r) (sym h ∙ e) (sym (frame-fine .0)) (sym m ∙ l)
+
+        pub has-room : v ≡ J.Fine → O.Frame k ≡ admitted g me f area initial out to
+        has-room m = ap O.Frame (sym (frame-fine .1)) ∙ all-said J.Fine J.Fine J.Fine (sym h ∙ e) (sym (frame-fine .0)) (sym m ∙ l)
+
+-- ---- what they leave of a frame that is let in
 
 record Rooms (g : Params) (area initial out to : ℕ) : Type 0 where
   whole : areaBytes ≤ area
   initial-whole : width g ≤ initial
   room : Room firstPlace (g .n + 9) (largestFrame g) out to
 
-rooms-of : (g : Params) (area initial out to : ℕ) (v : Verdict) → v ≡ roomTest g area initial out to → v ≡ J.Fine → Rooms g area initial out to
+rooms-of : (g : Params) (area initial out to : ℕ) → roomTest g area initial out to ≡ J.Fine → Rooms g area initial out to
 unfolding roomTest outRoom toRoom
-rooms-of g area initial out to v e f =
-    let a = fine-not (ltb area areaBytes) R.Room _ (sym e ∙ f) in
+rooms-of g area initial out to e =
+    let a = fine-not (ltb area areaBytes) R.Room _ e in
     let b = fine-not (ltb initial (width g)) R.Room _ (a .1) in
     let c = fine-not (ltb out ((g .n + 9) * largestFrame g)) R.Room _ (b .1) in
     let d = fine-not (ltb to (2 * (g .n + 9))) R.Room _ (c .1) in
     record {
       whole = ltb-false _ _ (a .0);
       initial-whole = ltb-false _ _ (b .0);
-      room = record { out-room = omega (arith, ltb-false out ((g .n + 9) * largestFrame g) (c .0)); to-room = omega (arith, ltb-false to (2 * (g .n + 9)) (d .0)) };
+      room = record {
+        out-room = omega (arith, ltb-false out ((g .n + 9) * largestFrame g) (c .0));
+        to-room = omega (arith, ltb-false to (2 * (g .n + 9)) (d .0));
+      };
     }
 
-handed-of : (g : Params) (me : ℕ) (h : Header) (f : List ℕ) (area initial out to : ℕ) (o : Opened) → Own g me → o ≡ opened g f → o ≡ O.Frame h
-    → Rooms g area initial out to → Handed g me h (length f) area out to
-handed-of g me h f area initial out to o W e q S =
-    let F = opens-facts g f h (sym e ∙ q) in
-    record {
-      lent = record { bounded = W .bounded; client-low = F .client-low; client-high = F .client-high; whole = S .whole; room = S .room };
-      own-low = W .own-low;
-      own-high = W .own-high;
-      kind-low = F .kind-low;
-      kind-high = F .kind-high;
-      frame-is = F .length-is;
-    }
+record LetIn (g : Params) (me : ℕ) (f : List ℕ) (area initial out to : ℕ) (h : Header) : Type 0 where
+  params : Admitted g me (g .n)
+  frame : frameTest g f ≡ J.Fine
+  rooms : Rooms g area initial out to
+  header : headerIn f ≡ h
 
--- ---- the tests one after the other
+module _ (g : Params) (me : ℕ) (f : List ℕ) (area initial out to : ℕ) (q : Opened) (e : q ≡ admitted g me f area initial out to) (h : Header)
+    (p : q ≡ O.Frame h) where
+  let-in : LetIn g me f area initial out to h
+  unfolding admitted
+  let-in =
+      let A = fine-opened (andThen (paramsTest g me (g .n)) (andThen (frameTest g f) (roomTest g area initial out to))) (headerIn f) h (sym e ∙ p) in
+      let B = fine-both (paramsTest g me (g .n)) (andThen (frameTest g f) (roomTest g area initial out to)) (A .0) in
+      let C = fine-both (frameTest g f) (roomTest g area initial out to) (B .1) in
+      record { params = admitted-of g me (g .n) (B .0); frame = C .0; rooms = rooms-of g area initial out to (C .1); header = A .1 }
 
--- 4 to 9
-pub not-opened : (v : Verdict) (q o : Opened) (r : Refusal) → q ≡ o → q ≡ O.Refused r → q ≡ admittedBy v o
-not-opened v q o r e p = p ∙ ap (admittedBy v) (sym p ∙ e)
+  -- the client that it names
+  pub client-named : getD f clientAt 0 ≡ h .client
+  unfolding headerIn
+  client-named = ap (λ (k : Header). k .client) (let-in .header)
 
--- 10
-pub no-room : (u v : Verdict) (q o : Opened) (h : Header) (r : Refusal) → q ≡ o → q ≡ O.Frame h → u ≡ v → u ≡ J.Bad r → O.Refused r ≡ admittedBy v o
-no-room u v q o h r e p i j = ap (λ (z : Verdict). unless z (O.Frame h)) (sym j ∙ i) ∙ ap (admittedBy v) (sym p ∙ e)
-
-pub has-room : (u v : Verdict) (q o : Opened) (h : Header) → q ≡ o → q ≡ O.Frame h → u ≡ v → u ≡ J.Fine → O.Frame h ≡ admittedBy v o
-has-room u v q o h e p i j = ap (λ (z : Verdict). unless z (O.Frame h)) (sym j ∙ i) ∙ ap (admittedBy v) (sym p ∙ e)
-
--- 1 to 3
-pub out-of-bounds : (u v : Verdict) (o : Opened) (r : Refusal) → u ≡ v → u ≡ J.Bad r → O.Refused r ≡ unless v o
-out-of-bounds u v o r e p = ap (λ (z : Verdict). unless z o) (sym p ∙ e)
-
-pub within-bounds : (u v : Verdict) (q o : Opened) → u ≡ v → u ≡ J.Fine → q ≡ o → q ≡ unless v o
-within-bounds u v q o e p i = i ∙ ap (λ (z : Verdict). unless z o) (sym p ∙ e)
-
--- a frame is let in where nothing speaks against it
-let-in-by : (p v : Verdict) (o : Opened) (h : Header) → unless p (admittedBy v o) ≡ O.Frame h → (p ≡ J.Fine) × (v ≡ J.Fine) × (o ≡ O.Frame h)
-let-in-by (J.Bad q) v o h e = impossible (cc e)
-let-in-by J.Fine v (O.Refused q) h e = impossible (cc e)
-let-in-by J.Fine (J.Bad q) (O.Frame k) h e = impossible (cc e)
-let-in-by J.Fine J.Fine (O.Frame k) h e = (refl, refl, e)
-
--- what a step may ask for of a frame that was let in
-pub let-in : (g : Params) (me : ℕ) (h : Header) (f : List ℕ) (area initial out to : ℕ) (q : Opened) → q ≡ admitted g me f area initial out to → q ≡ O.Frame h
-    → Handed g me h (length f) area out to × (width g ≤ initial)
-unfolding admitted
-let-in g me h f area initial out to q e p =
-    let S = let-in-by (paramsTest g me (g .n)) (roomTest g area initial out to) (opened g f) h (sym e ∙ p) in
-    let R = rooms-of g area initial out to _ refl (S .1) in
-    (handed-of g me h f area initial out to _ (own-of g me _ refl (S .0)) refl (S .2) R, R .initial-whole)
-
-abbrev headerOf : Opened → Header → Header
-headerOf (O.Frame h) k = h
-headerOf (O.Refused r) k = k
-
-headed : (v : Verdict) (k h : Header) → openedBy v k ≡ O.Frame h → k ≡ h
-headed J.Fine k h e = ap (λ (o : Opened). headerOf o k) e
-headed (J.Bad r) k h e = impossible (cc e)
-
--- the client that a frame which was let in names
-pub client-named : (g : Params) (me : ℕ) (h : Header) (f : List ℕ) (area initial out to : ℕ) (q : Opened) → q ≡ admitted g me f area initial out to → q ≡ O.Frame h
-    → getD f clientAt 0 ≡ h .client
-unfolding admitted opened headerIn
-client-named g me h f area initial out to q e p =
-    let S = let-in-by (paramsTest g me (g .n)) (roomTest g area initial out to) (opened g f) h (sym e ∙ p) in
-    ap (λ (k : Header). k .client) (headed (frameTest g f) (headerIn f) h (S .2))
+-- what its step may ask for
+pub handed : (k : Call) (f : List ℕ) (area initial out to : ℕ) (q : Opened) → q ≡ admitted (k .params) (k .me) f area initial out to → q ≡ O.Frame (k .header)
+    → Handed k (length f) area out to × (width (k .params) ≤ initial)
+unfolding opened
+handed k f area initial out to q e p =
+    let L = let-in (k .params) (k .me) f area initial out to q e (k .header) p in
+    let F = opens-facts (k .params) f (k .header) (ap (λ (z : Verdict). openedBy z (headerIn f)) (L .frame) ∙ ap O.Frame (L .header)) in
+    let A = L .params in
+    let S = L .rooms in (
+      record {
+        lent = record { bounded = A .bounded; client-low = F .client-low; client-high = F .client-high; whole = S .whole; room = S .room };
+        own-low = A .own-low;
+        own-high = A .own-high;
+        kind-low = F .kind-low;
+        kind-high = F .kind-high;
+        frame-is = F .length-is;
+      },
+      S .initial-whole,
+    )
 
 -- ---- the outcome
 
@@ -131,50 +140,70 @@ pub put-back : (s : Server) (c : ℕ) (r : Taken) (w : Server) (a out to : List 
     → outcome (record { reply = r .reply; server = w }) a out to ≡ x
 put-back s c r w a out to x e p = ap (λ (z : Server). outcome (record { reply = r .reply; server = z }) a out to) e ∙ p
 
-module _ (H : List ℕ → List ℕ) (g : Params) (me : ℕ) (s : Server) (a initial : List ℕ) (from : Party) (out to : List ℕ) where
-  -- a refusal changes nothing
-  bad-is : (r : Refusal) → outcome (record { reply = Y.Refused r; server = s }) a out to ≡ deliveryBy H g me (bad r) s a initial from out to
-  unfolding deliveryBy outcomeOf effectBy replyOf frames receivers
-  bad-is r = refl
-
-  judged-is : (v : Verdict) (m : Message)
-      → answered v s a (effect H g me s a initial from m) out to ≡ deliveryBy H g me (judgedBy v m) s a initial from out to
-  unfolding deliveryBy outcomeOf effectBy replyOf answered stepped frames receivers
-  judged-is (J.Bad r) m = refl
-  judged-is J.Fine m = refl
-
-  same-reason : (q r : Refusal) → q ≡ r → outcome (record { reply = Y.Refused r; server = s }) a out to ≡ deliveryBy H g me (bad q) s a initial from out to
-  same-reason q r e = ap (λ (z : Refusal). outcome (record { reply = Y.Refused z; server = s }) a out to) (sym e) ∙ bad-is q
-
-  turned-down : (f : List ℕ) (p v : Verdict) (o : Opened) (r : Refusal) → unless p (admittedBy v o) ≡ O.Refused r
-      → outcome (record { reply = Y.Refused r; server = s }) a out to ≡ deliveryBy H g me (after p (judgeOpened H g me o v s from f)) s a initial from out to
+module _ (H : List ℕ → List ℕ) (g : Params) (me : ℕ) (s : Server) (a initial : List ℕ) (from : Party) (f out to : List ℕ) where
+  -- 11 to 14 come behind 1 to 10
+  judged-after : (p t v : Verdict) (h : Header)
+      → after p (judgeOpened H g me (openedBy t h) v s from f)
+      ≡ judgedBy (andThen (andThen p (andThen t v)) (messageTest H g me s from (messageIn g h f))) (messageIn g h f)
   unfolding judgeOpened
-  turned-down f (J.Bad q) v o r e = same-reason q r (ap refusalIn e)
-  turned-down f J.Fine v (O.Refused q) r e = same-reason q r (ap refusalIn e)
-  turned-down f J.Fine (J.Bad q) (O.Frame h) r e = same-reason q r (ap refusalIn e)
-  turned-down f J.Fine J.Fine (O.Frame h) r e = impossible (cc e)
+  judged-after (J.Bad r) t v h = refl
+  judged-after J.Fine (J.Bad r) v h = refl
+  judged-after J.Fine J.Fine (J.Bad r) h = refl
+  judged-after J.Fine J.Fine J.Fine h = refl
 
-  gone-on : (f : List ℕ) (h : Header) (p v : Verdict) (o : Opened) → p ≡ J.Fine → v ≡ J.Fine → o ≡ O.Frame h
-      → stepFor H g me s a initial from h f out to ≡ deliveryBy H g me (after p (judgeOpened H g me o v s from f)) s a initial from out to
-  unfolding judgeOpened stepFor
-  gone-on f h p v o i j k =
-      judged-is (messageTest H g me s from (messageIn g h f)) (messageIn g h f)
-      ∙ ap (λ (z : Opened). deliveryBy H g me (judgeOpened H g me z J.Fine s from f) s a initial from out to) (sym k)
-      ∙ ap (λ (z : Verdict). deliveryBy H g me (judgeOpened H g me o z s from f) s a initial from out to) (sym j)
-      ∙ ap (λ (z : Verdict). deliveryBy H g me (after z (judgeOpened H g me o v s from f)) s a initial from out to) (sym i)
+  -- what the tests 1 to 10 say
+  abbrev before : Verdict
+  before = andThen (paramsTest g me (g .n)) (andThen (frameTest g f) (roomTest g (length a) (length initial) (length out) (length to)))
+
+  -- what the frame says
+  abbrev said : Message
+  said = messageIn g (headerIn f) f
+
+  judged : judge H g me s a initial from f out to ≡ judgedBy (andThen before (messageTest H g me s from said)) said
+  unfolding judge opened
+  judged = judged-after (paramsTest g me (g .n)) (frameTest g f) (roomTest g (length a) (length initial) (length out) (length to)) (headerIn f)
+
+  -- the message that is taken is the frame's
+  pub taken-is : (m : Message) → judge H g me s a initial from f out to ≡ good m → messageIn g (headerIn f) f ≡ m
+  taken-is m e = go (andThen before (messageTest H g me s from said)) (sym judged ∙ e)
+    where
+      go : (v : Verdict) → judgedBy v said ≡ good m → said ≡ m
+      go J.Fine q = cc
+      go (J.Bad r) q = impossible (cc)
+
+  -- the outcome, what the tests leave of the frame being known
+  abbrev by : Judged → Outcome
+  by j = outcomeOf H g me j (effectBy H g me j s a initial from) out to
+
+  delivery-by : (v : Verdict) → before ≡ v → by (judgedBy (andThen v (messageTest H g me s from said)) said) ≡ delivery H g me s a initial from f out to
+  unfolding delivery delivered
+  delivery-by v e = sym (ap by judged ∙ ap (λ (z : Verdict). by (judgedBy (andThen z (messageTest H g me s from said)) said)) e)
+
+  refused-by : (r : Refusal) → outcome (record { reply = Y.Refused r; server = s }) a out to ≡ by (bad r)
+  unfolding outcomeOf effectBy replyOf frames receivers
+  refused-by r = refl
+
+  answered-by : (v : Verdict) (m : Message) → answered v s a (effect H g me s a initial from m) out to ≡ by (judgedBy v m)
+  unfolding outcomeOf effectBy replyOf answered stepped frames receivers
+  answered-by (J.Bad r) m = refl
+  answered-by J.Fine m = refl
 
   -- 1 to 10: nothing is changed
-  pub refused-delivery : (f : List ℕ) (q : Opened) (r r′ : Refusal) → q ≡ admitted g me f (length a) (length initial) (length out) (length to)
+  pub refused-delivery : (q : Opened) (r r′ : Refusal) → q ≡ admitted g me f (length a) (length initial) (length out) (length to)
       → q ≡ O.Refused r → r′ ≡ refusalIn q → outcome (record { reply = Y.Refused r′; server = s }) a out to ≡ delivery H g me s a initial from f out to
-  unfolding delivery delivered judge deliveryBy admitted
-  refused-delivery f q r r′ e p i =
+  unfolding admitted
+  refused-delivery q r r′ e p i =
       ap (λ (z : Refusal). outcome (record { reply = Y.Refused z; server = s }) a out to) (i ∙ ap refusalIn p)
-      ∙ turned-down f (paramsTest g me (g .n)) (roomTest g (length a) (length initial) (length out) (length to)) (opened g f) r (sym e ∙ p)
+      ∙ refused-by r
+      ∙ delivery-by (J.Bad r) (bad-opened before (headerIn f) r (sym e ∙ p))
 
   -- 11 to 14, and the step
-  pub taken-delivery : (f : List ℕ) (h : Header) (q : Opened) (x : Outcome) → q ≡ admitted g me f (length a) (length initial) (length out) (length to)
-      → q ≡ O.Frame h → x ≡ stepFor H g me s a initial from h f out to → x ≡ delivery H g me s a initial from f out to
-  unfolding delivery delivered judge deliveryBy admitted
-  taken-delivery f h q x e p k =
-      let S = let-in-by (paramsTest g me (g .n)) (roomTest g (length a) (length initial) (length out) (length to)) (opened g f) h (sym e ∙ p) in
-      k ∙ gone-on f h (paramsTest g me (g .n)) (roomTest g (length a) (length initial) (length out) (length to)) (opened g f) (S .0) (S .1) (S .2)
+  pub taken-delivery : (h : Header) (q : Opened) (x : Outcome) → q ≡ admitted g me f (length a) (length initial) (length out) (length to) → q ≡ O.Frame h
+      → x ≡ stepFor H (record { params = g; me = me; from = from; header = h }) s a initial f out to → x ≡ delivery H g me s a initial from f out to
+  unfolding admitted stepFor
+  taken-delivery h q x e p i =
+      let A = fine-opened before (headerIn f) h (sym e ∙ p) in
+      i
+      ∙ answered-by (messageTest H g me s from (messageIn g h f)) (messageIn g h f)
+      ∙ ap (λ (z : Header). by (judgedBy (messageTest H g me s from (messageIn g z f)) (messageIn g z f))) (sym (A .1))
+      ∙ delivery-by J.Fine (A .0)

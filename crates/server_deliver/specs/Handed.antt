@@ -1,74 +1,100 @@
--- A frame that is handed in, stage by stage: what the stages ask, and what they promise. The entry point's promise (server's Delivery.antt)
+-- A frame that is handed in, stage by stage: what the stages ask, and what they promise. The entry point's promise (Delivery.antt of server_rules)
 -- does not speak of stages. These are definitions.
 use Prim.Native.Nat.{ℕ, _+_, _≤_}
 use mathlib.Core.Path.{_≡_}
 use mathlib.Core.List.{List}
+use lib.ListN.{length}
+use lib.Dec.{eqb}
+use Rattle.area.specs.Area.{pick}
+use Rattle.area.specs.Numbers.{be8}
 use Rattle.blocks.specs.declared.Params.{Params}
-use Rattle.frame.specs.declared.Header.{Header}
+use Rattle.sha256.specs.Hash.{digestOf}
 use Rattle.frame.specs.declared.Opened.{Opened}
 use Rattle.frame.specs.declared.Opened.the-variants as O
-use Rattle.frame.specs.declared.Party.{Party}
 use Rattle.frame.specs.declared.Refusal.{Refusal}
 use Rattle.frame.specs.declared.Refusal.the-variants as R
-use Rattle.frame.specs.declared.Verdict.{Verdict}
-use Rattle.frame.specs.declared.Verdict.the-variants as J
-use Rattle.frame.specs.Params.{width, listed, paramsTest, Bounded}
-use Rattle.frame.specs.Messages.{Judged}
-use Rattle.frame.specs.Frames.{bodyAt, bodyLength, opened, messageIn}
-use Rattle.frame.specs.Outbox.{firstPlace}
+use Rattle.frame.specs.Refusals.{andThen}
+use Rattle.frame.specs.Params.{largestFrame, paramsTest}
+use Rattle.frame.specs.Messages.{Entry, Stage, send, echo, ready, Body, blockIs, timeIs}
+use Rattle.frame.specs.Frames.{bodyAt, bodyLength, headerIn, frameTest, openedBy, entryIn, messageIn}
+use Rattle.frame.specs.Outbox.{Outbox, outbox, firstPlace, Room}
+use Rattle.server_rules.specs.declared.Slot.{Slot}
+use Rattle.server_rules.specs.declared.Reader.{Reader}
+use Rattle.server_rules.specs.declared.Scope.{Scope}
 use Rattle.server_rules.specs.declared.Server.{Server}
 use Rattle.server_rules.specs.Tests.{roomTest, messageTest}
 use Rattle.server_rules.specs.Steps.{effect}
-use Rattle.server_rules.specs.Delivery.{Outcome, effectBy, outcomeOf}
-use Rattle.server.specs.Stages.{answered, Lent}
+use Rattle.server_rules.specs.Delivery.{Outcome}
+use Rattle.server.specs.declared.Call.{Call}
+use Rattle.server.specs.declared.Counted.{Counted}
+use Rattle.server.specs.declared.Taken.{Taken}
+use Rattle.server.specs.Stages.{Holds, Handled, handled, blockFrame, timeFrame, outcomeIn, answered, Lent}
 
--- a digest list and a block of these lengths
-pub record Carried (g : Params) (list block : ℕ) : Type 0 where
-  pub list-is : list ≡ listed g
-  pub block-is : block ≡ width g
+-- ---- 1 to 10
 
--- the parameters are within their bounds, and server me is one of 1 to n
-pub record Own (g : Params) (me : ℕ) : Type 0 where
-  pub bounded : Bounded g
-  pub own-low : 1 ≤ me
-  pub own-high : me ≤ g .n
-
--- a frame of f bytes with header h reaches server me, and the lent areas have these lengths
-pub record Handed (g : Params) (me : ℕ) (h : Header) (f area out to : ℕ) : Type 0 where
-  pub lent : Lent g (h .client) area firstPlace (g .n + 9) out to
-  pub own-low : 1 ≤ me
-  pub own-high : me ≤ g .n
-  pub kind-low : 1 ≤ h .kind
-  pub kind-high : h .kind ≤ 12
-  pub frame-is : f ≡ bodyAt + bodyLength g (h .kind)
+-- the header of a frame that is let in, or the lowest of these numbers; of the lent areas only the lengths count, and the server's state is not looked at
+unfoldable pub admitted : Params → ℕ → List ℕ → ℕ → ℕ → ℕ → ℕ → Opened
+admitted g me f area initial out to =
+    openedBy (andThen (paramsTest g me (g .n)) (andThen (frameTest g f) (roomTest g area initial out to))) (headerIn f)
 
 -- why a frame was not let in; of one that was it is not asked
 abbrev pub refusalIn : Opened → Refusal
 refusalIn (O.Frame h) = R.Framing
 refusalIn (O.Refused r) = r
 
--- ---- 1 to 10: the header of a frame that is let in, or the lowest of these numbers; the server's state is not looked at
+-- ---- 11 to 14, and the step
 
--- turned down by the test v, or as it was
-abbrev pub unless : Verdict → Opened → Opened
-unless (J.Bad r) o = O.Refused r
-unless J.Fine o = o
+-- a frame of f bytes was let in, and the lent areas have these lengths
+pub record Handed (k : Call) (f area out to : ℕ) : Type 0 where
+  pub lent : Lent (k .params) (k .header .client) area firstPlace (k .params .n + 9) out to
+  pub own-low : 1 ≤ k .me
+  pub own-high : k .me ≤ k .params .n
+  pub kind-low : 1 ≤ k .header .kind
+  pub kind-high : k .header .kind ≤ 12
+  pub frame-is : f ≡ bodyAt + bodyLength (k .params) (k .header .kind)
 
--- of a frame that opened the test v is asked
-abbrev pub admittedBy : Verdict → Opened → Opened
-admittedBy v (O.Refused r) = O.Refused r
-admittedBy v (O.Frame h) = unless v (O.Frame h)
+-- the outcome of a frame f that was let in
+unfoldable pub stepFor : (List ℕ → List ℕ) → Call → Server → List ℕ → List ℕ → List ℕ → List ℕ → List ℕ → Outcome
+stepFor H k s a initial f out to =
+    let m = messageIn (k .params) (k .header) f in
+    answered (messageTest H (k .params) (k .me) s (k .from) m) s a (effect H (k .params) (k .me) s a initial (k .from) m) out to
 
--- of the lent areas only the lengths count
-unfoldable pub admitted : Params → ℕ → List ℕ → ℕ → ℕ → ℕ → ℕ → Opened
-admitted g me f area initial out to = unless (paramsTest g me (g .n)) (admittedBy (roomTest g area initial out to) (opened g f))
+-- of every server that has the scope s of the frame's client and these readers, what is left is that outcome
+abbrev pub Stepping : Scope → List Reader → Call → List ℕ → List ℕ → List ℕ → List ℕ → List ℕ → Taken → List ℕ → List ℕ → List ℕ → Type 0
+Stepping s rs k a₀ initial f out₀ to₀ r a out to =
+    (w : Server) → Holds w (k .header .client) s rs → outcomeIn w (k .header .client) r a out to ≡ stepFor digestOf k w a₀ initial f out₀ to₀
 
-module _ (H : List ℕ → List ℕ) (g : Params) (me : ℕ) where
-  -- the frame f opened with header h, and the lent areas are long enough
-  unfoldable pub stepFor : Server → List ℕ → List ℕ → Party → Header → List ℕ → List ℕ → List ℕ → Outcome
-  stepFor s a initial from h f out to =
-      answered (messageTest H g me s from (messageIn g h f)) s a (effect H g me s a initial from (messageIn g h f)) out to
+-- ---- kinds 3 to 8: a write's two broadcasts
 
-  -- what the tests leave of a frame is known
-  unfoldable pub deliveryBy : Judged → Server → List ℕ → List ℕ → Party → List ℕ → List ℕ → Outcome
-  deliveryBy j s a initial from out to = outcomeOf H g me j (effectBy H g me j s a initial from) out to
+-- what a frame of a write says: a stage, with an entry or a time
+pub data Vote : Type 0 where
+  block : Stage → Entry → Vote
+  time : Stage → ℕ → Vote
+
+abbrev pub voteBody : Vote → Body
+voteBody (block z e) = blockIs z e
+voteBody (time z T) = timeIs z T
+
+abbrev pub voteStage : Vote → Stage
+voteStage (block z e) = z
+voteStage (time z T) = z
+
+-- by its kind
+unfoldable pub voteIn : Params → ℕ → List ℕ → Vote
+voteIn g kind f =
+    pick (eqb kind 3) (block send (entryIn g f bodyAt))
+    (pick (eqb kind 4) (block echo (entryIn g f bodyAt))
+    (pick (eqb kind 5) (block ready (entryIn g f bodyAt))
+    (pick (eqb kind 6) (time send (be8 f bodyAt))
+    (pick (eqb kind 7) (time echo (be8 f bodyAt))
+    (time ready (be8 f bodyAt))))))
+
+-- what it does to the slot x, before anything is accepted
+unfoldable pub voteFrame : (List ℕ → List ℕ) → Call → Slot → List ℕ → Vote → Outbox → Handled
+voteFrame H k x a (block z e) q = blockFrame H k x a z e q
+voteFrame H k x a (time z T) q = timeFrame H k x a z T q
+
+-- the code's part of it, which leaves room for the frames of an acceptance
+pub record VoteHandled (k : Call) (x : Slot) (a₀ f out₀ to₀ : List ℕ) (r : Counted) (a out to : List ℕ) : Type 0 where
+  pub handles : handled r a out to ≡ voteFrame digestOf k x a₀ (voteIn (k .params) (k .header .kind) f) (outbox out₀ to₀ firstPlace)
+  pub room : Room (r .place) 9 (largestFrame (k .params)) (length out) (length to)

@@ -1,107 +1,144 @@
-// The step of a frame that opened, by its kind.
-use crate::storing::on_block_echo;
-use crate::storing::on_block_ready;
-use crate::storing::on_block_send;
-use blocks::Params;
-use frame::Header;
-use frame::Party;
+// The step of a frame that was let in, by its kind.
 use frame::Refusal;
+use frame::Verdict;
 use frame::bounds::width;
+use frame::layout::BODY_AT;
+use server::Call;
+use server::Counted;
 use server::Taken;
 use server::asking::on_get_stamp;
 use server::asking::on_read;
 use server::asking::on_read_complete;
-use server::timing::on_time_echo;
-use server::timing::on_time_ready;
-use server::timing::on_time_send;
+use server::replies::taken;
+use server::state::with_slot;
+use server_accept::free;
+use server_blocks::storing::on_block_echo;
+use server_blocks::storing::on_block_ready;
+use server_blocks::storing::on_block_send;
 use server_rules::Reader;
 use server_rules::Reply;
 use server_rules::Scope;
-use server_rules::Server;
-ghost use mathlib.Core.Path.{_≡_};
+use server_rules::Slot;
+use server_times::on_time_echo;
+use server_times::on_time_ready;
+use server_times::on_time_send;
 ghost use Prim.Native.Nat.{ℕ, _≤_};
 ghost use mathlib.Core.List.{List};
 ghost use lib.ListN.{length};
 ghost use Rattle.frame.specs.Params.{width};
-ghost use Rattle.sha256.specs.Hash.{digestOf};
-ghost use Rattle.server_rules.specs.State.{scopeOf};
-ghost use Rattle.server.specs.Stages.{outcomeIn};
-ghost use Rattle.server_deliver.specs.Handed.{Handed, stepFor};
+ghost use Rattle.server_deliver.specs.Handed.{Handed, VoteHandled, Stepping};
 
 // Kinds 3 to 5, whose body is a digest list and a block.
-fn step_of_blocks(
-    s: Scope,
-    readers: [Reader; 9],
-    g: Params,
-    me: u8,
-    from: Party,
-    h: Header,
+fn count_blocks(
+    x: Slot,
+    k: Call,
     f: &[u8],
     area: &mut [u8],
     out: &mut [u8],
     to: &mut [u8],
-) -> Taken
-    requires { ⌜ Handed g me h (length (now f)) (length (now area)) (length (now out)) (length (now to)) × (3 ≤ h .kind) × (h .kind ≤ 5) ⌝ }
-    ensures { λ r. ⌜ ((w : Server) → s ≡ scopeOf w (h .client) → readers ≡ w .readers → (i : List ℕ) → outcomeIn w (h .client) r (now (area .exit)) (now (out .exit)) (now (to .exit)) ≡ stepFor digestOf g me w (now (area .entry)) i from h (now (f .entry)) (now (out .entry)) (now (to .entry))) ⌝ }
+) -> Counted
+    requires { ⌜ Handed k (length (now f)) (length (now area)) (length (now out)) (length (now to)) × (3 ≤ k .header .kind) × (k .header .kind ≤ 5) ⌝ }
+    ensures { λ r. ⌜ VoteHandled k x (now (area .entry)) (now (f .entry)) (now (out .entry)) (now (to .entry))
+        r (now (area .exit)) (now (out .exit)) (now (to .exit)) ⌝ }
 {
-    let middle = 9 + 32 * g.n;
+    let g = k.params;
+    let h = k.header;
+    let middle = BODY_AT + 32 * g.n;
     let end = middle + width(g);
-    let list = &f[9..middle];
+    let list = &f[BODY_AT..middle];
     let block = &f[middle..end];
     if h.kind == 3 {
-        return on_block_send(s, g, me, from, h, list, block, out, to);
+        return on_block_send(x, k, list, block, out, to);
     }
     if h.kind == 4 {
-        return on_block_echo(s, readers, g, me, from, h, list, block, area, out, to);
+        return on_block_echo(x, k, list, block, area, out, to);
     }
-    on_block_ready(s, readers, g, me, from, h, list, block, area, out, to)
+    on_block_ready(x, k, list, block, area, out, to)
 }
 
-// Kinds 3 to 8, of a write's two broadcasts.
+// Kinds 3 to 8, of a write's two broadcasts, counted in its slot.
+fn count_frame(
+    x: Slot,
+    k: Call,
+    f: &[u8],
+    area: &mut [u8],
+    out: &mut [u8],
+    to: &mut [u8],
+) -> Counted
+    requires { ⌜ Handed k (length (now f)) (length (now area)) (length (now out)) (length (now to)) × (3 ≤ k .header .kind) × (k .header .kind ≤ 8) ⌝ }
+    ensures { λ r. ⌜ VoteHandled k x (now (area .entry)) (now (f .entry)) (now (out .entry)) (now (to .entry))
+        r (now (area .exit)) (now (out .exit)) (now (to .exit)) ⌝ }
+{
+    let h = k.header;
+    if h.kind < 6 {
+        return count_blocks(x, k, f, area, out, to);
+    }
+    if h.kind == 6 {
+        return on_time_send(x, k, f, out, to);
+    }
+    if h.kind == 7 {
+        return on_time_echo(x, k, f, out, to);
+    }
+    on_time_ready(x, k, f, out, to)
+}
+
+// Kinds 3 to 8: counted, and behind an echo or a ready the write is accepted if it can be.
 fn step_of_write(
     s: Scope,
     readers: [Reader; 9],
-    g: Params,
-    me: u8,
-    from: Party,
-    h: Header,
+    k: Call,
     f: &[u8],
     area: &mut [u8],
     out: &mut [u8],
     to: &mut [u8],
 ) -> Taken
-    requires { ⌜ Handed g me h (length (now f)) (length (now area)) (length (now out)) (length (now to)) × (3 ≤ h .kind) × (h .kind ≤ 8) ⌝ }
-    ensures { λ r. ⌜ ((w : Server) → s ≡ scopeOf w (h .client) → readers ≡ w .readers → (i : List ℕ) → outcomeIn w (h .client) r (now (area .exit)) (now (out .exit)) (now (to .exit)) ≡ stepFor digestOf g me w (now (area .entry)) i from h (now (f .entry)) (now (out .entry)) (now (to .entry))) ⌝ }
+    requires { ⌜ Handed k (length (now f)) (length (now area)) (length (now out)) (length (now to)) × (3 ≤ k .header .kind) × (k .header .kind ≤ 8) ⌝ }
+    ensures { λ r. ⌜ ((i : List ℕ) → Stepping s readers k (now (area .entry)) i (now (f .entry)) (now (out .entry)) (now (to .entry))
+        r (now (area .exit)) (now (out .exit)) (now (to .exit))) ⌝ }
 {
-    if h.kind < 6 {
-        return step_of_blocks(s, readers, g, me, from, h, f, area, out, to);
+    let h = k.header;
+    let x = s.slot;
+    let n = count_frame(x, k, f, area, out, to);
+    let v = n.verdict;
+    if let Verdict::Bad(r) = v {
+        return Taken {
+            reply: Reply::Refused(r),
+            scope: s,
+        };
+    }
+    let slot = n.slot;
+    let place = n.place;
+    let y = with_slot(s, slot);
+    if h.kind == 3 {
+        return taken(y, place);
     }
     if h.kind == 6 {
-        return on_time_send(s, g, from, h, f, out, to);
+        return taken(y, place);
     }
-    if h.kind == 7 {
-        return on_time_echo(s, readers, g, from, h, f, area, out, to);
-    }
-    on_time_ready(s, readers, g, from, h, f, area, out, to)
+    let m = free(y, readers, k.params, h.client, area, out, to, place);
+    let scope = m.scope;
+    let last = m.place;
+    taken(scope, last)
 }
 
 // Kinds 1 to 12; 2, 9 and 11 do not go to servers.
 pub fn step_of_kind(
     s: Scope,
     readers: [Reader; 9],
-    g: Params,
-    me: u8,
-    from: Party,
-    h: Header,
+    k: Call,
     f: &[u8],
     area: &mut [u8],
     initial: &[u8],
     out: &mut [u8],
     to: &mut [u8],
 ) -> Taken
-    requires { ⌜ Handed g me h (length (now f)) (length (now area)) (length (now out)) (length (now to)) × (width g ≤ length (now initial)) ⌝ }
-    ensures { λ r. ⌜ ((w : Server) → s ≡ scopeOf w (h .client) → readers ≡ w .readers → outcomeIn w (h .client) r (now (area .exit)) (now (out .exit)) (now (to .exit)) ≡ stepFor digestOf g me w (now (area .entry)) (now (initial .entry)) from h (now (f .entry)) (now (out .entry)) (now (to .entry))) ⌝ }
+    requires { ⌜ Handed k (length (now f)) (length (now area)) (length (now out)) (length (now to)) × (width (k .params) ≤ length (now initial)) ⌝ }
+    ensures { λ r. ⌜ Stepping s readers k (now (area .entry)) (now (initial .entry)) (now (f .entry)) (now (out .entry)) (now (to .entry))
+        r (now (area .exit)) (now (out .exit)) (now (to .exit)) ⌝ }
 {
+    let g = k.params;
+    let h = k.header;
+    let from = k.from;
     if h.kind == 1 {
         return on_get_stamp(s, g, from, h, out, to);
     }
@@ -123,5 +160,5 @@ pub fn step_of_kind(
             scope: s,
         };
     }
-    step_of_write(s, readers, g, me, from, h, f, area, out, to)
+    step_of_write(s, readers, k, f, area, out, to)
 }

@@ -7,6 +7,7 @@ use frame::Refusal;
 use frame::Verdict;
 use frame::bounds::params_test;
 use frame::opener::open_frame;
+use server::Call;
 use server::state::scope_of;
 use server::state::with_scope;
 use server::tests::room_test;
@@ -14,15 +15,11 @@ use server_rules::Reply;
 use server_rules::Served;
 use server_rules::Server;
 ghost use mathlib.Core.Path.{_≡_};
-ghost use Rattle.frame.specs.Frames.{opened};
 ghost use Rattle.sha256.specs.Hash.{digestOf};
-ghost use Rattle.frame.specs.Params.{Bounded};
-ghost use Rattle.server_rules.specs.Tests.{roomTest};
 ghost use Rattle.server_rules.specs.Delivery.{outcome, delivery};
-ghost use Rattle.server_deliver.specs.Handed.{refusalIn, admittedBy, admitted};
+ghost use Rattle.server_deliver.specs.Handed.{refusalIn, admitted};
 
 pub mod kinds;
-pub mod storing;
 
 // Why a frame was not let in; of one that was it is not asked.
 pub fn refusal(o: Opened) -> Refusal
@@ -32,22 +29,6 @@ pub fn refusal(o: Opened) -> Refusal
         Opened::Frame(_) => Refusal::Framing,
         Opened::Refused(r) => r,
     }
-}
-
-// 4 to 10, the parameters being within their bounds.
-fn admit_frame(g: Params, f: &[u8], area: usize, initial: usize, out: usize, to: usize) -> Opened
-    requires { ⌜ Bounded g ⌝ }
-    ensures { λ r. ⌜ r ≡ admittedBy (roomTest g area initial out to) (opened g (now (f .entry))) ⌝ }
-{
-    let opened = open_frame(g, f);
-    let Opened::Frame(h) = opened else {
-        return opened;
-    };
-    let room = room_test(g, area, initial, out, to);
-    if let Verdict::Bad(r) = room {
-        return Opened::Refused(r);
-    }
-    Opened::Frame(h)
 }
 
 // 1 to 10, for which no state is looked at; of the lent areas only the lengths count.
@@ -66,7 +47,15 @@ pub fn admit(
     if let Verdict::Bad(r) = params {
         return Opened::Refused(r);
     }
-    admit_frame(g, f, area, initial, out, to)
+    let opened = open_frame(g, f);
+    let Opened::Frame(h) = opened else {
+        return opened;
+    };
+    let room = room_test(g, area, initial, out, to);
+    if let Verdict::Bad(r) = room {
+        return Opened::Refused(r);
+    }
+    Opened::Frame(h)
 }
 
 // A frame f is handed in by party from: refused by the lowest number, or a step of the server.
@@ -81,20 +70,27 @@ pub fn deliver(
     out: &mut [u8],
     to: &mut [u8],
 ) -> Served
-    ensures { λ r. ⌜ outcome r (now (area .exit)) (now (out .exit)) (now (to .exit)) ≡ delivery digestOf g me s (now (area .entry)) (now (initial .entry)) from (now (f .entry)) (now (out .entry)) (now (to .entry)) ⌝ }
+    ensures { λ r. ⌜ outcome r (now (area .exit)) (now (out .exit)) (now (to .exit))
+        ≡ delivery digestOf g me s (now (area .entry)) (now (initial .entry)) from (now (f .entry)) (now (out .entry)) (now (to .entry)) ⌝ }
 {
     let opened = admit(g, me, f, area.len(), initial.len(), out.len(), to.len());
-    let Opened::Frame(h) = opened else {
+    let Opened::Frame(header) = opened else {
         let r = refusal(opened);
         return Served {
             reply: Reply::Refused(r),
             server: s,
         };
     };
-    let c = h.client as usize;
+    let c = header.client as usize;
     let x = scope_of(s, c);
     let readers = s.readers;
-    let done = step_of_kind(x, readers, g, me, from, h, f, area, initial, out, to);
+    let k = Call {
+        params: g,
+        me,
+        from,
+        header,
+    };
+    let done = step_of_kind(x, readers, k, f, area, initial, out, to);
     let reply = done.reply;
     let scope = done.scope;
     let server = with_scope(s, c, scope);

@@ -9,8 +9,6 @@ use native.Mathlib.Omega.{arith}
 use borrow.Author.Needs.{needs}
 use Rattle.server_accept.proofs.copy_down.Statement.{statement}
 use Rattle.server_accept.proofs.copy_down.Tie as tie
-use Rattle.server_accept.proofs.copy_down.Reads as reads
-use Rattle.server_accept.proofs.copy_down.Lts as lts
 
 abbrev Inv-loop : tie.InvT-loop
 Inv-loop area₀ at from n j₀ area j = (area ≡ sets area₀ at (take j (part area₀ from n))) × (j ≤ n) × (length area ≡ length area₀)

@@ -1,10 +1,6 @@
 use Rattle.area.specs.Area.{pick}
-use native.Mathlib.Omega.{arith}
-use borrow.Author.Needs.{needs}
 use Rattle.server_accept.proofs.newest.Statement.{statement}
 use Rattle.server_accept.proofs.newest.Tie as tie
-use Rattle.server_accept.proofs.newest.Reads as reads
-use Rattle.server_accept.proofs.newest.Lts as lts
 
 returns : tie.Need-returns
 unfolding pick

@@ -1,15 +1,11 @@
 use Rattle.server_accept.proofs.Replacing.{replaced}
 use Rattle.frame.specs.Chunks.{entryAt, storeIf, presentAt}
 use mathlib.Core.Bool.{Bool}
-use mathlib.Core.Path.{_≡_, refl, ap, sym, _∙_}
+use mathlib.Core.Path.{ap, sym, _∙_}
 use native.Mathlib.Omega.{arith}
 use borrow.Author.Needs.{needs}
 use Rattle.server_accept.proofs.replace.Statement.{statement}
 use Rattle.server_accept.proofs.replace.Tie as tie
-use Rattle.server_accept.proofs.replace.Reads as reads
-use Rattle.server_accept.proofs.replace.Lts as lts
-use Rattle.frame.proofs.bounds.width.Reads as width-reads
-use Rattle.server_accept.proofs.copy_down.Reads as copy-down-reads
 
 width-requires : tie.Need-width-requires
 width-requires c κs = search needs

@@ -1,14 +1,8 @@
 use Rattle.server_accept.proofs.Acceptance.{told-silent, told-late, told-due}
 use borrow.Author.Tests.{not-true, not-false}
-use mathlib.Core.Path.{_≡_, refl, ap, sym, _∙_}
-use native.Mathlib.Omega.{arith}
 use borrow.Author.Needs.{needs}
 use Rattle.server_accept.proofs.tell_one.Statement.{statement}
 use Rattle.server_accept.proofs.tell_one.Tie as tie
-use Rattle.server_accept.proofs.tell_one.Reads as reads
-use Rattle.server_accept.proofs.tell_one.Lts as lts
-use Rattle.frame.proofs.stamps.is_older.Reads as is-older-reads
-use Rattle.frame.proofs.send.send_value.Reads as send-value-reads
 
 returns : tie.Need-returns
 returns c = let a = c .before .before .before .before .before .before .args in told-silent (a .r) (a .c) (a .x) _ _ (not-true _ (c .if1 .taken))

@@ -1,8 +1,10 @@
 -- A frame that is not let in is turned down; one that is let in takes its step on its client's scope. Assumes nothing.
-use native.Mathlib.Omega.{arith}
-use mathlib.Core.Path.{refl}
+use mathlib.Core.Path.{refl, sym, _∙_}
+use lib.ListN.{length-map}
+use Rattle.server_rules.proofs.Slot as S
 use Rattle.sha256.specs.Hash.{digestOf}
-use Rattle.server_deliver.proofs.Openings.{let-in, refused-delivery, taken-delivery, put-back}
+use Rattle.server_deliver.proofs.Openings.{handed, refused-delivery, taken-delivery, put-back}
+use native.Mathlib.Omega.{arith}
 use borrow.Author.Needs.{needs}
 use Rattle.server_deliver.proofs.deliver.Statement.{statement}
 use Rattle.server_deliver.proofs.deliver.Tie as tie
@@ -20,23 +22,28 @@ refusal-requires : tie.Need-refusal-requires
 refusal-requires c κs = search needs
 
 returns : tie.Need-returns
-returns c = let a = c .before .before .before .before .before .before .before .before .before .args in
-    refused-delivery digestOf (a .g) (a .me) (a .s) (a .area .now) (a .initial .now) (a .from) _ _ (a .f .now) _ _ _ (c .before .before .before .admit .ensures) (c .before .enum-told .given .1) (c .refusal .ensures)
+returns c =
+    let a = c .before .before .before .before .before .before .before .before .before .args in
+    refused-delivery digestOf (a .g) (a .me) (a .s) (a .area .now) (a .initial .now) (a .from) (a .f .now) _ _ _ _ _ (c .before .before .before .admit .ensures) (c .before .enum-told .given .1) (c .refusal .ensures)
 
 cast-c : tie.Need-cast-c
 cast-c c = search needs
 
 scope-of-requires : tie.Need-scope-of-requires
-scope-of-requires c κs = let a = c .before .before .before .before .before .before .before .before .before .before .args in
-    let P = let-in (a .g) (a .me) _ (a .f .now) _ _ _ _ _ (c .before .before .before .before .admit .ensures) (c .before .before .opened .given .1) in
+scope-of-requires c κs =
+    let a = c .before .before .before .before .before .before .before .before .before .before .args in
+    let P = handed (record { params = a .g; me = a .me; from = a .from; header = _ }) (a .f .now) _ _ _ _ _ (c .before .before .before .before .admit .ensures) (c .before .before .opened .given .1) in
     omega (arith, P .0 .lent .client-high)
 
 step-of-kind-requires : tie.Need-step-of-kind-requires
-step-of-kind-requires c κs = let a = c .before .before .before .before .before .before .before .before .before .before .before .before .before .before .before .args in let-in (a .g) (a .me) _ (a .f .now) _ _ _ _ _ (c .before .before .before .before .before .before .before .before .before .admit .ensures) (c .before .before .before .before .before .before .before .opened .given .1)
+step-of-kind-requires c κs =
+    let a = c .before .before .before .before .before .before .before .before .before .before .before .before .before .before .before .args in
+    handed (record { params = a .g; me = a .me; from = a .from; header = _ }) (a .f .now) _ _ _ _ _ (c .before .before .before .before .before .before .before .before .before .admit .ensures) (c .before .before .before .before .before .before .before .opened .given .1)
 
 with-scope-requires : tie.Need-with-scope-requires
-with-scope-requires c κs = let a = c .before .before .before .before .before .before .before .before .before .before .before .before .before .before .before .before .before .before .before .before .before .before .before .args in
-    let P = let-in (a .g) (a .me) _ (a .f .now) _ _ _ _ _ (c .before .before .before .before .before .before .before .before .before .before .before .before .before .before .before .before .before .admit .ensures) (c .before .before .before .before .before .before .before .before .before .before .before .before .before .before .before .opened .given .1) in
+with-scope-requires c κs =
+    let a = c .before .before .before .before .before .before .before .before .before .before .before .before .before .before .before .before .before .before .before .before .before .before .before .args in
+    let P = handed (record { params = a .g; me = a .me; from = a .from; header = _ }) (a .f .now) _ _ _ _ _ (c .before .before .before .before .before .before .before .before .before .before .before .before .before .before .before .before .before .admit .ensures) (c .before .before .before .before .before .before .before .before .before .before .before .before .before .before .before .opened .given .1) in
     omega (arith, P .0 .lent .client-high)
 
 same-length : tie.Need-same-length
@@ -49,9 +56,12 @@ same-length-3 : tie.Need-same-length-3
 same-length-3 c = search needs
 
 returns-2 : tie.Need-returns-2
-returns-2 c = let a = c .before .before .before .before .before .before .before .before .before .before .before .before .before .before .before .before .before .before .before .before .before .before .before .before .args in
-    taken-delivery digestOf (a .g) (a .me) (a .s) (a .area .now) (a .initial .now) (a .from) _ _ (a .f .now) _ _ _ (c .before .before .before .before .before .before .before .before .before .before .before .before .before .before .before .before .before .before .admit .ensures) (c .before .before .before .before .before .before .before .before .before .before .before .before .before .before .before .before .opened .given .1)
-    (put-back (a .s) (c .before .before .before .before .before .before .before .before .before .before .before .before .before .before .before .before .opened .given .0 .0 .client) (c .before .before .before .before .before .before .before .before .step-of-kind .result) _ _ _ _ _ (c .with-scope .ensures) (c .before .before .before .before .before .before .before .before .step-of-kind .ensures (a .s) (c .before .before .before .before .before .before .before .before .before .before .before .before .before .scope-of .ensures) refl))
+returns-2 c =
+    let a = c .before .before .before .before .before .before .before .before .before .before .before .before .before .before .before .before .before .before .before .before .before .before .before .before .args in
+    let r = c .before .before .before .before .before .before .before .before .step-of-kind in
+    taken-delivery digestOf (a .g) (a .me) (a .s) (a .area .now) (a .initial .now) (a .from) (a .f .now) _ _ _ _ _ (c .before .before .before .before .before .before .before .before .before .before .before .before .before .before .before .before .before .before .admit .ensures) (c .before .before .before .before .before .before .before .before .before .before .before .before .before .before .before .before .opened .given .1)
+    (put-back (a .s) _ (r .result) _ _ _ _ _ (c .with-scope .ensures)
+    (r .ensures (a .s) (record { many = sym (length-map (a .s .slots) (S.the-field .into)) ∙ c .before .before .before .before .before .before .before .before .before .before .before .before .before .before .before .before .before .before .before .before .before .before .before .before .good .0 .1 .1 .1 .0 .1 .0 .1; scope = c .before .before .before .before .before .before .before .before .before .before .before .before .before .scope-of .ensures; readers = refl })))
 
 pub deliver-spec : {M : Type 1} → statement M
 deliver-spec =

@@ -2,7 +2,6 @@ use Rattle.server_times.proofs.TimeStage.{time-voted}
 use Rattle.server.proofs.Sending.{all-room, time-small}
 use Rattle.frame.specs.Messages.{ready}
 use Rattle.sha256.specs.Hash.{digestOf}
-use native.Mathlib.Omega.{arith}
 use borrow.Author.Needs.{needs}
 use Rattle.server_times.proofs.voting.count_time.Statement.{statement}
 use Rattle.server_times.proofs.voting.count_time.Tie as tie

@@ -1,12 +1,8 @@
 use Rattle.server_times.proofs.TimeVotes.{due-went, due-echoes, due-readies}
 use Rattle.sha256.specs.Hash.{digestOf}
-use native.Mathlib.Omega.{arith}
 use borrow.Author.Needs.{needs}
 use Rattle.server_times.proofs.voting.time_due.Statement.{statement}
 use Rattle.server_times.proofs.voting.time_due.Tie as tie
-use Rattle.server_times.proofs.voting.time_due.Reads as reads
-use Rattle.server_times.proofs.voting.time_due.Lts as lts
-use Rattle.server_times.proofs.voting.time_votes.Reads as time-votes-reads
 
 returns : tie.Need-returns
 returns c = let a = c .before .before .before .before .before .before .args in due-went digestOf (a .g) (a .x) (a .time) (c .if1 .taken)

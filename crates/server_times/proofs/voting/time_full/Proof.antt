@@ -1,12 +1,8 @@
 use Rattle.server_times.proofs.TimeVotes.{full-readies}
 use Rattle.sha256.specs.Hash.{digestOf}
-use native.Mathlib.Omega.{arith}
 use borrow.Author.Needs.{needs}
 use Rattle.server_times.proofs.voting.time_full.Statement.{statement}
 use Rattle.server_times.proofs.voting.time_full.Tie as tie
-use Rattle.server_times.proofs.voting.time_full.Reads as reads
-use Rattle.server_times.proofs.voting.time_full.Lts as lts
-use Rattle.server_times.proofs.voting.time_votes.Reads as time-votes-reads
 
 mul-result : tie.Need-mul-result
 mul-result c = search needs

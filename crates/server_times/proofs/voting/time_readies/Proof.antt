@@ -1,7 +1,6 @@
 use Rattle.server_times.proofs.TimeStage.{not-due, is-due}
 use Rattle.server.proofs.Sending.{time-room}
 use borrow.Author.Tests.{not-true, not-false}
-use native.Mathlib.Omega.{arith}
 use borrow.Author.Needs.{needs}
 use Rattle.server_times.proofs.voting.time_readies.Statement.{statement}
 use Rattle.server_times.proofs.voting.time_readies.Tie as tie

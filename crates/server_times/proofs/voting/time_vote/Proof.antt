@@ -1,11 +1,7 @@
 use borrow.Author.Tests.{not-true, not-false, eq-eqb, ne-eqb}
-use mathlib.Core.Path.{_≡_, refl}
 use native.Mathlib.Omega.{arith}
-use borrow.Author.Needs.{needs}
 use Rattle.server_times.proofs.voting.time_vote.Statement.{statement}
 use Rattle.server_times.proofs.voting.time_vote.Tie as tie
-use Rattle.server_times.proofs.voting.time_vote.Reads as reads
-use Rattle.server_times.proofs.voting.time_vote.Lts as lts
 
 returns : tie.Need-returns
 returns c = (rw (not-true (c .before .args .on) (c .if1 .taken)), omega arith)

@@ -1,5 +1,5 @@
 use Prim.Native.Nat.{ℕ, _≤_, _-_}
-use mathlib.Core.Path.{_≡_, refl, _∙_}
+use mathlib.Core.Path.{_≡_, refl}
 use mathlib.Core.Bool.{false, _&&_}
 use lib.ListN.{getD}
 use lib.Dec.{eqb}
@@ -9,9 +9,6 @@ use native.Mathlib.Omega.{arith}
 use borrow.Author.Needs.{needs}
 use Rattle.server_times.proofs.voting.time_votes.Statement.{statement}
 use Rattle.server_times.proofs.voting.time_votes.Tie as tie
-use Rattle.server_times.proofs.voting.time_votes.Reads as reads
-use Rattle.server_times.proofs.voting.time_votes.Lts as lts
-use Rattle.server_times.proofs.voting.time_vote.Reads as time-vote-reads
 
 abbrev Inv-loop : tie.InvT-loop
 Inv-loop time n on kept votes₀ j₀ votes j =

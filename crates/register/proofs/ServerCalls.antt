@@ -24,13 +24,15 @@ use Rattle.server_rules.specs.declared.Scope.{Scope}
 use Rattle.server_rules.specs.declared.Slot.{Slot}
 use Rattle.server_rules.specs.declared.Server.{Server}
 use Rattle.server.specs.declared.Taken.{Taken}
-use Rattle.server_rules.specs.State.{noSlot, noReader, scopeOf, withScope}
-use Rattle.server.specs.Stages.{outcomeIn}
+use Rattle.server_rules.specs.State.{noSlot, noReader}
+use Rattle.server_rules.specs.Scopes.{scopeOf, withScope}
+use Rattle.server.specs.Stages.{Holds}
+use Rattle.server.specs.declared.Call.{Call}
 use Rattle.server_rules.specs.Delivery.{Outcome, Constructed, delivery, construction}
 use Rattle.layout.specs.Servers.{serverSize, slotsAt, readersAt, serverAt, serverIn}
 use Rattle.layout.specs.Fields.{rowAt}
-use Rattle.server_deliver.specs.Handed.{refusalIn, admitted, stepFor}
-use Rattle.server_deliver.proofs.Openings.{let-in, client-named, refused-delivery, taken-delivery}
+use Rattle.server_deliver.specs.Handed.{refusalIn, admitted, Stepping}
+use Rattle.server_deliver.proofs.Openings.{handed, client-named, refused-delivery, taken-delivery}
 use Rattle.register.specs.Answers.{testAnswer, serverAnswer}
 use Rattle.register.specs.Calls.{Wrote, wrote}
 use Rattle.register.specs.Short.{valueShort, frameShort}
@@ -114,22 +116,26 @@ module _ (g : Params) (me : ℕ) (from : Party) (f area initial state out to : L
     unfolding serverGotOf scopeAfter isTurnedDown pick
     server-refused x r r′ p k n =
         ap (λ (z : ℕ). serverGot z area state out to) n
-        ∙ ap (λ (z : Outcome). serverGotOf z (getD f clientAt 0) state) (refused-delivery digestOf g me (serverIn state) area initial from out to f q r r′ e p k)
+        ∙ ap (λ (z : Outcome). serverGotOf z (getD f clientAt 0) state) (refused-delivery digestOf g me (serverIn state) area initial from f out to q r r′ e p k)
         ∙ enough-room h
 
     -- 11 to 14, and the step
-    pub server-done : (d : Header) (s : Scope) (rs : List Reader) (r : Taken) (x : ℕ) (ar st o u : List ℕ) → q ≡ O.Frame d → s ≡ scopeOf (serverIn state) (d .client)
-        → rs ≡ readersAt state 2191 → ((v : Server) → s ≡ scopeOf v (d .client) → rs ≡ v .readers → outcomeIn v (d .client) r ar o u ≡ stepFor digestOf g me v area initial w d f out to)
+    pub server-done : (d : Header) (s : Scope) (rs : List Reader) (r : Taken) (x : ℕ) (ar st o u : List ℕ) → q ≡ O.Frame d
+        → s ≡ scopeOf (serverIn state) (d .client)
+        → rs ≡ readersAt state 2191
+        → Stepping s rs (record { params = g; me = me; from = w; header = d }) area initial f out to r ar o u
         → wrote x st ≡ wrote (serverAnswer (r .reply)) (scopeAfter (r .reply) (r .scope) (d .client) state)
         → serverGot x ar st o u ≡ serverCall g me from f area initial state out to
     unfolding serverGotOf serverIn serverAt
     server-done d s rs r x ar st o u p k m l n =
-        let D = let-in g me d f (length area) (length initial) (length out) (length to) q e p in
+        let t : Call = record { params = g; me = me; from = w; header = d } in
+        let D = handed t f (length area) (length initial) (length out) (length to) q e p in
         let c = d .client in
-        let T = taken-delivery digestOf g me (serverIn state) area initial w out to f d q (outcomeIn (serverIn state) c r ar o u) e p (l (serverIn state) k m) in
+        let K : Holds (serverIn state) c s rs = record { many = nine-slots state; scope = k; readers = m } in
+        let T = taken-delivery digestOf g me (serverIn state) area initial w f out to d q _ e p (l (serverIn state) K) in
         ap (λ (z : Wrote). serverGot (z .answer) ar (z .out) o u) n
         ∙ ap (λ (z : Scope). serverGot (serverAnswer (r .reply)) ar (scopeAfter (r .reply) z c state) o u) (sym (scope-in state c (r .scope) (D .0 .lent .client-high)))
         ∙ ap (λ (z : Outcome). serverGotOf z c state) (T ∙ ap (λ (z : Party). delivery digestOf g me (serverIn state) area initial z f out to) i)
         ∙ ap (λ (z : ℕ). serverGotOf (delivery digestOf g me (serverIn state) area initial from f out to) z state)
-        (sym (client-named g me d f (length area) (length initial) (length out) (length to) q e p))
+        (sym (client-named g me f (length area) (length initial) (length out) (length to) q e d p))
         ∙ enough-room h

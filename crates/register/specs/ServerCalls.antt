@@ -14,7 +14,7 @@ use Rattle.server_rules.specs.declared.Reply.{Reply}
 use Rattle.server_rules.specs.declared.Reply.the-variants as S
 use Rattle.server_rules.specs.declared.Scope.{Scope}
 use Rattle.server_rules.specs.declared.Server.{Server}
-use Rattle.server_rules.specs.State.{scopeOf}
+use Rattle.server_rules.specs.Scopes.{scopeOf}
 use Rattle.server_rules.specs.Delivery.{Outcome, Constructed, delivery, construction}
 use Rattle.layout.specs.Servers.{serverSize, serverBytes, serverIn, scopeSets}
 use Rattle.register.specs.Answers.{testAnswer, serverAnswer}

@@ -10,6 +10,7 @@ use layout::servers::put_scope;
 use layout::servers::put_server;
 use layout::servers::readers_at;
 use layout::servers::scope_at;
+use server::Call;
 use server::setup::construct;
 use server_deliver::admit;
 use server_deliver::kinds::step_of_kind;
@@ -76,7 +77,8 @@ pub extern "C" fn semduoli_server_fresh(
     initial: &mut [u8],
     state: &mut [u8],
 ) -> u64
-    ensures { λ r. ⌜ made r (now (area .exit)) (now (initial .exit)) (now (state .exit)) ≡ makeCall (params n t k size) me (now (value .entry)) (now (area .entry)) (now (initial .entry)) (now (state .entry)) ⌝ }
+    ensures { λ r. ⌜ made r (now (area .exit)) (now (initial .exit)) (now (state .exit))
+        ≡ makeCall (params n t k size) me (now (value .entry)) (now (area .entry)) (now (initial .entry)) (now (state .entry)) ⌝ }
 {
     let g = Params { n, t, k, size };
     if state.len() < 2353 {
@@ -108,7 +110,9 @@ pub extern "C" fn semduoli_server_deliver(
     out: &mut [u8],
     to: &mut [u8],
 ) -> u64
-    ensures { λ r. ⌜ serverGot r (now (area .exit)) (now (state .exit)) (now (out .exit)) (now (to .exit)) ≡ serverCall (params n t k size) me (senderOf class sender) (now (f .entry)) (now (area .entry)) (now (initial .entry)) (now (state .entry)) (now (out .entry)) (now (to .entry)) ⌝ }
+    ensures { λ r. ⌜ serverGot r (now (area .exit)) (now (state .exit)) (now (out .exit)) (now (to .exit))
+        ≡ serverCall (params n t k size) me (senderOf class sender) (now (f .entry)) (now (area .entry)) (now (initial .entry))
+        (now (state .entry)) (now (out .entry)) (now (to .entry)) ⌝ }
 {
     let g = Params { n, t, k, size };
     if state.len() < 2353 {
@@ -117,14 +121,20 @@ pub extern "C" fn semduoli_server_deliver(
     }
     let from = sender_of(class, sender);
     let opened = admit(g, me, f, area.len(), initial.len(), out.len(), to.len());
-    let Opened::Frame(h) = opened else {
+    let Opened::Frame(header) = opened else {
         let r = refusal(opened);
         return server_answer(Reply::Refused(r));
     };
-    let c = h.client as usize;
+    let c = header.client as usize;
     let x = scope_at(state, c);
     let readers = readers_at(state, 2191);
-    let done = step_of_kind(x, readers, g, me, from, h, f, area, initial, out, to);
+    let call = Call {
+        params: g,
+        me,
+        from,
+        header,
+    };
+    let done = step_of_kind(x, readers, call, f, area, initial, out, to);
     let reply = done.reply;
     let after = done.scope;
     keep(reply, after, c, state)

@@ -1,6 +1,7 @@
 -- The whole outcome, by the laws of ServerCalls.antt. Assumes nothing.
 use native.Mathlib.Omega.{arith}
-use Rattle.server_deliver.proofs.Openings.{let-in}
+use Rattle.server_deliver.proofs.Openings.{handed}
+use Rattle.register.specs.Calls.{params}
 use Rattle.register.proofs.ServerCalls.{server-short, server-refused, server-done}
 use borrow.Author.Needs.{needs}
 use Rattle.register.proofs.servers.semduoli_server_deliver.Statement.{statement}
@@ -40,16 +41,24 @@ cast-c : tie.Need-cast-c
 cast-c c = search needs
 
 scope-at-requires : tie.Need-scope-at-requires
-scope-at-requires c κs = let P = let-in _ _ _ _ _ _ _ _ _ (c .before .before .before .before .before .admit .ensures) (c .before .before .before .opened .given .1) in (omega (arith, c .before .before .before .before .before .before .before .if1 .left), P .0 .lent .client-high)
+scope-at-requires c κs =
+    let a = c .before .before .before .before .before .before .before .before .before .before .before .before .before .before .args in
+    let P = handed (record { params = params (a .n) (a .t) (a .k) (a .size); me = a .me; from = c .before .before .before .before .before .before .sender-of .result; header = c .before .before .before .opened .given .0 .0 }) (a .f .now) _ _ _ _ _ (c .before .before .before .before .before .admit .ensures) (c .before .before .before .opened .given .1) in
+    (omega (arith, c .before .before .before .before .before .before .before .if1 .left), P .0 .lent .client-high)
 
 readers-at-requires : tie.Need-readers-at-requires
 readers-at-requires c κs = omega (arith, c .before .before .before .before .before .before .before .before .before .if1 .left)
 
 step-of-kind-requires : tie.Need-step-of-kind-requires
-step-of-kind-requires c κs = let-in _ _ _ _ _ _ _ _ _ (c .before .before .before .before .before .before .before .before .before .before .before .admit .ensures) (c .before .before .before .before .before .before .before .before .before .opened .given .1)
+step-of-kind-requires c κs =
+    let a = c .before .before .before .before .before .before .before .before .before .before .before .before .before .before .before .before .before .before .before .before .args in
+    handed (record { params = params (a .n) (a .t) (a .k) (a .size); me = a .me; from = c .before .before .before .before .before .before .before .before .before .before .before .before .sender-of .result; header = c .before .before .before .before .before .before .before .before .before .opened .given .0 .0 }) (a .f .now) _ _ _ _ _ (c .before .before .before .before .before .before .before .before .before .before .before .admit .ensures) (c .before .before .before .before .before .before .before .before .before .opened .given .1)
 
 keep-requires : tie.Need-keep-requires
-keep-requires c κs = let P = let-in _ _ _ _ _ _ _ _ _ (c .before .before .before .before .before .before .before .before .before .before .before .before .before .before .before .before .before .before .before .before .admit .ensures) (c .before .before .before .before .before .before .before .before .before .before .before .before .before .before .before .before .before .before .opened .given .1) in (omega (arith, c .before .before .before .before .before .before .before .before .before .before .before .before .before .before .before .before .before .before .before .before .before .before .if1 .left), P .0 .lent .client-high)
+keep-requires c κs =
+    let a = c .before .before .before .before .before .before .before .before .before .before .before .before .before .before .before .before .before .before .before .before .before .before .before .before .before .before .before .before .before .args in
+    let P = handed (record { params = params (a .n) (a .t) (a .k) (a .size); me = a .me; from = c .before .before .before .before .before .before .before .before .before .before .before .before .before .before .before .before .before .before .before .before .before .sender-of .result; header = c .before .before .before .before .before .before .before .before .before .before .before .before .before .before .before .before .before .before .opened .given .0 .0 }) (a .f .now) _ _ _ _ _ (c .before .before .before .before .before .before .before .before .before .before .before .before .before .before .before .before .before .before .before .before .admit .ensures) (c .before .before .before .before .before .before .before .before .before .before .before .before .before .before .before .before .before .before .opened .given .1) in
+    (omega (arith, c .before .before .before .before .before .before .before .before .before .before .before .before .before .before .before .before .before .before .before .before .before .before .if1 .left), P .0 .lent .client-high)
 
 same-length : tie.Need-same-length
 same-length c = search needs
@@ -64,7 +73,8 @@ same-length-4 : tie.Need-same-length-4
 same-length-4 c = search needs
 
 returns-3 : tie.Need-returns-3
-returns-3 c = server-done _ _ _ _ _ _ _ _ _ _ _ (c .before .before .before .before .before .before .before .before .before .before .before .before .before .before .before .before .before .before .before .before .before .before .before .before .before .if1 .left) (c .before .before .before .before .before .before .before .before .before .before .before .before .before .before .before .before .before .before .before .before .before .before .before .before .sender-of .ensures) (c .before .before .before .before .before .before .before .before .before .before .before .before .before .before .before .before .before .before .before .before .before .before .before .admit .ensures) (c .before .before .before .before .before .before .before .before .before .before .before .before .before .before .before .before .before .before .before .before .before .opened .given .0 .0) _ _ (c .before .before .before .before .before .before .before .before .before .before .before .step-of-kind .result) _ _ _ _ _ (c .before .before .before .before .before .before .before .before .before .before .before .before .before .before .before .before .before .before .before .before .before .opened .given .1) (c .before .before .before .before .before .before .before .before .before .before .before .before .before .before .before .before .before .scope-at .ensures) (c .before .before .before .before .before .before .before .before .before .before .before .before .before .before .before .readers-at .ensures) (c .before .before .before .before .before .before .before .before .before .before .before .step-of-kind .ensures) (c .before .before .keep .ensures)
+returns-3 c = server-done _ _ _ _ _ _ _ _ _ _ _ (c .before .before .before .before .before .before .before .before .before .before .before .before .before .before .before .before .before .before .before .before .before .before .before .before .before .if1 .left) (c .before .before .before .before .before .before .before .before .before .before .before .before .before .before .before .before .before .before .before .before .before .before .before .before .sender-of .ensures) (c .before .before .before .before .before .before .before .before .before .before .before .before .before .before .before .before .before .before .before .before .before .before .before .admit .ensures) (c .before .before .before .before .before .before .before .before .before .before .before .before .before .before .before .before .before .before .before .before .before .opened .given .0 .0) _ _ (c .before .before .before .before .before .before .before .before .before .before .before .step-of-kind .result) _ _ _ _ _
+    (c .before .before .before .before .before .before .before .before .before .before .before .before .before .before .before .before .before .before .before .before .before .opened .given .1) (c .before .before .before .before .before .before .before .before .before .before .before .before .before .before .before .before .before .scope-at .ensures) (c .before .before .before .before .before .before .before .before .before .before .before .before .before .before .before .readers-at .ensures) (c .before .before .before .before .before .before .before .before .before .before .before .step-of-kind .ensures) (c .before .before .keep .ensures)
 
 pub semduoli-server-deliver-spec : {M : Type 1} → statement M
 semduoli-server-deliver-spec =

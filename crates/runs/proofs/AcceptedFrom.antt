@@ -37,7 +37,7 @@ module _ (Z : Setup) (G : Assumed Z) where
   later ks k d w = (w .0, w .1, inr (w .2), w .3, w .4, w .5)
 
   keeps : (ks : List Call) (k : Call) (j : ℕ) (C : Takes Z G M ks k j) → DecodedFacts H g (serverAt Z G M ks j .server) (serverAt Z G M ks j .area) (effectOf Z G M C)
-  keeps ks k j C = decoded-facts H g (G .bounded .servers-high) M (G .bounded .blocks-low) j (serverAt Z G M ks j .server) (serverAt Z G M ks j .area) (initialOf Z j) (shape Z G M ks j)
+  keeps ks k j C = decoded-facts H g (G .bounded) j (serverAt Z G M ks j .server) (serverAt Z G M ks j .area) (initialOf Z j) (shape Z G M ks j)
       (C .from) (C .m) (C .took .client) (C .took .sized) (C .took .passes)
 
   now : (ks : List Call) (k : Call) (j : ℕ) (C : Takes Z G M ks k j) (d : List ℕ) → Has H g (effectOf Z G M C .decodes) d → From (k ∷ ks) d

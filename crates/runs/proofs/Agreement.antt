@@ -51,14 +51,14 @@ module _ (Z : Setup) (G : Assumed Z)
   M = small Z G
 
   abbrev Kb : Cast H g Entry (List ℕ)
-  Kb = blocks H g M (G .bounded .blocks-low)
+  Kb = blocks H g (G .bounded)
 
   abbrev Kt : Cast H g ℕ ℕ
-  Kt = times H g M (G .bounded .blocks-low)
+  Kt = times H g (G .bounded)
 
   facts : {P D : Type 0} (K : Cast H g P D) (ks : List Call) (k : Call) (j : ℕ) (C : Takes Z G M ks k j)
       → BroadcastFacts K (serverAt Z G M ks j .server) (serverAt Z G M ks j .area) (C .from) (C .m) (effectOf Z G M C)
-  facts K ks k j C = cast-facts K (G .bounded .servers-high) M (G .bounded .blocks-low) j (serverAt Z G M ks j .server) (serverAt Z G M ks j .area) (initialOf Z j) (shape Z G M ks j)
+  facts K ks k j C = cast-facts K (G .bounded) j (serverAt Z G M ks j .server) (serverAt Z G M ks j .area) (initialOf Z j) (shape Z G M ks j)
       (C .from) (C .m) (C .took .client) (C .took .sized) (C .took .passes)
 
   -- nothing is there at the start

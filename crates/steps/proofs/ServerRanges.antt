@@ -1,5 +1,5 @@
 -- A server whose stamps are within their bounds sends messages that can be said in a frame, and stays so. Assumes nothing.
-use Prim.Native.Nat.{ℕ, _+_, _*_, _≤_, _<_}
+use Prim.Native.Nat.{ℕ, _+_, _≤_, _<_}
 use native.Mathlib.Omega.{arith}
 use mathlib.Core.Bool.{Bool, true, false}
 use mathlib.Core.Path.{_≡_, refl, ap, sym, _∙_, subst}
@@ -18,9 +18,9 @@ use Rattle.frame.specs.declared.Party.{Party}
 use Rattle.frame.specs.declared.Verdict.the-variants as J
 use Rattle.frame.specs.Chunks.{areaBytes}
 use Rattle.frame.specs.Messages.{Entry, Body, getStamp, askRead, stampIs, valueIs, Message, message, Sending, toAll, numberIn, Sized, Formed, FormedBody}
-use Rattle.frame.specs.Params.{width, listed}
+use Rattle.frame.specs.Params.{width, listed, Bounded}
 use Rattle.frame.specs.Stamps.{zeroStamp, lastTime, partsAgree}
-use Rattle.frame.proofs.Sizes.{Small}
+use Rattle.frame.proofs.Sizes.{Small, small}
 use Rattle.server_rules.specs.declared.Reader.{Reader}
 use Rattle.server_rules.specs.declared.Server.{Server}
 use Rattle.server_rules.specs.State.{presentBlock, freshReader, freshServer, slotOf, withSlot, presentEntry}
@@ -128,7 +128,7 @@ no-time (time z T) = tt
 one-formed : (g : Params) (y : Sending) → Formed g (y .says) → AllFormed g (y ∷ [])
 one-formed g y f x u = subst (λ z. Formed g (z .says)) (sym (List·Memᴰ·eq-of-singleton u)) f
 
-module _ (H : List ℕ → List ℕ) (g : Params) (M : Small g) (me : ℕ) (s : Server) (B : InBounds s) (a initial : List ℕ) (F : ServerShape s a) (from : Party) where
+module _ (H : List ℕ → List ℕ) (g : Params) (L : Bounded g) (me : ℕ) (s : Server) (B : InBounds s) (a initial : List ℕ) (F : ServerShape s a) (from : Party) where
   abbrev j : ℕ
   j = numberIn from
 
@@ -145,7 +145,7 @@ module _ (H : List ℕ → List ℕ) (g : Params) (M : Small g) (me : ℕ) (s : 
         let (i, R) = freed-ripe (f .client-low, f .client-high) x w u in
         let e : w .sequence ≡ q = R .sequence ∙ ap (λ d. slotOf (withSlot s c (p .slot)) d .sequence) (freed-client x w u)
         ∙ ap (λ x. x .sequence) (this-slot shapes (F .within) c (f .client-high) (p .slot)) ∙ counted-sequence H g me s a initial j c k ∙ sym (counted-open k q o) in
-        record { client = i; low = rw e (f .sequence-low); high = rw e (f .sequence-high); time-high = R .below; sized = freed-sized M room (f .client-low, f .client-high) x w u }
+        record { client = i; low = rw e (f .sequence-low); high = rw e (f .sequence-high); time-high = R .below; sized = freed-sized (small g L) room (f .client-low, f .client-high) x w u }
 
     -- and what is sent of it can be said in a frame
     freed-formed : AllFormed g (r .sends)
@@ -170,16 +170,16 @@ module _ (H : List ℕ → List ℕ) (g : Params) (M : Small g) (me : ℕ) (s : 
   step-writes ends f o w u = absurd (List·Memᴰ·not-nil u)
   step-writes {c} {q} (settles b p k x) f o w u = freed-in-bounds c q b f o k x w u
 
-  step-formed : 1 ≤ g .k → g .k + g .t ≤ g .n → width g ≤ length initial → {c q : ℕ} {b : Body} {r : S.Effect} → Shape H g me s a initial j c q b r → Formed g (message c q b)
+  step-formed : width g ≤ length initial → {c q : ℕ} {b : Body} {r : S.Effect} → Shape H g me s a initial j c q b r → Formed g (message c q b)
       → ST.orderTest H g me s j c q b ≡ J.Fine → AllFormed g (r .sends)
-  step-formed kk kn I (idle b) f o y u = absurd (List·Memᴰ·not-nil u)
-  step-formed kk kn I {c} {q} answers f o y u = one-formed g _ (with-body g c q getStamp (stampIs (s .stamp .time)) f (B .stamp .time-high)) y u
-  step-formed kk kn I {c} {q} notes f o y u = one-formed g _
-      (with-body g c q askRead (valueIs (s .stamp) (presentEntry g (s .stamp) a initial)) f (value-formed g (s .stamp) _ (B .stamp) (present-sized g M (s .stamp) a initial (F .room) I))) y u
-  step-formed kk kn I ends f o y u = absurd (List·Memᴰ·not-nil u)
-  step-formed kk kn I {c} {q} (settles b p k {r} x) f o y u = ⊎-elim
+  step-formed I (idle b) f o y u = absurd (List·Memᴰ·not-nil u)
+  step-formed I {c} {q} answers f o y u = one-formed g _ (with-body g c q getStamp (stampIs (s .stamp .time)) f (B .stamp .time-high)) y u
+  step-formed I {c} {q} notes f o y u = one-formed g _
+      (with-body g c q askRead (valueIs (s .stamp) (presentEntry g (s .stamp) a initial)) f (value-formed g (s .stamp) _ (B .stamp) (present-sized g (small g L) (s .stamp) a initial (F .room) I))) y u
+  step-formed I ends f o y u = absurd (List·Memᴰ·not-nil u)
+  step-formed I {c} {q} (settles b p k {r} x) f o y u = ⊎-elim
       (λ v.
-      let (b′, e, h) = counted-word H g kk kn me s a initial j c k (f .body) y v in
+      let (b′, e, h) = counted-word H g L me s a initial j c k (f .body) y v in
       subst (Formed g) (sym (e ∙ ap (λ n. message c n b′) (sym (counted-open k q o)))) (with-body g c q b b′ f h))
       (λ v. freed-formed c q b f o k x y v)
       (List·Memᴰ·append-cases (p .sends) u)
@@ -205,8 +205,8 @@ module _ (H : List ℕ → List ℕ) (g : Params) (M : Small g) (me : ℕ) (s : 
           );
         })
 
-    pub effect-good : 1 ≤ g .k → g .k + 2 * g .t ≤ g .n → width g ≤ length initial → Good g (S.effect H g me s a initial from m)
-    effect-good kk kn I =
+    pub effect-good : width g ≤ length initial → Good g (S.effect H g me s a initial from m)
+    effect-good I =
         let (h, o) = test-split H g me s from m e in
         let x = shape-of H g me s a initial from m in
-        record { in-bounds = effect-in-bounds; formed = step-formed kk (omega arith) I x f o; write-in-bounds = step-writes x f o }
+        record { in-bounds = effect-in-bounds; formed = step-formed I x f o; write-in-bounds = step-writes x f o }

@@ -39,14 +39,17 @@ mem-pick true l x u = (refl, u)
 mem-pick false l x u = absurd (List·Memᴰ·not-nil u)
 
 -- what goes to all, of one message
-pub said : (g : Params) (b : Bool) (c q : ℕ) (x : Body) (y : Sending) → List·Memᴰ y (pick b (toAll g (λ i. message c q x)) []) → (b ≡ true) × (y .says ≡ message c q x)
+pub said : (g : Params) (b : Bool) (c q : ℕ) (x : Body) (y : Sending) → List·Memᴰ y (pick b (toAll g (λ i. message c q x)) [])
+    → (b ≡ true) × (y .says ≡ message c q x)
 unfolding toAll
 said g b c q x y u = let (e, v) = mem-pick b _ y u in (e, mem-all (λ i. message c q x) 1 (g .n) y v .1)
 
 -- A counted frame as one of the two broadcasts sees it: one of its own, of stage z with x, or one of the other's.
-pub data Hears {P : Type 0} (R : Rules P) (g : Params) (me : ℕ) (wrap : Stage → P → Body) (j c q : ℕ) (b : Body) (l : List Sending) (s s′ : Part P) : Type 0 where
+pub data Hears {P : Type 0} (R : Rules P) (g : Params) (me : ℕ) (wrap : Stage → P → Body) (j c q : ℕ) (b : Body) (l : List Sending)
+    (s s′ : Part P) : Type 0 where
   own : (z : Stage) (x : P) → b ≡ wrap z x → s′ ≡ counted R (g .n) (g .t) me s j z x
-      → ((to : Party) (d r : ℕ) (z′ : Stage) (y : P) → List·Memᴰ (sending to (message d r (wrap z′ y))) l → (d ≡ c) × (r ≡ q) × Says R (g .n) (g .t) me s j z x z′ y)
+      → ((to : Party) (d r : ℕ) (z′ : Stage) (y : P) → List·Memᴰ (sending to (message d r (wrap z′ y))) l
+      → (d ≡ c) × (r ≡ q) × Says R (g .n) (g .t) me s j z x z′ y)
       → Hears R g me wrap j c q b l s s′
   other : s′ ≡ s → ((to : Party) (d r : ℕ) (z′ : Stage) (y : P) → List·Memᴰ (sending to (message d r (wrap z′ y))) l → ⊥) → Hears R g me wrap j c q b l s s′
 
@@ -59,7 +62,8 @@ module _ (H : List ℕ → List ℕ) (g : Params) (me c : ℕ) where
 
   -- ---- an entry that was counted
 
-  voted-says : (a : List ℕ) (x : Slot) (e : Entry) (to : Party) (d q : ℕ) (z : Stage) (y : Entry) → List·Memᴰ (sending to (message d q (blockIs z y))) (S.votedBlock H g me a c x e .sends)
+  voted-says : (a : List ℕ) (x : Slot) (e : Entry) (to : Party) (d q : ℕ) (z : Stage) (y : Entry)
+      → List·Memᴰ (sending to (message d q (blockIs z y))) (S.votedBlock H g me a c x e .sends)
       → let w = blockView g a c x in
       (d ≡ c) × (q ≡ x .sequence) × (z ≡ ready) × (due Rb (g .n) (g .t) w e ≡ true) × (y ≡ Rb .own me (w .echoes) (w .readies) e)
   unfolding S.votedBlock
@@ -68,7 +72,8 @@ module _ (H : List ℕ → List ℕ) (g : Params) (me c : ℕ) where
       let k : blockIs z y ≡ blockIs ready (Rb .own me (blockView g a c x .echoes) (blockView g a c x .readies) e) = ap (λ m. m .body) m in
       (ap (λ m. m .client) m, ap (λ m. m .sequence) m, cc, h, cc)
 
-  no-times : (a : List ℕ) (x : Slot) (e : Entry) (to : Party) (d q : ℕ) (z : Stage) (T : ℕ) → List·Memᴰ (sending to (message d q (timeIs z T))) (S.votedBlock H g me a c x e .sends) → ⊥
+  no-times : (a : List ℕ) (x : Slot) (e : Entry) (to : Party) (d q : ℕ) (z : Stage) (T : ℕ)
+      → List·Memᴰ (sending to (message d q (timeIs z T))) (S.votedBlock H g me a c x e .sends) → ⊥
   unfolding S.votedBlock
   no-times a x e to d q z T u = impossible (cc (ap (λ m. m .body) (said g _ c (x .sequence) _ _ u .1)))
 
@@ -77,7 +82,8 @@ module _ (H : List ℕ → List ℕ) (g : Params) (me c : ℕ) where
     unfolding S.votedBlock blockView
     voted-view =
         let w = blockView g a c x in
-        SV.marks-view g (small g L) a room c x X is (due Rb (g .n) (g .t) w e) (full Rb (g .n) (g .t) w e) (Rb .own me (w .echoes) (w .readies) e) (λ z. coded H g (L .blocks-low) me w e Q z)
+        SV.marks-view g (small g L) a room c x X is (due Rb (g .n) (g .t) w e) (full Rb (g .n) (g .t) w e) (Rb .own me (w .echoes) (w .readies) e)
+        (λ z. coded H g (L .blocks-low) me w e Q z)
 
     voted-others : (d : ℕ) → Among 8 d → (d ≡ c → ⊥) → (y : Slot) → Shaped y → blockView g (S.votedBlock H g me a c x e .area) d y ≡ blockView g a d y
     unfolding S.votedBlock
@@ -99,7 +105,8 @@ module _ (H : List ℕ → List ℕ) (g : Params) (me c : ℕ) where
 
   -- ---- a time that was counted
 
-  timed-says : (a : List ℕ) (x : Slot) (T : ℕ) (to : Party) (d q : ℕ) (z : Stage) (y : ℕ) → List·Memᴰ (sending to (message d q (timeIs z y))) (S.votedTime H g me a c x T .sends)
+  timed-says : (a : List ℕ) (x : Slot) (T : ℕ) (to : Party) (d q : ℕ) (z : Stage) (y : ℕ)
+      → List·Memᴰ (sending to (message d q (timeIs z y))) (S.votedTime H g me a c x T .sends)
       → (d ≡ c) × (q ≡ x .sequence) × (z ≡ ready) × (due Rt (g .n) (g .t) (timeView x) T ≡ true) × (y ≡ T)
   unfolding S.votedTime
   timed-says a x T to d q z y u =
@@ -107,7 +114,8 @@ module _ (H : List ℕ → List ℕ) (g : Params) (me c : ℕ) where
       let k : timeIs z y ≡ timeIs ready T = ap (λ m. m .body) m in
       (ap (λ m. m .client) m, ap (λ m. m .sequence) m, cc, h, cc)
 
-  no-blocks : (a : List ℕ) (x : Slot) (T : ℕ) (to : Party) (d q : ℕ) (z : Stage) (y : Entry) → List·Memᴰ (sending to (message d q (blockIs z y))) (S.votedTime H g me a c x T .sends) → ⊥
+  no-blocks : (a : List ℕ) (x : Slot) (T : ℕ) (to : Party) (d q : ℕ) (z : Stage) (y : Entry)
+      → List·Memᴰ (sending to (message d q (blockIs z y))) (S.votedTime H g me a c x T .sends) → ⊥
   unfolding S.votedTime
   no-blocks a x T to d q z y u = impossible (cc (ap (λ m. m .body) (said g _ c (x .sequence) _ _ u .1)))
 
@@ -121,13 +129,19 @@ module _ (H : List ℕ → List ℕ) (g : Params) (L : Bounded g) (me : ℕ) (s 
   abbrev Word : Sending → Type 0
   Word y = (x : Body) × (y .says ≡ message c (slotOf s c .sequence) x) × FormedBody g x
 
-  voted-word : (a : List ℕ) (x : Slot) (e : Entry) → x .sequence ≡ slotOf s c .sequence → Sized g e → (y : Sending) → List·Memᴰ y (S.votedBlock H g me a c x e .sends) → Word y
+  voted-word : (a : List ℕ) (x : Slot) (e : Entry) → x .sequence ≡ slotOf s c .sequence → Sized g e → (y : Sending)
+      → List·Memᴰ y (S.votedBlock H g me a c x e .sends) → Word y
   unfolding S.votedBlock
   voted-word a x e q Q y u =
-      let (h, m) = said g _ c (x .sequence) _ y u in
-      (_, m ∙ ap (λ q. message c q (blockIs ready (blockRules H g .own me (blockView g a c x .echoes) (blockView g a c x .readies) e))) q, due-sized H g (L .blocks-low) (omega (arith, L .blocks-high)) me (blockView g a c x) e Q h)
+      let (h, m) = said g _ c (x .sequence) _ y u in (
+        _,
+        m ∙ ap (λ q. message c q (blockIs ready (blockRules H g .own me (blockView g a c x .echoes) (blockView g a c x .readies) e))) q,
+        due-sized H g
+            (L .blocks-low) (omega (arith, L .blocks-high)) me (blockView g a c x) e Q h,
+      )
 
-  timed-word : (a : List ℕ) (x : Slot) (T : ℕ) → x .sequence ≡ slotOf s c .sequence → T < 18446744073709551616 → (y : Sending) → List·Memᴰ y (S.votedTime H g me a c x T .sends) → Word y
+  timed-word : (a : List ℕ) (x : Slot) (T : ℕ) → x .sequence ≡ slotOf s c .sequence → T < 18446744073709551616 → (y : Sending)
+      → List·Memᴰ y (S.votedTime H g me a c x T .sends) → Word y
   unfolding S.votedTime
   timed-word a x T q l y u = (timeIs ready T, said g _ c (x .sequence) _ y u .1 ∙ ap (λ q. message c q (timeIs ready T)) q, l)
 
@@ -173,13 +187,15 @@ module _ (H : List ℕ → List ℕ) (g : Params) (L : Bounded g) (me : ℕ) (s 
       (ap (λ m. m .client) m, ap (λ m. m .sequence) m, (cc, cc)))
   blocks-hear (block echo e) Q =
       let v = SV.echo-view g (small g L) a room c x X is j at e Q in
-      own echo e refl (voted-view H g me c L is (storeEntry a (echoAt c j) e) (room-after _ e) xe shaped-echo e Q ∙ ap (λ w. settled (Rb H g me c) (g .n) (g .t) me w e) v)
+      own echo e refl (voted-view H g me c L is (storeEntry a (echoAt c j) e) (room-after _ e) xe shaped-echo e Q
+      ∙ ap (λ w. settled (Rb H g me c) (g .n) (g .t) me w e) v)
       (λ to d r z y u.
       let (h0, h1, h2, h3, h4) = voted-says H g me c _ xe e to d r z y u in
       (h0, h1, (h2, sym (ap (λ w. due (Rb H g me c) (g .n) (g .t) w e) v) ∙ h3, h4 ∙ ap (λ w. Rb H g me c .own me (w .echoes) (w .readies) e) v)))
   blocks-hear (block ready e) Q =
       let v = SV.ready-view g (small g L) a room c x X is j at e Q in
-      own ready e refl (voted-view H g me c L is (storeEntry a (readyAt c j) e) (room-after _ e) xr shaped-ready e Q ∙ ap (λ w. settled (Rb H g me c) (g .n) (g .t) me w e) v)
+      own ready e refl (voted-view H g me c L is (storeEntry a (readyAt c j) e) (room-after _ e) xr shaped-ready e Q
+      ∙ ap (λ w. settled (Rb H g me c) (g .n) (g .t) me w e) v)
       (λ to d r z y u.
       let (h0, h1, h2, h3, h4) = voted-says H g me c _ xr e to d r z y u in
       (h0, h1, (h2, sym (ap (λ w. due (Rb H g me c) (g .n) (g .t) w e) v) ∙ h3, h4 ∙ ap (λ w. Rb H g me c .own me (w .echoes) (w .readies) e) v)))
@@ -211,7 +227,8 @@ module _ (H : List ℕ → List ℕ) (g : Params) (L : Bounded g) (me : ℕ) (s 
   times-hear (block ready e) = other refl (no-times H g me c _ xr e)
 
   -- the blocks of another client's slot
-  pub counted-others : {b : Body} {p : S.Counting} → Counted H g me s a initial j c b p → SizedIn g b → (d : ℕ) → Among 8 d → (d ≡ c → ⊥) → (y : Slot) → Shaped y
+  pub counted-others : {b : Body} {p : S.Counting} → Counted H g me s a initial j c b p → SizedIn g b → (d : ℕ) → Among 8 d → (d ≡ c → ⊥) → (y : Slot)
+      → Shaped y
       → blockView g (p .area) d y ≡ blockView g a d y
   unfolding S.onBlock S.onTime S.votedTime
   counted-others (block send e) Q d isd ne y Y = refl
@@ -230,15 +247,18 @@ module _ (H : List ℕ → List ℕ) (g : Params) (L : Bounded g) (me : ℕ) (s 
   unfolding S.onBlock S.onTime S.votedTime
   counted-present (block send e) Q = refl
   counted-present (block echo e) Q =
-      voted-present H g me c L is (storeEntry a (echoAt c j) e) (room-after _ e) xe shaped-echo e Q ∙ entry-other g (small g L) a (echoAt c j) e Q presentAt (λ z. omega arith)
+      voted-present H g me c L is (storeEntry a (echoAt c j) e) (room-after _ e) xe shaped-echo e Q
+      ∙ entry-other g (small g L) a (echoAt c j) e Q presentAt (λ z. omega arith)
   counted-present (block ready e) Q =
-      voted-present H g me c L is (storeEntry a (readyAt c j) e) (room-after _ e) xr shaped-ready e Q ∙ entry-other g (small g L) a (readyAt c j) e Q presentAt (λ z. omega arith)
+      voted-present H g me c L is (storeEntry a (readyAt c j) e) (room-after _ e) xr shaped-ready e Q
+      ∙ entry-other g (small g L) a (readyAt c j) e Q presentAt (λ z. omega arith)
   counted-present (time send T) Q = refl
   counted-present (time echo T) Q = refl
   counted-present (time ready T) Q = refl
 
   -- what completes the part has the digests of a value that was decoded
-  pub counted-has : {b : Body} {p : S.Counting} → Counted H g me s a initial j c b p → SizedIn g b → (y : Entry) → blockView g (p .area) c (p .slot) .done ≡ some y
+  pub counted-has : {b : Body} {p : S.Counting} → Counted H g me s a initial j c b p → SizedIn g b → (y : Entry)
+      → blockView g (p .area) c (p .slot) .done ≡ some y
       → (blockView g a c x .done ≡ some y) ⊎ Has H g (p .decodes) (y .digests)
   unfolding S.onBlock S.onTime S.votedTime blockView
   counted-has (block send e) Q y u = inl u

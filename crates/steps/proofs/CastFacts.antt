@@ -74,7 +74,8 @@ pub time-inj : (z : Stage) (p q : ℕ) → timeIs z p ≡ timeIs z q → p ≡ q
 time-inj z p q e = cc
 
 module _ (H : List ℕ → List ℕ) (g : Params) where
-  pub block-first : (me : ℕ) (s : Server) (a : List ℕ) (j c q : ℕ) (e : Entry) → ST.orderTest H g me s j c q (blockIs send e) ≡ J.Fine → blockView g a c (slotOf s c) .sent ≡ false
+  pub block-first : (me : ℕ) (s : Server) (a : List ℕ) (j c q : ℕ) (e : Entry) → ST.orderTest H g me s j c q (blockIs send e) ≡ J.Fine
+      → blockView g a c (slotOf s c) .sent ≡ false
   unfolding ST.orderTest ST.counted blockView
   block-first me s a j c q e o = open-passed (slotOf s c) q _ (fine-both _ _ o .0) .1
 
@@ -134,7 +135,8 @@ module _ {H : List ℕ → List ℕ} {g : Params} {P D : Type 0} (K : Cast H g P
   pub record BroadcastFacts (s : Server) (a : List ℕ) (from : Party) (m : Message) (r : S.Effect) : Type 0 where
     pub an-echo : (c : ℕ) (b : Party) (q : ℕ) (p : P) → List·Memᴰ (sending b (message c q (wrap echo p))) (r .sends)
         → (q ≡ slotOf s c .sequence) × (view a c (slotOf s c) .sent ≡ false)
-        × (((slotOf (r .server) c .sequence ≡ slotOf s c .sequence) × (view (r .area) c (slotOf (r .server) c) .sent ≡ true)) ⊎ (slotOf s c .sequence < slotOf (r .server) c .sequence))
+        × (((slotOf (r .server) c .sequence ≡ slotOf s c .sequence) × (view (r .area) c (slotOf (r .server) c) .sent ≡ true))
+        ⊎ (slotOf s c .sequence < slotOf (r .server) c .sequence))
         × (from ≡ A.Client c) × (m ≡ message c (slotOf s c .sequence) (wrap send p))
     pub a-ready : (c : ℕ) (b : Party) (q : ℕ) (p : P) → List·Memᴰ (sending b (message c q (wrap ready p))) (r .sends)
         → Among 8 c × (q ≡ slotOf s c .sequence)
@@ -145,15 +147,18 @@ module _ {H : List ℕ → List ℕ} {g : Params} {P D : Type 0} (K : Cast H g P
     pub ready-kept : (c : ℕ) → Among 8 c → (j : ℕ) (p : P) → view (r .area) c (slotOf (r .server) c) .readies j ≡ some p
         → (slotOf (r .server) c .sequence ≡ slotOf s c .sequence) × ((view a c (slotOf s c) .readies j ≡ some p) ⊎ New s from m c ready j p)
     pub onward : (c : ℕ)
-        → ((slotOf (r .server) c .sequence ≡ slotOf s c .sequence) × (Among 8 c → view a c (slotOf s c) .sent ≡ true → view (r .area) c (slotOf (r .server) c) .sent ≡ true))
+        → ((slotOf (r .server) c .sequence ≡ slotOf s c .sequence) × (Among 8 c → view a c (slotOf s c) .sent ≡ true
+        → view (r .area) c (slotOf (r .server) c) .sent ≡ true))
         ⊎ (slotOf s c .sequence < slotOf (r .server) c .sequence)
     pub done-kept : (c : ℕ) → Among 8 c → (p : P) → view (r .area) c (slotOf (r .server) c) .done ≡ some p
         → (slotOf (r .server) c .sequence ≡ slotOf s c .sequence)
-        × ((view a c (slotOf s c) .done ≡ some p) ⊎ AtLeast (g .n) (rules .all) (Heard rules (g .n) (g .t) what (view a c (slotOf s c) .readies) (New s from m c ready) (what p)))
+        × ((view a c (slotOf s c) .done ≡ some p) ⊎ AtLeast (g .n) (rules .all)
+        (Heard rules (g .n) (g .t) what (view a c (slotOf s c) .readies) (New s from m c ready) (what p)))
     pub took-why : (k : S.Write) → List·Memᴰ k (r .accepted)
         → Among 8 (k .client) × (k .sequence ≡ slotOf s (k .client) .sequence)
         × ((view a (k .client) (slotOf s (k .client)) .done ≡ some (sel k))
-        ⊎ AtLeast (g .n) (rules .all) (Heard rules (g .n) (g .t) what (view a (k .client) (slotOf s (k .client)) .readies) (New s from m (k .client) ready) (what (sel k))))
+        ⊎ AtLeast (g .n) (rules .all) (Heard rules (g .n) (g .t) what (view a (k .client) (slotOf s (k .client)) .readies) (New s from m (k .client) ready)
+        (what (sel k))))
 
   -- ---- counted, then accepted
 
@@ -165,14 +170,16 @@ module _ {H : List ℕ → List ℕ} {g : Params} {P D : Type 0} (K : Cast H g P
   abbrev Stays : Server → (ℕ → Part P) → S.Effect → ℕ → Type 0
   Stays s w r d =
       ((slotOf (r .server) d .sequence ≡ slotOf s d .sequence) × (Among 8 d → view (r .area) d (slotOf (r .server) d) ≡ w d))
-      ⊎ ((slotOf (r .server) d .sequence ≡ slotOf s d .sequence + 1) × (view (r .area) d (slotOf (r .server) d) ≡ noPart) × (k : S.Write) × List·Memᴰ k (r .accepted) × (k .client ≡ d))
+      ⊎ ((slotOf (r .server) d .sequence ≡ slotOf s d .sequence + 1) × (view (r .area) d (slotOf (r .server) d) ≡ noPart) × (k : S.Write)
+      × List·Memᴰ k (r .accepted) × (k .client ≡ d))
 
   abbrev Took : Server → (ℕ → Part P) → S.Write → Type 0
   Took s w k = Among 8 (k .client) × (k .sequence ≡ slotOf s (k .client) .sequence) × (w (k .client) .done ≡ some (sel k))
 
   pub record SlotFacts (s : Server) (a : List ℕ) (w : ℕ → Part P) (Said : ℕ → Stage → P → Type 0) (r : S.Effect) : Type 0 where
     pub this : (d : ℕ) → Stays s w r d
-    pub says : (b : Party) (d q : ℕ) (z : Stage) (p : P) → List·Memᴰ (sending b (message d q (wrap z p))) (r .sends) → Among 8 d × (q ≡ slotOf s d .sequence) × Said d z p
+    pub says : (b : Party) (d q : ℕ) (z : Stage) (p : P) → List·Memᴰ (sending b (message d q (wrap z p))) (r .sends)
+        → Among 8 d × (q ≡ slotOf s d .sequence) × Said d z p
     pub took : (k : S.Write) → List·Memᴰ k (r .accepted) → Took s w k
 
   -- a frame of client c's open write is counted, p, and then r is accepted: the parts in between and afterwards
@@ -185,7 +192,8 @@ module _ {H : List ℕ → List ℕ} {g : Params} {P D : Type 0} (K : Cast H g P
   module _ (s : Server) (a : List ℕ) (from : Party) (m : Message) where
     -- the part v of client d becomes w by this frame
     abbrev Becomes : ℕ → Part P → Part P → (Stage → P → Type 0) → Type 0
-    Becomes d v w Said = PartFacts rules (g .n) (g .t) what v w (λ p. (from ≡ A.Client d) × (m ≡ message d (slotOf s d .sequence) (wrap send p))) (New s from m d echo) (New s from m d ready) Said
+    Becomes d v w Said = PartFacts rules (g .n) (g .t) what v w (λ p. (from ≡ A.Client d) × (m ≡ message d (slotOf s d .sequence) (wrap send p)))
+        (New s from m d echo) (New s from m d ready) Said
 
     facts-of : (w : ℕ → Part P) (Said : ℕ → Stage → P → Type 0) (r : S.Effect) → SlotFacts s a w Said r
         → ((d : ℕ) → Among 8 d → Becomes d (view a d (slotOf s d)) (w d) (Said d)) → BroadcastFacts s a from m r
@@ -213,7 +221,8 @@ module _ {H : List ℕ → List ℕ} {g : Params} {P D : Type 0} (K : Cast H g P
 
     -- a call that leaves all slots and the area, and says nothing of this broadcast
     idle-facts : (r : S.Effect) → r .server .slots ≡ s .slots → r .area ≡ a
-        → ((b : Party) (c q : ℕ) (z : Stage) (p : P) → List·Memᴰ (sending b (message c q (wrap z p))) (r .sends) → ⊥) → r .accepted ≡ [] → BroadcastFacts s a from m r
+        → ((b : Party) (c q : ℕ) (z : Stage) (p : P) → List·Memᴰ (sending b (message c q (wrap z p))) (r .sends) → ⊥) → r .accepted ≡ []
+        → BroadcastFacts s a from m r
     idle-facts r e f no-says none = facts-of (λ d. view a d (slotOf s d)) (λ d z p. ⊥) r
         (record {
           this = λ d. inl (ap (λ l. getD l d noSlot .sequence) e, λ i j. view (f j) d (getD (e j) d noSlot));
@@ -237,7 +246,8 @@ module _ {H : List ℕ → List ℕ} {g : Params} {P D : Type 0} (K : Cast H g P
 
     -- the open write's own frame is new
     brings : (z : Stage) (x : P) → b ≡ wrap z x → q ≡ slotOf s c .sequence
-        → Brings rules (g .n) (g .t) what sane me (view a c (slotOf s c)) (λ p. (from ≡ A.Client c) × (m ≡ message c (slotOf s c .sequence) (wrap send p))) (New s from m c echo) (New s from m c ready) j x z
+        → Brings rules (g .n) (g .t) what sane me (view a c (slotOf s c)) (λ p. (from ≡ A.Client c) × (m ≡ message c (slotOf s c .sequence) (wrap send p)))
+        (New s from m c echo) (New s from m c ready) j x z
     brings send x e n = (
       first me s a j c q x (subst (λ b. ST.orderTest H g me s j c q b ≡ J.Fine) e o),
       (sender from c send x (subst (λ b. ST.senderRight g from c b ≡ true) e right), λ i. message c (n i) (e i)),
@@ -268,7 +278,8 @@ module _ {H : List ℕ → List ℕ} {g : Params} {P D : Type 0} (K : Cast H g P
       same-sequence d = go (ℕ-discrete d c)
         where
           go : Dec (d ≡ c) → slotOf s₁ d .sequence ≡ slotOf s d .sequence
-          go (yes e) = subst (λ d. slotOf s₁ d .sequence ≡ slotOf s d .sequence) (sym e) (ap (λ x. x .sequence) slot-here ∙ counted-sequence H g me s a initial j c k)
+          go (yes e) = subst (λ d. slotOf s₁ d .sequence ≡ slotOf s d .sequence) (sym e)
+              (ap (λ x. x .sequence) slot-here ∙ counted-sequence H g me s a initial j c k)
           go (no ne) = ap (λ x. x .sequence) (slot-there d ne)
 
       pub behind : Behind s a c p r
@@ -294,7 +305,8 @@ module _ {H : List ℕ → List ℕ} {g : Params} {P D : Type 0} (K : Cast H g P
       }
 
       slots : (Said : ℕ → Stage → P → Type 0)
-          → ((to : Party) (d n : ℕ) (z : Stage) (y : P) → List·Memᴰ (sending to (message d n (wrap z y))) (p .sends) → (d ≡ c) × (n ≡ slotOf s c .sequence) × Said d z y)
+          → ((to : Party) (d n : ℕ) (z : Stage) (y : P) → List·Memᴰ (sending to (message d n (wrap z y))) (p .sends)
+          → (d ≡ c) × (n ≡ slotOf s c .sequence) × Said d z y)
           → SlotFacts s a w Said (S.behind p r)
       slots Said said = record {
         this = behind .stays;
@@ -306,7 +318,8 @@ module _ {H : List ℕ → List ℕ} {g : Params} {P D : Type 0} (K : Cast H g P
       }
 
       parts : (Said : ℕ → Stage → P → Type 0) → ((d : ℕ) (z : Stage) (y : P) → Said d z y → d ≡ c)
-          → Becomes s a from m c (view a c (slotOf s c)) (view (p .area) c (p .slot)) (Said c) → (d : ℕ) → Among 8 d → Becomes s a from m d (view a d (slotOf s d)) (w d) (Said d)
+          → Becomes s a from m c (view a c (slotOf s c)) (view (p .area) c (p .slot)) (Said c) → (d : ℕ) → Among 8 d
+          → Becomes s a from m d (view a d (slotOf s d)) (w d) (Said d)
       parts Said of B d i = go (ℕ-discrete d c)
         where
           go : Dec (d ≡ c) → Becomes s a from m d (view a d (slotOf s d)) (w d) (Said d)
@@ -318,7 +331,8 @@ module _ {H : List ℕ → List ℕ} {g : Params} {P D : Type 0} (K : Cast H g P
       settled : BroadcastFacts s a from m (S.behind p r)
       settled = go (hears me s a initial (F .room) j at c is X k Q)
         where
-          go : Hears rules g me wrap j c (slotOf s c .sequence) b (p .sends) (view a c (slotOf s c)) (view (p .area) c (p .slot)) → BroadcastFacts s a from m (S.behind p r)
+          go : Hears rules g me wrap j c (slotOf s c .sequence) b (p .sends) (view a c (slotOf s c)) (view (p .area) c (p .slot))
+              → BroadcastFacts s a from m (S.behind p r)
           go (own z x e v says) =
               let Said : ℕ → Stage → P → Type 0 = λ d z′ y. (d ≡ c) × Says rules (g .n) (g .t) me (view a c (slotOf s c)) j z x z′ y in
               facts-of s a from m w Said (S.behind p r)
@@ -332,15 +346,18 @@ module _ {H : List ℕ → List ℕ} {g : Params} {P D : Type 0} (K : Cast H g P
               (parts (λ d z y. ⊥) (λ d z y u. absurd u)
               (subst (λ v. Becomes s a from m c (view a c (slotOf s c)) v (λ z y. ⊥)) (sym v) (rest-facts rules (g .n) (g .t) what _ _ _ _ _ (λ z y u. u))))
 
-  no-cast : (to b : Party) (c d n l : ℕ) (x : Body) (z : Stage) (y : P) → (IsCast x → ⊥) → List·Memᴰ (sending to (message d n (wrap z y))) (sending b (message c l x) ∷ []) → ⊥
+  no-cast : (to b : Party) (c d n l : ℕ) (x : Body) (z : Stage) (y : P) → (IsCast x → ⊥)
+      → List·Memᴰ (sending to (message d n (wrap z y))) (sending b (message c l x) ∷ []) → ⊥
   no-cast to b c d n l x z y f u = f (subst (λ y. IsCast (y .says .body)) (List·Memᴰ·eq-of-singleton u) (is-cast z y))
 
   -- each frame that passes the tests
-  pub cast-facts : Bounded g → (me : ℕ) (s : Server) (a initial : List ℕ) → ServerShape s a → (from : Party) (m : Message) → Among 8 (m .client) → SizedIn g (m .body)
+  pub cast-facts : Bounded g → (me : ℕ) (s : Server) (a initial : List ℕ) → ServerShape s a → (from : Party) (m : Message) → Among 8 (m .client)
+      → SizedIn g (m .body)
       → ST.messageTest H g me s from m ≡ J.Fine → BroadcastFacts s a from m (S.effect H g me s a initial from m)
   cast-facts L me s a initial F from m is Q e = let (h, o) = test-split H g me s from m e in go (shape-of H g me s a initial from m) Q h o
     where
-      go : {b : Body} {r : S.Effect} → Shape H g me s a initial (numberIn from) (m .client) (m .sequence) b r → SizedIn g b → ST.senderRight g from (m .client) b ≡ true
+      go : {b : Body} {r : S.Effect} → Shape H g me s a initial (numberIn from) (m .client) (m .sequence) b r → SizedIn g b
+          → ST.senderRight g from (m .client) b ≡ true
           → ST.orderTest H g me s (numberIn from) (m .client) (m .sequence) b ≡ J.Fine → BroadcastFacts s a from (message (m .client) (m .sequence) b) r
       go (idle b) Q h o = idle-facts s a from _ _ refl refl (λ to d n z y u. List·Memᴰ·not-nil u) refl
       go answers Q h o = idle-facts s a from _ _ refl refl (λ to d n z y u. no-cast to _ _ d n _ _ z y (λ v. v) u) refl

@@ -50,7 +50,8 @@ module _ (H : List ℕ → List ℕ) (g : Params) (L : Bounded g) (me : ℕ) (s 
       go : Dec (d ≡ c) → (blockView g a d (slotOf s d) .done ≡ some y) ⊎ Has H g (p .decodes) (y .digests)
       go (no ne) = inl (sym (ap (λ v. v .done) (T .there d i ne)) ∙ u)
       go (yes z) = subst (λ d. (blockView g a d (slotOf s d) .done ≡ some y) ⊎ Has H g (p .decodes) (y .digests)) (sym z)
-          (counted-has H g L me s a initial (F .room) (numberIn from) (counted-from g from c is (L .servers-high) k h) c is (slot-within shapes (F .within) c (is .1)) k Q y
+          (counted-has H g L me s a initial (F .room) (numberIn from) (counted-from g from c is (L .servers-high) k h) c is
+          (slot-within shapes (F .within) c (is .1)) k Q y
           (sym (ap (λ v. v .done) (T .here)) ∙ subst (λ d. partOf (blocks H g L) s c p d .done ≡ some y) z u))
 
   -- each frame that passes the tests
@@ -58,7 +59,8 @@ module _ (H : List ℕ → List ℕ) (g : Params) (L : Bounded g) (me : ℕ) (s 
       → DecodedFacts H g s a (S.effect H g me s a initial from m)
   decoded-facts from m is Q e = let (h, o) = test-split H g me s from m e in go (shape-of H g me s a initial from m) Q h o
     where
-      go : {b : Body} {r : S.Effect} → Shape H g me s a initial (numberIn from) (m .client) (m .sequence) b r → SizedIn g b → ST.senderRight g from (m .client) b ≡ true
+      go : {b : Body} {r : S.Effect} → Shape H g me s a initial (numberIn from) (m .client) (m .sequence) b r → SizedIn g b
+          → ST.senderRight g from (m .client) b ≡ true
           → ST.orderTest H g me s (numberIn from) (m .client) (m .sequence) b ≡ J.Fine → DecodedFacts H g s a r
       go (idle b) Q h o = idle-decoded _ refl refl refl
       go answers Q h o = idle-decoded _ refl refl refl

@@ -62,7 +62,8 @@ module _ (H : List ℕ → List ℕ) (g : Params) where
         → (tk : S.Write) × List·Memᴰ tk (r .accepted) × (tk .client ≡ c) × (tk .sequence ≡ q) × (key (S.stampOf tk) ≤ key (r .server .stamp))
     pub value-written : (b : Party) (c q : ℕ) (x : Stamp) (e : Entry) → List·Memᴰ (sending b (message c q (valueIs x e))) (r .sends)
         → ((from ≡ A.Client c) × (m ≡ message c q askRead) × (x ≡ s .stamp) × (e ≡ presentEntry g (s .stamp) a initial)) ⊎ Tells s r c q x e
-    pub stamped : (b : Party) (c q T : ℕ) → List·Memᴰ (sending b (message c q (stampIs T))) (r .sends) → (from ≡ A.Client c) × (m ≡ message c q getStamp) × (T ≡ s .stamp .time)
+    pub stamped : (b : Party) (c q T : ℕ) → List·Memᴰ (sending b (message c q (stampIs T))) (r .sends)
+        → (from ≡ A.Client c) × (m ≡ message c q getStamp) × (T ≡ s .stamp .time)
     pub noting : (c : ℕ) → readerOf (r .server) c .listening ≡ true
         → (readerOf (r .server) c ≡ readerOf s c)
         ⊎ ((from ≡ A.Client c) × (m ≡ message c (readerOf (r .server) c .sequence) askRead) × (readerOf (r .server) c .noted ≡ s .stamp))
@@ -86,8 +87,10 @@ module _ (H : List ℕ → List ℕ) (g : Params) where
 
     -- ---- behind a counted frame
 
-    module _ (b : Body) (f : Formed g (message c q b)) (Q : SizedIn g b) (h : ST.senderRight g from c b ≡ true) (o : ST.orderTest H g me s (numberIn from) c q b ≡ J.Fine)
-        {p : S.Counting} (k : Counted H g me s a initial (numberIn from) c b p) {r : S.Effect} (x : Freed g (withSlot s c (p .slot)) (p .area) c r) (B′ : InBounds (r .server)) where
+    module _ (b : Body) (f : Formed g (message c q b)) (Q : SizedIn g b) (h : ST.senderRight g from c b ≡ true)
+        (o : ST.orderTest H g me s (numberIn from) c q b ≡ J.Fine)
+        {p : S.Counting} (k : Counted H g me s a initial (numberIn from) c b p) {r : S.Effect} (x : Freed g (withSlot s c (p .slot)) (p .area) c r)
+        (B′ : InBounds (r .server)) where
       at : Among 8 c
       at = (f .client-low, f .client-high)
 
@@ -96,7 +99,8 @@ module _ (H : List ℕ → List ℕ) (g : Params) where
 
       -- a word to a client is behind an acceptance
       behind : (y : Sending) → (IsCast (y .says .body) → ⊥) → List·Memᴰ y (S.behind p r .sends)
-          → (w : S.Write) × List·Memᴰ w (r .accepted) × (key (S.stampOf w) ≤ key (r .server .stamp)) × (((d : ℕ) × (1 ≤ d) × (d ≤ 8) × Told (s .readers) (S.stampOf w) (w .entry) d y) ⊎ (y ≡ ackOf w))
+          → (w : S.Write) × List·Memᴰ w (r .accepted) × (key (S.stampOf w) ≤ key (r .server .stamp))
+          × (((d : ℕ) × (1 ≤ d) × (d ≤ 8) × Told (s .readers) (S.stampOf w) (w .entry) d y) ⊎ (y ≡ ackOf w))
       behind y n u = ⊎-elim
           (λ v. absurd (n (counted-cast H g me s a initial (numberIn from) c k y v)))
           (λ v.
@@ -104,7 +108,8 @@ module _ (H : List ℕ → List ℕ) (g : Params) where
           (w, m, not-older _ _ (B′ .stamp) (bounds w m) (freed-stamp x .1 w m), t))
           (List·Memᴰ·append-cases (p .sends) u)
 
-      tells : (w : S.Write) → List·Memᴰ w (r .accepted) → key (S.stampOf w) ≤ key (r .server .stamp) → (to : Party) (d n : ℕ) (v : Stamp) (e : Entry) (i : ℕ) → 1 ≤ i → i ≤ 8
+      tells : (w : S.Write) → List·Memᴰ w (r .accepted) → key (S.stampOf w) ≤ key (r .server .stamp) → (to : Party) (d n : ℕ) (v : Stamp) (e : Entry) (i : ℕ)
+          → 1 ≤ i → i ≤ 8
           → Told (s .readers) (S.stampOf w) (w .entry) i (sending to (message d n (valueIs v e))) → Tells s (S.behind p r) d n v e
       tells w m l to d n v e i lo hi t =
           let ed : d ≡ i = ap (λ z. z .says .client) (t .is) in
@@ -158,7 +163,8 @@ module _ (H : List ℕ → List ℕ) (g : Params) where
 
     -- ---- a step
 
-    step-facts : {b : Body} {r : S.Effect} → Shape H g me s a initial (numberIn from) c q b r → Formed g (message c q b) → SizedIn g b → ST.senderRight g from c b ≡ true
+    step-facts : {b : Body} {r : S.Effect} → Shape H g me s a initial (numberIn from) c q b r → Formed g (message c q b) → SizedIn g b
+        → ST.senderRight g from c b ≡ true
         → ST.orderTest H g me s (numberIn from) c q b ≡ J.Fine → InBounds (r .server) → StampFacts s a initial from (message c q b) r
     unfolding ST.senderRight
     step-facts (idle b) f Q h o B′ = record {
@@ -208,8 +214,10 @@ module _ (H : List ℕ → List ℕ) (g : Params) where
     step-facts (settles b p k x) f Q h o B′ = settled b f Q h o k x B′
 
   -- each frame that passes the tests
-  pub order-facts : Bounded g → (me : ℕ) (s : Server) → InBounds s → (a initial : List ℕ) → ServerShape s a → (from : Party) (m : Message) → Formed g m → SizedIn g (m .body)
+  pub order-facts : Bounded g → (me : ℕ) (s : Server) → InBounds s → (a initial : List ℕ) → ServerShape s a → (from : Party) (m : Message) → Formed g m
+      → SizedIn g (m .body)
       → ST.messageTest H g me s from m ≡ J.Fine → StampFacts s a initial from m (S.effect H g me s a initial from m)
   order-facts L me s B a initial F from m f Q e =
       let (h, o) = test-split H g me s from m e in
-      step-facts L me s B a initial F from (m .client) (m .sequence) (shape-of H g me s a initial from m) f Q h o (effect-in-bounds H g L me s B a initial F from m f e)
+      step-facts L me s B a initial F from (m .client) (m .sequence) (shape-of H g me s a initial from m) f Q h o
+      (effect-in-bounds H g L me s B a initial F from m f e)

@@ -36,8 +36,9 @@ module _ (Z : Setup) (G : Assumed Z) where
   later : (ks : List Call) (k : Call) (d : List ℕ) → From ks d → From (k ∷ ks) d
   later ks k d w = (w .0, w .1, inr (w .2), w .3, w .4, w .5)
 
-  keeps : (ks : List Call) (k : Call) (j : ℕ) (C : Takes Z G M ks k j) → DecodedFacts H g (serverAt Z G M ks j .server) (serverAt Z G M ks j .area) (effectOf Z G M C)
-  keeps ks k j C = decoded-facts H g (G .bounded .servers-high) M (G .bounded .blocks-low) j (serverAt Z G M ks j .server) (serverAt Z G M ks j .area) (initialOf Z j) (shape Z G M ks j)
+  keeps : (ks : List Call) (k : Call) (j : ℕ) (C : Takes Z G M ks k j) → DecodedFacts H g (serverAt Z G M ks j .server) (serverAt Z G M ks j .area)
+      (effectOf Z G M C)
+  keeps ks k j C = decoded-facts H g (G .bounded) j (serverAt Z G M ks j .server) (serverAt Z G M ks j .area) (initialOf Z j) (shape Z G M ks j)
       (C .from) (C .m) (C .took .client) (C .took .sized) (C .took .passes)
 
   now : (ks : List Call) (k : Call) (j : ℕ) (C : Takes Z G M ks k j) (d : List ℕ) → Has H g (effectOf Z G M C .decodes) d → From (k ∷ ks) d
@@ -50,7 +51,8 @@ module _ (Z : Setup) (G : Assumed Z) where
     w .4,
   )
 
-  done-from : (ks : List Call) (j c : ℕ) → Among 8 c → (y : Entry) → blockView g (serverAt Z G M ks j .area) c (slotOf (serverAt Z G M ks j .server) c) .done ≡ some y → From ks (y .digests)
+  done-from : (ks : List Call) (j c : ℕ) → Among 8 c → (y : Entry) → blockView g (serverAt Z G M ks j .area) c
+      (slotOf (serverAt Z G M ks j .server) c) .done ≡ some y → From ks (y .digests)
   done-from [] j c is y u =
       let e : blockView g (serverAt Z G M [] j .area) c (slotOf (serverAt Z G M [] j .server) c) ≡ noPart =
       ap (blockView g (serverAt Z G M [] j .area) c) (start-slot Z G j c is) ∙ fresh-block-view g (serverAt Z G M [] j .area) c 1 in

@@ -51,14 +51,14 @@ module _ (Z : Setup) (G : Assumed Z)
   M = small Z G
 
   abbrev Kb : Cast H g Entry (List ℕ)
-  Kb = blocks H g M (G .bounded .blocks-low)
+  Kb = blocks H g (G .bounded)
 
   abbrev Kt : Cast H g ℕ ℕ
-  Kt = times H g M (G .bounded .blocks-low)
+  Kt = times H g (G .bounded)
 
   facts : {P D : Type 0} (K : Cast H g P D) (ks : List Call) (k : Call) (j : ℕ) (C : Takes Z G M ks k j)
       → BroadcastFacts K (serverAt Z G M ks j .server) (serverAt Z G M ks j .area) (C .from) (C .m) (effectOf Z G M C)
-  facts K ks k j C = cast-facts K (G .bounded .servers-high) M (G .bounded .blocks-low) j (serverAt Z G M ks j .server) (serverAt Z G M ks j .area) (initialOf Z j) (shape Z G M ks j)
+  facts K ks k j C = cast-facts K (G .bounded) j (serverAt Z G M ks j .server) (serverAt Z G M ks j .area) (initialOf Z j) (shape Z G M ks j)
       (C .from) (C .m) (C .took .client) (C .took .sized) (C .took .passes)
 
   -- nothing is there at the start
@@ -76,16 +76,22 @@ module _ (Z : Setup) (G : Assumed Z)
   }
 
   -- two acceptances of one write have one payload; that of an honest client's is what it sent
-  agreed : {P D : Type 0} (K : Cast H g P D) (ks : List Call) → Admissible Z ks → (i j p q : ℕ) (x y : S.Write) → At (Accepts Z i x) ks p → At (Accepts Z j y) ks q
+  agreed : {P D : Type 0} (K : Cast H g P D) (ks : List Call) → Admissible Z ks → (i j p q : ℕ) (x y : S.Write) → At (Accepts Z i x) ks p
+      → At (Accepts Z j y) ks q
       → x .client ≡ y .client → x .sequence ≡ y .sequence → K .what (K .sel x) ≡ K .what (K .sel y)
   agreed K ks a i j p q x y u v ec eq =
-      BA.agreement (views Z G M formed K (facts K)) (g .n) (g .t) (K .rules .few) (K .rules .all) faultyServer faultyClient (G .faults) (K .sane .few-many) (K .sane .all-many) (empty K)
-      (lawful-run Z G M formed K (facts K) ks a) i j (x .client) (x .sequence) (K .what (K .sel x)) (K .what (K .sel y)) (x, p, u, refl, refl, refl) (y, q, v, sym ec, sym eq, refl)
+      BA.agreement (views Z G M formed K (facts K)) (g .n) (g .t) (K .rules .few) (K .rules .all) faultyServer faultyClient (G .faults) (K .sane .few-many)
+      (K .sane .all-many) (empty K)
+      (lawful-run Z G M formed K (facts K) ks a) i j (x .client) (x .sequence) (K .what (K .sel x)) (K .what (K .sel y)) (x, p, u, refl, refl, refl)
+      (y, q, v, sym ec, sym eq, refl)
 
-  valid : {P D : Type 0} (K : Cast H g P D) (ks : List Call) → Admissible Z ks → (i p : ℕ) (x : S.Write) → faultyClient (x .client) ≡ false → At (Accepts Z i x) ks p
-      → (b : Party) × (y : P) × (K .what y ≡ K .what (K .sel x)) × SentMessage Z G M ks (A.Client (x .client)) b (message (x .client) (x .sequence) (K .wrap send y))
+  valid : {P D : Type 0} (K : Cast H g P D) (ks : List Call) → Admissible Z ks → (i p : ℕ) (x : S.Write) → faultyClient (x .client) ≡ false
+      → At (Accepts Z i x) ks p
+      → (b : Party) × (y : P) × (K .what y ≡ K .what (K .sel x)) × SentMessage Z G M ks (A.Client (x .client)) b
+      (message (x .client) (x .sequence) (K .wrap send y))
   valid K ks a i p x h u =
-      BA.validity (views Z G M formed K (facts K)) (g .n) (g .t) (K .rules .few) (K .rules .all) faultyServer faultyClient (G .faults) (K .sane .few-many) (K .sane .all-many) (empty K)
+      BA.validity (views Z G M formed K (facts K)) (g .n) (g .t) (K .rules .few) (K .rules .all) faultyServer faultyClient (G .faults) (K .sane .few-many)
+      (K .sane .all-many) (empty K)
       (lawful-run Z G M formed K (facts K) ks a) i (x .client) (x .sequence) (K .what (K .sel x)) h (x, p, u, refl, refl, refl)
 
   -- Two acceptances of one write agree in stamp and digest list.
@@ -101,5 +107,6 @@ module _ (Z : Setup) (G : Assumed Z)
   validity-time = valid Kt
 
   pub validity-block : (ks : List Call) → Admissible Z ks → (i p : ℕ) (x : S.Write) → faultyClient (x .client) ≡ false → At (Accepts Z i x) ks p
-      → (b : Party) × (e : Entry) × (e .digests ≡ x .entry .digests) × SentMessage Z G M ks (A.Client (x .client)) b (message (x .client) (x .sequence) (blockIs send e))
+      → (b : Party) × (e : Entry) × (e .digests ≡ x .entry .digests) × SentMessage Z G M ks (A.Client (x .client)) b
+      (message (x .client) (x .sequence) (blockIs send e))
   validity-block = valid Kb

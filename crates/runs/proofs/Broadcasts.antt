@@ -28,7 +28,7 @@ use Rattle.server_rules.proofs.Parts.{put-same, put-cases}
 use Rattle.steps.proofs.PartFacts.{Heard}
 use Rattle.steps.proofs.CastFacts.{Cast, BroadcastFacts, New}
 use Rattle.steps.proofs.ServerFits.{ServerShape, Delivered, refused, taken, delivered, shape-effect, shape-fresh}
-use Rattle.steps.proofs.ServerTaken.{Taken}
+use Rattle.server_rules.proofs.Taking.{Taken}
 use Rattle.runs.specs.Admissible.{Sent, Honest, Proper, Admissible}
 use Rattle.runs.specs.Events.{At, Accepts}
 use Rattle.runs.specs.World.{Setup, Call, toServer, toClient, beginRead, beginWrite, caller, ServerSide, initialOf, start, serverEffect, serverLeft, step, run, sends, put}

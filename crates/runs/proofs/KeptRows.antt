@@ -38,7 +38,7 @@ use Rattle.client_rules.proofs.Views as CV
 use Rattle.steps.proofs.ClientTaken.{passed, took}
 use Rattle.client_rules.proofs.CallFacts.{row-shaped, rows-shaped, no-rows}
 use Rattle.server_rules.proofs.Passing.{SizedIn, is-server}
-use Rattle.steps.proofs.ServerTaken.{message-sized}
+use Rattle.server_rules.proofs.Taking.{message-sized}
 use Rattle.runs.specs.Admissible.{Admissible}
 use Rattle.runs.specs.Blocks.{InFrame}
 use Rattle.runs.specs.Events.{At, CompletesRead}

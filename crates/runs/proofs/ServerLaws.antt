@@ -72,7 +72,7 @@ module _ (Z : Setup) (G : Assumed Z) (M : Small (Z .g)) where
   module _ (ks : List Call) (k : Call) (adm : Admissible Z ks) (pr : Proper Z ks k) where
     SF : (j : ℕ) (C : Takes Z G M ks k j)
         → StampFacts H g (serverAt Z G M ks j .server) (serverAt Z G M ks j .area) (initialOf Z j) (C .from) (C .m) (effectOf Z G M C)
-    SF j C = order-facts H g (G .bounded .servers-high) M (G .bounded .blocks-low) j (serverAt Z G M ks j .server) (in-bounds Z G M ks adm j) (serverAt Z G M ks j .area) (initialOf Z j)
+    SF j C = order-facts H g (G .bounded) j (serverAt Z G M ks j .server) (in-bounds Z G M ks adm j) (serverAt Z G M ks j .area) (initialOf Z j)
         (shape Z G M ks j) (C .from) (C .m) (heard Z G M pr C) (C .took .sized) (C .took .passes)
 
     -- only servers among 1 to n take frames

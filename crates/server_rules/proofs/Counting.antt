@@ -16,7 +16,8 @@ use Rattle.frame.specs.declared.Party.{Party}
 use Rattle.frame.specs.Chunks.{entryAt, storeEntry, storeIf, presentAt, completeAt, echoAt, readyAt, areaBytes}
 use Rattle.frame.specs.Messages.{Entry, Stage, send, echo, ready, Body, blockIs, timeIs, message, Sending, sending, toAll, Sized, FormedBody}
 use Rattle.frame.proofs.Chunks.{length-store, entry-other}
-use Rattle.frame.proofs.Sizes.{Small}
+use Rattle.frame.specs.Params.{Bounded}
+use Rattle.frame.proofs.Sizes.{small}
 use Rattle.server_rules.specs.declared.Slot.{Slot}
 use Rattle.server_rules.specs.declared.Server.{Server}
 use Rattle.server_rules.specs.Broadcast.{Rules, Part, due, full}
@@ -38,14 +39,17 @@ mem-pick true l x u = (refl, u)
 mem-pick false l x u = absurd (List·Memᴰ·not-nil u)
 
 -- what goes to all, of one message
-pub said : (g : Params) (b : Bool) (c q : ℕ) (x : Body) (y : Sending) → List·Memᴰ y (pick b (toAll g (λ i. message c q x)) []) → (b ≡ true) × (y .says ≡ message c q x)
+pub said : (g : Params) (b : Bool) (c q : ℕ) (x : Body) (y : Sending) → List·Memᴰ y (pick b (toAll g (λ i. message c q x)) [])
+    → (b ≡ true) × (y .says ≡ message c q x)
 unfolding toAll
 said g b c q x y u = let (e, v) = mem-pick b _ y u in (e, mem-all (λ i. message c q x) 1 (g .n) y v .1)
 
 -- A counted frame as one of the two broadcasts sees it: one of its own, of stage z with x, or one of the other's.
-pub data Hears {P : Type 0} (R : Rules P) (g : Params) (me : ℕ) (wrap : Stage → P → Body) (j c q : ℕ) (b : Body) (l : List Sending) (s s′ : Part P) : Type 0 where
+pub data Hears {P : Type 0} (R : Rules P) (g : Params) (me : ℕ) (wrap : Stage → P → Body) (j c q : ℕ) (b : Body) (l : List Sending)
+    (s s′ : Part P) : Type 0 where
   own : (z : Stage) (x : P) → b ≡ wrap z x → s′ ≡ counted R (g .n) (g .t) me s j z x
-      → ((to : Party) (d r : ℕ) (z′ : Stage) (y : P) → List·Memᴰ (sending to (message d r (wrap z′ y))) l → (d ≡ c) × (r ≡ q) × Says R (g .n) (g .t) me s j z x z′ y)
+      → ((to : Party) (d r : ℕ) (z′ : Stage) (y : P) → List·Memᴰ (sending to (message d r (wrap z′ y))) l
+      → (d ≡ c) × (r ≡ q) × Says R (g .n) (g .t) me s j z x z′ y)
       → Hears R g me wrap j c q b l s s′
   other : s′ ≡ s → ((to : Party) (d r : ℕ) (z′ : Stage) (y : P) → List·Memᴰ (sending to (message d r (wrap z′ y))) l → ⊥) → Hears R g me wrap j c q b l s s′
 
@@ -58,7 +62,8 @@ module _ (H : List ℕ → List ℕ) (g : Params) (me c : ℕ) where
 
   -- ---- an entry that was counted
 
-  voted-says : (a : List ℕ) (x : Slot) (e : Entry) (to : Party) (d q : ℕ) (z : Stage) (y : Entry) → List·Memᴰ (sending to (message d q (blockIs z y))) (S.votedBlock H g me a c x e .sends)
+  voted-says : (a : List ℕ) (x : Slot) (e : Entry) (to : Party) (d q : ℕ) (z : Stage) (y : Entry)
+      → List·Memᴰ (sending to (message d q (blockIs z y))) (S.votedBlock H g me a c x e .sends)
       → let w = blockView g a c x in
       (d ≡ c) × (q ≡ x .sequence) × (z ≡ ready) × (due Rb (g .n) (g .t) w e ≡ true) × (y ≡ Rb .own me (w .echoes) (w .readies) e)
   unfolding S.votedBlock
@@ -67,38 +72,41 @@ module _ (H : List ℕ → List ℕ) (g : Params) (me c : ℕ) where
       let k : blockIs z y ≡ blockIs ready (Rb .own me (blockView g a c x .echoes) (blockView g a c x .readies) e) = ap (λ m. m .body) m in
       (ap (λ m. m .client) m, ap (λ m. m .sequence) m, cc, h, cc)
 
-  no-times : (a : List ℕ) (x : Slot) (e : Entry) (to : Party) (d q : ℕ) (z : Stage) (T : ℕ) → List·Memᴰ (sending to (message d q (timeIs z T))) (S.votedBlock H g me a c x e .sends) → ⊥
+  no-times : (a : List ℕ) (x : Slot) (e : Entry) (to : Party) (d q : ℕ) (z : Stage) (T : ℕ)
+      → List·Memᴰ (sending to (message d q (timeIs z T))) (S.votedBlock H g me a c x e .sends) → ⊥
   unfolding S.votedBlock
   no-times a x e to d q z T u = impossible (cc (ap (λ m. m .body) (said g _ c (x .sequence) _ _ u .1)))
 
-  module _ (M : Small g) (kk : 1 ≤ g .k) (is : Among 8 c) (a : List ℕ) (room : areaBytes ≤ length a) (x : Slot) (X : Shaped x) (e : Entry) (Q : Sized g e) where
+  module _ (L : Bounded g) (is : Among 8 c) (a : List ℕ) (room : areaBytes ≤ length a) (x : Slot) (X : Shaped x) (e : Entry) (Q : Sized g e) where
     voted-view : blockView g (S.votedBlock H g me a c x e .area) c (S.votedBlock H g me a c x e .slot) ≡ settled Rb (g .n) (g .t) me (blockView g a c x) e
     unfolding S.votedBlock blockView
     voted-view =
         let w = blockView g a c x in
-        SV.marks-view g M a room c x X is (due Rb (g .n) (g .t) w e) (full Rb (g .n) (g .t) w e) (Rb .own me (w .echoes) (w .readies) e) (λ z. coded H g kk me w e Q z)
+        SV.marks-view g (small g L) a room c x X is (due Rb (g .n) (g .t) w e) (full Rb (g .n) (g .t) w e) (Rb .own me (w .echoes) (w .readies) e)
+        (λ z. coded H g (L .blocks-low) me w e Q z)
 
     voted-others : (d : ℕ) → Among 8 d → (d ≡ c → ⊥) → (y : Slot) → Shaped y → blockView g (S.votedBlock H g me a c x e .area) d y ≡ blockView g a d y
     unfolding S.votedBlock
-    voted-others d isd ne y Y = SV.client-if g M a room d y Y isd _ c (completeAt c) _
-        (λ z. coded H g kk me (blockView g a c x) e Q (and-right (not (x .blocks .complete)) _ z)) is (λ z. ne (sym z)) (omega arith) (omega arith)
+    voted-others d isd ne y Y = SV.client-if g (small g L) a room d y Y isd _ c (completeAt c) _
+        (λ z. coded H g (L .blocks-low) me (blockView g a c x) e Q (and-right (not (x .blocks .complete)) _ z)) is (λ z. ne (sym z)) (omega arith) (omega arith)
 
     voted-present : entryAt g (S.votedBlock H g me a c x e .area) presentAt ≡ entryAt g a presentAt
     unfolding S.votedBlock
-    voted-present = go _ (λ z. coded H g kk me (blockView g a c x) e Q (and-right (not (x .blocks .complete)) _ z))
+    voted-present = go _ (λ z. coded H g (L .blocks-low) me (blockView g a c x) e Q (and-right (not (x .blocks .complete)) _ z))
       where
         go : (b : Bool) {y : Entry} → (b ≡ true → Sized g y) → entryAt g (storeIf b a (completeAt c) y) presentAt ≡ entryAt g a presentAt
-        go true {y} S = entry-other g M a (completeAt c) y (S refl) presentAt (λ z. omega arith)
+        go true {y} S = entry-other g (small g L) a (completeAt c) y (S refl) presentAt (λ z. omega arith)
         go false S = refl
 
     voted-has : (y : Entry) → blockView g (S.votedBlock H g me a c x e .area) c (S.votedBlock H g me a c x e .slot) .done ≡ some y
         → (blockView g a c x .done ≡ some y) ⊎ Has H g (S.votedBlock H g me a c x e .decodes) (y .digests)
     unfolding S.votedBlock
-    voted-has y u = settled-has H g kk me (blockView g a c x) e y (sym (ap (λ w. w .done) voted-view) ∙ u)
+    voted-has y u = settled-has H g (L .blocks-low) me (blockView g a c x) e y (sym (ap (λ w. w .done) voted-view) ∙ u)
 
   -- ---- a time that was counted
 
-  timed-says : (a : List ℕ) (x : Slot) (T : ℕ) (to : Party) (d q : ℕ) (z : Stage) (y : ℕ) → List·Memᴰ (sending to (message d q (timeIs z y))) (S.votedTime H g me a c x T .sends)
+  timed-says : (a : List ℕ) (x : Slot) (T : ℕ) (to : Party) (d q : ℕ) (z : Stage) (y : ℕ)
+      → List·Memᴰ (sending to (message d q (timeIs z y))) (S.votedTime H g me a c x T .sends)
       → (d ≡ c) × (q ≡ x .sequence) × (z ≡ ready) × (due Rt (g .n) (g .t) (timeView x) T ≡ true) × (y ≡ T)
   unfolding S.votedTime
   timed-says a x T to d q z y u =
@@ -106,7 +114,8 @@ module _ (H : List ℕ → List ℕ) (g : Params) (me c : ℕ) where
       let k : timeIs z y ≡ timeIs ready T = ap (λ m. m .body) m in
       (ap (λ m. m .client) m, ap (λ m. m .sequence) m, cc, h, cc)
 
-  no-blocks : (a : List ℕ) (x : Slot) (T : ℕ) (to : Party) (d q : ℕ) (z : Stage) (y : Entry) → List·Memᴰ (sending to (message d q (blockIs z y))) (S.votedTime H g me a c x T .sends) → ⊥
+  no-blocks : (a : List ℕ) (x : Slot) (T : ℕ) (to : Party) (d q : ℕ) (z : Stage) (y : Entry)
+      → List·Memᴰ (sending to (message d q (blockIs z y))) (S.votedTime H g me a c x T .sends) → ⊥
   unfolding S.votedTime
   no-blocks a x T to d q z y u = impossible (cc (ap (λ m. m .body) (said g _ c (x .sequence) _ _ u .1)))
 
@@ -116,17 +125,23 @@ module _ (H : List ℕ → List ℕ) (g : Params) (me c : ℕ) where
 
 -- ---- a counted frame
 
-module _ (H : List ℕ → List ℕ) (g : Params) (kk : 1 ≤ g .k) (kn : g .k + g .t ≤ g .n) (me : ℕ) (s : Server) (a initial : List ℕ) (j c : ℕ) where
+module _ (H : List ℕ → List ℕ) (g : Params) (L : Bounded g) (me : ℕ) (s : Server) (a initial : List ℕ) (j c : ℕ) where
   abbrev Word : Sending → Type 0
   Word y = (x : Body) × (y .says ≡ message c (slotOf s c .sequence) x) × FormedBody g x
 
-  voted-word : (a : List ℕ) (x : Slot) (e : Entry) → x .sequence ≡ slotOf s c .sequence → Sized g e → (y : Sending) → List·Memᴰ y (S.votedBlock H g me a c x e .sends) → Word y
+  voted-word : (a : List ℕ) (x : Slot) (e : Entry) → x .sequence ≡ slotOf s c .sequence → Sized g e → (y : Sending)
+      → List·Memᴰ y (S.votedBlock H g me a c x e .sends) → Word y
   unfolding S.votedBlock
   voted-word a x e q Q y u =
-      let (h, m) = said g _ c (x .sequence) _ y u in
-      (_, m ∙ ap (λ q. message c q (blockIs ready (blockRules H g .own me (blockView g a c x .echoes) (blockView g a c x .readies) e))) q, due-sized H g kk kn me (blockView g a c x) e Q h)
+      let (h, m) = said g _ c (x .sequence) _ y u in (
+        _,
+        m ∙ ap (λ q. message c q (blockIs ready (blockRules H g .own me (blockView g a c x .echoes) (blockView g a c x .readies) e))) q,
+        due-sized H g
+            (L .blocks-low) (omega (arith, L .blocks-high)) me (blockView g a c x) e Q h,
+      )
 
-  timed-word : (a : List ℕ) (x : Slot) (T : ℕ) → x .sequence ≡ slotOf s c .sequence → T < 18446744073709551616 → (y : Sending) → List·Memᴰ y (S.votedTime H g me a c x T .sends) → Word y
+  timed-word : (a : List ℕ) (x : Slot) (T : ℕ) → x .sequence ≡ slotOf s c .sequence → T < 18446744073709551616 → (y : Sending)
+      → List·Memᴰ y (S.votedTime H g me a c x T .sends) → Word y
   unfolding S.votedTime
   timed-word a x T q l y u = (timeIs ready T, said g _ c (x .sequence) _ y u .1 ∙ ap (λ q. message c q (timeIs ready T)) q, l)
 
@@ -140,8 +155,8 @@ module _ (H : List ℕ → List ℕ) (g : Params) (kk : 1 ≤ g .k) (kn : g .k +
   counted-word (time echo T) f y u = timed-word a _ T refl f y u
   counted-word (time ready T) f y u = timed-word a _ T refl f y u
 
-module _ (H : List ℕ → List ℕ) (g : Params) (M : Small g) (kk : 1 ≤ g .k) (me : ℕ) (s : Server) (a initial : List ℕ) (room : areaBytes ≤ length a) (j : ℕ) (at : Among 10 j) (c : ℕ) (is : Among 8 c)
-    (X : Shaped (slotOf s c)) where
+module _ (H : List ℕ → List ℕ) (g : Params) (L : Bounded g) (me : ℕ) (s : Server) (a initial : List ℕ) (room : areaBytes ≤ length a) (j : ℕ) (at : Among 10 j)
+    (c : ℕ) (is : Among 8 c) (X : Shaped (slotOf s c)) where
   abbrev x : Slot
   x = slotOf s c
 
@@ -171,14 +186,16 @@ module _ (H : List ℕ → List ℕ) (g : Params) (M : Small g) (kk : 1 ≤ g .k
       let k : blockIs z y ≡ blockIs echo e = ap (λ m. m .body) m in
       (ap (λ m. m .client) m, ap (λ m. m .sequence) m, (cc, cc)))
   blocks-hear (block echo e) Q =
-      let v = SV.echo-view g M a room c x X is j at e Q in
-      own echo e refl (voted-view H g me c M kk is (storeEntry a (echoAt c j) e) (room-after _ e) xe shaped-echo e Q ∙ ap (λ w. settled (Rb H g me c) (g .n) (g .t) me w e) v)
+      let v = SV.echo-view g (small g L) a room c x X is j at e Q in
+      own echo e refl (voted-view H g me c L is (storeEntry a (echoAt c j) e) (room-after _ e) xe shaped-echo e Q
+      ∙ ap (λ w. settled (Rb H g me c) (g .n) (g .t) me w e) v)
       (λ to d r z y u.
       let (h0, h1, h2, h3, h4) = voted-says H g me c _ xe e to d r z y u in
       (h0, h1, (h2, sym (ap (λ w. due (Rb H g me c) (g .n) (g .t) w e) v) ∙ h3, h4 ∙ ap (λ w. Rb H g me c .own me (w .echoes) (w .readies) e) v)))
   blocks-hear (block ready e) Q =
-      let v = SV.ready-view g M a room c x X is j at e Q in
-      own ready e refl (voted-view H g me c M kk is (storeEntry a (readyAt c j) e) (room-after _ e) xr shaped-ready e Q ∙ ap (λ w. settled (Rb H g me c) (g .n) (g .t) me w e) v)
+      let v = SV.ready-view g (small g L) a room c x X is j at e Q in
+      own ready e refl (voted-view H g me c L is (storeEntry a (readyAt c j) e) (room-after _ e) xr shaped-ready e Q
+      ∙ ap (λ w. settled (Rb H g me c) (g .n) (g .t) me w e) v)
       (λ to d r z y u.
       let (h0, h1, h2, h3, h4) = voted-says H g me c _ xr e to d r z y u in
       (h0, h1, (h2, sym (ap (λ w. due (Rb H g me c) (g .n) (g .t) w e) v) ∙ h3, h4 ∙ ap (λ w. Rb H g me c .own me (w .echoes) (w .readies) e) v)))
@@ -210,16 +227,17 @@ module _ (H : List ℕ → List ℕ) (g : Params) (M : Small g) (kk : 1 ≤ g .k
   times-hear (block ready e) = other refl (no-times H g me c _ xr e)
 
   -- the blocks of another client's slot
-  pub counted-others : {b : Body} {p : S.Counting} → Counted H g me s a initial j c b p → SizedIn g b → (d : ℕ) → Among 8 d → (d ≡ c → ⊥) → (y : Slot) → Shaped y
+  pub counted-others : {b : Body} {p : S.Counting} → Counted H g me s a initial j c b p → SizedIn g b → (d : ℕ) → Among 8 d → (d ≡ c → ⊥) → (y : Slot)
+      → Shaped y
       → blockView g (p .area) d y ≡ blockView g a d y
   unfolding S.onBlock S.onTime S.votedTime
   counted-others (block send e) Q d isd ne y Y = refl
   counted-others (block echo e) Q d isd ne y Y =
-      voted-others H g me c M kk is (storeEntry a (echoAt c j) e) (room-after _ e) xe shaped-echo e Q d isd ne y Y
-      ∙ SV.other-client g M a room d y Y isd c (echoAt c j) e Q is (λ z. ne (sym z)) (omega arith) (omega arith)
+      voted-others H g me c L is (storeEntry a (echoAt c j) e) (room-after _ e) xe shaped-echo e Q d isd ne y Y
+      ∙ SV.other-client g (small g L) a room d y Y isd c (echoAt c j) e Q is (λ z. ne (sym z)) (omega arith) (omega arith)
   counted-others (block ready e) Q d isd ne y Y =
-      voted-others H g me c M kk is (storeEntry a (readyAt c j) e) (room-after _ e) xr shaped-ready e Q d isd ne y Y
-      ∙ SV.other-client g M a room d y Y isd c (readyAt c j) e Q is (λ z. ne (sym z)) (omega arith) (omega arith)
+      voted-others H g me c L is (storeEntry a (readyAt c j) e) (room-after _ e) xr shaped-ready e Q d isd ne y Y
+      ∙ SV.other-client g (small g L) a room d y Y isd c (readyAt c j) e Q is (λ z. ne (sym z)) (omega arith) (omega arith)
   counted-others (time send T) Q d isd ne y Y = refl
   counted-others (time echo T) Q d isd ne y Y = refl
   counted-others (time ready T) Q d isd ne y Y = refl
@@ -229,24 +247,27 @@ module _ (H : List ℕ → List ℕ) (g : Params) (M : Small g) (kk : 1 ≤ g .k
   unfolding S.onBlock S.onTime S.votedTime
   counted-present (block send e) Q = refl
   counted-present (block echo e) Q =
-      voted-present H g me c M kk is (storeEntry a (echoAt c j) e) (room-after _ e) xe shaped-echo e Q ∙ entry-other g M a (echoAt c j) e Q presentAt (λ z. omega arith)
+      voted-present H g me c L is (storeEntry a (echoAt c j) e) (room-after _ e) xe shaped-echo e Q
+      ∙ entry-other g (small g L) a (echoAt c j) e Q presentAt (λ z. omega arith)
   counted-present (block ready e) Q =
-      voted-present H g me c M kk is (storeEntry a (readyAt c j) e) (room-after _ e) xr shaped-ready e Q ∙ entry-other g M a (readyAt c j) e Q presentAt (λ z. omega arith)
+      voted-present H g me c L is (storeEntry a (readyAt c j) e) (room-after _ e) xr shaped-ready e Q
+      ∙ entry-other g (small g L) a (readyAt c j) e Q presentAt (λ z. omega arith)
   counted-present (time send T) Q = refl
   counted-present (time echo T) Q = refl
   counted-present (time ready T) Q = refl
 
   -- what completes the part has the digests of a value that was decoded
-  pub counted-has : {b : Body} {p : S.Counting} → Counted H g me s a initial j c b p → SizedIn g b → (y : Entry) → blockView g (p .area) c (p .slot) .done ≡ some y
+  pub counted-has : {b : Body} {p : S.Counting} → Counted H g me s a initial j c b p → SizedIn g b → (y : Entry)
+      → blockView g (p .area) c (p .slot) .done ≡ some y
       → (blockView g a c x .done ≡ some y) ⊎ Has H g (p .decodes) (y .digests)
   unfolding S.onBlock S.onTime S.votedTime blockView
   counted-has (block send e) Q y u = inl u
   counted-has (block echo e) Q y u = ⊎-elim
-      (λ w. inl (sym (ap (λ w. w .done) (SV.echo-view g M a room c x X is j at e Q)) ∙ w)) (λ w. inr w)
-      (voted-has H g me c M kk is (storeEntry a (echoAt c j) e) (room-after _ e) xe shaped-echo e Q y u)
+      (λ w. inl (sym (ap (λ w. w .done) (SV.echo-view g (small g L) a room c x X is j at e Q)) ∙ w)) (λ w. inr w)
+      (voted-has H g me c L is (storeEntry a (echoAt c j) e) (room-after _ e) xe shaped-echo e Q y u)
   counted-has (block ready e) Q y u = ⊎-elim
-      (λ w. inl (sym (ap (λ w. w .done) (SV.ready-view g M a room c x X is j at e Q)) ∙ w)) (λ w. inr w)
-      (voted-has H g me c M kk is (storeEntry a (readyAt c j) e) (room-after _ e) xr shaped-ready e Q y u)
+      (λ w. inl (sym (ap (λ w. w .done) (SV.ready-view g (small g L) a room c x X is j at e Q)) ∙ w)) (λ w. inr w)
+      (voted-has H g me c L is (storeEntry a (readyAt c j) e) (room-after _ e) xr shaped-ready e Q y u)
   counted-has (time send T) Q y u = inl u
   counted-has (time echo T) Q y u = inl u
   counted-has (time ready T) Q y u = inl u

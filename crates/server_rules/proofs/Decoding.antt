@@ -1,5 +1,5 @@
--- What a server decodes of a write's frames: what it computes from enough of one digest list has the sizes of an entry, and a block part becomes complete with the
--- digests of a value that was decoded. Assumes nothing.
+-- What a server decodes of a write's frames: what it computes from enough of one digest list has the sizes of an entry, and a block part becomes
+-- complete with the digests of a value that was decoded. Assumes nothing.
 use Prim.Native.Nat.{ℕ, zero, suc, _+_, _≤_, _<_}
 use native.Mathlib.Omega.{arith}
 use mathlib.Core.Bool.{Bool, true, false, not, _&&_}
@@ -36,7 +36,8 @@ piece-size (some e) d j l = go (same (e .digests) d)
     go true = omega arith
     go false = omega arith
 
-pieces-size : (f : ℕ → Option Entry) (d : List ℕ) (i m : ℕ) → length (pieces f d (suc i) m) + count (λ j. hasList (f j) d) i ≡ count (λ j. hasList (f j) d) (i + m)
+pieces-size : (f : ℕ → Option Entry) (d : List ℕ) (i m : ℕ) → length (pieces f d (suc i) m) + count (λ j. hasList (f j) d) i ≡ count (λ j. hasList (f j) d)
+    (i + m)
 unfolding pieces count
 pieces-size f d i zero =
     let a : i ≡ i + 0 = omega arith in
@@ -119,12 +120,14 @@ module _ (H : List ℕ → List ℕ) (g : Params) (kk : 1 ≤ g .k) where
       → Sized g (blockRules H g .own me (w .echoes) (w .readies) x)
   sized-own me w x Q s = record { list-is = Q .list-is; block-is = block-width g (regained g (w .echoes) (w .readies) (x .digests)) me s }
 
-  full-votes : (w : Part Entry) (x : Entry) → full (blockRules H g) (g .n) (g .t) w x ≡ true → quota g + g .t ≤ votes (blockRules H g) (g .n) (g .t) (w .readies) x
+  full-votes : (w : Part Entry) (x : Entry) → full (blockRules H g) (g .n) (g .t) w x ≡ true
+      → quota g + g .t ≤ votes (blockRules H g) (g .n) (g .t) (w .readies) x
   unfolding full votes
   full-votes w x e = leb-true (quota g + g .t) (votes (blockRules H g) (g .n) (g .t) (w .readies) x) (and-split _ _ e .0)
 
   -- an entry that completes the part, and one that is due
-  pub coded : (me : ℕ) (w : Part Entry) (x : Entry) → Sized g x → full (blockRules H g) (g .n) (g .t) w x ≡ true → Sized g (blockRules H g .own me (w .echoes) (w .readies) x)
+  pub coded : (me : ℕ) (w : Part Entry) (x : Entry) → Sized g x → full (blockRules H g) (g .n) (g .t) w x ≡ true
+      → Sized g (blockRules H g .own me (w .echoes) (w .readies) x)
   coded me w x Q e = sized-own me w x Q (by-readies (w .echoes) (w .readies) x (omega (arith, full-votes w x e)))
 
   pub due-sized : g .k + g .t ≤ g .n → (me : ℕ) (w : Part Entry) (x : Entry) → Sized g x → due (blockRules H g) (g .n) (g .t) w x ≡ true
@@ -161,10 +164,12 @@ module _ (H : List ℕ → List ℕ) (g : Params) (kk : 1 ≤ g .k) where
         regained-bytes (w .echoes) (w .readies) (x .digests),
       )
 
-  pub settled-has : (me : ℕ) (w : Part Entry) (x y : Entry) → settled (blockRules H g) (g .n) (g .t) me w x .done ≡ some y → (w .done ≡ some y) ⊎ Has H g (decodes H g w x) (y .digests)
+  pub settled-has : (me : ℕ) (w : Part Entry) (x y : Entry) → settled (blockRules H g) (g .n) (g .t) me w x .done ≡ some y
+      → (w .done ≡ some y) ⊎ Has H g (decodes H g w x) (y .digests)
   settled-has me w x y = go (w .done) (full (blockRules H g) (g .n) (g .t) w x) refl refl
     where
-      go : (o : Option Entry) (b : Bool) → w .done ≡ o → full (blockRules H g) (g .n) (g .t) w x ≡ b → firstOf o (kept b (blockRules H g .own me (w .echoes) (w .readies) x)) ≡ some y
+      go : (o : Option Entry) (b : Bool) → w .done ≡ o → full (blockRules H g) (g .n) (g .t) w x ≡ b
+          → firstOf o (kept b (blockRules H g .own me (w .echoes) (w .readies) x)) ≡ some y
           → (w .done ≡ some y) ⊎ Has H g (decodes H g w x) (y .digests)
       go (some z) b p q u = inl (p ∙ u)
       go none true p q u =

@@ -30,7 +30,8 @@ use Rattle.server_rules.proofs.Accepting.{Told, ackOf, accept-mem, acce
 use Rattle.server_rules.proofs.Shapes.{Ripe, Freed, nothing, accepts}
 
 -- the completed entry has its sizes
-pub done-sized : (g : Params) → Small g → (a : List ℕ) → areaBytes ≤ length a → (c : ℕ) → Among 8 c → (x : Slot) (y : Entry) → blockView g a c x .done ≡ some y → Sized g y
+pub done-sized : (g : Params) → Small g → (a : List ℕ) → areaBytes ≤ length a → (c : ℕ) → Among 8 c → (x : Slot) (y : Entry)
+    → blockView g a c x .done ≡ some y → Sized g y
 unfolding blockView entryAt
 done-sized g M a R c is x y q =
     let e : entryAt g a (completeAt c) ≡ y = kept-some (x .blocks .complete) (entryAt g a (completeAt c)) y q in
@@ -53,14 +54,16 @@ module _ {g : Params} {s : Server} {a : List ℕ} {c : ℕ} where
   freed-ripe is nothing w u = absurd (List·Memᴰ·not-nil u)
   freed-ripe is (accepts k e R) w u = subst (λ k. Among 8 (k .client) × Ripe g s a k) (sym (List·Memᴰ·eq-of-singleton u)) (subst (Among 8) (sym e) is, R)
 
-  pub freed-sized : Small g → areaBytes ≤ length a → Among 8 c → {r : S.Effect} → Freed g s a c r → (w : S.Write) → List·Memᴰ w (r .accepted) → Sized g (w .entry)
+  pub freed-sized : Small g → areaBytes ≤ length a → Among 8 c → {r : S.Effect} → Freed g s a c r → (w : S.Write) → List·Memᴰ w (r .accepted)
+      → Sized g (w .entry)
   freed-sized M room is f w u = let (i, R) = freed-ripe is f w u in done-sized g M a room (w .client) i (slotOf s (w .client)) (w .entry) (R .entry)
 
   -- ---- what they leave
 
   -- a slot stays, or its write is one of them and the next sequence is open
   pub freed-slots : Within shapes s → Among 8 c → {r : S.Effect} → Freed g s a c r → (d : ℕ)
-      → (slotOf (r .server) d ≡ slotOf s d) ⊎ ((w : S.Write) × List·Memᴰ w (r .accepted) × (w .client ≡ d) × (slotOf (r .server) d ≡ freshSlot (slotOf s d .sequence + 1)))
+      → (slotOf (r .server) d ≡ slotOf s d) ⊎ ((w : S.Write) × List·Memᴰ w (r .accepted) × (w .client ≡ d)
+      × (slotOf (r .server) d ≡ freshSlot (slotOf s d .sequence + 1)))
   unfolding S.accept
   freed-slots W is nothing d = inl refl
   freed-slots W is (accepts w e R) d = go (ℕ-discrete d (w .client))
@@ -83,7 +86,8 @@ module _ {g : Params} {s : Server} {a : List ℕ} {c : ℕ} where
   unfolding S.accept
   freed-blocks M room is nothing d i x X = refl
   freed-blocks M room is (accepts w e R) d i x X =
-      present-if g M a room d x X i (older (s .stamp) (S.stampOf w)) (w .entry) (λ z. done-sized g M a room (w .client) (subst (Among 8) (sym e) is) _ (w .entry) (R .entry))
+      present-if g M a room d x X i (older (s .stamp) (S.stampOf w)) (w .entry)
+      (λ z. done-sized g M a room (w .client) (subst (Among 8) (sym e) is) _ (w .entry) (R .entry))
 
   pub freed-readers : {r : S.Effect} → Freed g s a c r → r .server .readers ≡ s .readers
   unfolding S.accept
@@ -99,7 +103,8 @@ module _ {g : Params} {s : Server} {a : List ℕ} {c : ℕ} where
   freed-present M room is (accepts w e R) = go (older (s .stamp) (S.stampOf w))
     where
       go : (b : Bool) → ((pick b (S.stampOf w) (s .stamp) ≡ s .stamp) × (entryAt g (storeIf b a presentAt (w .entry)) presentAt ≡ entryAt g a presentAt))
-          ⊎ ((k : S.Write) × List·Memᴰ k (w ∷ []) × (pick b (S.stampOf w) (s .stamp) ≡ S.stampOf k) × (entryAt g (storeIf b a presentAt (w .entry)) presentAt ≡ k .entry))
+          ⊎ ((k : S.Write) × List·Memᴰ k (w ∷ []) × (pick b (S.stampOf w) (s .stamp) ≡ S.stampOf k)
+          × (entryAt g (storeIf b a presentAt (w .entry)) presentAt ≡ k .entry))
       go true = inr (
         w,
         List·Memᴰ·head refl,
@@ -110,7 +115,8 @@ module _ {g : Params} {s : Server} {a : List ℕ} {c : ℕ} where
 
   -- its stamp is not below the one before, nor below any of theirs
   pub freed-stamp : {r : S.Effect} → Freed g s a c r
-      → ((r .server .stamp ≡ s .stamp) ⊎ (older (s .stamp) (r .server .stamp) ≡ true)) × ((w : S.Write) → List·Memᴰ w (r .accepted) → older (r .server .stamp) (S.stampOf w) ≡ false)
+      → ((r .server .stamp ≡ s .stamp) ⊎ (older (s .stamp) (r .server .stamp) ≡ true))
+      × ((w : S.Write) → List·Memᴰ w (r .accepted) → older (r .server .stamp) (S.stampOf w) ≡ false)
   unfolding S.accept pick
   freed-stamp nothing = (inl refl, λ w u. absurd (List·Memᴰ·not-nil u))
   freed-stamp (accepts k e R) = go (older (s .stamp) (S.stampOf k)) refl
@@ -122,7 +128,11 @@ module _ {g : Params} {s : Server} {a : List ℕ} {c : ℕ} where
       go : (b : Bool) → older (s .stamp) (S.stampOf k) ≡ b
           → ((pick b (S.stampOf k) (s .stamp) ≡ s .stamp) ⊎ (older (s .stamp) (pick b (S.stampOf k) (s .stamp)) ≡ true))
           × ((w : S.Write) → List·Memᴰ w (k ∷ []) → older (pick b (S.stampOf k) (s .stamp)) (S.stampOf w) ≡ false)
-      go true e = (inr e, λ w u. ap (λ w. older (S.stampOf k) (S.stampOf w)) (List·Memᴰ·eq-of-singleton u) ∙ never _ (stamps-ordered .irreflexive (S.stampOf k)))
+      go true e = (
+        inr e,
+        λ w u. ap (λ w. older (S.stampOf k) (S.stampOf w)) (List·Memᴰ·eq-of-singleton u)
+            ∙ never _ (stamps-ordered .irreflexive (S.stampOf k)),
+      )
       go false e = (inl refl, λ w u. ap (λ w. older (s .stamp) (S.stampOf w)) (List·Memᴰ·eq-of-singleton u) ∙ e)
 
   -- ---- what is sent

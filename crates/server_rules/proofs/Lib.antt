@@ -6,6 +6,7 @@ pub mod Accepting
 pub mod Shapes
 pub mod Passing
 pub mod Within
+pub mod Taking
 pub mod Counting
 pub mod Freeing
 pub mod Speaking

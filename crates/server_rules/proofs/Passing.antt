@@ -96,7 +96,8 @@ module _ (g : Params) (from : Party) (c : ℕ) where
   counted-from is few (time z T) h = sender-number is few z (time-sender z T h)
 
 -- its write is the open one
-pub counted-open : {H : List ℕ → List ℕ} {g : Params} {me : ℕ} {s : Server} {a initial : List ℕ} {j c : ℕ} {b : Body} {p : S.Counting} → Counted H g me s a initial j c b p
+pub counted-open : {H : List ℕ → List ℕ} {g : Params} {me : ℕ} {s : Server} {a initial : List ℕ} {j c : ℕ} {b : Body} {p : S.Counting}
+    → Counted H g me s a initial j c b p
     → (q : ℕ) → ST.orderTest H g me s j c q b ≡ J.Fine → q ≡ slotOf s c .sequence
 unfolding ST.orderTest
 counted-open (block z e) q o = open-passed _ q _ (fine-both _ _ o .0) .0

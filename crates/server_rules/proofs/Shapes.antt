@@ -125,8 +125,10 @@ module _ (H : List ℕ → List ℕ) (g : Params) (me : ℕ) (s : Server) (a ini
   pub counted-length : {b : Body} {p : S.Counting} → Counted b p → length (p .area) ≡ length a
   unfolding S.onBlock S.votedBlock S.onTime S.votedTime
   counted-length (block send e) = refl
-  counted-length (block echo e) = voted-length (storeEntry a (echoAt c j) e) (withBlocks (slotOf s c) (blockEcho (slotOf s c .blocks) j)) e ∙ length-store a (echoAt c j) e
-  counted-length (block ready e) = voted-length (storeEntry a (readyAt c j) e) (withBlocks (slotOf s c) (blockReady (slotOf s c .blocks) j)) e ∙ length-store a (readyAt c j) e
+  counted-length (block echo e) = voted-length (storeEntry a (echoAt c j) e) (withBlocks (slotOf s c) (blockEcho (slotOf s c .blocks) j)) e
+      ∙ length-store a (echoAt c j) e
+  counted-length (block ready e) = voted-length (storeEntry a (readyAt c j) e) (withBlocks (slotOf s c) (blockReady (slotOf s c .blocks) j)) e
+      ∙ length-store a (readyAt c j) e
   counted-length (time send T) = refl
   counted-length (time echo T) = refl
   counted-length (time ready T) = refl

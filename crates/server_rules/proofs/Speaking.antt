@@ -21,7 +21,8 @@ use Rattle.server_rules.proofs.Freeing.{freed-mem, freed-few}
 use Rattle.server_rules.proofs.Shapes.{Freed, Counted, Casts, counted-casts, Shape, idle, answers, notes, ends, settles}
 
 -- what an acceptance sends is none
-pub freed-none : {g : Params} {s : Server} {a : List ℕ} {c : ℕ} {r : S.Effect} → Freed g s a c r → (y : Sending) → List·Memᴰ y (r .sends) → IsCast (y .says .body) → ⊥
+pub freed-none : {g : Params} {s : Server} {a : List ℕ} {c : ℕ} {r : S.Effect} → Freed g s a c r → (y : Sending) → List·Memᴰ y (r .sends)
+    → IsCast (y .says .body) → ⊥
 freed-none f y u h = ⊎-elim
     (λ (d, l, m, t). subst (λ y. IsCast (y .says .body)) (t .is) h)
     (λ e. subst (λ y. IsCast (y .says .body)) e h)
@@ -56,7 +57,8 @@ module _ (H : List ℕ → List ℕ) (g : Params) (me : ℕ) (s : Server) (a ini
       subst (λ l. List·Memᴰ (sending (P.Server i) m) l) (sym (C .sends))
       (subst (λ y. List·Memᴰ (sending (P.Server i) y) (pick (C .speaks) (toAll g (λ i. n)) [])) (sym e) (casts-all (C .speaks) n i is h))
 
-  pub step-all : (q : ℕ) {b : Body} {r : S.Effect} → Shape H g me s a initial j c q b r → (to : Party) (m : Message) → IsCast (m .body) → List·Memᴰ (sending to m) (r .sends)
+  pub step-all : (q : ℕ) {b : Body} {r : S.Effect} → Shape H g me s a initial j c q b r → (to : Party) (m : Message) → IsCast (m .body)
+      → List·Memᴰ (sending to m) (r .sends)
       → (i : ℕ) → Among (g .n) i → List·Memᴰ (sending (P.Server i) m) (r .sends)
   step-all q (idle b) to m h u = absurd (List·Memᴰ·not-nil u)
   step-all q answers to m h u = absurd (subst (λ y. IsCast (y .says .body)) (List·Memᴰ·eq-of-singleton u) h)

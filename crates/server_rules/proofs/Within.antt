@@ -141,7 +141,8 @@ module _ (B : Bounds) where
     same-blocks : (b : BlockPart) → b .echoes ≡ x .blocks .echoes → b .readies ≡ x .blocks .readies → SlotWithin B (withBlocks x b)
     same-blocks b e r = blocks-within b (record { echoes = rw e (X .blocks .echoes); readies = rw r (X .blocks .readies) })
 
-    same-times : (b : TimePart) → B .time (b .time) → b .echoes ≡ x .times .echoes → b .readies ≡ x .times .readies → b .echoed ≡ x .times .echoed → b .readied ≡ x .times .readied
+    same-times : (b : TimePart) → B .time (b .time) → b .echoes ≡ x .times .echoes → b .readies ≡ x .times .readies → b .echoed ≡ x .times .echoed
+        → b .readied ≡ x .times .readied
         → SlotWithin B (withTimes x b)
     same-times b h e r f k = let u = X .times in times-within b
         (record { time = h; echoes = rw e (u .echoes); readies = rw r (u .readies); echoed = rw f (u .echoed); readied = rw k (u .readied) })
@@ -155,7 +156,8 @@ module _ (B : Bounds) where
     unfolding S.votedTime
     timed-within a x T X h = same-times x X _ (either (B .time) _ T (x .times .time) h (X .times .time)) refl refl refl refl
 
-    pub counted-within : Setting j → SlotWithin B (slotOf s c) → {b : Body} {p : S.Counting} → Counted H g me s a initial j c b p → TimeIn b → SlotWithin B (p .slot)
+    pub counted-within : Setting j → SlotWithin B (slotOf s c) → {b : Body} {p : S.Counting} → Counted H g me s a initial j c b p → TimeIn b
+        → SlotWithin B (p .slot)
     unfolding S.onBlock S.onTime
     counted-within flag X (block send e) h = same-blocks (slotOf s c) X _ refl refl
     counted-within flag X (block echo e) h = voted-within _ _ e (echo-within (slotOf s c) X j flag)
@@ -190,7 +192,8 @@ module _ (B : Bounds) where
       pub ended : B .reader (readerOf s c) → B .reader (record { sequence = q; listening = false; noted = readerOf s c .noted })
       pub leaves : (w : S.Write) → w .client ≡ c → w .sequence ≡ q → w .time < lastTime → Leaves w
 
-    pub step-within : Within B s → c ≤ 8 → {b : Body} {r : S.Effect} → Shape H g me s a initial j c q b r → ST.orderTest H g me s j c q b ≡ J.Fine → Grants b → Within B (r .server)
+    pub step-within : Within B s → c ≤ 8 → {b : Body} {r : S.Effect} → Shape H g me s a initial j c q b r → ST.orderTest H g me s j c q b ≡ J.Fine → Grants b
+        → Within B (r .server)
     step-within W few (idle b) o G = W
     step-within W few answers o G = W
     step-within W few notes o G = with-reader W c _ (G .noted (W .stamp))

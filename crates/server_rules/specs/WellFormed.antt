@@ -1,5 +1,5 @@
--- A well-formed server: each array has its length, and each flag list, time, sequence, stamp and reader is within its bounds. What the bounds are is a parameter,
--- so that one law of a step serves all who ask (proofs/Within.antt). These are definitions.
+-- A well-formed server: each array has its length, and each flag list, time, sequence, stamp and reader is within its bounds. What the bounds are is
+-- a parameter, so that one law of a step serves all who ask (proofs/Within.antt). These are definitions.
 use Prim.Native.Nat.{ℕ}
 use mathlib.Core.Bool.{Bool}
 use mathlib.Core.Path.{_≡_}

@@ -21,7 +21,8 @@ use Rattle.frame.specs.declared.Party.the-variants as A
 use Rattle.frame.specs.declared.Verdict.the-variants as J
 use Rattle.frame.specs.Chunks.{areaBytes}
 use Rattle.frame.specs.Messages.{Entry, Stage, send, echo, ready, Body, blockIs, timeIs, Message, message, sending, numberIn}
-use Rattle.frame.proofs.Sizes.{Small}
+use Rattle.frame.specs.Params.{Bounded}
+use Rattle.frame.proofs.Sizes.{small}
 use Rattle.frame.proofs.Verdicts.{fine-both}
 use Rattle.server_rules.specs.declared.Slot.{Slot}
 use Rattle.server_rules.specs.declared.Server.{Server}
@@ -73,7 +74,8 @@ pub time-inj : (z : Stage) (p q : ℕ) → timeIs z p ≡ timeIs z q → p ≡ q
 time-inj z p q e = cc
 
 module _ (H : List ℕ → List ℕ) (g : Params) where
-  pub block-first : (me : ℕ) (s : Server) (a : List ℕ) (j c q : ℕ) (e : Entry) → ST.orderTest H g me s j c q (blockIs send e) ≡ J.Fine → blockView g a c (slotOf s c) .sent ≡ false
+  pub block-first : (me : ℕ) (s : Server) (a : List ℕ) (j c q : ℕ) (e : Entry) → ST.orderTest H g me s j c q (blockIs send e) ≡ J.Fine
+      → blockView g a c (slotOf s c) .sent ≡ false
   unfolding ST.orderTest ST.counted blockView
   block-first me s a j c q e o = open-passed (slotOf s c) q _ (fine-both _ _ o .0) .1
 
@@ -81,8 +83,8 @@ module _ (H : List ℕ → List ℕ) (g : Params) where
   unfolding ST.orderTest ST.counted timeView
   time-first me s j c q T o = open-passed (slotOf s c) q _ o .1
 
-  abbrev pub blocks : Small g → 1 ≤ g .k → Cast H g Entry (List ℕ)
-  blocks M kk = record {
+  abbrev pub blocks : Bounded g → Cast H g Entry (List ℕ)
+  blocks L = record {
     view = blockView g;
     wrap = blockIs;
     rules = blockRules H g;
@@ -101,11 +103,11 @@ module _ (H : List ℕ → List ℕ) (g : Params) where
     ripe = λ s a w R. R .entry;
     sender = block-sender g;
     first = block-first;
-    hears = λ me s a initial room j at c is X k Q. blocks-hear H g M kk me s a initial room j at c is X k Q;
+    hears = λ me s a initial room j at c is X k Q. blocks-hear H g L me s a initial room j at c is X k Q;
   }
 
-  abbrev pub times : Small g → 1 ≤ g .k → Cast H g ℕ ℕ
-  times M kk = record {
+  abbrev pub times : Bounded g → Cast H g ℕ ℕ
+  times L = record {
     view = λ a c x. timeView x;
     wrap = timeIs;
     rules = timeRules H g;
@@ -119,7 +121,7 @@ module _ (H : List ℕ → List ℕ) (g : Params) where
     ripe = λ s a w R. R .time;
     sender = time-sender g;
     first = λ me s a j c q T o. time-first me s j c q T o;
-    hears = λ me s a initial room j at c is X k Q. times-hear H g M kk me s a initial room j at c is X k;
+    hears = λ me s a initial room j at c is X k Q. times-hear H g L me s a initial room j at c is X k;
   }
 
 module _ {H : List ℕ → List ℕ} {g : Params} {P D : Type 0} (K : Cast H g P D) where
@@ -133,7 +135,8 @@ module _ {H : List ℕ → List ℕ} {g : Params} {P D : Type 0} (K : Cast H g P
   pub record BroadcastFacts (s : Server) (a : List ℕ) (from : Party) (m : Message) (r : S.Effect) : Type 0 where
     pub an-echo : (c : ℕ) (b : Party) (q : ℕ) (p : P) → List·Memᴰ (sending b (message c q (wrap echo p))) (r .sends)
         → (q ≡ slotOf s c .sequence) × (view a c (slotOf s c) .sent ≡ false)
-        × (((slotOf (r .server) c .sequence ≡ slotOf s c .sequence) × (view (r .area) c (slotOf (r .server) c) .sent ≡ true)) ⊎ (slotOf s c .sequence < slotOf (r .server) c .sequence))
+        × (((slotOf (r .server) c .sequence ≡ slotOf s c .sequence) × (view (r .area) c (slotOf (r .server) c) .sent ≡ true))
+        ⊎ (slotOf s c .sequence < slotOf (r .server) c .sequence))
         × (from ≡ A.Client c) × (m ≡ message c (slotOf s c .sequence) (wrap send p))
     pub a-ready : (c : ℕ) (b : Party) (q : ℕ) (p : P) → List·Memᴰ (sending b (message c q (wrap ready p))) (r .sends)
         → Among 8 c × (q ≡ slotOf s c .sequence)
@@ -144,29 +147,53 @@ module _ {H : List ℕ → List ℕ} {g : Params} {P D : Type 0} (K : Cast H g P
     pub ready-kept : (c : ℕ) → Among 8 c → (j : ℕ) (p : P) → view (r .area) c (slotOf (r .server) c) .readies j ≡ some p
         → (slotOf (r .server) c .sequence ≡ slotOf s c .sequence) × ((view a c (slotOf s c) .readies j ≡ some p) ⊎ New s from m c ready j p)
     pub onward : (c : ℕ)
-        → ((slotOf (r .server) c .sequence ≡ slotOf s c .sequence) × (Among 8 c → view a c (slotOf s c) .sent ≡ true → view (r .area) c (slotOf (r .server) c) .sent ≡ true))
+        → ((slotOf (r .server) c .sequence ≡ slotOf s c .sequence) × (Among 8 c → view a c (slotOf s c) .sent ≡ true
+        → view (r .area) c (slotOf (r .server) c) .sent ≡ true))
         ⊎ (slotOf s c .sequence < slotOf (r .server) c .sequence)
     pub done-kept : (c : ℕ) → Among 8 c → (p : P) → view (r .area) c (slotOf (r .server) c) .done ≡ some p
         → (slotOf (r .server) c .sequence ≡ slotOf s c .sequence)
-        × ((view a c (slotOf s c) .done ≡ some p) ⊎ AtLeast (g .n) (rules .all) (Heard rules (g .n) (g .t) what (view a c (slotOf s c) .readies) (New s from m c ready) (what p)))
+        × ((view a c (slotOf s c) .done ≡ some p) ⊎ AtLeast (g .n) (rules .all)
+        (Heard rules (g .n) (g .t) what (view a c (slotOf s c) .readies) (New s from m c ready) (what p)))
     pub took-why : (k : S.Write) → List·Memᴰ k (r .accepted)
         → Among 8 (k .client) × (k .sequence ≡ slotOf s (k .client) .sequence)
         × ((view a (k .client) (slotOf s (k .client)) .done ≡ some (sel k))
-        ⊎ AtLeast (g .n) (rules .all) (Heard rules (g .n) (g .t) what (view a (k .client) (slotOf s (k .client)) .readies) (New s from m (k .client) ready) (what (sel k))))
+        ⊎ AtLeast (g .n) (rules .all) (Heard rules (g .n) (g .t) what (view a (k .client) (slotOf s (k .client)) .readies) (New s from m (k .client) ready)
+        (what (sel k))))
 
   -- ---- counted, then accepted
 
-  -- Client d's part becomes w d. Then it stays so, or its write is accepted.
+  -- client d's part behind the count of p for client c
+  abbrev pub partOf : Server → ℕ → S.Counting → ℕ → Part P
+  partOf s c p d = view (p .area) d (slotOf (withSlot s c (p .slot)) d)
+
+  -- Client d's part is w d. It stays so, or its write is accepted.
+  abbrev Stays : Server → (ℕ → Part P) → S.Effect → ℕ → Type 0
+  Stays s w r d =
+      ((slotOf (r .server) d .sequence ≡ slotOf s d .sequence) × (Among 8 d → view (r .area) d (slotOf (r .server) d) ≡ w d))
+      ⊎ ((slotOf (r .server) d .sequence ≡ slotOf s d .sequence + 1) × (view (r .area) d (slotOf (r .server) d) ≡ noPart) × (k : S.Write)
+      × List·Memᴰ k (r .accepted) × (k .client ≡ d))
+
+  abbrev Took : Server → (ℕ → Part P) → S.Write → Type 0
+  Took s w k = Among 8 (k .client) × (k .sequence ≡ slotOf s (k .client) .sequence) × (w (k .client) .done ≡ some (sel k))
+
   pub record SlotFacts (s : Server) (a : List ℕ) (w : ℕ → Part P) (Said : ℕ → Stage → P → Type 0) (r : S.Effect) : Type 0 where
-    pub this : (d : ℕ) → ((slotOf (r .server) d .sequence ≡ slotOf s d .sequence) × (Among 8 d → view (r .area) d (slotOf (r .server) d) ≡ w d))
-        ⊎ ((slotOf (r .server) d .sequence ≡ slotOf s d .sequence + 1) × (view (r .area) d (slotOf (r .server) d) ≡ noPart) × (k : S.Write) × List·Memᴰ k (r .accepted) × (k .client ≡ d))
-    pub says : (b : Party) (d q : ℕ) (z : Stage) (p : P) → List·Memᴰ (sending b (message d q (wrap z p))) (r .sends) → Among 8 d × (q ≡ slotOf s d .sequence) × Said d z p
-    pub took : (k : S.Write) → List·Memᴰ k (r .accepted) → Among 8 (k .client) × (k .sequence ≡ slotOf s (k .client) .sequence) × (w (k .client) .done ≡ some (sel k))
+    pub this : (d : ℕ) → Stays s w r d
+    pub says : (b : Party) (d q : ℕ) (z : Stage) (p : P) → List·Memᴰ (sending b (message d q (wrap z p))) (r .sends)
+        → Among 8 d × (q ≡ slotOf s d .sequence) × Said d z p
+    pub took : (k : S.Write) → List·Memᴰ k (r .accepted) → Took s w k
+
+  -- a frame of client c's open write is counted, p, and then r is accepted: the parts in between and afterwards
+  pub record Behind (s : Server) (a : List ℕ) (c : ℕ) (p : S.Counting) (r : S.Effect) : Type 0 where
+    pub here : partOf s c p c ≡ view (p .area) c (p .slot)
+    pub there : (d : ℕ) → Among 8 d → (d ≡ c → ⊥) → partOf s c p d ≡ view a d (slotOf s d)
+    pub stays : (d : ℕ) → Stays s (partOf s c p) r d
+    pub took : (k : S.Write) → List·Memᴰ k (r .accepted) → Took s (partOf s c p) k
 
   module _ (s : Server) (a : List ℕ) (from : Party) (m : Message) where
     -- the part v of client d becomes w by this frame
     abbrev Becomes : ℕ → Part P → Part P → (Stage → P → Type 0) → Type 0
-    Becomes d v w Said = PartFacts rules (g .n) (g .t) what v w (λ p. (from ≡ A.Client d) × (m ≡ message d (slotOf s d .sequence) (wrap send p))) (New s from m d echo) (New s from m d ready) Said
+    Becomes d v w Said = PartFacts rules (g .n) (g .t) what v w (λ p. (from ≡ A.Client d) × (m ≡ message d (slotOf s d .sequence) (wrap send p)))
+        (New s from m d echo) (New s from m d ready) Said
 
     facts-of : (w : ℕ → Part P) (Said : ℕ → Stage → P → Type 0) (r : S.Effect) → SlotFacts s a w Said r
         → ((d : ℕ) → Among 8 d → Becomes d (view a d (slotOf s d)) (w d) (Said d)) → BroadcastFacts s a from m r
@@ -194,7 +221,8 @@ module _ {H : List ℕ → List ℕ} {g : Params} {P D : Type 0} (K : Cast H g P
 
     -- a call that leaves all slots and the area, and says nothing of this broadcast
     idle-facts : (r : S.Effect) → r .server .slots ≡ s .slots → r .area ≡ a
-        → ((b : Party) (c q : ℕ) (z : Stage) (p : P) → List·Memᴰ (sending b (message c q (wrap z p))) (r .sends) → ⊥) → r .accepted ≡ [] → BroadcastFacts s a from m r
+        → ((b : Party) (c q : ℕ) (z : Stage) (p : P) → List·Memᴰ (sending b (message c q (wrap z p))) (r .sends) → ⊥) → r .accepted ≡ []
+        → BroadcastFacts s a from m r
     idle-facts r e f no-says none = facts-of (λ d. view a d (slotOf s d)) (λ d z p. ⊥) r
         (record {
           this = λ d. inl (ap (λ l. getD l d noSlot .sequence) e, λ i j. view (f j) d (getD (e j) d noSlot));
@@ -205,20 +233,21 @@ module _ {H : List ℕ → List ℕ} {g : Params} {P D : Type 0} (K : Cast H g P
 
   -- ---- a step
 
-  module _ (few : g .n ≤ 10) (M : Small g) (kk : 1 ≤ g .k) (me : ℕ) (s : Server) (a initial : List ℕ) (F : ServerShape s a) (from : Party) (c q : ℕ) (is : Among 8 c)
+  module _ (L : Bounded g) (me : ℕ) (s : Server) (a initial : List ℕ) (F : ServerShape s a) (from : Party) (c q : ℕ) (is : Among 8 c)
       (b : Body) (Q : SizedIn g b) (right : ST.senderRight g from c b ≡ true) (o : ST.orderTest H g me s (numberIn from) c q b ≡ J.Fine) where
-    abbrev pub j : ℕ
+    abbrev j : ℕ
     j = numberIn from
 
     abbrev m : Message
     m = message c q b
 
-    pub X : Shaped (slotOf s c)
+    X : Shaped (slotOf s c)
     X = slot-within shapes (F .within) c (is .1)
 
     -- the open write's own frame is new
     brings : (z : Stage) (x : P) → b ≡ wrap z x → q ≡ slotOf s c .sequence
-        → Brings rules (g .n) (g .t) what sane me (view a c (slotOf s c)) (λ p. (from ≡ A.Client c) × (m ≡ message c (slotOf s c .sequence) (wrap send p))) (New s from m c echo) (New s from m c ready) j x z
+        → Brings rules (g .n) (g .t) what sane me (view a c (slotOf s c)) (λ p. (from ≡ A.Client c) × (m ≡ message c (slotOf s c .sequence) (wrap send p)))
+        (New s from m c echo) (New s from m c ready) j x z
     brings send x e n = (
       first me s a j c q x (subst (λ b. ST.orderTest H g me s j c q b ≡ J.Fine) e o),
       (sender from c send x (subst (λ b. ST.senderRight g from c b ≡ true) e right), λ i. message c (n i) (e i)),
@@ -227,80 +256,83 @@ module _ {H : List ℕ → List ℕ} {g : Params} {P D : Type 0} (K : Cast H g P
     brings ready x e n = (sender from c ready x (subst (λ b. ST.senderRight g from c b ≡ true) e right) .0, λ i. message c (n i) (e i))
 
     module _ {p : S.Counting} (k : Counted H g me s a initial j c b p) {r : S.Effect} (f : Freed g (withSlot s c (p .slot)) (p .area) c r) where
-      -- the server behind the count, and the parts that it shows
-      abbrev pub s₁ : Server
+      abbrev s₁ : Server
       s₁ = withSlot s c (p .slot)
 
-      abbrev pub w : ℕ → Part P
-      w d = view (p .area) d (slotOf s₁ d)
+      abbrev w : ℕ → Part P
+      w = partOf s c p
 
-      pub at : Among 10 j
-      at = counted-from g from c is few k right
+      at : Among 10 j
+      at = counted-from g from c is (L .servers-high) k right
 
       shape : ServerShape s₁ (p .area)
       shape = counted-shape H g me s a initial F j (at .0) c (is .1) k
 
-      here : slotOf s₁ c ≡ p .slot
-      here = this-slot shapes (F .within) c (is .1) (p .slot)
+      slot-here : slotOf s₁ c ≡ p .slot
+      slot-here = this-slot shapes (F .within) c (is .1) (p .slot)
 
-      there : (d : ℕ) → (d ≡ c → ⊥) → slotOf s₁ d ≡ slotOf s d
-      there d ne = getD-set-other (s .slots) c d (p .slot) noSlot ne
+      slot-there : (d : ℕ) → (d ≡ c → ⊥) → slotOf s₁ d ≡ slotOf s d
+      slot-there d ne = getD-set-other (s .slots) c d (p .slot) noSlot ne
 
       same-sequence : (d : ℕ) → slotOf s₁ d .sequence ≡ slotOf s d .sequence
       same-sequence d = go (ℕ-discrete d c)
         where
           go : Dec (d ≡ c) → slotOf s₁ d .sequence ≡ slotOf s d .sequence
-          go (yes e) = ap (λ y. slotOf s₁ y .sequence) e ∙ ap (λ x. x .sequence) here ∙ counted-sequence H g me s a initial j c k ∙ ap (λ y. slotOf s y .sequence) (sym e)
-          go (no ne) = ap (λ x. x .sequence) (there d ne)
+          go (yes e) = subst (λ d. slotOf s₁ d .sequence ≡ slotOf s d .sequence) (sym e)
+              (ap (λ x. x .sequence) slot-here ∙ counted-sequence H g me s a initial j c k)
+          go (no ne) = ap (λ x. x .sequence) (slot-there d ne)
 
-      -- each part stays, or its write is accepted
-      pub stays : (d : ℕ) → ((slotOf (r .server) d .sequence ≡ slotOf s d .sequence) × (Among 8 d → view (r .area) d (slotOf (r .server) d) ≡ w d))
-          ⊎ ((slotOf (r .server) d .sequence ≡ slotOf s d .sequence + 1) × (view (r .area) d (slotOf (r .server) d) ≡ noPart) × (k : S.Write) × List·Memᴰ k (r .accepted) × (k .client ≡ d))
-      stays d = ⊎-elim
-          (λ e. inl (
-            ap (λ x. x .sequence) e ∙ same-sequence d,
-            λ i. ap (view (r .area) d) e ∙ by-blocks (p .area) (r .area) d (slotOf s₁ d) (freed-blocks M (shape .room) is f d i (slotOf s₁ d) (slot-within shapes (shape .within) d (i .1))),
-          ))
-          (λ (k, u, e, z). inr (ap (λ x. x .sequence) z ∙ fresh-sequence _ ∙ ap (λ n. n + 1) (same-sequence d), ap (view (r .area) d) z ∙ fresh (r .area) d _, k, u, e))
-          (freed-slots (shape .within) is f d)
-
-      pub took : (k : S.Write) → List·Memᴰ k (r .accepted) → Among 8 (k .client) × (k .sequence ≡ slotOf s (k .client) .sequence) × (w (k .client) .done ≡ some (sel k))
-      took k u = let (i, R) = freed-ripe is f k u in (i, R .sequence ∙ same-sequence (k .client), ripe s₁ (p .area) k R)
+      pub behind : Behind s a c p r
+      behind = record {
+        here = ap (view (p .area) c) slot-here;
+        there = λ d i ne. ap (view (p .area) d) (slot-there d ne) ∙ by-blocks a (p .area) d (slotOf s d)
+            (counted-others H g L me s a initial (F .room) j at c is X k Q d i ne (slotOf s d) (slot-within shapes (F .within) d (i .1)));
+        stays = λ d. ⊎-elim
+            (λ e. inl (
+              ap (λ x. x .sequence) e ∙ same-sequence d,
+              λ i. ap (view (r .area) d) e ∙ by-blocks (p .area) (r .area) d (slotOf s₁ d)
+                  (freed-blocks (small g L) (shape .room) is f d i (slotOf s₁ d) (slot-within shapes (shape .within) d (i .1))),
+            ))
+            (λ (k, u, e, z). inr (
+              ap (λ x. x .sequence) z ∙ fresh-sequence _ ∙ ap (λ n. n + 1) (same-sequence d),
+              ap (view (r .area) d) z ∙ fresh (r .area) d _,
+              k,
+              u,
+              e,
+            ))
+            (freed-slots (shape .within) is f d);
+        took = λ k u. let (i, R) = freed-ripe is f k u in (i, R .sequence ∙ same-sequence (k .client), ripe s₁ (p .area) k R);
+      }
 
       slots : (Said : ℕ → Stage → P → Type 0)
-          → ((to : Party) (d n : ℕ) (z : Stage) (y : P) → List·Memᴰ (sending to (message d n (wrap z y))) (p .sends) → (d ≡ c) × (n ≡ slotOf s c .sequence) × Said d z y)
+          → ((to : Party) (d n : ℕ) (z : Stage) (y : P) → List·Memᴰ (sending to (message d n (wrap z y))) (p .sends)
+          → (d ≡ c) × (n ≡ slotOf s c .sequence) × Said d z y)
           → SlotFacts s a w Said (S.behind p r)
       slots Said said = record {
-        this = stays;
+        this = behind .stays;
         says = λ to d n z y u. ⊎-elim
             (λ v. let (e, m, h) = said to d n z y v in (subst (Among 8) (sym e) is, m ∙ ap (λ y. slotOf s y .sequence) (sym e), h))
             (λ v. absurd (freed-none f _ v (is-cast z y)))
             (List·Memᴰ·append-cases (p .sends) u);
-        took = took;
+        took = behind .took;
       }
 
-      -- the parts behind the count: another client's rests
-      pub part-here : w c ≡ view (p .area) c (p .slot)
-      part-here = ap (view (p .area) c) here
-
-      pub part-there : (d : ℕ) → Among 8 d → (d ≡ c → ⊥) → w d ≡ view a d (slotOf s d)
-      part-there d i ne = ap (view (p .area) d) (there d ne) ∙ by-blocks a (p .area) d (slotOf s d)
-          (counted-others H g M kk me s a initial (F .room) j at c is X k Q d i ne (slotOf s d) (slot-within shapes (F .within) d (i .1)))
-
       parts : (Said : ℕ → Stage → P → Type 0) → ((d : ℕ) (z : Stage) (y : P) → Said d z y → d ≡ c)
-          → Becomes s a from m c (view a c (slotOf s c)) (view (p .area) c (p .slot)) (Said c) → (d : ℕ) → Among 8 d → Becomes s a from m d (view a d (slotOf s d)) (w d) (Said d)
+          → Becomes s a from m c (view a c (slotOf s c)) (view (p .area) c (p .slot)) (Said c) → (d : ℕ) → Among 8 d
+          → Becomes s a from m d (view a d (slotOf s d)) (w d) (Said d)
       parts Said of B d i = go (ℕ-discrete d c)
         where
           go : Dec (d ≡ c) → Becomes s a from m d (view a d (slotOf s d)) (w d) (Said d)
           go (yes e) = subst (λ d. Becomes s a from m d (view a d (slotOf s d)) (w d) (Said d)) (sym e)
-              (subst (λ v. Becomes s a from m c (view a c (slotOf s c)) v (Said c)) (sym part-here) B)
-          go (no ne) = subst (λ v. Becomes s a from m d (view a d (slotOf s d)) v (Said d)) (sym (part-there d i ne))
+              (subst (λ v. Becomes s a from m c (view a c (slotOf s c)) v (Said c)) (sym (behind .here)) B)
+          go (no ne) = subst (λ v. Becomes s a from m d (view a d (slotOf s d)) v (Said d)) (sym (behind .there d i ne))
               (rest-facts rules (g .n) (g .t) what _ _ _ _ (Said d) (λ z y u. ne (of d z y u)))
 
       settled : BroadcastFacts s a from m (S.behind p r)
       settled = go (hears me s a initial (F .room) j at c is X k Q)
         where
-          go : Hears rules g me wrap j c (slotOf s c .sequence) b (p .sends) (view a c (slotOf s c)) (view (p .area) c (p .slot)) → BroadcastFacts s a from m (S.behind p r)
+          go : Hears rules g me wrap j c (slotOf s c .sequence) b (p .sends) (view a c (slotOf s c)) (view (p .area) c (p .slot))
+              → BroadcastFacts s a from m (S.behind p r)
           go (own z x e v says) =
               let Said : ℕ → Stage → P → Type 0 = λ d z′ y. (d ≡ c) × Says rules (g .n) (g .t) me (view a c (slotOf s c)) j z x z′ y in
               facts-of s a from m w Said (S.behind p r)
@@ -314,18 +346,21 @@ module _ {H : List ℕ → List ℕ} {g : Params} {P D : Type 0} (K : Cast H g P
               (parts (λ d z y. ⊥) (λ d z y u. absurd u)
               (subst (λ v. Becomes s a from m c (view a c (slotOf s c)) v (λ z y. ⊥)) (sym v) (rest-facts rules (g .n) (g .t) what _ _ _ _ _ (λ z y u. u))))
 
-  no-cast : (to b : Party) (c d n l : ℕ) (x : Body) (z : Stage) (y : P) → (IsCast x → ⊥) → List·Memᴰ (sending to (message d n (wrap z y))) (sending b (message c l x) ∷ []) → ⊥
+  no-cast : (to b : Party) (c d n l : ℕ) (x : Body) (z : Stage) (y : P) → (IsCast x → ⊥)
+      → List·Memᴰ (sending to (message d n (wrap z y))) (sending b (message c l x) ∷ []) → ⊥
   no-cast to b c d n l x z y f u = f (subst (λ y. IsCast (y .says .body)) (List·Memᴰ·eq-of-singleton u) (is-cast z y))
 
   -- each frame that passes the tests
-  pub cast-facts : g .n ≤ 10 → Small g → 1 ≤ g .k → (me : ℕ) (s : Server) (a initial : List ℕ) → ServerShape s a → (from : Party) (m : Message) → Among 8 (m .client) → SizedIn g (m .body)
+  pub cast-facts : Bounded g → (me : ℕ) (s : Server) (a initial : List ℕ) → ServerShape s a → (from : Party) (m : Message) → Among 8 (m .client)
+      → SizedIn g (m .body)
       → ST.messageTest H g me s from m ≡ J.Fine → BroadcastFacts s a from m (S.effect H g me s a initial from m)
-  cast-facts few M kk me s a initial F from m is Q e = let (h, o) = test-split H g me s from m e in go (shape-of H g me s a initial from m) Q h o
+  cast-facts L me s a initial F from m is Q e = let (h, o) = test-split H g me s from m e in go (shape-of H g me s a initial from m) Q h o
     where
-      go : {b : Body} {r : S.Effect} → Shape H g me s a initial (numberIn from) (m .client) (m .sequence) b r → SizedIn g b → ST.senderRight g from (m .client) b ≡ true
+      go : {b : Body} {r : S.Effect} → Shape H g me s a initial (numberIn from) (m .client) (m .sequence) b r → SizedIn g b
+          → ST.senderRight g from (m .client) b ≡ true
           → ST.orderTest H g me s (numberIn from) (m .client) (m .sequence) b ≡ J.Fine → BroadcastFacts s a from (message (m .client) (m .sequence) b) r
       go (idle b) Q h o = idle-facts s a from _ _ refl refl (λ to d n z y u. List·Memᴰ·not-nil u) refl
       go answers Q h o = idle-facts s a from _ _ refl refl (λ to d n z y u. no-cast to _ _ d n _ _ z y (λ v. v) u) refl
       go notes Q h o = idle-facts s a from _ _ refl refl (λ to d n z y u. no-cast to _ _ d n _ _ z y (λ v. v) u) refl
       go ends Q h o = idle-facts s a from _ _ refl refl (λ to d n z y u. List·Memᴰ·not-nil u) refl
-      go (settles b p k f) Q h o = settled few M kk me s a initial F from (m .client) (m .sequence) is b Q h o k f
+      go (settles b p k f) Q h o = settled L me s a initial F from (m .client) (m .sequence) is b Q h o k f

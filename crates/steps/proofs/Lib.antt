@@ -1,5 +1,4 @@
 pub mod PartFacts
-pub mod ServerTaken
 pub mod ServerFits
 pub mod CastFacts
 pub mod DecodedFacts

@@ -36,7 +36,8 @@ module _ {P D : Type 0} (R : Rules P) (n t : ℕ) (π : P → D) where
     pub done-why : (p : P) → s′ .done ≡ some p → (s .done ≡ some p) ⊎ AtLeast n (R .all) (Heard (s .readies) NR (π p))
 
   -- nothing happens to this part
-  pub rest-facts : (s : Part P) (NS : P → Type 0) (NE NR : ℕ → P → Type 0) (Said : Stage → P → Type 0) → ((z : Stage) (p : P) → Said z p → ⊥) → PartFacts s s NS NE NR Said
+  pub rest-facts : (s : Part P) (NS : P → Type 0) (NE NR : ℕ → P → Type 0) (Said : Stage → P → Type 0) → ((z : Stage) (p : P) → Said z p → ⊥)
+      → PartFacts s s NS NE NR Said
   rest-facts s NS NE NR Said no-word = record {
     an-echo = λ p u. absurd (no-word echo p u);
     a-ready = λ p u. absurd (no-word ready p u);
@@ -65,7 +66,8 @@ module _ {P D : Type 0} (R : Rules P) (n t : ℕ) (π : P → D) (O : Sane R t �
   module _ (i : ℕ) (s w : Part P) (NS : P → Type 0) (NE NR : ℕ → P → Type 0) (x : P) (k : w .sent ≡ s .sent) (g : w .done ≡ s .done)
       (ke : (j : ℕ) (p : P) → w .echoes j ≡ some p → (s .echoes j ≡ some p) ⊎ NE j p)
       (kr : (j : ℕ) (p : P) → w .readies j ≡ some p → (s .readies j ≡ some p) ⊎ NR j p) where
-    why-due : (d : D) → π x ≡ d → due R n t w x ≡ true → AtLeast n (n - t) (Heard R n t π (s .echoes) NE d) ⊎ AtLeast n (R .few) (Heard R n t π (s .readies) NR d)
+    why-due : (d : D) → π x ≡ d → due R n t w x ≡ true → AtLeast n (n - t) (Heard R n t π (s .echoes) NE d)
+        ⊎ AtLeast n (R .few) (Heard R n t π (s .readies) NR d)
     unfolding due enough votes
     why-due d q e =
         let z = and-split _ _ (and-split (not (w .ready)) _ e .1) .0 in

@@ -22,21 +22,24 @@ use Rattle.server_rules.proofs.Views.{shapes}
 use Rattle.server_rules.proofs.Shapes.{Counted, block, time, counted-length, step-length, shape-of}
 use Rattle.server_rules.proofs.Passing.{test-split, counted-from}
 use Rattle.server_rules.proofs.Within.{TimeIn, Empty, slot-within, with-slot, counted-within, server-within, step-within}
-use Rattle.steps.proofs.ServerTaken.{Taken, took}
+use Rattle.server_rules.proofs.Taking.{Taken, took}
 
 pub record ServerShape (s : Server) (a : List ℕ) : Type 0 where
   pub within : Within shapes s
   pub room : areaBytes ≤ length a
 
-no-time : {H : List ℕ → List ℕ} {g : Params} {me : ℕ} {s : Server} {a initial : List ℕ} {j c : ℕ} {b : Body} {p : S.Counting} → Counted H g me s a initial j c b p → TimeIn shapes b
+no-time : {H : List ℕ → List ℕ} {g : Params} {me : ℕ} {s : Server} {a initial : List ℕ} {j c : ℕ} {b : Body} {p : S.Counting}
+    → Counted H g me s a initial j c b p → TimeIn shapes b
 no-time (block z e) = tt
 no-time (time z T) = tt
 
 -- a counted frame of a sender with a number keeps it
-pub counted-shape : (H : List ℕ → List ℕ) (g : Params) (me : ℕ) (s : Server) (a initial : List ℕ) → ServerShape s a → (j : ℕ) → 1 ≤ j → (c : ℕ) → c ≤ 8 → {b : Body} {p : S.Counting}
+pub counted-shape : (H : List ℕ → List ℕ) (g : Params) (me : ℕ) (s : Server) (a initial : List ℕ) → ServerShape s a → (j : ℕ) → 1 ≤ j → (c : ℕ) → c ≤ 8
+    → {b : Body} {p : S.Counting}
     → Counted H g me s a initial j c b p → ServerShape (withSlot s c (p .slot)) (p .area)
 counted-shape H g me s a initial F j low c few {b} {p} k = record {
-  within = with-slot shapes (F .within) c (p .slot) (counted-within shapes H g me s a initial j c (λ l u. flags-set l u j low) (slot-within shapes (F .within) c few) k (no-time k));
+  within = with-slot shapes (F .within) c (p .slot) (counted-within shapes H g me s a initial j c (λ l u. flags-set l u j low)
+      (slot-within shapes (F .within) c few) k (no-time k));
   room = let l = counted-length H g me s a initial j c k in omega (arith, l, F .room);
 }
 
@@ -50,7 +53,8 @@ module _ (H : List ℕ → List ℕ) (g : Params) (few : g .n ≤ 10) (me : ℕ)
     refused : r ≡ S.sendOnly s a [] → Delivered s a initial from f r
     taken : (m : Message) → Taken H g me s from f m → r ≡ S.effect H g me s a initial from m → Delivered s a initial from f r
 
-  pub delivered : (s : Server) (a initial : List ℕ) (from : Party) (f out to : List ℕ) → Delivered s a initial from f (SD.delivered H g me s a initial from f out to)
+  pub delivered : (s : Server) (a initial : List ℕ) (from : Party) (f out to : List ℕ)
+      → Delivered s a initial from f (SD.delivered H g me s a initial from f out to)
   unfolding SD.delivered SD.effectBy
   delivered s a initial from f out to = go (ST.judge H g me s a initial from f out to) refl
     where
@@ -73,7 +77,8 @@ module _ (H : List ℕ → List ℕ) (g : Params) (few : g .n ≤ 10) (me : ℕ)
         room = let l = step-length H g me s a initial (numberIn from) (m .client) x in omega (arith, l, F .room);
       }
 
-  pub shape-fresh : (v a initial : List ℕ) → areaBytes ≤ length a → ServerShape (SD.construction H g me v a initial .server) (SD.construction H g me v a initial .area)
+  pub shape-fresh : (v a initial : List ℕ) → areaBytes ≤ length a → ServerShape (SD.construction H g me v a initial .server)
+      (SD.construction H g me v a initial .area)
   unfolding SD.construction SD.constructBy
   shape-fresh v a initial R = go (SD.constructTest H g me v (length a) (length initial))
     where

@@ -1,5 +1,5 @@
 -- A server whose stamps are within their bounds sends messages that can be said in a frame, and stays so. Assumes nothing.
-use Prim.Native.Nat.{ℕ, _+_, _*_, _≤_, _<_}
+use Prim.Native.Nat.{ℕ, _+_, _≤_, _<_}
 use native.Mathlib.Omega.{arith}
 use mathlib.Core.Bool.{Bool, true, false}
 use mathlib.Core.Path.{_≡_, refl, ap, sym, _∙_, subst}
@@ -18,9 +18,9 @@ use Rattle.frame.specs.declared.Party.{Party}
 use Rattle.frame.specs.declared.Verdict.the-variants as J
 use Rattle.frame.specs.Chunks.{areaBytes}
 use Rattle.frame.specs.Messages.{Entry, Body, getStamp, askRead, stampIs, valueIs, Message, message, Sending, toAll, numberIn, Sized, Formed, FormedBody}
-use Rattle.frame.specs.Params.{width, listed}
+use Rattle.frame.specs.Params.{width, listed, Bounded}
 use Rattle.frame.specs.Stamps.{zeroStamp, lastTime, partsAgree}
-use Rattle.frame.proofs.Sizes.{Small}
+use Rattle.frame.proofs.Sizes.{Small, small}
 use Rattle.server_rules.specs.declared.Reader.{Reader}
 use Rattle.server_rules.specs.declared.Server.{Server}
 use Rattle.server_rules.specs.State.{presentBlock, freshReader, freshServer, slotOf, withSlot, presentEntry}
@@ -86,7 +86,8 @@ InBounds = Within ranges
 
 pub in-bounds-fresh : InBounds freshServer
 unfolding freshReader
-in-bounds-fresh = server-within ranges (record { flags = tt; time = tt }) tt zero-in-bounds (record { noted = zero-in-bounds; listening = λ e. impossible (cc e) })
+in-bounds-fresh = server-within ranges (record { flags = tt; time = tt }) tt zero-in-bounds
+    (record { noted = zero-in-bounds; listening = λ e. impossible (cc e) })
 
 abbrev pub AllFormed : Params → List Sending → Type 0
 AllFormed g l = (x : Sending) → List·Memᴰ x l → Formed g (x .says)
@@ -102,7 +103,13 @@ pub record Good (g : Params) (r : S.Effect) : Type 0 where
   pub write-in-bounds : (k : S.Write) → List·Memᴰ k (r .accepted) → WriteInBounds g k
 
 with-body : (g : Params) (c q : ℕ) (b b′ : Body) → Formed g (message c q b) → FormedBody g b′ → Formed g (message c q b′)
-with-body g c q b b′ F h = record { client-low = F .client-low; client-high = F .client-high; sequence-low = F .sequence-low; sequence-high = F .sequence-high; body = h }
+with-body g c q b b′ F h = record {
+  client-low = F .client-low;
+  client-high = F .client-high;
+  sequence-low = F .sequence-low;
+  sequence-high = F .sequence-high;
+  body = h;
+}
 
 value-formed : (g : Params) (x : Stamp) (e : Entry) → StampInBounds x → Sized g e → FormedBody g (valueIs x e)
 value-formed g x e R Q = (Q, R .time-high, R .writer-high, R .sequence-high, R .agree)
@@ -110,7 +117,8 @@ value-formed g x e R Q = (Q, R .time-high, R .writer-high, R .sequence-high, R .
 take-sized : (w i : ℕ) (a : List ℕ) → i + w ≤ length a → length (take w (drop i a)) ≡ w
 take-sized w i a h = length-take-le w (drop i a) (rw length-drop (omega arith))
 
-present-sized : (g : Params) → Small g → (x : Stamp) (a initial : List ℕ) → areaBytes ≤ length a → width g ≤ length initial → Sized g (presentEntry g x a initial)
+present-sized : (g : Params) → Small g → (x : Stamp) (a initial : List ℕ) → areaBytes ≤ length a → width g ≤ length initial
+    → Sized g (presentEntry g x a initial)
 unfolding presentEntry presentBlock pick
 present-sized g M x a initial R I = record {
   list-is = take-sized (listed g) 0 a (omega (arith, M .list-room));
@@ -121,20 +129,23 @@ present-sized g M x a initial R I = record {
     go true = length-take-le (width g) initial I
     go false = take-sized (width g) 320 a (omega (arith, M .block-room))
 
-no-time : {H : List ℕ → List ℕ} {g : Params} {me : ℕ} {s : Server} {a initial : List ℕ} {j c : ℕ} {b : Body} {p : S.Counting} → Counted H g me s a initial j c b p → TimeIn ranges b
+no-time : {H : List ℕ → List ℕ} {g : Params} {me : ℕ} {s : Server} {a initial : List ℕ} {j c : ℕ} {b : Body} {p : S.Counting}
+    → Counted H g me s a initial j c b p → TimeIn ranges b
 no-time (block z e) = tt
 no-time (time z T) = tt
 
 one-formed : (g : Params) (y : Sending) → Formed g (y .says) → AllFormed g (y ∷ [])
 one-formed g y f x u = subst (λ z. Formed g (z .says)) (sym (List·Memᴰ·eq-of-singleton u)) f
 
-module _ (H : List ℕ → List ℕ) (g : Params) (M : Small g) (me : ℕ) (s : Server) (B : InBounds s) (a initial : List ℕ) (F : ServerShape s a) (from : Party) where
+module _ (H : List ℕ → List ℕ) (g : Params) (L : Bounded g) (me : ℕ) (s : Server) (B : InBounds s) (a initial : List ℕ) (F : ServerShape s a)
+    (from : Party) where
   abbrev j : ℕ
   j = numberIn from
 
   -- ---- behind a counted frame
 
-  module _ (c q : ℕ) (b : Body) (f : Formed g (message c q b)) (o : ST.orderTest H g me s j c q b ≡ J.Fine) {p : S.Counting} (k : Counted H g me s a initial j c b p)
+  module _ (c q : ℕ) (b : Body) (f : Formed g (message c q b)) (o : ST.orderTest H g me s j c q b ≡ J.Fine) {p : S.Counting}
+      (k : Counted H g me s a initial j c b p)
       {r : S.Effect} (x : Freed g (withSlot s c (p .slot)) (p .area) c r) where
     room : areaBytes ≤ length (p .area)
     room = let l = counted-length H g me s a initial j c k in omega (arith, l, F .room)
@@ -144,8 +155,15 @@ module _ (H : List ℕ → List ℕ) (g : Params) (M : Small g) (me : ℕ) (s : 
     freed-in-bounds w u =
         let (i, R) = freed-ripe (f .client-low, f .client-high) x w u in
         let e : w .sequence ≡ q = R .sequence ∙ ap (λ d. slotOf (withSlot s c (p .slot)) d .sequence) (freed-client x w u)
-        ∙ ap (λ x. x .sequence) (this-slot shapes (F .within) c (f .client-high) (p .slot)) ∙ counted-sequence H g me s a initial j c k ∙ sym (counted-open k q o) in
-        record { client = i; low = rw e (f .sequence-low); high = rw e (f .sequence-high); time-high = R .below; sized = freed-sized M room (f .client-low, f .client-high) x w u }
+        ∙ ap (λ x. x .sequence) (this-slot shapes (F .within) c (f .client-high) (p .slot)) ∙ counted-sequence H g me s a initial j c k
+        ∙ sym (counted-open k q o) in
+        record {
+          client = i;
+          low = rw e (f .sequence-low);
+          high = rw e (f .sequence-high);
+          time-high = R .below;
+          sized = freed-sized (small g L) room (f .client-low, f .client-high) x w u;
+        }
 
     -- and what is sent of it can be said in a frame
     freed-formed : AllFormed g (r .sends)
@@ -156,8 +174,15 @@ module _ (H : List ℕ → List ℕ) (g : Params) (M : Small g) (me : ℕ) (s : 
         (λ (d, l, m, t).
         let n = reader-within ranges B d m .listening (t .listens) in
         subst (λ z. Formed g (z .says)) (sym (t .is))
-        (record { client-low = l; client-high = m; sequence-low = n .0; sequence-high = n .1; body = value-formed g (S.stampOf w) (w .entry) (write-stamp-in-bounds g w W) (W .sized) }))
-        (λ e. subst (λ z. Formed g (z .says)) (sym e) (record { client-low = W .client .0; client-high = W .client .1; sequence-low = W .low; sequence-high = W .high; body = tt }))
+        (record {
+          client-low = l;
+          client-high = m;
+          sequence-low = n .0;
+          sequence-high = n .1;
+          body = value-formed g (S.stampOf w) (w .entry) (write-stamp-in-bounds g w W) (W .sized);
+        }))
+        (λ e. subst (λ z. Formed g (z .says)) (sym e)
+        (record { client-low = W .client .0; client-high = W .client .1; sequence-low = W .low; sequence-high = W .high; body = tt }))
         h
 
   -- ---- a step
@@ -170,16 +195,17 @@ module _ (H : List ℕ → List ℕ) (g : Params) (M : Small g) (me : ℕ) (s : 
   step-writes ends f o w u = absurd (List·Memᴰ·not-nil u)
   step-writes {c} {q} (settles b p k x) f o w u = freed-in-bounds c q b f o k x w u
 
-  step-formed : 1 ≤ g .k → g .k + g .t ≤ g .n → width g ≤ length initial → {c q : ℕ} {b : Body} {r : S.Effect} → Shape H g me s a initial j c q b r → Formed g (message c q b)
+  step-formed : width g ≤ length initial → {c q : ℕ} {b : Body} {r : S.Effect} → Shape H g me s a initial j c q b r → Formed g (message c q b)
       → ST.orderTest H g me s j c q b ≡ J.Fine → AllFormed g (r .sends)
-  step-formed kk kn I (idle b) f o y u = absurd (List·Memᴰ·not-nil u)
-  step-formed kk kn I {c} {q} answers f o y u = one-formed g _ (with-body g c q getStamp (stampIs (s .stamp .time)) f (B .stamp .time-high)) y u
-  step-formed kk kn I {c} {q} notes f o y u = one-formed g _
-      (with-body g c q askRead (valueIs (s .stamp) (presentEntry g (s .stamp) a initial)) f (value-formed g (s .stamp) _ (B .stamp) (present-sized g M (s .stamp) a initial (F .room) I))) y u
-  step-formed kk kn I ends f o y u = absurd (List·Memᴰ·not-nil u)
-  step-formed kk kn I {c} {q} (settles b p k {r} x) f o y u = ⊎-elim
+  step-formed I (idle b) f o y u = absurd (List·Memᴰ·not-nil u)
+  step-formed I {c} {q} answers f o y u = one-formed g _ (with-body g c q getStamp (stampIs (s .stamp .time)) f (B .stamp .time-high)) y u
+  step-formed I {c} {q} notes f o y u = one-formed g _
+      (with-body g c q askRead (valueIs (s .stamp) (presentEntry g (s .stamp) a initial)) f
+      (value-formed g (s .stamp) _ (B .stamp) (present-sized g (small g L) (s .stamp) a initial (F .room) I))) y u
+  step-formed I ends f o y u = absurd (List·Memᴰ·not-nil u)
+  step-formed I {c} {q} (settles b p k {r} x) f o y u = ⊎-elim
       (λ v.
-      let (b′, e, h) = counted-word H g kk kn me s a initial j c k (f .body) y v in
+      let (b′, e, h) = counted-word H g L me s a initial j c k (f .body) y v in
       subst (Formed g) (sym (e ∙ ap (λ n. message c n b′) (sym (counted-open k q o)))) (with-body g c q b b′ f h))
       (λ v. freed-formed c q b f o k x y v)
       (List·Memᴰ·append-cases (p .sends) u)
@@ -205,8 +231,8 @@ module _ (H : List ℕ → List ℕ) (g : Params) (M : Small g) (me : ℕ) (s : 
           );
         })
 
-    pub effect-good : 1 ≤ g .k → g .k + 2 * g .t ≤ g .n → width g ≤ length initial → Good g (S.effect H g me s a initial from m)
-    effect-good kk kn I =
+    pub effect-good : width g ≤ length initial → Good g (S.effect H g me s a initial from m)
+    effect-good I =
         let (h, o) = test-split H g me s from m e in
         let x = shape-of H g me s a initial from m in
-        record { in-bounds = effect-in-bounds; formed = step-formed kk (omega arith) I x f o; write-in-bounds = step-writes x f o }
+        record { in-bounds = effect-in-bounds; formed = step-formed I x f o; write-in-bounds = step-writes x f o }

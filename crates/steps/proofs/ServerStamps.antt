@@ -19,8 +19,8 @@ use Rattle.frame.specs.declared.Party.the-variants as A
 use Rattle.frame.specs.declared.Verdict.the-variants as J
 use Rattle.frame.specs.Chunks.{entryAt, areaBytes}
 use Rattle.frame.specs.Messages.{Entry, Body, getStamp, ack, askRead, stampIs, valueIs, Message, message, Sending, sending, numberIn, Formed}
-use Rattle.frame.specs.Params.{listed}
-use Rattle.frame.proofs.Sizes.{Small}
+use Rattle.frame.specs.Params.{listed, Bounded}
+use Rattle.frame.proofs.Sizes.{small}
 use Rattle.server_rules.specs.declared.Reader.{Reader}
 use Rattle.server_rules.specs.declared.Server.{Server}
 use Rattle.server_rules.specs.State.{noReader, readerOf, withReader, withSlot, presentEntry}
@@ -36,7 +36,7 @@ use Rattle.server_rules.proofs.Counting.{counted-present}
 use Rattle.server_rules.proofs.Freeing.{freed-readers, freed-present, freed-stamp, freed-mem}
 use Rattle.server_rules.proofs.Speaking.{counted-cast}
 use Rattle.steps.proofs.ServerFits.{ServerShape}
-use Rattle.steps.proofs.ServerRanges.{ranges, InBounds, write-stamp-in-bounds, freed-in-bounds, effect-in-bounds}
+use Rattle.steps.proofs.ServerRanges.{StampInBounds, ranges, InBounds, write-stamp-in-bounds, freed-in-bounds, effect-in-bounds}
 use Rattle.steps.proofs.Keys.{key, older-key, not-older}
 
 module _ (H : List ℕ → List ℕ) (g : Params) where
@@ -62,14 +62,15 @@ module _ (H : List ℕ → List ℕ) (g : Params) where
         → (tk : S.Write) × List·Memᴰ tk (r .accepted) × (tk .client ≡ c) × (tk .sequence ≡ q) × (key (S.stampOf tk) ≤ key (r .server .stamp))
     pub value-written : (b : Party) (c q : ℕ) (x : Stamp) (e : Entry) → List·Memᴰ (sending b (message c q (valueIs x e))) (r .sends)
         → ((from ≡ A.Client c) × (m ≡ message c q askRead) × (x ≡ s .stamp) × (e ≡ presentEntry g (s .stamp) a initial)) ⊎ Tells s r c q x e
-    pub stamped : (b : Party) (c q T : ℕ) → List·Memᴰ (sending b (message c q (stampIs T))) (r .sends) → (from ≡ A.Client c) × (m ≡ message c q getStamp) × (T ≡ s .stamp .time)
+    pub stamped : (b : Party) (c q T : ℕ) → List·Memᴰ (sending b (message c q (stampIs T))) (r .sends)
+        → (from ≡ A.Client c) × (m ≡ message c q getStamp) × (T ≡ s .stamp .time)
     pub noting : (c : ℕ) → readerOf (r .server) c .listening ≡ true
         → (readerOf (r .server) c ≡ readerOf s c)
         ⊎ ((from ≡ A.Client c) × (m ≡ message c (readerOf (r .server) c .sequence) askRead) × (readerOf (r .server) c .noted ≡ s .stamp))
     pub present-new : ((r .server .stamp ≡ s .stamp) × (held (r .area) ≡ held a))
         ⊎ ((tk : S.Write) × List·Memᴰ tk (r .accepted) × (r .server .stamp ≡ S.stampOf tk) × (held (r .area) ≡ tk .entry .digests))
 
-  module _ (few : g .n ≤ 10) (M : Small g) (kk : 1 ≤ g .k) (me : ℕ) (s : Server) (B : InBounds s) (a initial : List ℕ) (F : ServerShape s a) (from : Party) (c q : ℕ) where
+  module _ (L : Bounded g) (me : ℕ) (s : Server) (B : InBounds s) (a initial : List ℕ) (F : ServerShape s a) (from : Party) (c q : ℕ) where
     reader-cases : c ≤ 8 → (r : Reader) (d : ℕ) → ((d ≡ c) × (readerOf (withReader s c r) d ≡ r)) ⊎ (readerOf (withReader s c r) d ≡ readerOf s d)
     reader-cases h r d = go (ℕ-discrete d c)
       where
@@ -86,24 +87,34 @@ module _ (H : List ℕ → List ℕ) (g : Params) where
 
     -- ---- behind a counted frame
 
-    module _ (b : Body) (f : Formed g (message c q b)) (Q : SizedIn g b) (h : ST.senderRight g from c b ≡ true) (o : ST.orderTest H g me s (numberIn from) c q b ≡ J.Fine)
-        {p : S.Counting} (k : Counted H g me s a initial (numberIn from) c b p) {r : S.Effect} (x : Freed g (withSlot s c (p .slot)) (p .area) c r) (B′ : InBounds (r .server)) where
+    module _ (b : Body) (f : Formed g (message c q b)) (Q : SizedIn g b) (h : ST.senderRight g from c b ≡ true)
+        (o : ST.orderTest H g me s (numberIn from) c q b ≡ J.Fine)
+        {p : S.Counting} (k : Counted H g me s a initial (numberIn from) c b p) {r : S.Effect} (x : Freed g (withSlot s c (p .slot)) (p .area) c r)
+        (B′ : InBounds (r .server)) where
+      at : Among 8 c
+      at = (f .client-low, f .client-high)
+
+      bounds : (w : S.Write) → List·Memᴰ w (r .accepted) → StampInBounds (S.stampOf w)
+      bounds w m = write-stamp-in-bounds g w (freed-in-bounds H g L me s B a initial F from c q b f o k x w m)
+
       -- a word to a client is behind an acceptance
       behind : (y : Sending) → (IsCast (y .says .body) → ⊥) → List·Memᴰ y (S.behind p r .sends)
-          → (w : S.Write) × List·Memᴰ w (r .accepted) × (key (S.stampOf w) ≤ key (r .server .stamp)) × (((d : ℕ) × (1 ≤ d) × (d ≤ 8) × Told (s .readers) (S.stampOf w) (w .entry) d y) ⊎ (y ≡ ackOf w))
+          → (w : S.Write) × List·Memᴰ w (r .accepted) × (key (S.stampOf w) ≤ key (r .server .stamp))
+          × (((d : ℕ) × (1 ≤ d) × (d ≤ 8) × Told (s .readers) (S.stampOf w) (w .entry) d y) ⊎ (y ≡ ackOf w))
       behind y n u = ⊎-elim
           (λ v. absurd (n (counted-cast H g me s a initial (numberIn from) c k y v)))
           (λ v.
           let (w, m, t) = freed-mem x y v in
-          (w, m, not-older _ _ (B′ .stamp) (write-stamp-in-bounds g w (freed-in-bounds H g M me s B a initial F from c q b f o k x w m)) (freed-stamp x .1 w m), t))
+          (w, m, not-older _ _ (B′ .stamp) (bounds w m) (freed-stamp x .1 w m), t))
           (List·Memᴰ·append-cases (p .sends) u)
 
-      tells : (w : S.Write) → List·Memᴰ w (r .accepted) → key (S.stampOf w) ≤ key (r .server .stamp) → (to : Party) (d n : ℕ) (v : Stamp) (e : Entry) (i : ℕ) → 1 ≤ i → i ≤ 8
+      tells : (w : S.Write) → List·Memᴰ w (r .accepted) → key (S.stampOf w) ≤ key (r .server .stamp) → (to : Party) (d n : ℕ) (v : Stamp) (e : Entry) (i : ℕ)
+          → 1 ≤ i → i ≤ 8
           → Told (s .readers) (S.stampOf w) (w .entry) i (sending to (message d n (valueIs v e))) → Tells s (S.behind p r) d n v e
       tells w m l to d n v e i lo hi t =
           let ed : d ≡ i = ap (λ z. z .says .client) (t .is) in
           let ev : v ≡ S.stampOf w = cc (ap (λ z. z .says .body) (t .is)) in
-          let up = older-key (readerOf s i .noted) (S.stampOf w) (reader-within ranges B i hi .noted) (write-stamp-in-bounds g w (freed-in-bounds H g M me s B a initial F from c q b f o k x w m)) (t .smaller) in
+          let up = older-key (readerOf s i .noted) (S.stampOf w) (reader-within ranges B i hi .noted) (bounds w m) (t .smaller) in
           record {
             tk = w;
             is = m;
@@ -116,9 +127,12 @@ module _ (H : List ℕ → List ℕ) (g : Params) where
             below = subst (λ y. key y ≤ key (r .server .stamp)) (sym ev) l;
           }
 
+      room : areaBytes ≤ length (p .area)
+      room = let l = counted-length H g me s a initial (numberIn from) c k in omega (arith, l, F .room)
+
       held-same : held (p .area) ≡ held a
       unfolding entryAt
-      held-same = ap (λ e. e .digests) (counted-present H g M kk me s a initial (F .room) (numberIn from) (counted-from g from c (f .client-low, f .client-high) few k h) c (f .client-low, f .client-high)
+      held-same = ap (λ e. e .digests) (counted-present H g L me s a initial (F .room) (numberIn from) (counted-from g from c at (L .servers-high) k h) c at
           (slot-within shapes (F .within) c (f .client-high)) k Q)
 
       settled : StampFacts s a initial from (message c q b) (S.behind p r)
@@ -144,12 +158,13 @@ module _ (H : List ℕ → List ℕ) (g : Params) where
         present-new = ⊎-elim
             (λ (e, h). inl (e, ap (λ e. e .digests) h ∙ held-same))
             (λ (w, m, e, h). inr (w, m, e, ap (λ e. e .digests) h))
-            (freed-present M (let l = counted-length H g me s a initial (numberIn from) c k in let i : areaBytes ≤ length (p .area) = omega (arith, l, F .room) in i) (f .client-low, f .client-high) x);
+            (freed-present (small g L) room at x);
       }
 
     -- ---- a step
 
-    step-facts : {b : Body} {r : S.Effect} → Shape H g me s a initial (numberIn from) c q b r → Formed g (message c q b) → SizedIn g b → ST.senderRight g from c b ≡ true
+    step-facts : {b : Body} {r : S.Effect} → Shape H g me s a initial (numberIn from) c q b r → Formed g (message c q b) → SizedIn g b
+        → ST.senderRight g from c b ≡ true
         → ST.orderTest H g me s (numberIn from) c q b ≡ J.Fine → InBounds (r .server) → StampFacts s a initial from (message c q b) r
     unfolding ST.senderRight
     step-facts (idle b) f Q h o B′ = record {
@@ -199,8 +214,10 @@ module _ (H : List ℕ → List ℕ) (g : Params) where
     step-facts (settles b p k x) f Q h o B′ = settled b f Q h o k x B′
 
   -- each frame that passes the tests
-  pub order-facts : g .n ≤ 10 → Small g → 1 ≤ g .k → (me : ℕ) (s : Server) → InBounds s → (a initial : List ℕ) → ServerShape s a → (from : Party) (m : Message) → Formed g m → SizedIn g (m .body)
+  pub order-facts : Bounded g → (me : ℕ) (s : Server) → InBounds s → (a initial : List ℕ) → ServerShape s a → (from : Party) (m : Message) → Formed g m
+      → SizedIn g (m .body)
       → ST.messageTest H g me s from m ≡ J.Fine → StampFacts s a initial from m (S.effect H g me s a initial from m)
-  order-facts few M kk me s B a initial F from m f Q e =
+  order-facts L me s B a initial F from m f Q e =
       let (h, o) = test-split H g me s from m e in
-      step-facts few M kk me s B a initial F from (m .client) (m .sequence) (shape-of H g me s a initial from m) f Q h o (effect-in-bounds H g M me s B a initial F from m f e)
+      step-facts L me s B a initial F from (m .client) (m .sequence) (shape-of H g me s a initial from m) f Q h o
+      (effect-in-bounds H g L me s B a initial F from m f e)

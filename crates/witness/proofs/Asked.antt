@@ -28,7 +28,7 @@ use Rattle.client_rules.specs.Delivery as CD
 use Rattle.client_rules.proofs.Views as CV
 use Rattle.server_rules.proofs.Passing.{SizedIn, is-server}
 use Rattle.steps.proofs.ClientTaken.{took, passed}
-use Rattle.steps.proofs.ServerTaken.{message-sized}
+use Rattle.server_rules.proofs.Taking.{message-sized}
 use Rattle.runs.specs.World.{put}
 use Rattle.witness.proofs.Areas.{Shows, stored}
 

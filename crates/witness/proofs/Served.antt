@@ -30,7 +30,7 @@ use Rattle.server_rules.specs.Delivery as SD
 use Rattle.server_rules.proofs.Decoding.{coded}
 use Rattle.server_rules.proofs.Freeing.{done-sized}
 use Rattle.server_rules.proofs.Passing.{SizedIn, SenderIs, block-sender, test-split}
-use Rattle.steps.proofs.ServerTaken.{took}
+use Rattle.server_rules.proofs.Taking.{took}
 use Rattle.runs.specs.World.{put}
 use Rattle.witness.proofs.Areas.{putIf, Shows, stored, stored-if}
 
@@ -151,7 +151,8 @@ view-seen g a f h c x i = record {
 }
 
 module _ (H : List ℕ → List ℕ) (g : Params) (B : Bounded g) (M : Small g) (me : ℕ) where
-  done-seen : (s : Server) (a : List ℕ) (f : ℕ → Entry) → Shows g areaBytes a f → (c q : ℕ) (o : Option ℕ) (d : Option Entry) → ((y : Entry) → d ≡ some y → Sized g y)
+  done-seen : (s : Server) (a : List ℕ) (f : ℕ → Entry) → Shows g areaBytes a f → (c q : ℕ) (o : Option ℕ) (d : Option Entry)
+      → ((y : Entry) → d ≡ some y → Sized g y)
       → Sees g (S.freeBy (S.bothDone s c q o d) s a) (freeBy (S.bothDone s c q o d) s f)
   unfolding S.freeBy S.bothDone S.accept freeBy pick
   done-seen s a f X c q none d Q = record { server = refl; sends = refl; accepted = refl; area = X }
@@ -169,16 +170,20 @@ module _ (H : List ℕ → List ℕ) (g : Params) (B : Bounded g) (M : Small g) 
       → Sees g (S.free g s a c) (freeBy (S.bothDone s c (slotOf s c .sequence) (timeView (slotOf s c) .done) (viewBy f c (slotOf s c) .done)) s f)
   unfolding S.free S.ripe
   free-seen s a f X c is =
-      subst (λ v. Sees g (S.free g s a c) (freeBy (S.bothDone s c (slotOf s c .sequence) (timeView (slotOf s c) .done) (v .done)) s f)) (view-seen g a f (X .at) c (slotOf s c))
-      (done-seen s a f X c (slotOf s c .sequence) (timeView (slotOf s c) .done) (blockView g a c (slotOf s c) .done) (λ y e. done-sized g M a (omega (arith, X .long)) c is (slotOf s c) y e))
+      subst (λ v. Sees g (S.free g s a c) (freeBy (S.bothDone s c (slotOf s c .sequence) (timeView (slotOf s c) .done) (v .done)) s f))
+      (view-seen g a f (X .at) c (slotOf s c))
+      (done-seen s a f X c (slotOf s c .sequence) (timeView (slotOf s c) .done) (blockView g a c (slotOf s c) .done)
+      (λ y e. done-sized g M a (omega (arith, X .long)) c is (slotOf s c) y e))
 
-  freed-seen : (s : Server) (a : List ℕ) (f : ℕ → Entry) → Shows g areaBytes a f → (c : ℕ) → Among 8 c → (z : Stage) → Sees g (S.freed g z s a c) (freedBy z s f c)
+  freed-seen : (s : Server) (a : List ℕ) (f : ℕ → Entry) → Shows g areaBytes a f → (c : ℕ) → Among 8 c → (z : Stage)
+      → Sees g (S.freed g z s a c) (freedBy z s f c)
   unfolding S.freed freedBy
   freed-seen s a f X c is send = record { server = refl; sends = refl; accepted = refl; area = X }
   freed-seen s a f X c is echo = free-seen s a f X c is
   freed-seen s a f X c is ready = free-seen s a f X c is
 
-  settle-seen : (s : Server) (c : ℕ) → Among 8 c → (p : S.Counting) (f : ℕ → Entry) → Shows g areaBytes (p .area) f → (z : Stage) → Sees g (S.settle g s c z p) (settledBy s c z (counted p f))
+  settle-seen : (s : Server) (c : ℕ) → Among 8 c → (p : S.Counting) (f : ℕ → Entry) → Shows g areaBytes (p .area) f → (z : Stage)
+      → Sees g (S.settle g s c z p) (settledBy s c z (counted p f))
   unfolding S.settle settledBy
   settle-seen s c is p f X z =
       let r = freed-seen (withSlot s c (p .slot)) (p .area) f X c is z in
@@ -190,17 +195,21 @@ module _ (H : List ℕ → List ℕ) (g : Params) (B : Bounded g) (M : Small g) 
   voted-seen s a f X c is z x e Q =
       subst (λ w. Sees g (S.settle g s c z (S.votedBlock H g me a c x e)) (settledBy s c z (votedBy H g me w f c x e))) (view-seen g a f (X .at) c x)
       (settle-seen s c is (S.votedBlock H g me a c x e) _
-      (stored-if g M areaBytes a f X (completeAt c) (omega (arith, is .0, is .1)) _ (not (x .blocks .complete) && full (blockRules H g) (g .n) (g .t) (blockView g a c x) e)
+      (stored-if g M areaBytes a f X (completeAt c) (omega (arith, is .0, is .1)) _
+      (not (x .blocks .complete) && full (blockRules H g) (g .n) (g .t) (blockView g a c x) e)
       (λ h. coded H g (B .blocks-low) me (blockView g a c x) e Q (and-split (not (x .blocks .complete)) _ h .1))) z)
 
-  block-seen : (s : Server) (a : List ℕ) (f : ℕ → Entry) → Shows g areaBytes a f → (c : ℕ) → Among 8 c → (j : ℕ) (z : Stage) (e : Entry) → Sized g e → (from : Party) → SenderIs g from c z → j ≡ numberIn from
+  block-seen : (s : Server) (a : List ℕ) (f : ℕ → Entry) → Shows g areaBytes a f → (c : ℕ) → Among 8 c → (j : ℕ) (z : Stage) (e : Entry) → Sized g e
+      → (from : Party) → SenderIs g from c z → j ≡ numberIn from
       → Sees g (S.settle g s c z (S.onBlock H g me a c (slotOf s c) j z e)) (settledBy s c z (blockBy H g me f c (slotOf s c) j z e))
   unfolding S.onBlock blockBy
   block-seen s a f X c is j send e Q from h n = settle-seen s c is (S.onBlock H g me a c (slotOf s c) j send e) f X send
   block-seen s a f X c is j echo e Q from h n =
-      voted-seen s _ _ (stored g M areaBytes a f X (echoAt c j) (omega (arith, is .0, is .1, n, h .1 .1, B .servers-high)) e Q) c is echo (withBlocks (slotOf s c) (blockEcho (slotOf s c .blocks) j)) e Q
+      voted-seen s _ _ (stored g M areaBytes a f X (echoAt c j) (omega (arith, is .0, is .1, n, h .1 .1, B .servers-high)) e Q) c is echo
+      (withBlocks (slotOf s c) (blockEcho (slotOf s c .blocks) j)) e Q
   block-seen s a f X c is j ready e Q from h n =
-      voted-seen s _ _ (stored g M areaBytes a f X (readyAt c j) (omega (arith, is .0, is .1, n, h .1 .1, B .servers-high)) e Q) c is ready (withBlocks (slotOf s c) (blockReady (slotOf s c .blocks) j)) e Q
+      voted-seen s _ _ (stored g M areaBytes a f X (readyAt c j) (omega (arith, is .0, is .1, n, h .1 .1, B .servers-high)) e Q) c is ready
+      (withBlocks (slotOf s c) (blockReady (slotOf s c .blocks) j)) e Q
 
   time-seen : (s : Server) (a : List ℕ) (f : ℕ → Entry) → Shows g areaBytes a f → (c : ℕ) → Among 8 c → (j : ℕ) (z : Stage) (T : ℕ)
       → Sees g (S.settle g s c z (S.onTime H g me a c (slotOf s c) j z T)) (settledBy s c z (counted (S.onTime H g me [] c (slotOf s c) j z T) f))
@@ -209,11 +218,13 @@ module _ (H : List ℕ → List ℕ) (g : Params) (B : Bounded g) (M : Small g) 
   time-seen s a f X c is j echo T = settle-seen s c is (S.onTime H g me a c (slotOf s c) j echo T) f X echo
   time-seen s a f X c is j ready T = settle-seen s c is (S.onTime H g me a c (slotOf s c) j ready T) f X ready
 
-  present-seen : (s : Server) (a : List ℕ) (f : ℕ → Entry) → Shows g areaBytes a f → (initial : List ℕ) → presentEntry g (s .stamp) a initial ≡ answerBy H g me s f initial
+  present-seen : (s : Server) (a : List ℕ) (f : ℕ → Entry) → Shows g areaBytes a f → (initial : List ℕ)
+      → presentEntry g (s .stamp) a initial ≡ answerBy H g me s f initial
   unfolding presentEntry presentBlock entryAt
   present-seen s a f X initial i = entry (X .at 0 i .digests) (pick (eqb (s .stamp .time) 0) (take (width g) initial) (X .at 0 i .block))
 
-  body-seen : (s : Server) (a : List ℕ) (f : ℕ → Entry) → Shows g areaBytes a f → (initial : List ℕ) (from : Party) (c q : ℕ) → Among 8 c → (b : Body) → SizedIn g b
+  body-seen : (s : Server) (a : List ℕ) (f : ℕ → Entry) → Shows g areaBytes a f → (initial : List ℕ) (from : Party) (c q : ℕ) → Among 8 c → (b : Body)
+      → SizedIn g b
       → ST.senderRight g from c b ≡ true → Sees g (S.onBody H g me s a initial (numberIn from) c q b) (bodyBy H g me s f initial (numberIn from) c q b)
   unfolding S.onBody S.onRead S.onReadComplete bodyBy
   body-seen s a f X initial from c q is getStamp Q p = record { server = refl; sends = refl; accepted = refl; area = X }
@@ -236,11 +247,13 @@ module _ (H : List ℕ → List ℕ) (g : Params) (B : Bounded g) (M : Small g) 
   judge-seen s a initial from f out to e h i =
       after (paramsTest g me (g .n)) (ST.judgeOpened H g me (opened g f) (ST.roomTest g (e i) (h i) (length out) (length to)) s from f)
 
-  pub server-seen : (s : Server) (a : List ℕ) (h : ℕ → Entry) → Shows g areaBytes a h → (initial : List ℕ) → length initial ≡ width g → (from : Party) (f out to : List ℕ)
+  pub server-seen : (s : Server) (a : List ℕ) (h : ℕ → Entry) → Shows g areaBytes a h → (initial : List ℕ) → length initial ≡ width g
+      → (from : Party) (f out to : List ℕ)
       → Sees g (SD.delivered H g me s a initial from f out to) (served H g me s h initial from f out to)
   unfolding SD.delivered SD.effectBy served servedBy S.effect
   server-seen s a h X initial long from f out to =
-      subst (λ j. Sees g (SD.delivered H g me s a initial from f out to) (servedBy H g me j s h initial from)) (judge-seen s a initial from f out to (X .long) long)
+      subst (λ j. Sees g (SD.delivered H g me s a initial from f out to) (servedBy H g me j s h initial from))
+      (judge-seen s a initial from f out to (X .long) long)
       (go (ST.judge H g me s a initial from f out to) refl)
     where
       go : (j : Judged) → ST.judge H g me s a initial from f out to ≡ j → Sees g (SD.effectBy H g me j s a initial from) (servedBy H g me j s h initial from)

@@ -1,8 +1,8 @@
--- What is known of a frame that a server takes. Assumes nothing.
+-- What is known of a frame that a server takes; and a delivery keeps a well-formed server. Assumes nothing.
 use Prim.Native.Nat.{ℕ, _+_, _≤_}
 use native.Mathlib.Omega.{arith}
 use mathlib.Core.Bool.{Bool, true, false}
-use mathlib.Core.Path.{_≡_, refl, ap, subst}
+use mathlib.Core.Path.{_≡_, refl, ap, _∙_, subst}
 use mathlib.Core.List.{List}
 use lib.ListN.{length, drop, length-drop}
 use lib.Seq.{length-take-le}
@@ -19,14 +19,19 @@ use Rattle.frame.specs.declared.Opened.{Opened}
 use Rattle.frame.specs.declared.Verdict.the-variants as J
 use Rattle.frame.specs.declared.Opened.the-variants as O
 use Rattle.frame.specs.Frames.{lengthOf, bodyLength, opened, entryIn, bodyIn, messageIn}
-use Rattle.frame.specs.Messages.{Message, good, judgedBy, after, Sized}
+use Rattle.frame.specs.Messages.{Message, Judged, good, judgedBy, after, numberIn, Sized}
 use Rattle.frame.specs.Params.{width, listed, paramsTest}
 use Rattle.frame.specs.Refusals.{andThen}
 use Rattle.frame.proofs.Opening.{opens-facts}
 use Rattle.frame.proofs.Verdicts.{fine-both}
 use Rattle.server_rules.specs.declared.Server.{Server}
 use Rattle.server_rules.specs.Tests as ST
-use Rattle.server_rules.proofs.Passing.{SizedIn}
+use Rattle.server_rules.specs.WellFormed.{Bounds, Within}
+use Rattle.server_rules.specs.Steps as S
+use Rattle.server_rules.specs.Delivery as SD
+use Rattle.server_rules.proofs.Shapes.{Delivery, refused, taken, shape-delivered}
+use Rattle.server_rules.proofs.Passing.{SizedIn, test-split}
+use Rattle.server_rules.proofs.Within.{Grants, step-within}
 
 -- ---- opening
 
@@ -95,10 +100,24 @@ module _ (H : List ℕ → List ℕ) (g : Params) (me : ℕ) where
             passes = subst (λ x. ST.messageTest H g me s from x ≡ J.Fine) is (fine-both room _ e .1);
           }
 
-  pub took : (s : Server) (a initial : List ℕ) (from : Party) (f out to : List ℕ) (m : Message) → ST.judge H g me s a initial from f out to ≡ good m → Taken H g me s from f m
+  pub took : (s : Server) (a initial : List ℕ) (from : Party) (f out to : List ℕ) (m : Message) → ST.judge H g me s a initial from f out to ≡ good m
+      → Taken H g me s from f m
   unfolding ST.judge ST.judgeOpened
   took s a initial from f out to m e = go (paramsTest g me (g .n)) e
     where
-      go : (v : Verdict) → after v (ST.judgeOpened H g me (opened g f) (ST.roomTest g (length a) (length initial) (length out) (length to)) s from f) ≡ good m → Taken H g me s from f m
+      go : (v : Verdict) → after v (ST.judgeOpened H g me (opened g f) (ST.roomTest g (length a) (length initial) (length out)
+          (length to)) s from f) ≡ good m → Taken H g me s from f m
       go J.Fine e = took-by (opened g f) _ s from f m refl e
       go (J.Bad r) e = impossible (cc)
+
+  -- a delivery keeps a server within its bounds, if they grant what a taken message asks
+  pub delivered-within : (B : Bounds) (s : Server) (a initial : List ℕ) (from : Party) (f out to : List ℕ) → Within B s
+      → ((m : Message) → Taken H g me s from f m → Grants B H g me s a initial (numberIn from) (m .client) (m .sequence) (m .body))
+      → Within B (SD.delivered H g me s a initial from f out to .server)
+  delivered-within B s a initial from f out to W G = go (ST.judge H g me s a initial from f out to) refl (shape-delivered H g me s a initial from f out to)
+    where
+      go : (j : Judged) → ST.judge H g me s a initial from f out to ≡ j → {r : S.Effect} → Delivery H g me s a initial from j r → Within B (r .server)
+      go j q (refused x e) = W
+      go j q (taken m e x) =
+          let T = took s a initial from f out to m (q ∙ e) in
+          step-within B H g me s a initial (numberIn from) (m .client) (m .sequence) W (T .client .1) x (test-split H g me s from m (T .passes) .1) (G m T)

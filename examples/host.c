@@ -1,4 +1,4 @@
-/* A host in C: a digest, blocks, histories, a client that begins a write, and a whole run of a register whose parties are all in this process. */
+/* A host in C: a digest, blocks, histories, an index of accession numbers, a client that begins a write, and a whole run of a register whose parties are all in this process. */
 #include <stdio.h>
 #include <string.h>
 #include "semduoli.h"
@@ -41,6 +41,32 @@ static void judge(const char *text)
         show("history:", lines, SEMDUOLI_COUNT(answer));
     else
         printf("history: %u and %u offend\n", (unsigned)(answer >> 16 & 0xff), (unsigned)(answer >> 24 & 0xff));
+}
+
+static void insert(const char *value, uint8_t *index, size_t index_length)
+{
+    uint64_t answer = semduoli_index_insert((const uint8_t *)value, strlen(value), index, index_length);
+    printf("insert %s: refusal %u, place %u\n", value, SEMDUOLI_REFUSAL(answer), SEMDUOLI_COUNT(answer));
+}
+
+static void search(uint64_t number, const uint8_t *index)
+{
+    uint64_t answer = semduoli_index_search(number, index, SEMDUOLI_INDEX);
+    printf("search: refusal %u, place %u\n", SEMDUOLI_REFUSAL(answer), SEMDUOLI_COUNT(answer));
+}
+
+static void find_lots(void)
+{
+    uint8_t index[SEMDUOLI_INDEX] = {0xff};
+    printf("index: %u\n", (unsigned)semduoli_index_fresh(index, sizeof index));
+    insert("LOT-0005 rye", index, sizeof index);
+    insert("LOT-0003 oats", index, sizeof index);
+    insert("LOT-0005 rye, again", index, sizeof index);
+    insert("LOT-6", index, sizeof index);
+    insert("LOT-6", index, sizeof index - 1);
+    search(0x4c4f542d30303035, index);
+    search(0x4c4f542d30303034, index);
+    show("rows:", index, 1 + 3 * 9);
 }
 
 /* ---- a whole run: the parties, each with what the host keeps of it, and the frames under way, first in, first out */
@@ -182,6 +208,7 @@ int main(void)
     judge("R 5 6 1 1 1\nW 1 2 1 1 1\n");
     judge("W 1 2 5 1 1\nW 3 4 4 2 1\n");
     judge("W 1 2 5 1\n");
+    find_lots();
 
     uint8_t state[SEMDUOLI_CLIENT], out[SEMDUOLI_CLIENT_OUT(N, K, SIZE)], to[SEMDUOLI_CLIENT_TO(N)];
     printf("fresh: %u\n", (unsigned)semduoli_client_fresh(state, sizeof state));

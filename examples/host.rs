@@ -11,6 +11,9 @@ mod semduoli {
                 n: usize, t: usize, k: usize, size: usize, js: *const u8, js_len: usize, bs: *const u8, bs_len: usize, out: *mut u8, out_len: usize,
             ) -> u64;
             pub fn semduoli_judge(text: *const u8, text_len: usize, lines: *mut u8, lines_len: usize) -> u64;
+            pub fn semduoli_index_fresh(index: *mut u8, index_len: usize) -> u64;
+            pub fn semduoli_index_insert(v: *const u8, v_len: usize, index: *mut u8, index_len: usize) -> u64;
+            pub fn semduoli_index_search(number: u64, index: *const u8, index_len: usize) -> u64;
             pub fn semduoli_server_fresh(
                 n: usize, t: usize, k: usize, size: usize, me: u8, v: *const u8, v_len: usize, area: *mut u8, area_len: usize, initial: *mut u8,
                 initial_len: usize, state: *mut u8, state_len: usize,
@@ -66,6 +69,7 @@ mod semduoli {
     pub const AREA: usize = 97344;
     pub const ROWS: usize = 23040;
     pub const LINES: usize = 64;
+    pub const INDEX: usize = 577;
 
     // What happened at a client.
     pub const WRITTEN: u64 = 1;
@@ -102,6 +106,18 @@ mod semduoli {
 
     pub fn judge(text: &[u8], lines: &mut [u8]) -> Answer {
         Answer(unsafe { raw::semduoli_judge(text.as_ptr(), text.len(), lines.as_mut_ptr(), lines.len()) })
+    }
+
+    pub fn index_fresh(index: &mut [u8]) -> Answer {
+        Answer(unsafe { raw::semduoli_index_fresh(index.as_mut_ptr(), index.len()) })
+    }
+
+    pub fn index_insert(v: &[u8], index: &mut [u8]) -> Answer {
+        Answer(unsafe { raw::semduoli_index_insert(v.as_ptr(), v.len(), index.as_mut_ptr(), index.len()) })
+    }
+
+    pub fn index_search(number: u64, index: &[u8]) -> Answer {
+        Answer(unsafe { raw::semduoli_index_search(number, index.as_ptr(), index.len()) })
     }
 
     pub fn server_fresh(g: &Params, me: u8, v: &[u8], area: &mut [u8], initial: &mut [u8], state: &mut [u8]) -> Answer {
@@ -189,6 +205,29 @@ fn judge(text: &str) {
     } else {
         println!("history: {} and {} offend", answer.0 >> 16 & 0xff, answer.0 >> 24 & 0xff);
     }
+}
+
+fn insert(value: &str, index: &mut [u8]) {
+    let answer = semduoli::index_insert(value.as_bytes(), index);
+    println!("insert {value}: refusal {}, place {}", answer.refusal(), answer.count());
+}
+
+fn search(number: u64, index: &[u8]) {
+    let answer = semduoli::index_search(number, index);
+    println!("search: refusal {}, place {}", answer.refusal(), answer.count());
+}
+
+fn find_lots() {
+    let mut index = [0xff; semduoli::INDEX];
+    println!("index: {}", semduoli::index_fresh(&mut index).0);
+    insert("LOT-0005 rye", &mut index);
+    insert("LOT-0003 oats", &mut index);
+    insert("LOT-0005 rye, again", &mut index);
+    insert("LOT-6", &mut index);
+    insert("LOT-6", &mut index[..semduoli::INDEX - 1]);
+    search(u64::from_be_bytes(*b"LOT-0005"), &index);
+    search(u64::from_be_bytes(*b"LOT-0004"), &index);
+    show("rows:", &index[..1 + 3 * 9]);
 }
 
 // ---- a whole run: the parties, each with what the host keeps of it, and the frames under way, first in, first out
@@ -340,6 +379,7 @@ fn main() {
     judge("R 5 6 1 1 1\nW 1 2 1 1 1\n");
     judge("W 1 2 5 1 1\nW 3 4 4 2 1\n");
     judge("W 1 2 5 1\n");
+    find_lots();
 
     let mut state = [0xff; semduoli::CLIENT];
     let mut out = [0; 2 * 4 * (22 + 32 * 4 + 3)];

@@ -11,7 +11,7 @@
  * would pass its lowest byte.
  *
  * The answer is one number:
- *   bits 0 to 7    0, or the refusal's number, 1 to 19; then all other bits are 0, and every lent byte is as it was
+ *   bits 0 to 7    0, or the refusal's number, 1 to 19, 25 or 26; then all other bits are 0, and every lent byte is as it was
  *   bits 8 to 15   what happened (see each call)
  *   bits 16 on     how many (see each call)
  * The lowest number that applies is answered:
@@ -24,7 +24,8 @@
  *    7 frame's client not 1 to 8, or sequence 0   17 a write after one that closed as out of stamps
  *    8 frame's body length wrong for its kind     18 history malformed
  *    9 stamp parts mixed, or blocks not fit       19 history reads a stamp that is not listed
- *   10 lent area short
+ *   10 lent area short                           25 index full
+ *                                                26 value under 8 bytes, tested before 25
  */
 #ifndef SEMDUOLI_H
 #define SEMDUOLI_H
@@ -55,6 +56,9 @@ extern "C" {
 #define SEMDUOLI_CLIENT_TO(n) (4 * (n))
 /* line numbers of a history */
 #define SEMDUOLI_LINES 64
+/* an index of accession numbers, and the values that it takes */
+#define SEMDUOLI_INDEX 577
+#define SEMDUOLI_INDEX_VALUES 64
 
 /* ---- the parts of an answer */
 
@@ -96,6 +100,21 @@ uint64_t semduoli_decode(size_t n, size_t t, size_t k, size_t size, const uint8_
  * line numbers in that order at its front, and what is behind them stays as lent. SEMDUOLI_OFFENDING: they have none; bits 16 to 23 are the line
  * number of the earlier operation of an offending pair, bits 24 to 31 that of the later, and lines stays as lent. */
 uint64_t semduoli_judge(const uint8_t *text, size_t text_length, uint8_t *lines, size_t lines_length);
+
+/* ---- the index of accession numbers: a value's number is its first eight bytes, high byte first; its place is counted from 1 by insertion. The host
+ * keeps the index beside the values, as SEMDUOLI_INDEX bytes: a count, then for each value its number (8 bytes, high byte first) and its place (1),
+ * rising by number, those of one number in order of insertion. What lies behind the rows that are counted stays as lent. Any bytes are accepted as an
+ * index; only those that these calls wrote, from an empty one on, tell what was inserted. A count above 64 is a full index of 64 rows, and rows that
+ * do not rise are searched by halving as they stand. */
+
+/* Makes the index empty. The answer is 0 or 10. */
+uint64_t semduoli_index_fresh(uint8_t *index, size_t index_length);
+
+/* Inserts a value; the count is its place, 1 to 64. Refusals, in this order: 10, 26, 25. One that is refused uses no place. */
+uint64_t semduoli_index_insert(const uint8_t *value, size_t value_length, uint8_t *index, size_t index_length);
+
+/* The count is the place of the last inserted value that has the number, or 0 where none has it. Refusal: 10. */
+uint64_t semduoli_index_search(uint64_t number, const uint8_t *index, size_t index_length);
 
 /* ---- parties: the host keeps each party's record and lends it to every call as state, SEMDUOLI_SERVER or SEMDUOLI_CLIENT bytes. Any bytes are
  * accepted as a record; only those that these calls wrote are one of a run. Where the record's area is short, the lowest number up to 10 is answered.

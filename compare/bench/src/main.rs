@@ -8,7 +8,9 @@ mod side;
 mod system;
 
 use register::Params;
-use rows::{decode, decode_by_basis, digest, encode, server_steps, whole_read, whole_write, Row};
+use rows::{
+    decode, decode_by_basis, digest, encode, fill, insert, search, server_steps, whole_read, whole_write, Row,
+};
 use side::{Bytes, Plain, Proved, Side};
 use std::time::Duration;
 
@@ -116,6 +118,10 @@ fn main() {
     table("Decoding", sides!(base, decode, [Plain, Proved]), 1.3, &plan);
     let by_basis = base.iter().map(|set| vec![decode_by_basis(*set), decode::<Proved>(*set)]).collect();
     table("Decoding, against another algorithm in plain Rust", by_basis, 1.3, &plan);
+    let mut index = sides!([()], insert, [Plain, Proved]);
+    index.extend(sides!([()], fill, [Plain, Proved]));
+    index.extend(sides!([true, false], search, [Plain, Proved]));
+    table("The index of accession numbers", index, 1.0, &plan);
     for set in [p(4, 1, 2, 64), p(10, 3, 4, 256)] {
         let steps = server_steps::<Plain>(set)
             .into_iter()

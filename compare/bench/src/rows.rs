@@ -2,6 +2,7 @@
 
 use crate::side::{Handed, Plain, Side};
 use crate::system::{fresh, Host, System, CLIENT};
+use register::accession::{self, INDEX, VALUES};
 use register::blocks::{self, encoded};
 use register::flat::{complete_chunk, list_in, Server};
 use register::frame::{build, Body};
@@ -70,6 +71,73 @@ pub fn decode_by_basis(p: Params) -> Row {
         parts.iter_mut().zip(&blocks[p.n - p.k..]).for_each(|(part, block)| *part = block);
         blocks::decode_by_basis(black_box(&p), black_box(&numbers), black_box(&parts[..p.k]), &mut out);
         black_box(&out);
+    })
+}
+
+/// So many numbers, and the index of as many values of them as are named.
+fn index_of(numbers: usize, values: usize) -> (Vec<u64>, Vec<u8>) {
+    let mut random = Random::new(4);
+    let numbers: Vec<u64> = (0..numbers).map(|_| random.word()).collect();
+    let mut index = vec![0; INDEX];
+    for number in &numbers[..values] {
+        accession::insert(&number.to_be_bytes(), &mut index).expect("room");
+    }
+    (numbers, index)
+}
+
+/// So many numbers in turn that the processor does not learn which way each search goes.
+const NUMBERS: usize = 8192;
+
+/// Searches of the numbers of 64 values, in any order, or of numbers that none of them has.
+pub fn search<S: Side>(present: bool) -> Row {
+    let (numbers, index) = index_of(VALUES + NUMBERS, VALUES);
+    let mut random = Random::new(5);
+    let wanted: Vec<u64> = if present {
+        (0..NUMBERS).map(|_| numbers[random.below(VALUES)]).collect()
+    } else {
+        numbers[VALUES..].to_vec()
+    };
+    let mut turn = 0;
+    row(format!("search among 64 values, {}", if present { "found" } else { "none" }), move || {
+        turn = (turn + 1) % wanted.len();
+        black_box(S::search(black_box(wanted[turn]), black_box(&index)));
+    })
+}
+
+/// The insertion of the 64th value: indexes of 63 are put back before each turn, outside the measured time.
+pub fn insert<S: Side>(_: ()) -> Row {
+    let (numbers, index) = index_of(VALUES + NUMBERS, VALUES - 1);
+    let values: Vec<[u8; 8]> = numbers[VALUES..].iter().map(|number| number.to_be_bytes()).collect();
+    let mut indexes = vec![index.clone(); TURN];
+    let mut turn = 0;
+    let work = move |times: u64| {
+        let mut spent = Duration::ZERO;
+        for _ in 0..times.div_ceil(TURN as u64) {
+            indexes.iter_mut().for_each(|other| other.copy_from_slice(&index));
+            black_box(&indexes);
+            let begun = Instant::now();
+            for other in &mut indexes {
+                turn = (turn + 1) % values.len();
+                black_box(S::insert(black_box(&values[turn]), other));
+            }
+            spent += begun.elapsed();
+        }
+        spent.mul_f64(times as f64 / (times.div_ceil(TURN as u64) * TURN as u64) as f64)
+    };
+    Row { name: "insertion of the 64th value".to_string(), work: Box::new(work) }
+}
+
+/// 64 insertions into an empty index, of other values each time.
+pub fn fill<S: Side>(_: ()) -> Row {
+    let (numbers, mut index) = index_of(NUMBERS, 0);
+    let values: Vec<[u8; 8]> = numbers.iter().map(|number| number.to_be_bytes()).collect();
+    let mut turn = 0;
+    row("64 insertions".to_string(), move || {
+        index[0] = 0;
+        turn = (turn + 1) % (NUMBERS / VALUES);
+        values[turn * VALUES..][..VALUES].iter().for_each(|value| {
+            black_box(S::insert(black_box(value), &mut index));
+        });
     })
 }
 

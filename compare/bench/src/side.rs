@@ -4,7 +4,7 @@
 use linked::calls;
 use register::flat::{Client, Done, Outcome, Server};
 use register::layout::{client_in, put_client, put_scope, put_server, scope_in, CLIENT, SERVER};
-use register::{blocks, sha256, Params, Party, Refusal};
+use register::{accession, blocks, sha256, Params, Party, Refusal};
 
 /// A frame handed to a party, and the areas lent for what it sends.
 pub struct Handed<'a> {
@@ -52,6 +52,15 @@ pub trait Side: 'static {
 
     fn encode(p: &Params, value: &[u8], out: &mut [u8]) {
         blocks::encode(p, value, out).unwrap();
+    }
+
+    /// The index of accession numbers; both give the place, 0 for none or a refusal.
+    fn insert(value: &[u8], index: &mut [u8]) -> u8 {
+        accession::insert(value, index).unwrap_or(0)
+    }
+
+    fn search(number: u64, index: &[u8]) -> u8 {
+        accession::search(number, index).ok().flatten().unwrap_or(0)
     }
 
     /// Blocks lie end to end.
@@ -213,6 +222,14 @@ impl Side for Proved {
             Some(value) => calls::begin_write(p, own as u8, state, value, out, to),
             None => calls::begin_read(p, own as u8, state, out, to),
         })
+    }
+
+    fn insert(value: &[u8], index: &mut [u8]) -> u8 {
+        (calls::index_insert(value, index) >> 16) as u8
+    }
+
+    fn search(number: u64, index: &[u8]) -> u8 {
+        (calls::index_search(number, index) >> 16) as u8
     }
 
     fn digest(message: &[u8], out: &mut [u8; 32]) {

@@ -1,5 +1,7 @@
 //! The hall program's text protocol: all parties of a register on one machine.
 
+pub mod accession;
+
 use register::client::{Client, Outcome};
 use register::server::Server;
 use register::{Params, Party, Refusal, Send};

@@ -38,6 +38,14 @@ mod raw {
             lines: *mut u8,
             lines_length: usize,
         ) -> u64;
+        pub fn semduoli_index_fresh(index: *mut u8, index_length: usize) -> u64;
+        pub fn semduoli_index_insert(
+            value: *const u8,
+            value_length: usize,
+            index: *mut u8,
+            index_length: usize,
+        ) -> u64;
+        pub fn semduoli_index_search(number: u64, index: *const u8, index_length: usize) -> u64;
         pub fn semduoli_client_fresh(state: *mut u8, state_length: usize) -> u64;
         pub fn semduoli_begin_read(
             n: usize,
@@ -161,6 +169,18 @@ pub fn decode(p: &Params, numbers: &[u8], blocks: &[u8], out: &mut [u8]) -> u64 
 
 pub fn judge(text: &[u8], lines: &mut [u8]) -> u64 {
     unsafe { raw::semduoli_judge(text.as_ptr(), text.len(), lines.as_mut_ptr(), lines.len()) }
+}
+
+pub fn index_fresh(index: &mut [u8]) -> u64 {
+    unsafe { raw::semduoli_index_fresh(index.as_mut_ptr(), index.len()) }
+}
+
+pub fn index_insert(value: &[u8], index: &mut [u8]) -> u64 {
+    unsafe { raw::semduoli_index_insert(value.as_ptr(), value.len(), index.as_mut_ptr(), index.len()) }
+}
+
+pub fn index_search(number: u64, index: &[u8]) -> u64 {
+    unsafe { raw::semduoli_index_search(number, index.as_ptr(), index.len()) }
 }
 
 pub fn client_fresh(state: &mut [u8]) -> u64 {

@@ -1,6 +1,7 @@
 //! The proved static library beside the second implementation: every kind of comparison makes one case from a seed, calls both
 //! with it, and compares the answers and every byte of the lent areas.
 
+mod accession;
 pub mod calls;
 mod coding;
 mod histories;
@@ -17,7 +18,7 @@ pub type Difference = String;
 /// How often each refusal and each outcome came.
 #[derive(Clone, Copy, Debug, Default, PartialEq, Eq)]
 pub struct Seen {
-    pub refusals: [u64; 20],
+    pub refusals: [u64; 27],
     pub outcomes: [u64; 4],
 }
 
@@ -83,6 +84,7 @@ pub const KINDS: &[Kind] = &[
         name: "history", usual: 20_000, case: histories::history,
         refusals: &[10, 18, 19], outcomes: &["with an order", "with an offending pair"],
     },
+    Kind { name: "index", usual: 10_000, refusals: &[10, 25, 26], outcomes: &["index calls"], case: accession::index },
     Kind { name: "fresh", usual: 5_000, refusals: &[1, 2, 3, 10], outcomes: &["servers made"], case: single::fresh },
     Kind {
         name: "server", usual: 60_000, case: single::server,

@@ -170,5 +170,7 @@ pub fn lockstep(seed: u64) -> Result<Seen, Difference> {
     let options = Options { style: Some(LINKED), ..Options::RIGHT };
     let summary =
         run(seed, options).map_err(|violation| format!("{:?}: {violation}", parameters_of(seed)))?;
-    Ok(Seen { refusals: summary.refusals, outcomes: [summary.steps, summary.writes, 0, summary.reads] })
+    let mut refusals = Seen::default().refusals;
+    refusals[..summary.refusals.len()].copy_from_slice(&summary.refusals);
+    Ok(Seen { refusals, outcomes: [summary.steps, summary.writes, 0, summary.reads] })
 }

@@ -5,6 +5,7 @@
 // Thresholds read as the documents have them: t + 1, 2t + 1.
 #![allow(clippy::int_plus_one)]
 
+pub mod accession;
 pub mod any;
 pub mod blocks;
 pub mod client;

@@ -1,6 +1,6 @@
 //! How far a long comparison is, and its figures in words.
 
-use register::Refusal;
+use register::{accession, Refusal};
 use std::time::{Duration, Instant};
 
 /// Says every few seconds, on standard error, how many of the whole are done.
@@ -33,13 +33,17 @@ impl Progress {
 }
 
 /// A line for each refusal that came: its number, how often, and what it says.
-pub fn refusal_lines(counts: &[u64; 20]) -> String {
+pub fn refusal_lines(counts: &[u64]) -> String {
     let line = |number: u8| {
         let count = counts[number as usize];
-        let words = Refusal::of_number(number).map_or("", Refusal::words);
+        let words = match number {
+            n if n == accession::Refusal::Full as u8 => "the index of accession numbers is full",
+            n if n == accession::Refusal::Short as u8 => "a value under 8 bytes",
+            _ => Refusal::of_number(number).map_or("", Refusal::words),
+        };
         (count > 0).then(|| format!("{number:>4} {count:>10}  {words}\n"))
     };
-    let lines: String = (1..20).filter_map(line).collect();
+    let lines: String = (1..counts.len() as u8).filter_map(line).collect();
     if lines.is_empty() {
         return "no refusal\n".to_string();
     }

@@ -46,7 +46,7 @@ pub fn word_at(line: &[u8], at: usize) -> Word
 }
 
 // The value of a hexadecimal digit, or 16 for another byte.
-fn digit(b: u8) -> u8
+pub fn digit(b: u8) -> u8
     ensures { λ r. ⌜ r ≤ 16 ⌝ }
 {
     if b < b'0' {

@@ -3,3 +3,4 @@ pub mod Short
 pub mod Calls
 pub mod Handed
 pub mod ServerCalls
+pub mod Accession

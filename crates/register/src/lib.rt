@@ -1,4 +1,5 @@
 // The register for hosts in C and Rust: a static library whose functions take numbers and lent areas of bytes only. include/semduoli.h says the same for a host.
+pub mod accession;
 pub mod answers;
 pub mod clients;
 pub mod coding;

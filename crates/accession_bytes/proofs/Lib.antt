@@ -1,0 +1,4 @@
+pub mod Stores
+pub mod Rows
+pub mod Calls
+pub mod Back

@@ -1,0 +1,9 @@
+pub mod Halving
+pub mod Puts
+pub mod Counts
+pub mod Calls
+pub mod Ranks
+pub mod Laid
+pub mod Searched
+pub mod Theorem
+pub mod Example

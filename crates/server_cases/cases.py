@@ -74,17 +74,33 @@ def to_all(f):
 
 # ---- the cases
 
-def deliver(sender, f, result, area=AREA, initial=INITIAL, out=OUT, to=TO):
+LENT = bytes([0x5a])
+
+
+def told(result, frames, receivers):
+    return '00' + f'{len(result):02x}' + frames.hex() + receivers.hex()
+
+
+def deliver(sender, f, result, area=AREA, initial=INITIAL, out=OUT, to=TO, kind='deliver'):
     if isinstance(result, int):
-        told = f'{result:02x}'
+        answer = f'{result:02x}'
     else:
-        told = '00' + f'{len(result):02x}' + b''.join(g for _, g in result).hex() + b''.join(bytes(p) for p, _ in result).hex()
-    case('deliver', [*sender, area, initial, out, to, f.hex()], told)
+        frames, receivers = b''.join(g for _, g in result), b''.join(bytes(p) for p, _ in result)
+        if kind == 'whole':  # every byte of the two areas: what no frame was written to is as lent
+            frames, receivers = frames + LENT * (out - len(frames)), receivers + LENT * (to - len(receivers))
+        answer = told(result, frames, receivers)
+    lines.append(' '.join([kind] + [str(x) for x in (*sender, area, initial, out, to, f.hex(), answer)]))
+    answers.append(f'deliver {answer} ok')
+
+
+def unready(c):
+    lines.append(f'unready {c}')
+    answers.append(f'unready {c}')
 
 
 def fresh(n, t, k, length, me, content, number, area=AREA, initial=INITIAL):
-    told = f'{number:02x}' if number else '00' + listed(content).hex() + blocks(content)[me - 1].hex()[:2]
-    case('fresh', [n, t, k, length, me, area, initial, content.hex()], told)
+    answer = f'{number:02x}' if number else '00' + listed(content).hex() + blocks(content)[me - 1].hex()[:2]
+    case('fresh', [n, t, k, length, me, area, initial, content.hex()], answer)
 
 
 asked = frame(1, 1, 5)
@@ -130,9 +146,10 @@ deliver(client(1), frame(4, 1, 1, entry(second, 1)), 11)
 deliver(server(0), frame(4, 1, 1, entry(second, 1)), 11)
 deliver(server(5), frame(8, 1, 1, time(5)), 11)
 
-comment('A get-stamp, and a read by client 3, which listens from then on')
+comment('A get-stamp, and reads by clients 8, 3, 5 and 4, which listen from then on')
 deliver(client(1), asked, [(client(1), frame(2, 1, 5, time(0)))])
-deliver(client(3), frame(10, 3, 1), [(client(3), frame(11, 3, 1, value(0, 0, 0, entry(first, ME))))])
+for c in (8, 3, 5, 4):
+    deliver(client(c), frame(10, c, 1), [(client(c), frame(11, c, 1, value(0, 0, 0, entry(first, ME))))])
 deliver(client(3), frame(10, 3, 1), 12)
 
 comment("The blocks of client 1's write 1: 13, 14, the echo, the ready after three echoes, completion after three readies")
@@ -149,7 +166,7 @@ for j in (1, 3, 4):
     deliver(server(j), frame(5, 1, 1, entry(second, j)), [])
 deliver(server(4), frame(5, 1, 1, entry(second, 4)), 12)
 
-comment('The time of that write: the echo, the ready after three echoes, and acceptance after three readies: a value to client 3 and the ack')
+comment('The time of that write: the echo, the ready after three echoes, and acceptance after three readies: values by rising client number, and the ack')
 deliver(client(1), frame(6, 1, 1, time(5)), to_all(frame(7, 1, 1, time(5))))
 deliver(client(1), frame(6, 1, 1, time(5)), 12)
 deliver(server(1), frame(7, 1, 1, time(5)), [])
@@ -158,7 +175,8 @@ deliver(server(2), frame(7, 1, 1, time(5)), [])
 deliver(server(4), frame(7, 1, 1, time(5)), to_all(frame(8, 1, 1, time(5))))
 deliver(server(2), frame(8, 1, 1, time(5)), [])
 deliver(server(3), frame(8, 1, 1, time(5)), [])
-deliver(server(1), frame(8, 1, 1, time(5)), [(client(3), frame(11, 3, 1, value(6, 1, 1, entry(second, ME)))), (client(1), frame(9, 1, 1))])
+deliver(server(1), frame(8, 1, 1, time(5)), [(client(c), frame(11, c, 1, value(6, 1, 1, entry(second, ME)))) for c in (3, 4, 5, 8)]
+        + [(client(1), frame(9, 1, 1))])
 deliver(server(4), frame(8, 1, 1, time(5)), 12)
 
 comment('Afterwards: the read is completed, the stamp is the new one, and write 2 is open')
@@ -167,6 +185,22 @@ deliver(client(3), frame(12, 3, 1), 12)
 deliver(client(1), frame(1, 1, 6), [(client(1), frame(2, 1, 6, time(6)))])
 deliver(client(3), frame(10, 3, 2), [(client(3), frame(11, 3, 2, value(6, 1, 1, entry(second, ME))))])
 deliver(client(1), frame(6, 1, 2, time(9)), to_all(frame(7, 1, 2, time(9))))
+
+# Request F-1. In a run the own ready goes out before a part can be complete, so the record is lent with that ready not sent. The stamp of client 2's
+# write, 5 2 1, is below the present one and above those noted for clients 4, 5 and 8, whose reads began before; client 3 has noted the present one.
+comment('All that one step can send, in order: readies, values by rising client number, the ack; and every byte of the two areas')
+third = bytes([7, 8, 9])
+deliver(client(2), frame(6, 2, 1, time(4)), to_all(frame(7, 2, 1, time(4))))
+for j in (1, 3):
+    deliver(server(j), frame(8, 2, 1, time(4)), to_all(frame(8, 2, 1, time(4))) if j == 3 else [])
+deliver(server(4), frame(8, 2, 1, time(4)), [])
+for j in (4, 1):
+    deliver(server(j), frame(5, 2, 1, entry(third, j)), to_all(frame(5, 2, 1, entry(third, ME))) if j == 1 else [])
+unready(2)
+deliver(server(3), frame(5, 2, 1, entry(third, 3)), to_all(frame(5, 2, 1, entry(third, ME)))
+        + [(client(c), frame(11, c, 1, value(5, 2, 1, entry(third, ME)))) for c in (4, 5, 8)]
+        + [(client(2), frame(9, 2, 1))], kind='whole')
+deliver(client(2), frame(1, 2, 2), [(client(2), frame(2, 2, 2, time(6)))], kind='whole')
 
 for name, content in (('stdin', lines), ('stdout', answers)):
     with open(name, 'w') as file:

@@ -7,7 +7,10 @@ use crate::trial::told;
 use case_text::text::bytes;
 use case_text::text::word_at;
 use frame::Party;
+use server::state::scope_of;
+use server::state::with_scope;
 use server_deliver::deliver;
+use server_rules::Server;
 ghost use Prim.Native.Nat.{_≤_};
 ghost use lib.ListN.{length};
 
@@ -30,13 +33,17 @@ fn answered(
     let answer = deliver(s, g, x.me, from, f, area, initial, out, to);
     let reply = answer.reply;
     let server = answer.server;
-    replied(line, expected, reply, out, to);
+    replied(line, expected, reply, out, to, x.whole);
     Trial {
         g,
         me: x.me,
         server,
+        whole: x.whole,
     }
 }
+
+// What the areas lent for sent frames hold before.
+const LENT: u8 = 0x5a;
 
 // The frame from index at on comes from a party; out and to are the lengths of the areas lent for what is sent.
 fn from_party(
@@ -54,8 +61,8 @@ fn from_party(
     let f = word_at(line, at);
     let mut buffer = [0u8; 1024];
     let len = bytes(line, f.start, f.end, &mut buffer);
-    let mut frames = [0u8; 4096];
-    let mut receivers = [0u8; 64];
+    let mut frames = [LENT; 4096];
+    let mut receivers = [LENT; 64];
     let o = at_most(out, 4096);
     let r = at_most(to, 64);
     answered(
@@ -94,4 +101,27 @@ pub fn handed(line: &[u8], at: usize, x: Trial, area: &mut [u8], initial: &mut [
         o.value,
         t.value,
     )
+}
+
+// unready CLIENT: the own ready of the blocks of the client's open write counts as not sent. No run makes such a record.
+pub fn unready(line: &[u8], at: usize, x: Trial) -> Trial
+    requires { ⌜ at ≤ length (now line) ⌝ }
+{
+    let client = told(line, at);
+    let c = at_most(client.value, Server::CLIENTS);
+    let s = x.server;
+    let mut scope = scope_of(s, c);
+    let mut slot = scope.slot;
+    let mut b = slot.blocks;
+    b.ready = false;
+    slot.blocks = b;
+    scope.slot = slot;
+    let server = with_scope(s, c, scope);
+    let g = x.g;
+    Trial {
+        g,
+        me: x.me,
+        server,
+        whole: x.whole,
+    }
 }

@@ -4,6 +4,7 @@
 use case_text::text::until;
 use case_text::text::word_at;
 use trial::Trial;
+use trial::showing;
 
 mod handing;
 mod making;
@@ -20,7 +21,14 @@ fn case(line: &[u8], x: Trial, area: &mut [u8], initial: &mut [u8]) -> Trial {
         return making::made(line, next, area, initial);
     }
     if area::equal(kind, b"deliver") {
-        return handing::handed(line, next, x, area, initial);
+        return handing::handed(line, next, showing(x, false), area, initial);
+    }
+    if area::equal(kind, b"whole") {
+        return handing::handed(line, next, showing(x, true), area, initial);
+    }
+    if area::equal(kind, b"unready") {
+        case_text::report::echo(line);
+        return handing::unready(line, next, x);
     }
     case_text::report::echo(line);
     x

@@ -50,7 +50,12 @@ fn of_params(
     let reply = made.reply;
     let server = made.server;
     stored(line, v.next, reply, area, initial);
-    Trial { g, me, server }
+    Trial {
+        g,
+        me,
+        server,
+        whole: false,
+    }
 }
 
 // fresh N T K L ME AREA INITIAL VALUE ANSWER, the lengths of the lent areas between the own number and the value

@@ -1,4 +1,5 @@
-// What is printed of a reply: document 01's number of a refusal, or after 00 how many frames went out, the frames, and their receivers.
+// What is printed of a reply: document 01's number of a refusal, or after 00 how many frames went out, the frames, and their receivers; or, of the
+// areas lent for these, every byte.
 use crate::trial::at_most;
 use case_text::report::result;
 use case_text::text::put_bytes;
@@ -41,13 +42,11 @@ pub fn refused(kind: &[u8], line: &[u8], expected: usize, r: Refusal)
     result(kind, line, expected, &text[..end]);
 }
 
-// A step that sent count frames.
-fn stepped(line: &[u8], expected: usize, count: usize, out: &[u8], to: &[u8])
-    requires { ⌜ (expected ≤ length (now line)) × (count ≤ 13) ⌝ }
+// A step that sent count frames, of which the first m bytes of out and the first k of to are shown.
+fn stepped(line: &[u8], expected: usize, count: usize, out: &[u8], m: usize, to: &[u8], k: usize)
+    requires { ⌜ (expected ≤ length (now line)) × (count ≤ 13) × (m ≤ length (now out)) × (m ≤ 3000) × (k ≤ length (now to)) × (k ≤ 64) ⌝ }
 {
     let mut text = [0u8; 8192];
-    let m = sent_bytes(out, count);
-    let k = at_most(2 * count, to.len());
     put_bytes(&mut text, 0, &[0, count as u8]);
     put_bytes(&mut text, 4, &out[..m]);
     let at = 4 + 2 * m;
@@ -55,8 +54,23 @@ fn stepped(line: &[u8], expected: usize, count: usize, out: &[u8], to: &[u8])
     result(b"deliver ", line, expected, &text[..end]);
 }
 
+// The frames alone, or the whole areas.
+fn shown(line: &[u8], expected: usize, count: usize, out: &[u8], to: &[u8], whole: bool)
+    requires { ⌜ (expected ≤ length (now line)) × (count ≤ 13) ⌝ }
+{
+    if whole {
+        let m = at_most(out.len(), 3000);
+        let k = at_most(to.len(), 64);
+        stepped(line, expected, count, out, m, to, k);
+        return;
+    }
+    let m = sent_bytes(out, count);
+    let k = at_most(2 * count, to.len());
+    stepped(line, expected, count, out, m, to, k);
+}
+
 // The reply to a frame.
-pub fn replied(line: &[u8], expected: usize, reply: Reply, out: &[u8], to: &[u8])
+pub fn replied(line: &[u8], expected: usize, reply: Reply, out: &[u8], to: &[u8], whole: bool)
     requires { ⌜ expected ≤ length (now line) ⌝ }
 {
     if let Reply::Refused(r) = reply {
@@ -69,5 +83,5 @@ pub fn replied(line: &[u8], expected: usize, reply: Reply, out: &[u8], to: &[u8]
     if 13 < count {
         return;
     }
-    stepped(line, expected, count, out, to);
+    shown(line, expected, count, out, to, whole);
 }

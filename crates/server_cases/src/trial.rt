@@ -11,6 +11,8 @@ pub struct Trial {
     pub g: Params,
     pub me: u8,
     pub server: Server,
+    // whether a reply is shown with the whole areas that were lent for it
+    pub whole: bool,
 }
 
 // A number of a line, and where its next word starts.
@@ -31,6 +33,19 @@ pub fn first() -> Trial {
         },
         me: 0,
         server,
+        whole: false,
+    }
+}
+
+// The same, with replies shown by their frames alone, or with the whole areas.
+pub fn showing(x: Trial, whole: bool) -> Trial {
+    let g = x.g;
+    let server = x.server;
+    Trial {
+        g,
+        me: x.me,
+        server,
+        whole,
     }
 }
 

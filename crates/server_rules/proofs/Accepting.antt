@@ -1,10 +1,10 @@
--- What an acceptance sends, by membership and by length: values to listeners, and the ack. Assumes nothing.
+-- What an acceptance sends, values to listeners and the ack: in which order, to whom, and how many. Assumes nothing.
 use Prim.Native.Nat.{ℕ, zero, suc, _+_, _≤_, _<_}
 use native.Mathlib.Omega.{arith}
 use mathlib.Core.Bool.{Bool, true, false, _&&_}
 use mathlib.Core.Path.{_≡_, refl}
 use mathlib.Core.Logic.{_⊎_, inl, inr, ⊎-elim}
-use mathlib.Core.List.{List, [], _∷_, List·Memᴰ, List·Memᴰ·not-nil, List·Memᴰ·cases-cons, List·Memᴰ·append-cases, List·Memᴰ·eq-of-singleton}
+use mathlib.Core.List.{List, [], _∷_, _++_, List·Memᴰ, List·Memᴰ·not-nil, List·Memᴰ·cases-cons, List·Memᴰ·append-cases, List·Memᴰ·eq-of-singleton}
 use lib.ListN.{length, length-append}
 use Rattle.quorum.proofs.Logic.{and-split}
 use Rattle.area.specs.Area.{pick}
@@ -16,6 +16,39 @@ use Rattle.server_rules.specs.declared.Reader.{Reader}
 use Rattle.server_rules.specs.declared.Server.{Server}
 use Rattle.server_rules.specs.State.{readerAt}
 use Rattle.server_rules.specs.Steps as S
+use Rattle.server_rules.specs.FrameOrder.{Rising, done, next}
+
+-- ---- in order (request F-1)
+
+abbrev pub ackOf : S.Write → Sending
+ackOf w = sending (P.Client (w .client)) (message (w .client) (w .sequence) ack)
+
+-- also from a lower place on
+pub rising-from : {n k : ℕ} {xs : List Sending} (h : ℕ) → h ≤ k → Rising n k xs → Rising n h xs
+rising-from h l done = done
+rising-from h l (next k x u v) = next h x (omega (arith, l, u)) v
+
+-- values to clients c to c + m - 1, before what has the last place
+tell-rising : (n : ℕ) (rs : List Reader) (x : Stamp) (e : Entry) (c m k : ℕ) (ys : List Sending) → k ≤ n + c → c + m ≤ 9 → Rising n (n + 9) ys
+    → Rising n k (S.tellFrom rs x e c m ++ ys)
+unfolding S.tellFrom pick
+tell-rising n rs x e c zero k ys l h r = rising-from k (omega (arith, l, h)) r
+tell-rising n rs x e c (suc m) k ys l h r =
+    go (λ k l. tell-rising n rs x e (suc c) m k ys l (omega (arith, h)) r) (readerAt rs c .listening && older (readerAt rs c .noted) x)
+  where
+    value : Sending
+    value = sending (P.Client c) (message c (readerAt rs c .sequence) (valueIs x e))
+
+    go : ((k : ℕ) → k ≤ n + suc c → Rising n k (S.tellFrom rs x e (suc c) m ++ ys)) → (b : Bool)
+        → Rising n k (pick b (value ∷ S.tellFrom rs x e (suc c) m) (S.tellFrom rs x e (suc c) m) ++ ys)
+    go rest true = next k value l (rest (suc (n + c)) (omega arith))
+    go rest false = rest k (omega (arith, l))
+
+-- an acceptance: the values, then the ack
+pub accept-rising : (n : ℕ) (s : Server) (a : List ℕ) (w : S.Write) → Rising n (suc n) (S.accept s a w .sends)
+unfolding S.accept
+accept-rising n s a w =
+    tell-rising n (s .readers) (S.stampOf w) (w .entry) 1 8 (suc n) (ackOf w ∷ []) (omega arith) (omega arith) (next (n + 9) (ackOf w) (omega arith) done)
 
 -- ---- values
 
@@ -56,9 +89,6 @@ tell-length rs x e c (suc m) = go (tell-length rs x e (suc c) m) (readerAt rs c 
     go h false = omega (arith, h)
 
 -- ---- an acceptance
-
-abbrev pub ackOf : S.Write → Sending
-ackOf w = sending (P.Client (w .client)) (message (w .client) (w .sequence) ack)
 
 -- a value to one of clients 1 to 8, or the ack
 pub accept-mem : (s : Server) (a : List ℕ) (w : S.Write) (y : Sending) → List·Memᴰ y (S.accept s a w .sends)

@@ -4,6 +4,7 @@ pub mod Decoding
 pub mod Views
 pub mod Accepting
 pub mod Shapes
+pub mod Ordered
 pub mod Passing
 pub mod Within
 pub mod Taking

@@ -6,3 +6,4 @@ pub mod Tests
 pub mod WellFormed
 pub mod Steps
 pub mod Delivery
+pub mod FrameOrder

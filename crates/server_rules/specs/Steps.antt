@@ -109,7 +109,8 @@ module _ (H : List ℕ → List ℕ) (g : Params) (me : ℕ) where
 
 -- ---- Acceptance
 
--- "each listener whose noted stamp is smaller gets a value": of clients c to c + m - 1 the value (x, e), the readers being rs
+-- "each listener whose noted stamp is smaller gets a value", and "value frames go out by rising client number" (request F-1): of clients c to c + m - 1 the
+-- value (x, e), the readers being rs
 unfoldable pub tellFrom : List Reader → Stamp → Entry → ℕ → ℕ → List Sending
 tellFrom rs x e c zero = []
 tellFrom rs x e c (suc m) =
@@ -118,7 +119,7 @@ tellFrom rs x e c (suc m) =
     (tellFrom rs x e (suc c) m)
 
 -- "If larger than the server's, stamp, digests and block are replaced. In either case each listener whose noted stamp is smaller gets a value, the
--- owner gets an ack, and the next sequence, if any, opens."
+-- owner gets an ack, and the next sequence, if any, opens." The values "stand before the ack" (request F-1).
 unfoldable pub accept : Server → List ℕ → Write → Effect
 accept s a w = record {
   server = record {
@@ -162,7 +163,7 @@ freed g send s a c = sendOnly s a []
 freed g echo s a c = free g s a c
 freed g ready s a c = free g s a c
 
--- an acceptance behind what the step has sent and decoded before
+-- an acceptance behind what the step has decoded and sent before: values "follow any ready frames of that step" (request F-1)
 abbrev pub behind : Counting → Effect → Effect
 behind p r = record { server = r .server; area = r .area; sends = p .sends ++ r .sends; accepted = r .accepted; decodes = p .decodes }
 

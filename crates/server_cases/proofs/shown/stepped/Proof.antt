@@ -5,20 +5,11 @@ use lib.ListN.{length-take}
 use Rattle.server_cases.proofs.shown.stepped.Statement.{statement}
 use Rattle.server_cases.proofs.shown.stepped.Tie as tie
 
-sent-bytes-requires : tie.Need-sent-bytes-requires
-sent-bytes-requires c κs = search needs
-
-mul-at-most : tie.Need-mul-at-most
-mul-at-most c = search needs
-
-at-most-requires : tie.Need-at-most-requires
-at-most-requires c κs = search needs
-
 slice-aggregate-put-bytes : tie.Need-slice-aggregate-put-bytes
 slice-aggregate-put-bytes c = search needs
 
-cast-t17 : tie.Need-cast-t17
-cast-t17 c = search needs
+cast-t16 : tie.Need-cast-t16
+cast-t16 c = search needs
 
 slice-aggregate-put-bytes-2 : tie.Need-slice-aggregate-put-bytes-2
 slice-aggregate-put-bytes-2 c = search needs
@@ -69,11 +60,8 @@ pub stepped-spec : {M : Type 1} → statement M
 stepped-spec =
     tie.close
     (tie.spec
-    sent-bytes-requires
-    mul-at-most
-    at-most-requires
     slice-aggregate-put-bytes
-    cast-t17
+    cast-t16
     slice-aggregate-put-bytes-2
     put-bytes-requires
     slice-aggregate-put-bytes-3

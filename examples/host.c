@@ -205,9 +205,11 @@ int main(void)
     printf("value: %.*s\n", SIZE, (const char *)back);
     printf("decode of one block: %u\n", (unsigned)semduoli_decode(N, T, K, SIZE, numbers, 1, chosen, B, back, sizeof back));
 
-    judge("R 5 6 1 1 1\nW 1 2 1 1 1\n");
-    judge("W 1 2 5 1 1\nW 3 4 4 2 1\n");
-    judge("W 1 2 5 1\n");
+    judge("R 5 6 1 1 1 0\nW 1 2 1 1 1 0\n");
+    judge("W 1 2 5 1 1 0\nW 3 4 4 2 1 0\n");
+    judge("W 1 4 1 2 1 2\nR 4 6 0 0 0 2\n");
+    judge("W 1 4 1 2 1 2\nR 4 6 0 0 0 3\n");
+    judge("W 1 2 5 1 1\n");
     find_lots();
 
     uint8_t state[SEMDUOLI_CLIENT], out[SEMDUOLI_CLIENT_OUT(N, K, SIZE)], to[SEMDUOLI_CLIENT_TO(N)];

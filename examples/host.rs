@@ -376,9 +376,11 @@ fn main() {
     println!("value: {}", String::from_utf8_lossy(&back));
     println!("decode of one block: {}", semduoli::decode(&g, &numbers[..1], &chosen[..3], &mut back).0);
 
-    judge("R 5 6 1 1 1\nW 1 2 1 1 1\n");
-    judge("W 1 2 5 1 1\nW 3 4 4 2 1\n");
-    judge("W 1 2 5 1\n");
+    judge("R 5 6 1 1 1 0\nW 1 2 1 1 1 0\n");
+    judge("W 1 2 5 1 1 0\nW 3 4 4 2 1 0\n");
+    judge("W 1 4 1 2 1 2\nR 4 6 0 0 0 2\n");
+    judge("W 1 4 1 2 1 2\nR 4 6 0 0 0 3\n");
+    judge("W 1 2 5 1 1\n");
     find_lots();
 
     let mut state = [0xff; semduoli::CLIENT];

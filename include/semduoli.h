@@ -95,10 +95,12 @@ uint64_t semduoli_decode(size_t n, size_t t, size_t k, size_t size, const uint8_
 
 /* ---- histories */
 
-/* Whether the operations of a history have an order. A line for each, at most 64: kind R or W, start, end, time, writer and sequence, one space
- * between, a newline after. SEMDUOLI_ORDERED: they have, and the count says how many they are; lines, of SEMDUOLI_LINES bytes at least, has their
- * line numbers in that order at its front, and what is behind them stays as lent. SEMDUOLI_OFFENDING: they have none; bits 16 to 23 are the line
- * number of the earlier operation of an offending pair, bits 24 to 31 that of the later, and lines stays as lent. */
+/* Whether the operations of a history have an order. A line for each, at most 64: kind R or W, start, end, time, writer, sequence and caller,
+ * one space between, a newline after. The caller is 1 to 8, or 0 where it is not known; of two operations of one known caller the one that
+ * ends at the point at which the other starts precedes it, any others are concurrent at equal points. SEMDUOLI_ORDERED: they have, and the
+ * count says how many they are; lines, of SEMDUOLI_LINES bytes at least, has their line numbers in that order at its front, and what is behind
+ * them stays as lent. SEMDUOLI_OFFENDING: they have none; bits 16 to 23 are the line number of the earlier operation of an offending pair,
+ * bits 24 to 31 that of the later, and lines stays as lent. */
 uint64_t semduoli_judge(const uint8_t *text, size_t text_length, uint8_t *lines, size_t lines_length);
 
 /* ---- the index of accession numbers: a value's number is its first eight bytes, high byte first; its place is counted from 1 by insertion. The host

@@ -41,21 +41,22 @@ fn some_order_from(records: &[Record], row: &mut Vec<usize>) -> bool {
     })
 }
 
-/// A random history whose reads are mostly of listed stamps.
+/// A random history whose reads are mostly of listed stamps; callers are often one, often not known.
 pub fn some_history(random: &mut Random, length: usize) -> Vec<Record> {
     let mut stamps = vec![Stamp::default()];
     (0..length)
         .map(|_| {
             let start = random.below(8) as u32;
             let end = if random.chance(1, 10) { u32::MAX } else { start + 1 + random.below(4) as u32 };
+            let caller = random.pick(&[0, 0, 1, 1, 2, 8]);
             if random.chance(1, 2) {
                 let time = random.range(1, 3) as u64;
                 let stamp =
                     Stamp { time, writer: random.range(1, 2) as u8, sequence: random.range(1, 2) as u32 };
                 stamps.push(stamp);
-                Record { write: true, start, end, stamp }
+                Record { write: true, start, end, stamp, caller }
             } else {
-                Record { write: false, start, end, stamp: random.pick(&stamps) }
+                Record { write: false, start, end, stamp: random.pick(&stamps), caller }
             }
         })
         .collect()
@@ -65,5 +66,5 @@ pub fn some_history(random: &mut Random, length: usize) -> Vec<Record> {
 pub fn line(r: &Record) -> String {
     let kind = if r.write { 'W' } else { 'R' };
     let Stamp { time, writer, sequence } = r.stamp;
-    format!("{kind} {} {} {time} {writer} {sequence}\n", r.start, r.end)
+    format!("{kind} {} {} {time} {writer} {sequence} {}\n", r.start, r.end, r.caller)
 }

@@ -1,34 +1,76 @@
 //! Histories: document 01's examples, the judgement against brute force, and damaged input.
 
-use register::history::{judge, offends, parse, precedes, report, Judgement};
+use register::frame::Stamp;
+use register::history::{judge, offends, parse, precedes, report, Judgement, Record};
 use register::orders::{is_order, line, some_history, some_order};
 use register::random::Random;
 use register::Refusal;
 
-const EXAMPLE: &str = "W 1 4 1 2 1\nR 2 6 0 0 0\nR 5 8 1 2 1\n";
+const EXAMPLE: &str = "W 1 4 1 2 1 0\nR 2 6 0 0 0 0\nR 5 8 1 2 1 0\n";
 
 #[test]
 fn examples() {
     let answer = |text: &str| report(text.as_bytes());
     assert_eq!(answer(""), "order\n");
     assert_eq!(answer(EXAMPLE), "order 2 1 3\n");
-    assert_eq!(answer("W 1 4 1 2 1\nR 5 6 0 0 0\nR 5 8 1 2 1\n"), "no order 1 2\n");
-    assert_eq!(answer("R 6 6 0 0 0\n"), "refused 18\n");
-    assert_eq!(answer("R 1 2 7 1 1\n"), "refused 19\n");
+    assert_eq!(answer("W 1 4 1 2 1 0\nR 5 6 0 0 0 0\nR 5 8 1 2 1 0\n"), "no order 1 2\n");
+    assert_eq!(answer("R 6 6 0 0 0 0\n"), "refused 18\n");
+    assert_eq!(answer("R 1 2 7 1 1 0\n"), "refused 19\n");
     // 18 anywhere comes before 19; a read with some zero parts is unlisted.
-    assert_eq!(answer("R 1 2 7 1 1\nR 6 6 0 0 0\n"), "refused 18\n");
-    assert_eq!(answer("R 1 2 7 0 1\n"), "refused 19\n");
-    assert_eq!(answer("R 1 2 0 1 0\n"), "refused 19\n");
+    assert_eq!(answer("R 1 2 7 1 1 0\nR 6 6 0 0 0 0\n"), "refused 18\n");
+    assert_eq!(answer("R 1 2 7 0 1 0\n"), "refused 19\n");
+    assert_eq!(answer("R 1 2 0 1 0 0\n"), "refused 19\n");
     // A read before the write of its own stamp.
-    assert_eq!(answer("R 1 2 1 1 1\nW 3 4 1 1 1\n"), "no order 1 2\n");
+    assert_eq!(answer("R 1 2 1 1 1 0\nW 3 4 1 1 1 0\n"), "no order 1 2\n");
     // Equal points are concurrent; an unknown end precedes nothing.
-    assert_eq!(answer("R 1 3 1 1 1\nW 3 4 1 1 1\n"), "order 2 1\n");
-    assert_eq!(answer("W 0 4294967295 2 1 1\nW 5 6 1 1 2\nR 7 8 1 1 2\n"), "order 2 3 1\n");
+    assert_eq!(answer("R 1 3 1 1 1 0\nW 3 4 1 1 1 0\n"), "order 2 1\n");
+    assert_eq!(answer("W 0 4294967295 2 1 1 0\nW 5 6 1 1 2 0\nR 7 8 1 1 2 0\n"), "order 2 3 1\n");
     // Reads of equal stamps go by end, then line.
-    assert_eq!(answer("R 1 9 0 0 0\nR 2 5 0 0 0\nR 3 5 0 0 0\n"), "order 2 3 1\n");
+    assert_eq!(answer("R 1 9 0 0 0 0\nR 2 5 0 0 0 0\nR 3 5 0 0 0 0\n"), "order 2 3 1\n");
     // The pair with the smallest later line, then the smallest earlier one.
-    let three = "W 5 6 1 1 1\nR 1 2 1 1 1\nR 2 3 1 1 1\nR 7 8 0 0 0\n";
+    let three = "W 5 6 1 1 1 0\nR 1 2 1 1 1 0\nR 2 3 1 1 1 0\nR 7 8 0 0 0 0\n";
     assert_eq!(answer(three), "no order 2 1\n");
+}
+
+/// Request F-2: equal points of one known caller precede; else an end below the other's start.
+#[test]
+fn callers() {
+    let answer = |text: &str| report(text.as_bytes());
+    assert_eq!(answer("W 1 4 1 2 1 2\nR 4 6 0 0 0 2\n"), "no order 1 2\n");
+    assert_eq!(answer("W 1 4 1 2 1 2\nR 4 6 0 0 0 3\n"), "order 2 1\n");
+    assert_eq!(answer("W 1 4 1 2 1 0\nR 4 6 0 0 0 0\n"), "order 2 1\n");
+    assert_eq!(answer("R 1 2 1 1 1 1\nW 2 3 1 1 1 1\n"), "no order 1 2\n");
+    assert_eq!(answer("R 1 2 0 0 0 9\n"), "refused 18\n");
+    assert_eq!(answer("R 1 2 0 0 0\n"), "refused 18\n");
+    // A caller that is not the writer; one caller's operations that overlap are concurrent.
+    assert_eq!(answer("W 1 4 1 2 1 5\n"), "order 1\n");
+    assert_eq!(answer("W 1 5 1 2 1 2\nR 4 6 0 0 0 2\n"), "order 2 1\n");
+    // A lent row: no text has refused the caller.
+    let at = |end, start, x: u8, y: u8| {
+        let a = Record { write: false, start: 0, end, stamp: Stamp::default(), caller: x };
+        (a, Record { start, end: start + 1, caller: y, ..a })
+    };
+    let (nobody, _) = at(1, 1, 9, 9);
+    assert_eq!(judge(&[nobody]), Err(Refusal::Record));
+    let (mut equal, mut below) = (0, 0);
+    for x in 0..=8 {
+        for y in 0..=8 {
+            for end in 1..4 {
+                for start in 0..4 {
+                    let (a, b) = at(end, start, x, y);
+                    let expected = match (x, y) {
+                        (0, _) | (_, 0) => end < start,
+                        _ if x == y => end <= start,
+                        _ => end < start,
+                    };
+                    assert_eq!(precedes(&a, &b), expected, "{a:?} {b:?}");
+                    equal += (expected && end == start) as usize;
+                    below += (expected && end < start) as usize;
+                }
+            }
+        }
+    }
+    assert_eq!((equal, below), (8 * 3, 81 * 3));
 }
 
 #[test]
@@ -36,39 +78,46 @@ fn malformed() {
     for line in [
         "\n",
         " \n",
-        "W 1 4 1 2 1",
-        "W 1 4 1 2 1\r\n",
-        "W 1 4 1 2 1 \n",
-        " W 1 4 1 2 1\n",
-        "W  1 4 1 2 1\n",
+        "W 1 4 1 2 1 0",
+        "W 1 4 1 2 1 0\r\n",
+        "W 1 4 1 2 1 0 \n",
+        " W 1 4 1 2 1 0\n",
+        "W  1 4 1 2 1 0\n",
         "W 1 4 1 2\n",
-        "W 1 4 1 2 1 0\n",
-        "X 1 4 1 2 1\n",
-        "w 1 4 1 2 1\n",
-        "W 01 4 1 2 1\n",
-        "W 1 4 1 2 01\n",
-        "W 1 4 1 9 1\n",
-        "W 4 4 1 2 1\n",
-        "W 5 4 1 2 1\n",
-        "W 1 4294967296 1 2 1\n",
-        "W 1 4 18446744073709551616 2 1\n",
-        "W 1 4 1 2 4294967296\n",
-        "W 1 4 1 2 -1\n",
-        "W +1 4 1 2 1\n",
-        "W 1 4 1 2 1\n\n",
-        "W\t1 4 1 2 1\n",
-        "W 1 4 0 2 1\n",
-        "W 1 4 1 0 1\n",
-        "W 1 4 1 2 0\n",
-        "W 1 4 1 2 1\nW 5 6 1 2 1\n",
-        "W 1 4 00 2 1\n",
-        "W 1 4 1 2 1\0\n",
-        "W 1 4 999999999999999999999999999999 2 1\n",
+        "W 1 4 1 2 1\n",
+        "W 1 4 1 2 1 \n",
+        "W 1 4 1 2 1 0 0\n",
+        "X 1 4 1 2 1 0\n",
+        "w 1 4 1 2 1 0\n",
+        "W 01 4 1 2 1 0\n",
+        "W 1 4 1 2 01 0\n",
+        "W 1 4 1 2 1 00\n",
+        "W 1 4 1 2 1 -0\n",
+        "W 1 4 1 2 1 9\n",
+        "W 1 4 1 2 1 10\n",
+        "W 1 4 1 2 1 256\n",
+        "W 1 4 1 9 1 0\n",
+        "W 4 4 1 2 1 0\n",
+        "W 5 4 1 2 1 0\n",
+        "W 1 4294967296 1 2 1 0\n",
+        "W 1 4 18446744073709551616 2 1 0\n",
+        "W 1 4 1 2 4294967296 0\n",
+        "W 1 4 1 2 -1 0\n",
+        "W +1 4 1 2 1 0\n",
+        "W 1 4 1 2 1 0\n\n",
+        "W\t1 4 1 2 1 0\n",
+        "W 1 4 0 2 1 0\n",
+        "W 1 4 1 0 1 0\n",
+        "W 1 4 1 2 0 0\n",
+        "W 1 4 1 2 1 0\nW 5 6 1 2 1 0\n",
+        "W 1 4 00 2 1 0\n",
+        "W 1 4 1 2 1 0\0\n",
+        "W 1 4 999999999999999999999999999999 2 1 0\n",
     ] {
         assert_eq!(report(line.as_bytes()), "refused 18\n", "{line:?}");
     }
-    assert_eq!(report(b"W 0 4294967295 18446744073709551615 8 4294967295\n"), "order 1\n");
-    let many = |count: usize| "R 1 2 0 0 0\n".repeat(count);
+    assert_eq!(report(b"W 0 4294967295 18446744073709551615 8 4294967295 8\n"), "order 1\n");
+    let many = |count: usize| "R 1 2 0 0 0 0\n".repeat(count);
     assert!(report(many(64).as_bytes()).starts_with("order 1 2"));
     assert_eq!(report(many(65).as_bytes()), "refused 18\n");
 }
@@ -78,7 +127,7 @@ fn malformed() {
 #[test]
 fn no_ring_of_reads() {
     // 3 precedes 1; by line 1 before 2 and 2 before 3.
-    let text = "R 5 6 0 0 0\nR 1 7 0 0 0\nR 2 3 0 0 0\n";
+    let text = "R 5 6 0 0 0 0\nR 1 7 0 0 0 0\nR 2 3 0 0 0 0\n";
     let reads = parse(text.as_bytes()).unwrap();
     let by_identifier = |a: usize, b: usize| {
         let (x, y) = (&reads[a - 1], &reads[b - 1]);

@@ -130,8 +130,8 @@ fn examples_of_the_table() {
     assert_eq!(to_server(Party::Server(2), &block(Stage::Echo, 2)), Ok(0));
     assert_eq!(to_server(Party::Server(3), &block(Stage::Echo, 2)), Err(14));
     // 18 and 19.
-    assert_eq!(history::report(b"R 6 6 0 0 0\n"), "refused 18\n");
-    assert_eq!(history::report(b"R 1 2 7 1 1\n"), "refused 19\n");
+    assert_eq!(history::report(b"R 6 6 0 0 0 0\n"), "refused 18\n");
+    assert_eq!(history::report(b"R 1 2 7 1 1 0\n"), "refused 19\n");
 }
 
 #[test]

@@ -227,7 +227,7 @@ interval-says text =
 
 abbrev SaysStamp : List ℕ → Stamp → Type 0
 SaysStamp text (S.Parts x y w u) =
-    (x ≤ 18446744073709551615) × (y ≤ 8) × (w ≤ 4294967295) × (text ≡ shown x 32 ++ (shown y 32 ++ (shown w 10 ++ drop u text)))
+    (x ≤ 18446744073709551615) × (y ≤ 8) × (w ≤ 4294967295) × (text ≡ shown x 32 ++ (shown y 32 ++ (shown w 32 ++ drop u text)))
 SaysStamp text S.Bad = Unit {0}
 
 stamp-says : (text : List ℕ) → SaysStamp text (stampOf text)
@@ -235,13 +235,13 @@ unfolding stampOf
 stamp-says text =
     by-number (SaysStamp text) (SaysField 18446744073709551615 32 text) _ S.Bad _ (field-says 18446744073709551615 32 text (omega arith) (omega arith)) tt
     (λ x a p. by-number (SaysStamp text) (SaysField 8 32 (drop a text)) _ S.Bad _ (field-says 8 32 (drop a text) (omega arith) (omega arith)) tt
-    (λ y b q. by-number (SaysStamp text) (SaysField 4294967295 10 (drop (a + b) text)) _ S.Bad _
-    (field-says 4294967295 10 (drop (a + b) text) (omega arith) (omega arith)) tt
+    (λ y b q. by-number (SaysStamp text) (SaysField 4294967295 32 (drop (a + b) text)) _ S.Bad _
+    (field-says 4294967295 32 (drop (a + b) text) (omega arith) (omega arith)) tt
     (λ w d r. (
       p .0,
       q .0,
       r .0,
-      p .1 ∙ ap (λ t. shown x 32 ++ t) (q .1 ∙ ap (λ t. shown y 32 ++ t) (drop-drop b a text ∙ r .1 ∙ ap (λ t. shown w 10 ++ t) (drop-drop d (a + b) text))),
+      p .1 ∙ ap (λ t. shown x 32 ++ t) (q .1 ∙ ap (λ t. shown y 32 ++ t) (drop-drop b a text ∙ r .1 ∙ ap (λ t. shown w 32 ++ t) (drop-drop d (a + b) text))),
     ))))
 
 -- ---- a line
@@ -279,18 +279,21 @@ line-says text =
     (λ k. by-pick P _ _ _
     (λ s. by-interval P (SaysInterval (drop 2 text)) _ L.Bad _ (interval-says (drop 2 text)) tt
     (λ start end a p. by-stamp P (SaysStamp (drop (2 + a) text)) _ L.Bad _ (stamp-says (drop (2 + a) text)) tt
-    (λ time writer sequence b q.
-    let o : Operation = record { write = eqb (kindAt (getD text 0 0)) 1; start = start; end = end; time = time; writer = writer; sequence = sequence } in
+    (λ time writer sequence b q. by-number P (SaysField 8 10 (drop (2 + a + b) text)) _ L.Bad _
+    (field-says 8 10 (drop (2 + a + b) text) (omega arith) (omega arith)) tt
+    (λ caller d r.
+    let o : Operation =
+    record { write = eqb (kindAt (getD text 0 0)) 1; start = start; end = end; time = time; writer = writer; sequence = sequence; caller = caller } in
     let front = front-two text (ltb-false (length text) 2 t) in
     let kind = kind-byte (getD text 0 0) k in
-    let space = eqb-true (getD text 1 0) 32 s in
-    let n : 2 + a + b ≡ 2 + (a + b) = omega arith in (
-      (p .0, (p .1, (q .0, (q .1, (q .2, tt))))),
+    let space = eqb-true (getD text 1 0) 32 s in (
+      (p .0, (p .1, (q .0, (q .1, (q .2, (r .0, tt)))))),
       front
           ∙ ap₂ (λ x y. x ∷ y ∷ drop 2 text) kind space
           ∙ ap (λ l. pick (o .write) 87 82 ∷ 32 ∷ l)
           (p .2 ∙ ap (λ l. shown start 32 ++ (shown end 32 ++ l))
-          (drop-drop a 2 text ∙ q .3 ∙ ap (λ l. shown time 32 ++ (shown writer 32 ++ (shown sequence 10 ++ l))) (drop-drop b (2 + a) text)))
-          ∙ sym (printed-shown o (drop (2 + a + b) text)),
-    ))))
+          (drop-drop a 2 text ∙ q .3 ∙ ap (λ l. shown time 32 ++ (shown writer 32 ++ (shown sequence 32 ++ l)))
+          (drop-drop b (2 + a) text ∙ r .1 ∙ ap (λ l. shown caller 10 ++ l) (drop-drop d (2 + a + b) text))))
+          ∙ sym (printed-shown o (drop (2 + a + b + d) text)),
+    )))))
     (λ s. tt)))

@@ -56,10 +56,10 @@ pub decimal-large : (k n : ℕ) → 10 ≤ n → decimalOf (suc k) n ≡ decimal
 unfolding decimalOf
 decimal-large k n h = sym (pick-no _ _ _ refl (le-ltb n 10 h) refl)
 
-tenth : (k n : ℕ) → n < 10 ^ suc k → n / 10 < 10 ^ k
+pub tenth : (k n : ℕ) → n < 10 ^ suc k → n / 10 < 10 ^ k
 tenth k n h = let p : n < 10 ^ k * 10 = rw pow-suc at h in omega arith
 
-decimal-none : (n : ℕ) → decimalOf 0 n ≡ []
+pub decimal-none : (n : ℕ) → decimalOf 0 n ≡ []
 unfolding decimalOf
 decimal-none n = refl
 

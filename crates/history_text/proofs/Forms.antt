@@ -29,7 +29,7 @@ Small (m ∷ ms) = (m ≤ 18446744073709551615) × Small ms
 
 widths-small : Small widths
 unfolding widths
-widths-small = (omega arith, (omega arith, (omega arith, (omega arith, (omega arith, tt)))))
+widths-small = (omega arith, (omega arith, (omega arith, (omega arith, (omega arith, (omega arith, tt))))))
 
 below : (n m : ℕ) → n ≤ m → m ≤ 18446744073709551615 → n < 10 ^ 20
 below n m h g = omega arith
@@ -98,8 +98,9 @@ numbers-back w (a ∷ []) h = absurd (h .1)
 numbers-back w (a ∷ b ∷ []) h = absurd (h .1 .1)
 numbers-back w (a ∷ b ∷ c ∷ []) h = absurd (h .1 .1 .1)
 numbers-back w (a ∷ b ∷ c ∷ d ∷ []) h = absurd (h .1 .1 .1 .1)
-numbers-back w (a ∷ b ∷ c ∷ d ∷ e ∷ []) h = refl
-numbers-back w (a ∷ b ∷ c ∷ d ∷ e ∷ f ∷ x) h = absurd (h .1 .1 .1 .1 .1)
+numbers-back w (a ∷ b ∷ c ∷ d ∷ e ∷ []) h = absurd (h .1 .1 .1 .1 .1)
+numbers-back w (a ∷ b ∷ c ∷ d ∷ e ∷ f ∷ []) h = refl
+numbers-back w (a ∷ b ∷ c ∷ d ∷ e ∷ f ∷ g ∷ x) h = absurd (h .1 .1 .1 .1 .1 .1)
 
 fields-are : (k : List ℕ) (fs : List (List ℕ)) → isFormed (k ∷ fs) ≡ true → (k ∷ fs ≡ fieldsOf (recordOf (k ∷ fs))) × InWidth (recordOf (k ∷ fs))
 unfolding isFormed recordOf fieldsOf kindOf

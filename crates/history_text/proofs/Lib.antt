@@ -8,3 +8,4 @@ pub mod Converse
 pub mod Forms
 pub mod Link
 pub mod Texts
+pub mod Bounds

@@ -16,6 +16,10 @@ use Rattle.history_row.specs.declared.History.{History}
 use Rattle.history_row.proofs.Laws.{verdict-row, verdict-large, verdict-small}
 use Rattle.history_text.specs.Lines.{Lines, Records, Malformed, recordThen, answerOf}
 use Rattle.history_text.specs.ReadLines.{kindAt, intervalOf, stampOf, thenInterval, thenStamp, operationOf, thenLine, linesRead}
+use Rattle.history_text.specs.ReadNumbers.{fieldOf}
+use Rattle.history_text.specs.declared.number.Field.{Field}
+use Rattle.history_text.specs.declared.number.Field.the-variants.{Number, Bad}
+use Rattle.history_text.proofs.Laws.{then-number, then-bad}
 use Rattle.history_text.specs.declared.line.Interval.{Interval}
 use Rattle.history_text.specs.declared.line.Interval.the-variants as I
 use Rattle.history_text.specs.declared.line.Stamp.{Stamp}
@@ -72,13 +76,18 @@ module _ (s : List ℕ) (at : ℕ) where
       (pick-no _ _ _ refl (ap (λ c. ltb 1 (kindAt c)) first ∙ ap (ltb 1) (sym e) ∙ le-ltb 1 _ g)
       (pick-no _ _ _ refl (ne-eqb _ _ (λ z. n (sym (getD-drop at s 1 0) ∙ z))) refl))
 
-  -- the interval and the stamp that are read
+  -- the interval, the stamp and the caller that are read
   at-interval : {r : Interval} → r ≡ intervalOf (drop (at + 2) s) → r ≡ intervalOf (drop 2 (drop at s))
   at-interval e = e ∙ ap intervalOf (sym (drop-drop 2 at s))
 
   at-stamp : (a : ℕ) {r : Stamp} → r ≡ stampOf (drop (at + 2 + a) s) → r ≡ stampOf (drop (2 + a) (drop at s))
   at-stamp a e =
       e ∙ ap (λ i. stampOf (drop i s)) (let n : at + 2 + a ≡ at + (2 + a) = omega arith in n) ∙ ap stampOf (sym (drop-drop (2 + a) at s))
+
+  at-caller : (a b : ℕ) {r : Field} → r ≡ fieldOf 8 10 (drop (at + 2 + a + b) s) → r ≡ fieldOf 8 10 (drop (2 + a + b) (drop at s))
+  at-caller a b e =
+      e ∙ ap (λ i. fieldOf 8 10 (drop i s)) (let n : at + 2 + a + b ≡ at + (2 + a + b) = omega arith in n)
+      ∙ ap (fieldOf 8 10) (sym (drop-drop (2 + a + b) at s))
 
   module _ {k : ℕ} (h : 2 ≤ length s - at) (e : k ≡ kindAt (getD s at 0)) (g : k ≤ 1) (p : getD s (at + 1) 0 ≡ 32) where
     pub line-interval : {r : Interval} → r ≡ intervalOf (drop (at + 2) s) → r ≡ I.Bad → L.Bad ≡ operationOf (drop at s)
@@ -96,15 +105,26 @@ module _ (s : List ℕ) (at : ℕ) where
         (pick-no _ _ _ refl (ap (λ c. ltb 1 (kindAt c)) first ∙ ap (ltb 1) (sym e) ∙ le-ltb 1 _ g)
         (pick-yes _ _ _ refl (eq-eqb _ _ (getD-drop at s 1 0 ∙ p)) (then-interval _ _ _ x y a (at-interval q) t (no-stamp _ _ _ (at-stamp a q₂) t₂))))
 
-    pub line-whole : {r : Interval} {v : Stamp} (x y a m w n b : ℕ) → r ≡ intervalOf (drop (at + 2) s) → r ≡ I.Times x y a
-        → v ≡ stampOf (drop (at + 2 + a) s) → v ≡ S.Parts m w n b
-        → L.Record (record { write = eqb k 1; start = x; end = y; time = m; writer = w; sequence = n }) (2 + a + b) ≡ operationOf (drop at s)
-    unfolding operationOf
-    line-whole x y a m w n b q t q₂ t₂ =
-        pick-no _ _ _ refl (le-ltb (length (drop at s)) 2 (enough h))
-        (pick-no _ _ _ refl (ap (λ c. ltb 1 (kindAt c)) first ∙ ap (ltb 1) (sym e) ∙ le-ltb 1 _ g)
-        (pick-yes _ _ _ refl (eq-eqb _ _ (getD-drop at s 1 0 ∙ p)) (then-interval _ _ _ x y a (at-interval q) t (then-stamp _ _ _ m w n b (at-stamp a q₂) t₂
-        (ap (λ c. L.Record (record { write = eqb c 1; start = x; end = y; time = m; writer = w; sequence = n }) (2 + a + b)) (e ∙ ap kindAt (sym first)))))))
+    module _ {r : Interval} {v : Stamp} {f : Field} (x y a m w n b : ℕ) (q : r ≡ intervalOf (drop (at + 2) s)) (t : r ≡ I.Times x y a)
+        (q₂ : v ≡ stampOf (drop (at + 2 + a) s)) (t₂ : v ≡ S.Parts m w n b) (q₃ : f ≡ fieldOf 8 10 (drop (at + 2 + a + b) s)) where
+      pub line-caller : f ≡ Bad → L.Bad ≡ operationOf (drop at s)
+      unfolding operationOf
+      line-caller t₃ =
+          pick-no _ _ _ refl (le-ltb (length (drop at s)) 2 (enough h))
+          (pick-no _ _ _ refl (ap (λ c. ltb 1 (kindAt c)) first ∙ ap (ltb 1) (sym e) ∙ le-ltb 1 _ g)
+          (pick-yes _ _ _ refl (eq-eqb _ _ (getD-drop at s 1 0 ∙ p)) (then-interval _ _ _ x y a (at-interval q) t (then-stamp _ _ _ m w n b (at-stamp a q₂) t₂
+          (then-bad _ _ _ (at-caller a b q₃) t₃)))))
+
+      pub line-whole : (i d : ℕ) → f ≡ Number i d
+          → L.Record (record { write = eqb k 1; start = x; end = y; time = m; writer = w; sequence = n; caller = i }) (2 + a + b + d) ≡ operationOf (drop at s)
+      unfolding operationOf
+      line-whole i d t₃ =
+          pick-no _ _ _ refl (le-ltb (length (drop at s)) 2 (enough h))
+          (pick-no _ _ _ refl (ap (λ c. ltb 1 (kindAt c)) first ∙ ap (ltb 1) (sym e) ∙ le-ltb 1 _ g)
+          (pick-yes _ _ _ refl (eq-eqb _ _ (getD-drop at s 1 0 ∙ p)) (then-interval _ _ _ x y a (at-interval q) t (then-stamp _ _ _ m w n b (at-stamp a q₂) t₂
+          (then-number _ _ _ i d (at-caller a b q₃) t₃
+          (ap (λ c. L.Record (record { write = eqb c 1; start = x; end = y; time = m; writer = w; sequence = n; caller = i }) (2 + a + b + d))
+          (e ∙ ap kindAt (sym first))))))))
 
 -- ---- the whole text
 

@@ -22,7 +22,7 @@ use Rattle.history_text.specs.declared.line.Interval.the-variants as I
 use Rattle.history_text.specs.declared.line.Stamp.the-variants as S
 use Rattle.history_text.specs.declared.line.Line.the-variants as L
 use Rattle.history_text.proofs.Decimals.{decimal-small, decimal-large, head}
-use Rattle.history_text.proofs.Shown.{shown, printed-shown}
+use Rattle.history_text.proofs.Shown.{shown, printed-shown, printed-length}
 use Rattle.history_text.proofs.Lines.{line-whole}
 use Rattle.history_text.proofs.Laws.{digits-stop, digits-more, number-zero, number-digits, field-found, then-number}
 
@@ -127,7 +127,11 @@ newline : 9 < digitOf 10
 unfolding digitOf pick
 newline = lit< tt
 
--- ---- the parts of a line
+-- ---- the parts of a line, and what stands behind them
+
+behind-two : (f g t : List ℕ) → drop (length f + length g) (f ++ (g ++ t)) ≡ t
+behind-two f g t =
+    sym (drop-drop (length g) (length f) (f ++ (g ++ t))) ∙ ap (drop (length g)) (drop-append-seam f (g ++ t)) ∙ drop-append-seam g t
 
 interval-read : (x y : ℕ) (t : List ℕ) → x ≤ 4294967295 → y ≤ 4294967295
     → intervalOf (shown x 32 ++ (shown y 32 ++ t)) ≡ I.Times x y (length (shown x 32) + length (shown y 32))
@@ -138,17 +142,22 @@ interval-read x y t h g =
     (sym (ap (fieldOf 4294967295 32) (drop-append-seam (shown x 32) (shown y 32 ++ t)) ∙ field-read y 4294967295 32 t g (omega arith) space)) refl refl))
 
 stamp-read : (m w n : ℕ) (t : List ℕ) → m ≤ 18446744073709551615 → w ≤ 8 → n ≤ 4294967295
-    → stampOf (shown m 32 ++ (shown w 32 ++ (shown n 10 ++ t))) ≡ S.Parts m w n (length (shown m 32) + length (shown w 32) + length (shown n 10))
+    → stampOf (shown m 32 ++ (shown w 32 ++ (shown n 32 ++ t))) ≡ S.Parts m w n (length (shown m 32) + length (shown w 32) + length (shown n 32))
 unfolding stampOf
 stamp-read m w n t h g k =
-    let u = shown w 32 ++ (shown n 10 ++ t) in
+    let u = shown w 32 ++ (shown n 32 ++ t) in
     let s = shown m 32 ++ u in
     let e : drop (length (shown m 32)) s ≡ u = drop-append-seam (shown m 32) u in
-    let f : drop (length (shown m 32) + length (shown w 32)) s ≡ shown n 10 ++ t =
-    sym (drop-drop (length (shown w 32)) (length (shown m 32)) s) ∙ ap (drop (length (shown w 32))) e ∙ drop-append-seam (shown w 32) (shown n 10 ++ t) in
+    let f : drop (length (shown m 32) + length (shown w 32)) s ≡ shown n 32 ++ t = behind-two (shown m 32) (shown w 32) (shown n 32 ++ t) in
     sym (then-number _ _ _ m (length (shown m 32)) (sym (field-read m 18446744073709551615 32 u h (omega arith) space)) refl
-    (then-number _ _ _ w (length (shown w 32)) (sym (ap (fieldOf 8 32) e ∙ field-read w 8 32 (shown n 10 ++ t) g (omega arith) space)) refl
-    (then-number _ _ _ n (length (shown n 10)) (sym (ap (fieldOf 4294967295 10) f ∙ field-read n 4294967295 10 t k (omega arith) newline)) refl refl)))
+    (then-number _ _ _ w (length (shown w 32)) (sym (ap (fieldOf 8 32) e ∙ field-read w 8 32 (shown n 32 ++ t) g (omega arith) space)) refl
+    (then-number _ _ _ n (length (shown n 32)) (sym (ap (fieldOf 4294967295 32) f ∙ field-read n 4294967295 32 t k (omega arith) space)) refl refl)))
+
+behind-stamp : (m w n : ℕ) (t : List ℕ)
+    → drop (length (shown m 32) + length (shown w 32) + length (shown n 32)) (shown m 32 ++ (shown w 32 ++ (shown n 32 ++ t))) ≡ t
+behind-stamp m w n t =
+    sym (drop-drop (length (shown n 32)) (length (shown m 32) + length (shown w 32)) _)
+    ∙ ap (drop (length (shown n 32))) (behind-two (shown m 32) (shown w 32) (shown n 32 ++ t)) ∙ drop-append-seam (shown n 32) t
 
 -- ---- a line
 
@@ -160,26 +169,20 @@ pub line-reads-back : (a : Operation) (t : List ℕ) → InWidth a → operation
 unfolding widths
 line-reads-back a t h =
     let k = pick {A = ℕ} (a .write) 87 82 in
-    let tail = shown (a .time) 32 ++ (shown (a .writer) 32 ++ (shown (a .sequence) 10 ++ t)) in
+    let last = shown (a .caller) 10 ++ t in
+    let tail = shown (a .time) 32 ++ (shown (a .writer) 32 ++ (shown (a .sequence) 32 ++ last)) in
     let u = shown (a .start) 32 ++ (shown (a .end) 32 ++ tail) in
     let s = k ∷ 32 ∷ u in
     let i = interval-read (a .start) (a .end) tail (h .0) (h .1 .0) in
     let n = length (shown (a .start) 32) + length (shown (a .end) 32) in
-    let d : drop (0 + 2 + n) s ≡ tail =
-    sym (drop-drop n 2 s) ∙ sym (drop-drop (length (shown (a .end) 32)) (length (shown (a .start) 32)) u)
-    ∙ ap (drop (length (shown (a .end) 32))) (drop-append-seam (shown (a .start) 32) (shown (a .end) 32 ++ tail)) ∙ drop-append-seam (shown (a .end) 32) tail in
-    let p = ap stampOf d ∙ stamp-read (a .time) (a .writer) (a .sequence) t (h .1 .1 .0) (h .1 .1 .1 .0) (h .1 .1 .1 .1 .0) in
-    let m = length (shown (a .time) 32) + length (shown (a .writer) 32) + length (shown (a .sequence) 10) in
-    let size : 2 + n + m ≡ length (printed a) =
-    (let x₀ = ap length (printed-shown a []) in
-    let y₀ = length-append (printed a) [] in
-    let x₁ = length-append (shown (a .start) 32) (shown (a .end) 32 ++ (shown (a .time) 32 ++ (shown (a .writer) 32 ++ (shown (a .sequence) 10 ++ [])))) in
-    let x₂ = length-append (shown (a .end) 32) (shown (a .time) 32 ++ (shown (a .writer) 32 ++ (shown (a .sequence) 10 ++ []))) in
-    let x₃ = length-append (shown (a .time) 32) (shown (a .writer) 32 ++ (shown (a .sequence) 10 ++ [])) in
-    let x₄ = length-append (shown (a .writer) 32) (shown (a .sequence) 10 ++ []) in
-    let x₅ = length-append (shown (a .sequence) 10) [] in
-    omega arith) in
+    let d : drop (0 + 2 + n) s ≡ tail = sym (drop-drop n 2 s) ∙ behind-two (shown (a .start) 32) (shown (a .end) 32) tail in
+    let p = ap stampOf d ∙ stamp-read (a .time) (a .writer) (a .sequence) last (h .1 .1 .0) (h .1 .1 .1 .0) (h .1 .1 .1 .1 .0) in
+    let m = length (shown (a .time) 32) + length (shown (a .writer) 32) + length (shown (a .sequence) 32) in
+    let e : drop (0 + 2 + n + m) s ≡ last = sym (drop-drop m (0 + 2 + n) s) ∙ ap (drop m) d ∙ behind-stamp (a .time) (a .writer) (a .sequence) last in
+    let c = ap (fieldOf 8 10) e ∙ field-read (a .caller) 8 10 t (h .1 .1 .1 .1 .1 .0) (omega arith) newline in
     ap operationOf (printed-shown a t)
-    ∙ sym (line-whole s 0 (omega arith) refl (kind-of a .0) refl (a .start) (a .end) n (a .time) (a .writer) (a .sequence) m (sym i) refl (sym p) refl)
-    ∙ ap₂ (λ w x. L.Record (record { write = w; start = a .start; end = a .end; time = a .time; writer = a .writer; sequence = a .sequence }) x)
-    (kind-of a .1) size
+    ∙ sym (line-whole s 0 (omega arith) refl (kind-of a .0) refl (a .start) (a .end) n (a .time) (a .writer) (a .sequence) m (sym i) refl (sym p) refl (sym c)
+    (a .caller) (length (shown (a .caller) 10)) refl)
+    ∙ ap₂ L.Record
+    (ap (λ w. record { write = w; start = a .start; end = a .end; time = a .time; writer = a .writer; sequence = a .sequence; caller = a .caller }) (kind-of a .1))
+    (sym (printed-length a))

@@ -1,6 +1,7 @@
 -- The text of a history. Document 01: "Fields: kind, start, end, time, writer, sequence. A record is malformed unless it has these six, without leading
--- zeros, one space between, a newline after, R or W, start below end, each number in its width and writer at most 8." That start is below end is part of
--- `malformed`. 10 is a newline, 32 a space, 82 R and 87 W. Assumes nothing: these are definitions.
+-- zeros, one space between, a newline after, R or W, start below end, each number in its width and writer at most 8." Request F-2: "Each history line gains
+-- a seventh field, the caller, 0 to 8"; "A caller above 8 or a line of six fields is malformed". That start is below end is part of `malformed`. 10 is a
+-- newline, 32 a space, 82 R and 87 W. Assumes nothing: these are definitions.
 use Prim.Native.Nat.{ℕ}
 use mathlib.Core.Bool.{Bool, true, false}
 use mathlib.Core.List.{List, [], _∷_, map}
@@ -33,9 +34,9 @@ isWrite field = same field (87 ∷ [])
 unfoldable pub isKind : List ℕ → Bool
 isKind field = pick (same field (82 ∷ [])) true (isWrite field)
 
--- the largest start, end, time, writer and sequence
+-- the largest start, end, time, writer, sequence and caller
 unfoldable pub widths : List ℕ
-widths = 4294967295 ∷ 4294967295 ∷ 18446744073709551615 ∷ 8 ∷ 4294967295 ∷ []
+widths = 4294967295 ∷ 4294967295 ∷ 18446744073709551615 ∷ 8 ∷ 4294967295 ∷ 8 ∷ []
 
 -- a number for each width
 unfoldable pub areNumbers : List ℕ → List (List ℕ) → Bool
@@ -52,7 +53,7 @@ isFormed (kind ∷ numbers) = pick (isKind kind) (areNumbers widths numbers) fal
 -- the record of a kind and numbers
 abbrev pub recordWith : Bool → List ℕ → Operation
 recordWith write x =
-    record { write = write; start = getD x 0 0; end = getD x 1 0; time = getD x 2 0; writer = getD x 3 0; sequence = getD x 4 0 }
+    record { write = write; start = getD x 0 0; end = getD x 1 0; time = getD x 2 0; writer = getD x 3 0; sequence = getD x 4 0; caller = getD x 5 0 }
 
 -- the record that fields say
 unfoldable pub recordOf : List (List ℕ) → Operation

@@ -17,7 +17,7 @@ unfoldable pub kindOf : Operation → List ℕ
 kindOf a = pick (a .write) 87 82 ∷ []
 
 abbrev pub numbersIn : Operation → List ℕ
-numbersIn a = a .start ∷ a .end ∷ a .time ∷ a .writer ∷ a .sequence ∷ []
+numbersIn a = a .start ∷ a .end ∷ a .time ∷ a .writer ∷ a .sequence ∷ a .caller ∷ []
 
 unfoldable pub fieldsOf : Operation → List (List ℕ)
 fieldsOf a = kindOf a ∷ map decimal (numbersIn a)

@@ -26,12 +26,12 @@ intervalOf text =
     thenNumber (fieldOf 4294967295 32 (drop a text)) I.Bad (λ end b.
     I.Times start end (a + b)))
 
--- the stamp: time of 64 bits, writer at most 8, sequence of 32 bits; 10 is a newline
+-- the stamp: time of 64 bits, writer at most 8, sequence of 32 bits
 unfoldable pub stampOf : List ℕ → Stamp
 stampOf text =
     thenNumber (fieldOf 18446744073709551615 32 text) S.Bad (λ time a.
     thenNumber (fieldOf 8 32 (drop a text)) S.Bad (λ writer b.
-    thenNumber (fieldOf 4294967295 10 (drop (a + b) text)) S.Bad (λ sequence d.
+    thenNumber (fieldOf 4294967295 32 (drop (a + b) text)) S.Bad (λ sequence d.
     S.Parts time writer sequence (a + b + d))))
 
 unfoldable pub thenInterval : {A : Type 0} → Interval → A → (ℕ → ℕ → ℕ → A) → A
@@ -42,7 +42,7 @@ unfoldable pub thenStamp : {A : Type 0} → Stamp → A → (ℕ → ℕ → ℕ
 thenStamp (S.Parts time writer sequence used) bad f = f time writer sequence used
 thenStamp S.Bad bad f = bad
 
--- an operation at the front of a text
+-- an operation at the front of a text: kind, interval, stamp, and the caller, at most 8; 10 is a newline
 unfoldable pub operationOf : List ℕ → Line
 operationOf text =
     pick (ltb (length text) 2) L.Bad
@@ -50,7 +50,10 @@ operationOf text =
     (pick (eqb (getD text 1 0) 32)
     (thenInterval (intervalOf (drop 2 text)) L.Bad (λ start end a.
     thenStamp (stampOf (drop (2 + a) text)) L.Bad (λ time writer sequence b.
-    L.Record (record { write = eqb (kindAt (getD text 0 0)) 1; start = start; end = end; time = time; writer = writer; sequence = sequence }) (2 + a + b))))
+    thenNumber (fieldOf 8 10 (drop (2 + a + b) text)) L.Bad (λ caller d.
+    L.Record
+    (record { write = eqb (kindAt (getD text 0 0)) 1; start = start; end = end; time = time; writer = writer; sequence = sequence; caller = caller })
+    (2 + a + b + d)))))
     L.Bad))
 
 -- what was read takes no more bytes than there are

@@ -1,4 +1,4 @@
-// A line of a history: kind, start, end, time, writer, sequence.
+// A line of a history: kind, start, end, time, writer, sequence, caller.
 use crate::number::Field;
 use crate::number::read_field;
 use order::operation::Operation;
@@ -54,7 +54,7 @@ fn read_interval(s: &[u8], at: usize) -> Interval
     Interval::Times(start as u32, end as u32, a + b)
 }
 
-// Time and writer with a space behind them, sequence with a newline.
+// Time, writer and sequence, each with a space behind it.
 fn read_stamp(s: &[u8], at: usize) -> Stamp
     requires { ⌜ at ≤ length (now s) ⌝ }
     ensures { λ r. ⌜ (r ≡ stampOf (drop at (now (s .entry)))) × WithinStamp (length (now (s .entry)) - at) r ⌝ }
@@ -67,14 +67,14 @@ fn read_stamp(s: &[u8], at: usize) -> Stamp
     let Field::Number(writer, b) = g else {
         return Stamp::Bad;
     };
-    let h = read_field(s, at + a + b, 4294967295, 10);
+    let h = read_field(s, at + a + b, 4294967295, 32);
     let Field::Number(sequence, d) = h else {
         return Stamp::Bad;
     };
     Stamp::Parts(time, writer as u8, sequence as u32, a + b + d)
 }
 
-// The operation whose line starts at index at.
+// The operation whose line starts at index at; its caller has a newline behind it.
 pub fn read_line(s: &[u8], at: usize) -> Line
     requires { ⌜ at ≤ length (now s) ⌝ }
     ensures { λ r. ⌜ (r ≡ operationOf (drop at (now (s .entry)))) × WithinLine (length (now (s .entry)) - at) r ⌝ }
@@ -97,6 +97,10 @@ pub fn read_line(s: &[u8], at: usize) -> Line
     let Stamp::Parts(time, writer, sequence, b) = p else {
         return Line::Bad;
     };
+    let f = read_field(s, at + 2 + a + b, 8, 10);
+    let Field::Number(caller, d) = f else {
+        return Line::Bad;
+    };
     let operation = Operation {
         write: k == 1,
         start,
@@ -104,6 +108,7 @@ pub fn read_line(s: &[u8], at: usize) -> Line
         time,
         writer,
         sequence,
+        caller: caller as u8,
     };
-    Line::Record(operation, 2 + a + b)
+    Line::Record(operation, 2 + a + b + d)
 }

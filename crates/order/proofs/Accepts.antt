@@ -35,7 +35,8 @@ module _ (ops : List Operation) (A : Accepted ops) where
   one-write i j h g w v e =
       let p = pick-not _ _ _ _ (λ q. false-true (sym q)) (formed j g) in
       let q = pick-not _ _ _ _ (λ q. false-true (sym q)) (p .1) in
-      let r = ⊎-elim (λ u. u .1) (λ u. absurd (true-false v (u .0))) (pick-case _ _ _ _ (q .1)) in
+      let k = pick-not _ _ _ _ (λ q. false-true (sym q)) (q .1) in
+      let r = ⊎-elim (λ u. u .1) (λ u. absurd (true-false v (u .0))) (pick-case _ _ _ _ (k .1)) in
       let s = pick-not _ _ _ _ (λ q. false-true (sym q)) r in
       let few : count (writes (at ops j)) ops ≤ 1 = ltb-false 1 (count (writes (at ops j)) ops) (s .1) in
       let two = count-two (writes (at ops j)) ops i j noOperation h g

@@ -6,6 +6,7 @@ pub mod Inserts
 pub mod Judges
 pub mod Rows
 pub mod StampLaws
+pub mod Callers
 pub mod Accepts
 pub mod Arranged
 pub mod Theorems

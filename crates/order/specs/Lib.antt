@@ -1,3 +1,4 @@
 pub mod Operations
 pub mod Histories
+pub mod Callers
 pub mod Orders

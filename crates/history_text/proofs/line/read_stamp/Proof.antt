@@ -123,7 +123,7 @@ returns-3 c =
     let g = c .before .before .before .before .g .given in
     let r₃ = c .before .before .read-field3 in
     let n : a .at + f .0 .1 .0 + g .0 .1 .0 ≡ a .at + (f .0 .1 .0 + g .0 .1 .0) = omega arith in
-    let e₃ = further 4294967295 10 (a .at) (f .0 .1 .0 + g .0 .1 .0) s (r₃ .ensures .0 ∙ ap (λ i. fieldOf 4294967295 10 (drop i s)) n) in
+    let e₃ = further 4294967295 32 (a .at) (f .0 .1 .0 + g .0 .1 .0) s (r₃ .ensures .0 ∙ ap (λ i. fieldOf 4294967295 32 (drop i s)) n) in
     (then-number _ _ _ (f .0 .0) (f .0 .1 .0) (r .ensures .0) (f .1) (then-number _ _ _ (g .0 .0) (g .0 .1 .0) (further 8 32 (a .at) (f .0 .1 .0) s (r₂ .ensures .0)) (g .1) (then-bad _ _ _ e₃ (c .enum-told3 .given .1))), tt)
 
 -- src/line.rt:74:24
@@ -206,7 +206,7 @@ returns-4 c =
     let h = c .before .h .given in
     let w₃ = subst (WithinField 4294967295 (length s - (a .at + f .0 .1 .0 + g .0 .1 .0))) (h .1) (r₃ .ensures .1) in
     let n : a .at + f .0 .1 .0 + g .0 .1 .0 ≡ a .at + (f .0 .1 .0 + g .0 .1 .0) = omega arith in
-    let e₃ = further 4294967295 10 (a .at) (f .0 .1 .0 + g .0 .1 .0) s (r₃ .ensures .0 ∙ ap (λ i. fieldOf 4294967295 10 (drop i s)) n) in
+    let e₃ = further 4294967295 32 (a .at) (f .0 .1 .0 + g .0 .1 .0) s (r₃ .ensures .0 ∙ ap (λ i. fieldOf 4294967295 32 (drop i s)) n) in
     (then-number _ _ _ (f .0 .0) (f .0 .1 .0) (r .ensures .0) (f .1) (then-number _ _ _ (g .0 .0) (g .0 .1 .0) (further 8 32 (a .at) (f .0 .1 .0) s (r₂ .ensures .0)) (g .1) (then-number _ _ _ (h .0 .0) (h .0 .1 .0) e₃ (h .1) refl)), omega arith)
 
 pub read-stamp-spec : {M : Type 1} → statement M

@@ -1,5 +1,6 @@
 pub mod Views
 pub mod Sends
 pub mod Shapes
+pub mod Quotas
 pub mod Agreed
 pub mod CallFacts

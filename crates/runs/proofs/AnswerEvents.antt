@@ -14,6 +14,7 @@ use Rattle.client_rules.specs.Rows.{Found}
 use Rattle.client_rules.specs.Steps as C
 use Rattle.client_rules.specs.Tests as CT
 use Rattle.client_rules.specs.Delivery as CD
+use Rattle.runs.specs.World.{lentTo}
 use Rattle.runs.specs.Answers.{Tells, AnswersTell}
 
 found-same : (x y : Found) → C.completed x ≡ C.completed y → x ≡ y
@@ -63,6 +64,7 @@ module _ (H : List ℕ → List ℕ) (g : Params) (me : ℕ) (s : Client) (a v :
 
 pub answers-tell : AnswersTell
 unfolding AnswersTell CD.delivery CD.delivered
-answers-tell Z w c from f result out to =
+answers-tell Z w c from f lent result out to =
     let p = w .clients c in
-    told-by (Z .H) (Z .g) c (p .client) (p .area) (p .value) from result out to (CT.judge (Z .H) (Z .g) c (p .client) (p .area) (p .value) from f result out to)
+    let v = lentTo Z w c lent in
+    told-by (Z .H) (Z .g) c (p .client) (p .area) v from result out to (CT.judge (Z .H) (Z .g) c (p .client) (p .area) v from f result out to)

@@ -19,11 +19,10 @@ use Rattle.frame.specs.declared.Party.the-variants as P
 use Rattle.frame.specs.declared.Opened.the-variants as O
 use Rattle.frame.specs.declared.Verdict.the-variants as J
 use Rattle.frame.specs.Params.{largestFrame, entryLength, serverFrames, clientFrames, outRoom, toRoom, Bounded, paramsTest}
-use Rattle.frame.specs.Messages.{Body, getStamp, ack, askRead, readComplete, stampIs, blockIs, timeIs, valueIs, send, echo, ready, Message, Sending, Formed, Judged, bad, good, judgedBy, after}
+use Rattle.frame.specs.Messages.{Body, getStamp, ack, askRead, readComplete, stampIs, blockIs, timeIs, valueIs, send, echo, ready, Message, Sending, Formed, Judged, bad, good}
 use Rattle.frame.specs.Frames.{build, bodyBytes, kindOf, bodyLength, lengthOf, opened, messageIn}
 use Rattle.frame.specs.Outbox.{frames, receivers, partyBytes}
 use Rattle.frame.specs.Stamps.{lastClient}
-use Rattle.frame.specs.Refusals.{andThen}
 use Rattle.frame.proofs.Opening.{opens-facts}
 use Rattle.frame.proofs.RoundTrip.{opened-build, length-frame, length-body}
 use Rattle.frame.proofs.Outbox.{length-receivers}
@@ -37,8 +36,9 @@ use Rattle.client_rules.specs.Tests as CT
 use Rattle.client_rules.specs.Steps as C
 use Rattle.client_rules.specs.Delivery as CD
 use Rattle.client_rules.specs.Beginning as CB
+use Rattle.steps.proofs.ClientTaken.{by-fine, after-fine, send-room, took-room}
 use Rattle.steps.proofs.SendCount.{server-sends, eventSends, client-sends, read-sends, write-sends}
-use Rattle.runs.specs.World.{Setup, Call, toServer, toClient, beginRead, beginWrite, caller, World, initialOf, run, sends}
+use Rattle.runs.specs.World.{Setup, Call, toServer, toClient, beginRead, beginWrite, caller, World, initialOf, lentTo, run, sends}
 use Rattle.runs.specs.Admissible.{Honest, Proper, Admissible}
 use Rattle.runs.specs.Answers.{framesIn, partyIn, receiversIn, replyCount, answerCount, said, AnswersReadBack}
 use Rattle.runs.proofs.Assumed.{Assumed, assumed}
@@ -149,14 +149,6 @@ written-back g B xs f m h out to o t =
 
 -- ---- a frame that is taken found room
 
-by-fine : (v : Verdict) (n m : Message) → judgedBy v n ≡ good m → v ≡ J.Fine
-by-fine J.Fine n m e = refl
-by-fine (J.Bad r) n m e = impossible (cc)
-
-after-fine : (v : Verdict) (j : Judged) (m : Message) → after v j ≡ good m → j ≡ good m
-after-fine J.Fine j m e = e
-after-fine (J.Bad r) j m e = impossible (cc)
-
 read-room : (g : Params) (me : ℕ) (s : Client) (out to : List ℕ) → CB.readTest g me s out to ≡ J.Fine → CT.sendRoom g (length out) (length to) ≡ J.Fine
 unfolding CB.readTest
 read-room g me s out to e = fine-both (CT.sendRoom g (length out) (length to)) _ (fine-both (paramsTest g me lastClient) _ e .1) .0
@@ -187,29 +179,6 @@ module _ (H : List ℕ → List ℕ) (g : Params) (me : ℕ) where
           let p₄ = fine-not _ _ _ (p₃ .1) in
           (ltb-false _ _ (p₃ .0), ltb-false _ _ (p₄ .0))
 
-  send-room : (out to : List ℕ) → CT.sendRoom g (length out) (length to) ≡ J.Fine → (outRoom g (clientFrames g) ≤ length out) × (toRoom (clientFrames g) ≤ length to)
-  unfolding CT.sendRoom
-  send-room out to w =
-      let p₁ = fine-not _ _ _ w in
-      let p₂ = fine-not _ _ _ (p₁ .1) in
-      (ltb-false _ _ (p₁ .0), ltb-false _ _ (p₂ .0))
-
-  client-room : (s : Client) (a v : List ℕ) (from : Party) (f result out to : List ℕ) (m : Message) → CT.judge H g me s a v from f result out to ≡ good m
-      → (outRoom g (clientFrames g) ≤ length out) × (toRoom (clientFrames g) ≤ length to)
-  unfolding CT.judge CT.judgeOpened CT.roomTest
-  client-room s a v from f result out to m e = go (opened g f) (after-fine (andThen (paramsTest g me lastClient) (CT.valueTest g s (length v))) _ m e)
-    where
-      room : Verdict
-      room = CT.roomTest g (length a) (length result) (length out) (length to)
-
-      go : (o : Opened) → CT.judgeOpened H g me o room s from f ≡ good m → (outRoom g (clientFrames g) ≤ length out) × (toRoom (clientFrames g) ≤ length to)
-      go (O.Refused r) u = impossible (cc)
-      go (O.Frame h) u =
-          let w = fine-both room (CT.messageTest H g me s from (messageIn g h f)) (by-fine _ _ m u) .0 in
-          let p₁ = fine-not _ _ _ w in
-          let p₂ = fine-not _ _ _ (p₁ .1) in
-          send-room out to (p₂ .1)
-
   -- the count in a client's answer
   count-is : (v : C.Event) (m : ℕ) → answerCount g (CD.eventAnswer v m) ≡ eventSends H g me v m
   unfolding CD.eventAnswer
@@ -228,7 +197,7 @@ module _ (Z : Setup) (G : Assumed Z) where
 
   honest-caller : (ks : List Call) (k : Call) → Proper Z ks k → Honest Z (caller k)
   honest-caller ks (toServer i from f out to) p = p .0
-  honest-caller ks (toClient c from f result out to) p = p .0
+  honest-caller ks (toClient c from f lent result out to) p = p .0
   honest-caller ks (beginRead c out to) p = p
   honest-caller ks (beginWrite c v out to) p = p .0
 
@@ -256,9 +225,9 @@ module _ (Z : Setup) (G : Assumed Z) where
           let r = server-room H g i s a (initialOf Z i) from f out to m e in
           written-back g (G .bounded) _ F (serverFrames g) (server-sends H g i s a (initialOf Z i) from m) out to (r .0) (r .1)
 
-  client-back : (w : World) (c : ℕ) (from : Party) (f result out to : List ℕ) → Answer w (toClient c from f result out to)
+  client-back : (w : World) (c : ℕ) (from : Party) (f lent result out to : List ℕ) → Answer w (toClient c from f lent result out to)
   unfolding said sends CD.delivery CD.outcomeOf CD.answerOf CD.delivered CD.effectBy
-  client-back w c from f result out to F = go (CT.judge H g c s a v from f result out to) refl F
+  client-back w c from f lent result out to F = go (CT.judge H g c s a v from f result out to) refl F
     where
       s : Client
       s = w .clients c .client
@@ -267,19 +236,19 @@ module _ (Z : Setup) (G : Assumed Z) where
       a = w .clients c .area
 
       v : List ℕ
-      v = w .clients c .value
+      v = lentTo Z w c lent
 
       go : (j : Judged) → CT.judge H g c s a v from f result out to ≡ j → AllFormed g (CD.effectBy H g c j s a v from .sends)
           → Back (answerCount g (CD.answerOf j (CD.effectBy H g c j s a v from))) (CD.effectBy H g c j s a v from .sends)
           (sets out 0 (frames (CD.effectBy H g c j s a v from .sends))) (sets to 0 (receivers (CD.effectBy H g c j s a v from .sends)))
       go (bad r) e F = nothing-back _ _
       go (good m) e F =
-          let r = client-room H g c s a v from f result out to m e in
+          let r = took-room H g c s a v from f result out to m e in
           let S = client-sends H g c s a v from m in
           let x = C.effect H g c s a v from m in
           let n : length (x .sends) ≡ answerCount g (CD.eventAnswer (x .event) (length (x .sends))) = sym (count-is H g c (x .event) (length (x .sends)) ∙ S .event) in
           subst (λ y. Back y (x .sends) (sets out 0 (frames (x .sends))) (sets to 0 (receivers (x .sends)))) n
-          (written-back g (G .bounded) (x .sends) F (clientFrames g) (S .few) out to (r .0) (r .1))
+          (written-back g (G .bounded) (x .sends) F (clientFrames g) (S .few) out to (r .out-room) (r .to-room))
 
   read-back : (w : World) (c : ℕ) (out to : List ℕ) → Answer w (beginRead c out to)
   unfolding said sends CB.readBeginning CB.begunOf CB.beginAnswer CB.readBegun CB.beginBy
@@ -313,7 +282,7 @@ module _ (Z : Setup) (G : Assumed Z) where
 
   answer-back : (w : World) (k : Call) → Answer w k
   answer-back w (toServer i from f out to) = server-back w i from f out to
-  answer-back w (toClient c from f result out to) = client-back w c from f result out to
+  answer-back w (toClient c from f lent result out to) = client-back w c from f lent result out to
   answer-back w (beginRead c out to) = read-back w c out to
   answer-back w (beginWrite c v out to) = write-back w c v out to
 

@@ -6,7 +6,7 @@ use lib.ListN.{length}
 use Rattle.quorum.specs.Quorum.{Faults}
 use Rattle.area.specs.Area.{Bytes}
 use Rattle.frame.specs.Params.{width, Bounded}
-use Rattle.frame.specs.Chunks.{areaBytes, rowsBytes}
+use Rattle.frame.specs.Chunks.{areaBytes}
 use Rattle.runs.specs.World.{Setup, Sound, DigestSize}
 
 pub record Assumed (Z : Setup) : Type 0 where
@@ -17,7 +17,6 @@ pub record Assumed (Z : Setup) : Type 0 where
   pub digest-size : (b : List ℕ) → length (Z .H b) ≡ 32
   pub state-room : (j : ℕ) → areaBytes ≤ length (Z .stateAreas j)
   pub initial-room : (j : ℕ) → width (Z .g) ≤ length (Z .initialAreas j)
-  pub rows-room : (c : ℕ) → rowsBytes ≤ length (Z .rowsAreas c)
 
 pub assumed : (Z : Setup) → Sound Z → DigestSize (Z .H) → Assumed Z
 assumed Z S D = record {
@@ -28,5 +27,4 @@ assumed Z S D = record {
   digest-size = D;
   state-room = S .state-room;
   initial-room = S .initial-room;
-  rows-room = S .rows-room;
 }

@@ -86,7 +86,7 @@ module _ (Z : Setup) (G : Assumed Z) (M : Small (Z .g)) where
       (delivered H g (G .bounded .servers-high) i (serverAt ks i .server) (serverAt ks i .area) (initialOf Z i) from f out to)))
       (λ w. inl w)
       (put-cases (run Z ks .servers) i (serverLeft Z (serverEffect Z (run Z ks) i from f out to)) j)
-  server-next ks (toClient c from f result out to) j = inl refl
+  server-next ks (toClient c from f lent result out to) j = inl refl
   server-next ks (beginRead c out to) j = inl refl
   server-next ks (beginWrite c v out to) j = inl refl
 
@@ -122,7 +122,7 @@ module _ (Z : Setup) (G : Assumed Z) (M : Small (Z .g)) where
   accepts-new ks (toServer i from f out to) j x u =
       subst (λ y. (C : Takes ks (toServer i from f out to) y) × List·Memᴰ x (effectOf C .accepted)) (sym (u .0))
       (took-by ks i from f out to x refl (delivered H g (G .bounded .servers-high) i (serverAt ks i .server) (serverAt ks i .area) (initialOf Z i) from f out to) (u .1))
-  accepts-new ks (toClient c from f result out to) j x u = absurd u
+  accepts-new ks (toClient c from f lent result out to) j x u = absurd u
   accepts-new ks (beginRead c out to) j x u = absurd u
   accepts-new ks (beginWrite c v out to) j x u = absurd u
 
@@ -141,7 +141,7 @@ module _ (Z : Setup) (G : Assumed Z) (M : Small (Z .g)) where
       let e : i ≡ j = cc (u .0) in
       inr (subst (λ y. (C : Takes ks (toServer i from f out to) y) × List·Memᴰ (sending b m) (effectOf C .sends)) e
       (sent-by ks i from f out to (sending b m) refl (delivered H g (G .bounded .servers-high) i (serverAt ks i .server) (serverAt ks i .area) (initialOf Z i) from f out to) (u .1)))
-  sent-new ks (toClient c from f result out to) j b m (inl u) = impossible (cc (u .0))
+  sent-new ks (toClient c from f lent result out to) j b m (inl u) = impossible (cc (u .0))
   sent-new ks (beginRead c out to) j b m (inl u) = impossible (cc (u .0))
   sent-new ks (beginWrite c v out to) j b m (inl u) = impossible (cc (u .0))
 
@@ -151,7 +151,7 @@ module _ (Z : Setup) (G : Assumed Z) (M : Small (Z .g)) where
     pub message-sent : {ks : List Call} {k : Call} {j : ℕ} → Admissible Z ks → Proper Z ks k → (C : Takes ks k j) → Honest Z (C .from) → SentMessage ks (C .from) (A.Server j) (C .m)
     message-sent {ks} {k} {j} adm p C h =
         let q : Proper Z ks (toServer j (C .from) (C .f) (C .out) (C .to)) = subst (Proper Z ks) (C .is) p in
-        let w = sent-message ks (C .from) (A.Server j) (C .f) (q .2 h) in
+        let w = sent-message ks (C .from) (A.Server j) (C .f) (q .2 (C .took .header) (C .took .opens) h) in
         let b = opened-build g (G .bounded) (w .0) (formed ks adm (C .from) (A.Server j) (w .0) h (w .1)) in
         let o : opened g (C .f) ≡ O.Frame (headerFor (w .0)) = ap (opened g) (sym (w .2)) ∙ b .opens in
         let e : C .took .header ≡ headerFor (w .0) = cc (C .took .opens, o) in

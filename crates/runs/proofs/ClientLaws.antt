@@ -6,6 +6,7 @@ use mathlib.Core.Path.{_≡_, refl, ap, sym, _∙_, subst}
 use mathlib.Core.Logic.{_⊎_, inl, inr, ⊎-elim}
 use mathlib.Core.Option.{some}
 use mathlib.Core.List.{List, [], _∷_, List·Memᴰ}
+use lib.ListN.{length}
 use lib.Dec.{eqb}
 use borrow.Author.Tests.{eqb-false}
 use Rattle.quorum.specs.Quorum.{Among}
@@ -29,14 +30,16 @@ use Rattle.client_rules.specs.State.{heardOf}
 use Rattle.client_rules.specs.Steps as C
 use Rattle.client_rules.specs.Tests as CT
 use Rattle.server_rules.proofs.Passing.{is-server}
+use Rattle.client_rules.proofs.Shapes.{shape-of, shape-length}
 use Rattle.client_rules.proofs.CallFacts.{timeOf, ClientShape, client-shape-fresh, ClientFacts, KnowsV, Brought, Nought, quiet-facts, effect-facts, read-facts, write-facts}
 use Rattle.steps.proofs.ClientTaken.{Taken, Delivered, refused, taken, delivered, passed}
-use Rattle.runs.specs.Admissible.{Sent, Honest, Proper, Admissible}
-use Rattle.runs.specs.World.{Setup, Call, toServer, toClient, beginRead, beginWrite, caller, ClientSide, clientEffect, readEffect, writeEffect, start, step, run, sends, put}
+use Rattle.runs.specs.Admissible.{Named, Honest, Proper, Admissible}
+use Rattle.runs.specs.World.{Setup, Call, toServer, toClient, beginRead, beginWrite, caller, ClientSide, lentTo, clientEffect, readEffect, writeEffect, start, step, run, sends, put}
 use Rattle.runs.specs.Events as Rn
 use Rattle.runs.proofs.Broadcasts.{SentMessage, sent-message}
 use Rattle.runs.proofs.Formation.{formed}
 use Rattle.runs.proofs.StampViews.{views, Stamped, Agreed}
+use Rattle.runs.proofs.Roomy.{roomy, roomy-long, roomy-same}
 use Rattle.runs.proofs.Assumed.{Assumed}
 
 pub put-at : (h : ℕ → ClientSide) (i : ℕ) (v : ClientSide) → put h i v i ≡ v
@@ -55,31 +58,35 @@ module _ (Z : Setup) (G : Assumed Z) (M : Small (Z .g)) where
   abbrev home : List Call → ℕ → ClientSide
   home ks c = run Z ks .clients c
 
+  -- a client's rows area, where it is long enough
+  abbrev rows : List Call → ℕ → List ℕ
+  rows ks c = roomy (home ks c .area)
+
   -- what a call ended
   abbrev ended : List Call → Call → C.Event
   ended ks (toServer i from f out to) = C.nothing
-  ended ks (toClient c from f result out to) = clientEffect Z (run Z ks) c from f result out to .event
+  ended ks (toClient c from f lent result out to) = clientEffect Z (run Z ks) c from f lent result out to .event
   ended ks (beginRead c out to) = readEffect Z (run Z ks) c out to .event
   ended ks (beginWrite c v out to) = writeEffect Z (run Z ks) c v out to .event
 
   -- what a call on client c does
   record Acts (ks : List Call) (k : Call) (c : ℕ) : Type 1 where
     N : ℕ → Message → Type 0
-    facts : ClientFacts H g M (G .bounded .servers-high) c (home ks c .client) (home ks c .area) N (home (k ∷ ks) c .client) (home (k ∷ ks) c .area) (sends Z (run Z ks) k) (ended ks k)
+    facts : ClientFacts H g M (G .bounded .servers-high) c (home ks c .client) (rows ks c) N (home (k ∷ ks) c .client) (rows (k ∷ ks) c) (sends Z (run Z ks) k) (ended ks k)
     brought : (j : ℕ) (m : Message) → Among (g .n) j → faultyServer j ≡ false → N j m → SentMessage Z G M ks (A.Server j) (A.Client c) m
 
   cli-cases : (ks : List Call) (k : Call) (c : ℕ) → (home (k ∷ ks) c ≡ home ks c) ⊎ (caller k ≡ A.Client c)
   unfolding run step
   cli-cases ks (toServer i from f out to) c = inl refl
-  cli-cases ks (toClient d from f result out to) c = ⊎-elim (λ w. inr (ap A.Client (sym (w .0)))) (λ w. inl w) (put-cases (run Z ks .clients) d _ c)
+  cli-cases ks (toClient d from f lent result out to) c = ⊎-elim (λ w. inr (ap A.Client (sym (w .0)))) (λ w. inl w) (put-cases (run Z ks .clients) d _ c)
   cli-cases ks (beginRead d out to) c = ⊎-elim (λ w. inr (ap A.Client (sym (w .0)))) (λ w. inl w) (put-cases (run Z ks .clients) d _ c)
   cli-cases ks (beginWrite d v out to) c = ⊎-elim (λ w. inr (ap A.Client (sym (w .0)))) (λ w. inl w) (put-cases (run Z ks .clients) d _ c)
 
   -- an honest server's frame that a client takes was sent by it
-  frame-from : (ks : List Call) → Admissible Z ks → (c : ℕ) (from : Party) (f : List ℕ) → (Honest Z from → Sent Z ks from (A.Client c) f) → (s : Client) (v : List ℕ) (m : Message)
+  frame-from : (ks : List Call) → Admissible Z ks → (c : ℕ) (from : Party) (f : List ℕ) → Named Z ks from (A.Client c) f → (s : Client) (v : List ℕ) (m : Message)
       → Taken H g c s v from f m → Honest Z from → SentMessage Z G M ks from (A.Client c) m
   frame-from ks adm c from f q s v m T h =
-      let w = sent-message Z G M ks from (A.Client c) f (q h) in
+      let w = sent-message Z G M ks from (A.Client c) f (q (T .header) (T .opens) h) in
       let b = opened-build g (G .bounded) (w .0) (formed Z G M ks adm from (A.Client c) (w .0) h (w .1)) in
       let o : opened g f ≡ Op.Frame (headerFor (w .0)) = ap (opened g) (sym (w .2)) ∙ b .opens in
       let e : T .header ≡ headerFor (w .0) = cc (T .opens, o) in
@@ -88,35 +95,39 @@ module _ (Z : Setup) (G : Assumed Z) (M : Small (Z .g)) where
 
   module _ (ks : List Call) (adm : Admissible Z ks) where
     abbrev Of : (c : ℕ) (N : ℕ → Message → Type 0) → C.Effect → Type 0
-    Of c N r = ClientFacts H g M (G .bounded .servers-high) c (home ks c .client) (home ks c .area) N (r .client) (r .area) (r .sends) (r .event)
+    Of c N r = ClientFacts H g M (G .bounded .servers-high) c (home ks c .client) (rows ks c) N (r .client) (roomy (r .area)) (r .sends) (r .event)
 
     record Acts′ (c : ℕ) (r : C.Effect) : Type 1 where
       N : ℕ → Message → Type 0
       facts : Of c N r
       brought : (j : ℕ) (m : Message) → Among (g .n) j → faultyServer j ≡ false → N j m → SentMessage Z G M ks (A.Server j) (A.Client c) m
 
-    by-frame : (c : ℕ) → ClientShape (home ks c .client) (home ks c .area) → (from : Party) (f result out to : List ℕ) → Proper Z ks (toClient c from f result out to)
-        → {r : C.Effect} → Delivered H g c (home ks c .client) (home ks c .area) (home ks c .value) from f r → Acts′ c r
+    by-frame : (c : ℕ) → ClientShape (home ks c .client) (rows ks c) → (from : Party) (f lent result out to : List ℕ) → Proper Z ks (toClient c from f lent result out to)
+        → (v : List ℕ) {r : C.Effect} → Delivered H g c (home ks c .client) (home ks c .area) v from f r → Acts′ c r
     unfolding CT.orderTest
-    by-frame c X from f result out to pr {r} (refused e) = record {
+    by-frame c X from f lent result out to pr v {r} (refused e) = record {
       N = Nought H g M (G .bounded .servers-high) c;
-      facts = subst (Of c (Nought H g M (G .bounded .servers-high) c)) (sym e) (quiet-facts H g M (G .bounded .servers-high) c (home ks c .client) (home ks c .area) (Nought H g M (G .bounded .servers-high) c) X);
+      facts = subst (Of c (Nought H g M (G .bounded .servers-high) c)) (sym e) (quiet-facts H g M (G .bounded .servers-high) c (home ks c .client) (rows ks c) (Nought H g M (G .bounded .servers-high) c) X);
       brought = λ j m is ok n. absurd n;
     }
-    by-frame c X from f result out to pr {r} (taken m T e) =
+    by-frame c X from f lent result out to pr v {r} (taken m T room e) =
         let s = home ks c .client in
         let a = home ks c .area in
-        let v = home ks c .value in
         let P = passed H g c s from m (T .passes) in
         let j = is-server g from (P .server) in
         let em : m ≡ message c (m .sequence) (m .body) = λ i. message (P .mine i) (m .sequence) (m .body) in
         let fm : Formed g m = subst (Formed g) (T .says) (formed-opened g f (T .header) (pr .1) (T .opens)) in
         let er : r ≡ C.effect H g c s a v (A.Server (j .0)) (message c (m .sequence) (m .body)) = e ∙ (λ i. C.effect H g c s a v (j .1 i) (em i)) in
         let nb : numberIn from ≡ j .0 = ap numberIn (j .1) in
+        let b = C.effect H g c s a v (A.Server (j .0)) (message c (m .sequence) (m .body)) in
+        let N : ℕ → Message → Type 0 = Brought H g M (G .bounded .servers-high) c (j .0) (message c (m .sequence) (m .body)) in
+        let lb : length (b .area) ≡ length a = shape-length H g c s a v (j .0) (shape-of H g c s a v (A.Server (j .0)) (message c (m .sequence) (m .body))) in
         record {
-          N = Brought H g M (G .bounded .servers-high) c (j .0) (message c (m .sequence) (m .body));
-          facts = subst (Of c (Brought H g M (G .bounded .servers-high) c (j .0) (message c (m .sequence) (m .body)))) (sym er)
-              (effect-facts H g M (G .bounded .servers-high) c s a v X (j .0) (m .sequence) (m .body) (j .2) (fm .body) (subst (λ y. CT.orderTest H g c s y (m .sequence) (m .body) ≡ J.Fine) nb (P .order)));
+          N = N;
+          facts = subst (Of c N) (sym er) (subst (λ y. ClientFacts H g M (G .bounded .servers-high) c s y N (b .client) (roomy (b .area)) (b .sends) (b .event)) (sym (roomy-same a room))
+              (subst (λ y. ClientFacts H g M (G .bounded .servers-high) c s a N (b .client) y (b .sends) (b .event)) (sym (roomy-same (b .area) (omega (arith, room, lb))))
+              (effect-facts H g M (G .bounded .servers-high) c s a v (subst (ClientShape s) (roomy-same a room) X) (j .0) (m .sequence) (m .body) (j .2) (fm .body)
+              (subst (λ y. CT.orderTest H g c s y (m .sequence) (m .body) ≡ J.Fine) nb (P .order)))));
           brought = λ i m′ is ok n.
               let ef : from ≡ A.Server i = j .1 ∙ ap A.Server (n .0) in
               let h : Honest Z from = subst (Honest Z) (sym ef) (is, ok) in
@@ -128,46 +139,46 @@ module _ (Z : Setup) (G : Assumed Z) (M : Small (Z .g)) where
         → Acts′ c r → Acts ks k c
     to-acts k c r h e ec ea es ev Q = record {
       N = Q .N;
-      facts = subst (λ y. ClientFacts H g M (G .bounded .servers-high) c (home ks c .client) (home ks c .area) (Q .N) (y .client) (y .area) (sends Z (run Z ks) k) (ended ks k)) (sym e)
+      facts = subst (λ y. ClientFacts H g M (G .bounded .servers-high) c (home ks c .client) (rows ks c) (Q .N) (y .client) (roomy (y .area)) (sends Z (run Z ks) k) (ended ks k)) (sym e)
           (rw (ec, ea, es, ev) (Q .facts));
       brought = Q .brought;
     }
 
-    on-client : (k : Call) → Proper Z ks k → (c : ℕ) → ClientShape (home ks c .client) (home ks c .area) → caller k ≡ A.Client c → Acts ks k c
+    on-client : (k : Call) → Proper Z ks k → (c : ℕ) → ClientShape (home ks c .client) (rows ks c) → caller k ≡ A.Client c → Acts ks k c
     unfolding run step sends
     on-client (toServer i from f out to) pr c X e = impossible (cc)
-    on-client (toClient d from f result out to) pr c X e =
+    on-client (toClient d from f lent result out to) pr c X e =
         let z : c ≡ d = cc in
-        subst (λ y. Acts ks (toClient d from f result out to) y) (sym z)
-        (to-acts (toClient d from f result out to) d (clientEffect Z (run Z ks) d from f result out to) _ (put-at (run Z ks .clients) d _) refl refl refl refl
-        (by-frame d (subst (λ y. ClientShape (home ks y .client) (home ks y .area)) z X) from f result out to pr
-        (delivered H g d (home ks d .client) (home ks d .area) (home ks d .value) from f result out to)))
+        subst (λ y. Acts ks (toClient d from f lent result out to) y) (sym z)
+        (to-acts (toClient d from f lent result out to) d (clientEffect Z (run Z ks) d from f lent result out to) _ (put-at (run Z ks .clients) d _) refl refl refl refl
+        (by-frame d (subst (λ y. ClientShape (home ks y .client) (rows ks y)) z X) from f lent result out to pr _
+        (delivered H g d (home ks d .client) (home ks d .area) (lentTo Z (run Z ks) d lent) from f result out to)))
     on-client (beginRead d out to) pr c X e =
         let z : c ≡ d = cc in
-        let Y : ClientShape (home ks d .client) (home ks d .area) = subst (λ y. ClientShape (home ks y .client) (home ks y .area)) z X in
+        let Y : ClientShape (home ks d .client) (rows ks d) = subst (λ y. ClientShape (home ks y .client) (rows ks y)) z X in
         subst (λ y. Acts ks (beginRead d out to) y) (sym z) (record {
           N = Nought H g M (G .bounded .servers-high) d;
           facts = subst
-              (λ y. ClientFacts H g M (G .bounded .servers-high) d (home ks d .client) (home ks d .area) (Nought H g M (G .bounded .servers-high) d) (y .client) (y .area) (readEffect Z (run Z ks) d out to .sends) (readEffect Z (run Z ks) d out to .event))
-              (sym (put-at (run Z ks .clients) d _)) (read-facts H g M (G .bounded .servers-high) d (home ks d .client) (home ks d .area) Y out to);
+              (λ y. ClientFacts H g M (G .bounded .servers-high) d (home ks d .client) (rows ks d) (Nought H g M (G .bounded .servers-high) d) (y .client) (roomy (y .area)) (readEffect Z (run Z ks) d out to .sends) (readEffect Z (run Z ks) d out to .event))
+              (sym (put-at (run Z ks .clients) d _)) (read-facts H g M (G .bounded .servers-high) d (home ks d .client) (rows ks d) Y out to);
           brought = λ j m is ok n. absurd n;
         })
     on-client (beginWrite d v out to) pr c X e =
         let z : c ≡ d = cc in
-        let Y : ClientShape (home ks d .client) (home ks d .area) = subst (λ y. ClientShape (home ks y .client) (home ks y .area)) z X in
+        let Y : ClientShape (home ks d .client) (rows ks d) = subst (λ y. ClientShape (home ks y .client) (rows ks y)) z X in
         subst (λ y. Acts ks (beginWrite d v out to) y) (sym z) (record {
           N = Nought H g M (G .bounded .servers-high) d;
           facts = subst
-              (λ y. ClientFacts H g M (G .bounded .servers-high) d (home ks d .client) (home ks d .area) (Nought H g M (G .bounded .servers-high) d) (y .client) (y .area) (writeEffect Z (run Z ks) d v out to .sends) (writeEffect Z (run Z ks) d v out to .event))
-              (sym (put-at (run Z ks .clients) d _)) (write-facts H g M (G .bounded .servers-high) d (home ks d .client) (home ks d .area) Y v out to);
+              (λ y. ClientFacts H g M (G .bounded .servers-high) d (home ks d .client) (rows ks d) (Nought H g M (G .bounded .servers-high) d) (y .client) (roomy (y .area)) (writeEffect Z (run Z ks) d v out to .sends) (writeEffect Z (run Z ks) d v out to .event))
+              (sym (put-at (run Z ks .clients) d _)) (write-facts H g M (G .bounded .servers-high) d (home ks d .client) (rows ks d) Y v out to);
           brought = λ j m is ok n. absurd n;
         })
 
-  pub client-shapes : (ks : List Call) → Admissible Z ks → (c : ℕ) → ClientShape (home ks c .client) (home ks c .area)
+  pub client-shapes : (ks : List Call) → Admissible Z ks → (c : ℕ) → ClientShape (home ks c .client) (rows ks c)
   unfolding run start
-  client-shapes [] adm c = client-shape-fresh (rowsAreas c) (G .rows-room c)
+  client-shapes [] adm c = client-shape-fresh (roomy (rowsAreas c)) (roomy-long (rowsAreas c))
   client-shapes (k ∷ ks) adm c = ⊎-elim
-      (λ e. subst (λ h. ClientShape (h .client) (h .area)) (sym e) (client-shapes ks (adm .1) c))
+      (λ e. subst (λ h. ClientShape (h .client) (roomy (h .area))) (sym e) (client-shapes ks (adm .1) c))
       (λ e. on-client ks (adm .1) k (adm .0) c (client-shapes ks (adm .1) c) e .facts .client-shape)
       (cli-cases ks k c)
 
@@ -208,7 +219,7 @@ module _ (Z : Setup) (G : Assumed Z) (M : Small (Z .g)) where
 
     -- what a client knows of a kept value
     value-known : (c : ℕ) (e : caller k ≡ A.Client c) (j : ℕ) (y : Kept) (v : Stamped Z G M) → y .stamp ≡ v .0 → y .entry .digests ≡ v .1 → Among (g .n) j → faultyServer j ≡ false
-        → KnowsV H g M (G .bounded .servers-high) c (home ks c .client) (home ks c .area) (act c e .N) j y → Vw .KeptValue ks c j v ⊎ Vw .SentValue ks j c (Vw .reads ks c) v
+        → KnowsV H g M (G .bounded .servers-high) c (home ks c .client) (rows ks c) (act c e .N) j y → Vw .KeptValue ks c j v ⊎ Vw .SentValue ks j c (Vw .reads ks c) v
     value-known c e j y v es ed is ok (inl w) = inl (w .0, y, es, ed, w .1)
     value-known c e j y v es ed is ok (inr w) =
         inr (y .entry, ed, subst (λ x. SentMessage Z G M ks (A.Server j) (A.Client c) (message c (home ks c .client .reads) (valueIs x (y .entry)))) es (act c e .brought j _ is ok w))
@@ -218,7 +229,7 @@ module _ (Z : Setup) (G : Assumed Z) (M : Small (Z .g)) where
     value-kept c j v is ok u = ⊎-elim
         (λ e. (
           ap (λ h. h .client .reads) e,
-          inl (subst (λ h. (h .client .phase ≡ F.Reading) × (y : Kept) × (y .stamp ≡ v .0) × (y .entry .digests ≡ v .1) × List·Memᴰ y (rowView g (h .client) (h .area) j)) e u),
+          inl (subst (λ h. (h .client .phase ≡ F.Reading) × (y : Kept) × (y .stamp ≡ v .0) × (y .entry .digests ≡ v .1) × List·Memᴰ y (rowView g (h .client) (roomy (h .area)) j)) e u),
         ))
         (λ e.
         let w = act c e .facts .v-kept j (u .1) is (u .0) (u .4) in
@@ -237,13 +248,13 @@ module _ (Z : Setup) (G : Assumed Z) (M : Small (Z .g)) where
 
     wrote-ev : (k′ : Call) (c q : ℕ) → Rn.EndsWrite Z c q ks k′ → (caller k′ ≡ A.Client c) × (home ks c .client .writes ≡ q) × (ended ks k′ ≡ C.written)
     wrote-ev (toServer i from f out to) c q u = absurd u
-    wrote-ev (toClient d from f result out to) c q u = (ap A.Client (sym (u .0)), ap (λ y. home ks y .client .writes) (u .0) ∙ u .1, u .2)
+    wrote-ev (toClient d from f lent result out to) c q u = (ap A.Client (sym (u .0)), ap (λ y. home ks y .client .writes) (u .0) ∙ u .1, u .2)
     wrote-ev (beginRead d out to) c q u = absurd u
     wrote-ev (beginWrite d v out to) c q u = absurd u
 
     read-ev : (k′ : Call) (c q : ℕ) (x : Found) → Rn.CompletesRead Z c q x ks k′ → (caller k′ ≡ A.Client c) × (home ks c .client .reads ≡ q) × (ended ks k′ ≡ C.completed x)
     read-ev (toServer i from f out to) c q x u = absurd u
-    read-ev (toClient d from f result out to) c q x u = (ap A.Client (sym (u .0)), ap (λ y. home ks y .client .reads) (u .0) ∙ u .1, u .2)
+    read-ev (toClient d from f lent result out to) c q x u = (ap A.Client (sym (u .0)), ap (λ y. home ks y .client .reads) (u .0) ∙ u .1, u .2)
     read-ev (beginRead d out to) c q x u = absurd u
     read-ev (beginWrite d v out to) c q x u = absurd u
 

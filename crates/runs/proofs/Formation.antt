@@ -73,7 +73,7 @@ module _ (Z : Setup) (G : Assumed Z) (M : Small (Z .g)) where
       → List·Memᴰ (sending b m) (sends Z (run Z ks) k) → Formed g m
   unfolding sends
   by-client ks (toServer i from f out to) p c is b m e u = impossible (cc)
-  by-client ks (toClient d from f result out to) p c is b m e u =
+  by-client ks (toClient d from f lent result out to) p c is b m e u =
       delivered-formed H g d (G .digest-size) (p .0 .0) _ _ _ from f result out to (p .1) (sending b m) u
   by-client ks (beginRead d out to) p c is b m e u = read-formed H g d (G .digest-size) (p .0) _ out to (sending b m) u
   by-client ks (beginWrite d v out to) p c is b m e u = write-formed H g d (G .digest-size) (p .0 .0) _ v out to (sending b m) u

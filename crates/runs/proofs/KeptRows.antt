@@ -21,7 +21,6 @@ use Rattle.frame.specs.Chunks.{storeEntry, rowsBytes, placeAt}
 use Rattle.group_rules.specs.Coded.{fits}
 use Rattle.frame.specs.Frames.{messageIn, opened}
 use Rattle.frame.specs.Messages.{Entry, Body, valueIs, Message, numberIn, Carries, Sized}
-use Rattle.frame.proofs.Chunks.{length-store}
 use Rattle.frame.proofs.Sizes.{Small}
 use Rattle.frame.proofs.Verdicts.{fine-both, fine-is}
 use Rattle.server_rules.proofs.Parts.{put-cases}
@@ -35,14 +34,14 @@ use Rattle.client_rules.specs.Steps as C
 use Rattle.client_rules.proofs.Shapes.{Keeps, drops, keeps, Shape, idle, hears, sends, shuts, counts, ends, waits, completes, Delivery, refused, taken, shape-delivered}
 use Rattle.client_rules.specs.Tests as CT
 use Rattle.client_rules.proofs.Views as CV
-use Rattle.steps.proofs.ClientTaken.{passed, took}
+use Rattle.steps.proofs.ClientTaken.{passed, took, took-room}
 use Rattle.client_rules.proofs.CallFacts.{row-shaped, rows-shaped, no-rows}
 use Rattle.server_rules.proofs.Passing.{SizedIn, is-server}
 use Rattle.server_rules.proofs.Taking.{message-sized}
 use Rattle.runs.specs.Admissible.{Admissible}
 use Rattle.runs.specs.Blocks.{InFrame}
 use Rattle.runs.specs.Events.{At, CompletesRead}
-use Rattle.runs.specs.World.{Setup, Call, toServer, toClient, beginRead, beginWrite, ClientSide, clientDone, clientLeft, lentBy, start, run, step, put, clientEffect, readEffect, writeEffect}
+use Rattle.runs.specs.World.{Setup, Call, toServer, toClient, beginRead, beginWrite, ClientSide, clientDone, clientLeft, lentBy, start, run, step, put, lentTo, clientEffect, readEffect, writeEffect}
 use Rattle.runs.proofs.Agreement.{small}
 use Rattle.runs.proofs.Assumed.{Assumed}
 
@@ -50,7 +49,6 @@ use Rattle.runs.proofs.Assumed.{Assumed}
 
 record Holds (g : Params) (Q : ℕ → Entry → Type 0) (s : Client) (a : List ℕ) : Type 0 where
   pub shaped : CV.Shaped s
-  pub room : rowsBytes ≤ length a
   pub each : (j : ℕ) → 1 ≤ j → (k : Kept) → List·Memᴰ k (rowView g s a j) → Q j (k .entry)
 
 abbrev Held : (g : Params) (Q : ℕ → Entry → Type 0) → C.Effect → Type 0
@@ -60,7 +58,7 @@ abbrev Home : (g : Params) (Q : ℕ → Entry → Type 0) → ClientSide → Typ
 Home g Q h = Holds g Q (h .client) (h .area)
 
 weaken : (g : Params) (Q Q′ : ℕ → Entry → Type 0) (s : Client) (a : List ℕ) → ((j : ℕ) (e : Entry) → Q j e → Q′ j e) → Holds g Q s a → Holds g Q′ s a
-weaken g Q Q′ s a f X = record { shaped = X .shaped; room = X .room; each = λ j i k u. f j (k .entry) (X .each j i k u) }
+weaken g Q Q′ s a f X = record { shaped = X .shaped; each = λ j i k u. f j (k .entry) (X .each j i k u) }
 
 same-rows : (g : Params) (Q : ℕ → Entry → Type 0) (s s′ : Client) (a : List ℕ) → s′ .rows ≡ s .rows → Holds g Q s a → Holds g Q s′ a
 unfolding rowView
@@ -69,46 +67,44 @@ same-rows g Q s s′ a e X = record {
     rows-many = ap length e ∙ X .shaped .rows-many;
     stamps-many = λ j h. ap (λ l. length (getD l j noRow .stamps)) e ∙ X .shaped .stamps-many j h;
   };
-  room = X .room;
   each = λ j i k u. X .each j i k (subst (λ l. List·Memᴰ k (placesFrom g a j (getD l j noRow) 0 (used (getD l j noRow)))) e u);
 }
 
-fresh-holds : (g : Params) (Q : ℕ → Entry → Type 0) (s : Client) (a : List ℕ) → s .rows ≡ replicate 11 freshRow → rowsBytes ≤ length a → Holds g Q s a
-fresh-holds g Q s a e r = record { shaped = rows-shaped s e; room = r; each = λ j i k u. absurd (no-rows g s a j k e u) }
+fresh-holds : (g : Params) (Q : ℕ → Entry → Type 0) (s : Client) (a : List ℕ) → s .rows ≡ replicate 11 freshRow → Holds g Q s a
+fresh-holds g Q s a e = record { shaped = rows-shaped s e; each = λ j i k u. absurd (no-rows g s a j k e u) }
 
 -- ---- a value that is kept
 
-stored-holds : (g : Params) → Small g → (Q : ℕ → Entry → Type 0) (s : Client) (a : List ℕ) (j : ℕ) → Among 10 j → (x : Stamp) (e : Entry) → Sized g e → Q j e
+stored-holds : (g : Params) → Small g → (Q : ℕ → Entry → Type 0) (s : Client) (a : List ℕ) → rowsBytes ≤ length a → (j : ℕ) → Among 10 j → (x : Stamp) (e : Entry) → Sized g e → Q j e
     → (i : ℕ) → placeFor (rowOf s j) x ≡ some i → Holds g Q s a → Holds g Q (withRow s j (rowWith (rowOf s j) i x)) (storeEntry a (placeAt j i) e)
-stored-holds g M Q s a j is x e z new i p X = record {
+stored-holds g M Q s a R j is x e z new i p X = record {
   shaped = row-shaped s (X .shaped) j (is .1) i x;
-  room = let h = length-store a (placeAt j i) e in let r = X .room in omega (arith, h, r);
   each = λ m lo k u. ⊎-elim
       (λ w. subst (λ y. Q y (k .entry)) (sym (w .0)) (subst (λ y. Q j y) (sym (ap (λ y. y .entry) (w .1))) new))
       (λ w. X .each m lo k w)
-      (CV.row-kept g M s (X .shaped) a (X .room) j is x e z i (CV.goes (rowOf s j) x i p) m lo k u);
+      (CV.row-kept g M s (X .shaped) a R j is x e z i (CV.goes (rowOf s j) x i p) m lo k u);
 }
 
 -- ---- a delivery
 
 module _ (H : List ℕ → List ℕ) (g : Params) (me : ℕ) where
   module _ (M : Small g) (few : g .n ≤ 10) (Q : ℕ → Entry → Type 0) where
-    keeps-holds : (s : Client) (a v : List ℕ) (j : ℕ) → Among 10 j → (x : Stamp) (e : Entry) → Sized g e → Q j e → {s′ : Client} {a′ : List ℕ}
+    keeps-holds : (s : Client) (a v : List ℕ) → rowsBytes ≤ length a → (j : ℕ) → Among 10 j → (x : Stamp) (e : Entry) → Sized g e → Q j e → {s′ : Client} {a′ : List ℕ}
         → Keeps H g me s a v j x e s′ a′ → Holds g Q s a → Holds g Q s′ a′
-    keeps-holds s a v j is x e z new (drops o) X = X
-    keeps-holds s a v j is x e z new (keeps i o) X = stored-holds g M Q s a j is x e z new i o X
+    keeps-holds s a v R j is x e z new (drops o) X = X
+    keeps-holds s a v R j is x e z new (keeps i o) X = stored-holds g M Q s a R j is x e z new i o X
 
     -- a value of server j that is kept has its digest there
-    shape-holds : (s : Client) (a v : List ℕ) (j : ℕ) {b : Body} {r : C.Effect} → SizedIn g b
+    shape-holds : (s : Client) (a v : List ℕ) → rowsBytes ≤ length a → (j : ℕ) {b : Body} {r : C.Effect} → SizedIn g b
         → ((x : Stamp) (e : Entry) → b ≡ valueIs x e → Among 10 j × Q j e) → Shape H g me s a v j b r → Holds g Q s a → Held g Q r
-    shape-holds s a v j z new (idle b) X = X
-    shape-holds s a v j z new (hears T q) X = same-rows g Q s _ a refl X
-    shape-holds s a v j z new (sends T q l) X = same-rows g Q s _ a refl X
-    shape-holds s a v j z new (shuts T q l) X = same-rows g Q s _ a refl X
-    shape-holds s a v j z new (counts q) X = same-rows g Q s _ a refl X
-    shape-holds s a v j z new (ends q) X = same-rows g Q s _ a refl X
-    shape-holds s a v j z new (waits x e k o) X = let w = new x e refl in keeps-holds s a v j (w .0) x e z (w .1) k X
-    shape-holds s a v j z new (completes x e k y o) X = let w = new x e refl in same-rows g Q _ _ _ refl (keeps-holds s a v j (w .0) x e z (w .1) k X)
+    shape-holds s a v R j z new (idle b) X = X
+    shape-holds s a v R j z new (hears T q) X = same-rows g Q s _ a refl X
+    shape-holds s a v R j z new (sends T q l) X = same-rows g Q s _ a refl X
+    shape-holds s a v R j z new (shuts T q l) X = same-rows g Q s _ a refl X
+    shape-holds s a v R j z new (counts q) X = same-rows g Q s _ a refl X
+    shape-holds s a v R j z new (ends q) X = same-rows g Q s _ a refl X
+    shape-holds s a v R j z new (waits x e k o) X = let w = new x e refl in keeps-holds s a v R j (w .0) x e z (w .1) k X
+    shape-holds s a v R j z new (completes x e k y o) X = let w = new x e refl in same-rows g Q _ _ _ refl (keeps-holds s a v R j (w .0) x e z (w .1) k X)
 
     value-fits : (s : Client) (from : Party) (m : Message) → CT.messageTest H g me s from m ≡ J.Fine → (x : Stamp) (e : Entry) → m .body ≡ valueIs x e
         → Among 10 (numberIn from) × (fits H e (numberIn from) ≡ true)
@@ -131,7 +127,7 @@ module _ (H : List ℕ → List ℕ) (g : Params) (me : ℕ) where
         go (taken m e h) =
             let T = took H g me s a v from f result out to m e in
             let z : SizedIn g (m .body) = subst (λ y. SizedIn g (y .body)) (T .says) (message-sized g f (T .header) (T .opens)) in
-            shape-holds s a v (numberIn from) z
+            shape-holds s a v (took-room H g me s a v from f result out to m e .rows-room) (numberIn from) z
             (λ x y b. let w = value-fits s from m (T .passes) x y b in
             (w .0, new (numberIn from) (T .header) x y (T .opens) (ap (λ z. z .body) (T .says) ∙ b) (w .1))) h X
 
@@ -141,7 +137,7 @@ module _ (H : List ℕ → List ℕ) (g : Params) (me : ℕ) where
     where
       go : (y : Verdict) → Holds g Q (CB.beginBy g me y s (CB.openRead g me s) .client) a
       go (J.Bad r) = X
-      go J.Fine = fresh-holds g Q _ a refl (X .room)
+      go J.Fine = fresh-holds g Q _ a refl
 
   write-holds : (Q : ℕ → Entry → Type 0) (s : Client) (a v out to : List ℕ) → Holds g Q s a → Holds g Q (CB.writeBegun g me s v out to .client) a
   unfolding CB.writeBegun CB.openWrite CB.beginBy
@@ -171,10 +167,10 @@ module _ (Z : Setup) (G : Assumed Z) where
   homes-next : (ks : List Call) (k : Call) → ((c : ℕ) → Home g (Came (k ∷ ks)) (run Z ks .clients c)) → (c : ℕ) → Home g (Came (k ∷ ks)) (run Z (k ∷ ks) .clients c)
   unfolding run step
   homes-next ks (toServer i from f out to) X c = X c
-  homes-next ks (toClient d from f result out to) X c =
-      home-put (Came (toClient d from f result out to ∷ ks)) (run Z ks .clients) d (clientDone Z (clientEffect Z (run Z ks) d from f result out to) (run Z ks .clients d .value)) X
-      (delivered-holds H g d (small Z G) (G .bounded .servers-high) (Came (toClient d from f result out to ∷ ks))
-      (run Z ks .clients d .client) (run Z ks .clients d .area) (run Z ks .clients d .value) from f result out to
+  homes-next ks (toClient d from f lent result out to) X c =
+      home-put (Came (toClient d from f lent result out to ∷ ks)) (run Z ks .clients) d (clientDone Z (clientEffect Z (run Z ks) d from f lent result out to) (run Z ks .clients d .value)) X
+      (delivered-holds H g d (small Z G) (G .bounded .servers-high) (Came (toClient d from f lent result out to ∷ ks))
+      (run Z ks .clients d .client) (run Z ks .clients d .area) (lentTo Z (run Z ks) d lent) from f result out to
       (λ j h x e o b t. (t, length ks, inl (refl, (h, o, in-value _ x e b)))) (X d)) c
   homes-next ks (beginRead d out to) X c =
       home-put (Came (beginRead d out to ∷ ks)) (run Z ks .clients) d (clientLeft Z (readEffect Z (run Z ks) d out to) (run Z ks .clients d .area) (run Z ks .clients d .value)) X
@@ -186,7 +182,7 @@ module _ (Z : Setup) (G : Assumed Z) where
 
   homes-start : (c : ℕ) → Home g (Came []) (run Z [] .clients c)
   unfolding run start freshClient
-  homes-start c = fresh-holds g (Came []) freshClient (Z .rowsAreas c) refl (G .rows-room c)
+  homes-start c = fresh-holds g (Came []) freshClient (Z .rowsAreas c) refl
 
   homes : (ks : List Call) (c : ℕ) → Home g (Came ks) (run Z ks .clients c)
   homes [] c = homes-start c

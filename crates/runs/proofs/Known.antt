@@ -50,6 +50,10 @@ module _ (Z : Setup) (ks : List Call) where
         → x .client ≡ y .client → x .sequence ≡ y .sequence → (stampOf x ≡ stampOf y) × (x .entry .digests ≡ y .entry .digests)
     pub wrote-accepted : (c q p : ℕ) → At (EndsWrite Z c q) ks p
         → (i p′ : ℕ) × (x : Write) × At (Accepts Z i x) ks p′ × (x .client ≡ c) × (x .sequence ≡ q)
+    -- an accepted write of an honest client was begun by it, and a completed read by its client
+    pub write-begun : (i p : ℕ) (y : Write) → At (Accepts Z i y) ks p → Z .faultyClient (y .client) ≡ false
+        → (p′ : ℕ) × (v : List ℕ) × At (OpensWrite Z (y .client) (y .sequence) v) ks p′
+    pub read-begun : (c q p : ℕ) (x : Found) → At (CompletesRead Z c q x) ks p → (p′ : ℕ) × At (OpensRead Z c q) ks p′
     -- order in time: what ended at p, before what began at p′
     pub read-read : (c q p : ℕ) (x : Found) (d r p′ p″ : ℕ) (y : Found) → At (CompletesRead Z c q x) ks p → At (OpensRead Z d r) ks p′ → p < p′
         → At (CompletesRead Z d r y) ks p″ → older (y .stamp) (x .stamp) ≡ false

@@ -3,6 +3,7 @@ pub mod Places
 pub mod Broadcasts
 pub mod Agreement
 pub mod Formation
+pub mod Roomy
 pub mod StampViews
 pub mod ServerLaws
 pub mod ClientLaws
@@ -17,8 +18,10 @@ pub mod Found
 pub mod Pieces
 pub mod AcceptedFrom
 pub mod Written
+pub mod Begun
 pub mod KeptRows
 pub mod Values
 pub mod Theorem
 pub mod Answers
 pub mod AnswerEvents
+pub mod Promises

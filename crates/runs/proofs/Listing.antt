@@ -43,9 +43,9 @@ module _ (Z : Setup) where
     reads = λ c q p x u. absurd (u .1);
     accepts = λ i p x u. Memᴰ·map writeItem (u .1 .1);
   }
-  news ks (toClient d from f result out to) = go (clientEffect Z (run Z ks) d from f result out to .event) refl
+  news ks (toClient d from f lent result out to) = go (clientEffect Z (run Z ks) d from f lent result out to .event) refl
     where
-      go : (o : C.Event) → clientEffect Z (run Z ks) d from f result out to .event ≡ o → Items (Now ks (toClient d from f result out to))
+      go : (o : C.Event) → clientEffect Z (run Z ks) d from f lent result out to .event ≡ o → Items (Now ks (toClient d from f lent result out to))
       go C.nothing e = record {
         list = [];
         sound = λ y m. absurd (List·Memᴰ·not-nil m);

@@ -28,6 +28,7 @@ use Rattle.runs.proofs.Broadcasts.{SentMessage}
 use Rattle.runs.proofs.Formation.{agreement, validity-time, accepted-in-bounds}
 use Rattle.runs.proofs.OrderLaws.{fresh, lawful-run}
 use Rattle.runs.proofs.Places.{at-both, cut, opens-read, opens-write, reader-honest, writer-honest}
+use Rattle.runs.proofs.Begun.{write-begun, read-begun}
 use Rattle.runs.proofs.Known.{Known}
 use Rattle.runs.proofs.Assumed.{Assumed}
 
@@ -97,14 +98,14 @@ module _ (Z : Setup) (G : Assumed Z) where
 
     read-number : (ls : List Call) (k : Call) (c q : ℕ) (x : Found) → CompletesRead Z c q x ls k → run Z ls .clients c .client .reads ≡ q
     read-number ls (toServer j f b out to) c q x u = absurd u
-    read-number ls (toClient d f b result out to) c q x u = rw (u .0) (u .1)
+    read-number ls (toClient d f b lent result out to) c q x u = rw (u .0) (u .1)
     read-number ls (beginRead d out to) c q x u = absurd u
     read-number ls (beginWrite d v out to) c q x u = absurd u
 
     -- at one place: a call that begins a read completes none
     not-both : (ls : List Call) (k : Call) (c q d r : ℕ) (x : Found) → OpensRead Z c q ls k → CompletesRead Z d r x ls k → ⊥
     not-both ls (toServer j f b out to) c q d r x u w = u
-    not-both ls (toClient j f b result out to) c q d r x u w = u
+    not-both ls (toClient j f b lent result out to) c q d r x u w = u
     not-both ls (beginRead j out to) c q d r x u w = w
     not-both ls (beginWrite j v out to) c q d r x u w = u
 
@@ -131,6 +132,8 @@ module _ (Z : Setup) (G : Assumed Z) where
       read-after = after;
       read-from = from;
       agree = λ i j p p′ x y u w ec eq. agreement Z G ks a i j p p′ x y u w ec eq;
+      write-begun = write-begun Z G ks a;
+      read-begun = read-begun Z ks;
       wrote-accepted = λ c q p u.
           let (j, b, T, (x, p′, w, ec, eq, et, ed)) = PP.write-accepted Θ W (g .n) (g .t) faultyServer faultyClient (fresh Z G M) (G .faults) ks (lawful-run Z G M ks a) c q (p, u) in
           (j, p′, x, w, ec, eq);

@@ -61,13 +61,13 @@ cut E (k ∷ ks) p (inr u) =
 -- who opens is honest, and the number is new
 pub opens-read : (Z : Setup) (ks : List Call) (k : Call) (d r : ℕ) → OpensRead Z d r ks k → run Z ks .clients d .client .reads < r
 opens-read Z ks (toServer j from f out to) d r u = absurd u
-opens-read Z ks (toClient c from f result out to) d r u = absurd u
+opens-read Z ks (toClient c from f lent result out to) d r u = absurd u
 opens-read Z ks (beginRead c out to) d r u = rw (u .0) (omega (arith, u .1))
 opens-read Z ks (beginWrite c v out to) d r u = absurd u
 
 pub opens-write : (Z : Setup) (ks : List Call) (k : Call) (d r : ℕ) (v : List ℕ) → OpensWrite Z d r v ks k → run Z ks .clients d .client .writes < r
 opens-write Z ks (toServer j from f out to) d r v u = absurd u
-opens-write Z ks (toClient c from f result out to) d r v u = absurd u
+opens-write Z ks (toClient c from f lent result out to) d r v u = absurd u
 opens-write Z ks (beginRead c out to) d r v u = absurd u
 opens-write Z ks (beginWrite c w out to) d r v u = rw (u .0) (omega (arith, u .1))
 
@@ -75,7 +75,7 @@ pub reader-honest : (Z : Setup) (ks : List Call) → Admissible Z ks → (d r p 
 reader-honest Z [] a d r p u = absurd u
 reader-honest Z (k ∷ ks) a d r p (inr u) = reader-honest Z ks (a .1) d r p u
 reader-honest Z (toServer j from f out to ∷ ks) a d r p (inl u) = absurd (u .1)
-reader-honest Z (toClient c from f result out to ∷ ks) a d r p (inl u) = absurd (u .1)
+reader-honest Z (toClient c from f lent result out to ∷ ks) a d r p (inl u) = absurd (u .1)
 reader-honest Z (beginRead c out to ∷ ks) a d r p (inl u) = rw (u .1 .0) (a .0 .1)
 reader-honest Z (beginWrite c w out to ∷ ks) a d r p (inl u) = absurd (u .1)
 
@@ -83,6 +83,6 @@ pub writer-honest : (Z : Setup) (ks : List Call) → Admissible Z ks → (d r p 
 writer-honest Z [] a d r p v u = absurd u
 writer-honest Z (k ∷ ks) a d r p v (inr u) = writer-honest Z ks (a .1) d r p v u
 writer-honest Z (toServer j from f out to ∷ ks) a d r p v (inl u) = absurd (u .1)
-writer-honest Z (toClient c from f result out to ∷ ks) a d r p v (inl u) = absurd (u .1)
+writer-honest Z (toClient c from f lent result out to ∷ ks) a d r p v (inl u) = absurd (u .1)
 writer-honest Z (beginRead c out to ∷ ks) a d r p v (inl u) = absurd (u .1)
 writer-honest Z (beginWrite c w out to ∷ ks) a d r p v (inl u) = rw (u .1 .0) (a .0 .0 .1)

@@ -33,7 +33,7 @@ use Rattle.steps.proofs.ClientTaken.{awaited-true, took}
 use Rattle.steps.proofs.ClientTaken as Passing
 use Rattle.runs.specs.Admissible.{Admissible}
 use Rattle.runs.specs.Events.{At, CompletesRead, OpensWrite}
-use Rattle.runs.specs.World.{Setup, Call, toServer, toClient, beginRead, beginWrite, ClientSide, clientDone, clientLeft, lentBy, run, step, put, clientEffect, readEffect, writeEffect}
+use Rattle.runs.specs.World.{Setup, Call, toServer, toClient, beginRead, beginWrite, ClientSide, clientDone, clientLeft, lentBy, start, run, step, put, lentTo, clientEffect, readEffect, writeEffect}
 
 module _ (H : List ℕ → List ℕ) (g : Params) (me : ℕ) where
   value-awaited : (s : Client) (from : Party) (c q : ℕ) (x : Stamp) (e : Entry)
@@ -139,8 +139,8 @@ module _ (Z : Setup) where
   next : (ks : List Call) (k : Call) (c : ℕ) → Next (clientAt ks c) (clientAt (k ∷ ks) c)
   unfolding run step
   next ks (toServer j from f out to) c = next-same (clientAt ks c) (clientAt ks c) refl
-  next ks (toClient d from f result out to) c = next-put (run Z ks .clients) d (clientDone Z (clientEffect Z (run Z ks) d from f result out to) (run Z ks .clients d .value)) c
-      (next-does d (clientAt ks d) (clientEffect Z (run Z ks) d from f result out to) (delivered-does H g d (clientAt ks d) (run Z ks .clients d .area) (run Z ks .clients d .value) from f result out to))
+  next ks (toClient d from f lent result out to) c = next-put (run Z ks .clients) d (clientDone Z (clientEffect Z (run Z ks) d from f lent result out to) (run Z ks .clients d .value)) c
+      (next-does d (clientAt ks d) (clientEffect Z (run Z ks) d from f lent result out to) (delivered-does H g d (clientAt ks d) (run Z ks .clients d .area) (lentTo Z (run Z ks) d lent) from f result out to))
   next ks (beginRead d out to) c = next-put (run Z ks .clients) d (clientLeft Z (readEffect Z (run Z ks) d out to) (run Z ks .clients d .area) (run Z ks .clients d .value)) c
       (next-read d (clientAt ks d) out to)
   next ks (beginWrite d v out to) c = next-put (run Z ks .clients) d (clientLeft Z (writeEffect Z (run Z ks) d v out to) (run Z ks .clients d .area)
@@ -159,12 +159,26 @@ module _ (Z : Setup) where
   ended ks (toServer j from f out to) c q x u = absurd u
   ended ks (beginRead d out to) c q x u = absurd u
   ended ks (beginWrite d v out to) c q x u = absurd u
-  ended ks (toClient d from f result out to) c q x u =
-      let m = clientEffect Z (run Z ks) d from f result out to in
-      let w = delivered-does H g d (clientAt ks d) (run Z ks .clients d .area) (run Z ks .clients d .value) from f result out to in
+  ended ks (toClient d from f lent result out to) c q x u =
+      let m = clientEffect Z (run Z ks) d from f lent result out to in
+      let w = delivered-does H g d (clientAt ks d) (run Z ks .clients d .area) (lentTo Z (run Z ks) d lent) from f result out to in
       let e = ap (λ h. h .client) (put-same (run Z ks .clients) d (clientDone Z m (run Z ks .clients d .value))) in
       subst (λ z. Ended (clientAt ks z) (put (run Z ks .clients) d (clientDone Z m (run Z ks .clients d .value)) z .client) q) (sym (u .0))
       (subst (λ z. Ended (clientAt ks d) z q) (sym e) (record { was = w .gives x (u .2) .0; is = w .gives x (u .2) .1; number = u .1; number′ = w .number ∙ u .1 }))
+
+  -- an open read has a number, and a completed one had the client's
+  open-number : (ks : List Call) (c : ℕ) → rd (clientAt ks c) ≡ true → 1 ≤ clientAt ks c .reads
+  unfolding run start CS.freshClient
+  open-number [] c h = impossible (cc h)
+  open-number (k ∷ ks) c h =
+      let n = next ks k c in
+      ⊎-elim (λ o. let w = open-number ks c o in omega (arith, w, n .up)) (λ l. omega (arith, l)) (n .still h)
+
+  pub completed-number : (ks : List Call) (k : Call) (c q : ℕ) (x : Found) → CompletesRead Z c q x ks k → (1 ≤ q) × (q ≡ clientAt ks c .reads)
+  completed-number ks k c q x u =
+      let w = ended ks k c q x u in
+      let l = open-number ks c (w .was) in
+      (omega (arith, l, w .number), sym (w .number))
 
   -- what the rows hold then is what the read found
   abbrev Finds : ClientSide → Found → Type 0
@@ -175,9 +189,9 @@ module _ (Z : Setup) where
   read-found ks (toServer j from f out to) c q x u = absurd u
   read-found ks (beginRead d out to) c q x u = absurd u
   read-found ks (beginWrite d v out to) c q x u = absurd u
-  read-found ks (toClient d from f result out to) c q x u =
-      let h = clientDone Z (clientEffect Z (run Z ks) d from f result out to) (run Z ks .clients d .value) in
-      let w = delivered-does H g d (clientAt ks d) (run Z ks .clients d .area) (run Z ks .clients d .value) from f result out to in
+  read-found ks (toClient d from f lent result out to) c q x u =
+      let h = clientDone Z (clientEffect Z (run Z ks) d from f lent result out to) (run Z ks .clients d .value) in
+      let w = delivered-does H g d (clientAt ks d) (run Z ks .clients d .area) (lentTo Z (run Z ks) d lent) from f result out to in
       subst (λ z. Finds (put (run Z ks .clients) d h z) x) (sym (u .0)) (subst (λ z. Finds z x) (sym (put-same (run Z ks .clients) d h)) (w .found x (u .2)))
 
   -- a completed read is behind
@@ -226,7 +240,7 @@ module _ (Z : Setup) where
   written-sized [] a d r p v u = absurd u
   written-sized (k ∷ ks) a d r p v (inr u) = written-sized ks (a .1) d r p v u
   written-sized (toServer j from f out to ∷ ks) a d r p v (inl u) = absurd (u .1)
-  written-sized (toClient c from f result out to ∷ ks) a d r p v (inl u) = absurd (u .1)
+  written-sized (toClient c from f lent result out to ∷ ks) a d r p v (inl u) = absurd (u .1)
   written-sized (beginRead c out to ∷ ks) a d r p v (inl u) = absurd (u .1)
   written-sized (beginWrite c w out to ∷ ks) a d r p v (inl u) =
       subst (λ z. (length z ≡ g .size) × Bytes z) (sym (u .1 .2)) (write-sized c (clientAt ks c) w out to (u .1 .3), a .0 .1)

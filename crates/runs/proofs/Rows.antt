@@ -111,7 +111,7 @@ before-not x (inr (e, inr (p, q, h))) = omega arith
 -- a call completes one read at most
 pub reads-one : (Z : Setup) (ls : List Call) (k : Call) (c q d r : ℕ) (x y : Found) → CompletesRead Z c q x ls k → CompletesRead Z d r y ls k → (c ≡ d) × (q ≡ r) × (x ≡ y)
 reads-one Z ls (toServer j from f out to) c q d r x y u v = absurd u
-reads-one Z ls (toClient j from f result out to) c q d r x y u v = (u .0 ∙ sym (v .0), sym (u .1) ∙ v .1, cc (u .2, v .2))
+reads-one Z ls (toClient j from f lent result out to) c q d r x y u v = (u .0 ∙ sym (v .0), sym (u .1) ∙ v .1, cc (u .2, v .2))
 reads-one Z ls (beginRead j out to) c q d r x y u v = absurd u
 reads-one Z ls (beginWrite j w out to) c q d r x y u v = absurd u
 
@@ -293,6 +293,10 @@ module _ (Z : Setup) (ks : List Call) (K : Known Z ks) where
       let (s, h) = bears-behind zeroStamp xs (a ∷ (ys ++ (b ∷ zs))) (rw e at bears) in
       h .0 ra ∙ sym (bears-through s ys (b ∷ zs) n (bears-next s a (ys ++ (b ∷ zs)) ra h) .0 rb)
 
+  begun : (x : Item) → Why x → Z .faultyClient (x .op .client) ≡ false → (p : ℕ) × Begins Z ks (x .op) p
+  begun x (by-read c q e f u) h = let w = K .read-begun c q e f u in (w .0, inl (refl, w .1))
+  begun x (by-accept i e k u) h = let w = K .write-begun i e k u h in (w .0, inr (refl, w .1, w .2))
+
   -- All of demand 3 but the values.
   pub one-row : Values Z ks ⊎ Collision Z ks → Demand3 Z ks
   one-row v = record {
@@ -300,6 +304,7 @@ module _ (Z : Setup) (ks : List Call) (K : Known Z ks) where
     once = once;
     listed = λ o m. let (x, n, e) = of-ops line o m in rw e at (happened x (why x n));
     all = all;
+    begun = λ o m h. let (x, n, e) = of-ops line o m in rw e at (begun x (why x n) (rw e h));
     sorted = ordered;
     bears = bears;
     between = λ xs ys zs a b e ra rb. (no-write xs ys zs a b e ra, same-stamp xs ys zs a b e ra rb);

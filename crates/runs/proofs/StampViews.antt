@@ -25,6 +25,7 @@ use Rattle.steps.proofs.Keys.{key, key-time}
 use Rattle.runs.specs.Events.{At, Accepts, CompletesRead, EndsWrite}
 use Rattle.runs.specs.World.{Setup, Call, ClientSide, initialOf, run}
 use Rattle.runs.proofs.Broadcasts.{serverAt, SentMessage}
+use Rattle.runs.proofs.Roomy.{roomy}
 use Rattle.runs.proofs.Assumed.{Assumed}
 
 module _ (Z : Setup) (G : Assumed Z) (M : Small (Z .g)) where
@@ -71,7 +72,7 @@ module _ (Z : Setup) (G : Assumed Z) (M : Small (Z .g)) where
     SentTime = λ ks c q T. (b : Party) × SentMessage Z G M ks (A.Client c) b (message c q (timeIs send T));
     KeptAck = λ ks c j. (clientAt ks c .client .phase ≡ F.Acking) × (heardOf (clientAt ks c .client) j ≡ true);
     KeptValue = λ ks c j v. (clientAt ks c .client .phase ≡ F.Reading)
-        × (k : Kept) × (k .stamp ≡ v .0) × (k .entry .digests ≡ v .1) × List·Memᴰ k (rowView g (clientAt ks c .client) (clientAt ks c .area) j);
+        × (k : Kept) × (k .stamp ≡ v .0) × (k .entry .digests ≡ v .1) × List·Memᴰ k (rowView g (clientAt ks c .client) (roomy (clientAt ks c .area)) j);
     KeptStamp = λ ks c j T. (clientAt ks c .client .phase ≡ F.Asking) × (timeOf (clientAt ks c .client) j ≡ some T);
     Accepted = λ ks j c q a. (x : S.Write) × (p : ℕ) × At (Accepts Z j x) ks p × (x .client ≡ c) × (x .sequence ≡ q) × (x .time ≡ a .0) × (x .entry .digests ≡ a .1);
     WriteEnded = λ ks c q. (p : ℕ) × At (EndsWrite Z c q) ks p;

@@ -53,9 +53,9 @@ fold-reads Z Q C′ (k ∷ ks) f = go (fold-reads Z Q C′ ks (λ c q p x u. f c
     go (inl h) (toServer j from b out to) f = inl (λ c q p x u. ⊎-elim (λ w. absurd (w .1)) (λ w. h c q p x w) u)
     go (inl h) (beginRead d out to) f = inl (λ c q p x u. ⊎-elim (λ w. absurd (w .1)) (λ w. h c q p x w) u)
     go (inl h) (beginWrite d v out to) f = inl (λ c q p x u. ⊎-elim (λ w. absurd (w .1)) (λ w. h c q p x w) u)
-    go (inl h) (toClient d from b result out to) f = by (clientEffect Z (run Z ks) d from b result out to .event) refl
+    go (inl h) (toClient d from b lent result out to) f = by (clientEffect Z (run Z ks) d from b lent result out to .event) refl
       where
-        by : (o : C.Event) → clientEffect Z (run Z ks) d from b result out to .event ≡ o → AllReads Z Q C′ (toClient d from b result out to ∷ ks)
+        by : (o : C.Event) → clientEffect Z (run Z ks) d from b lent result out to .event ≡ o → AllReads Z Q C′ (toClient d from b lent result out to ∷ ks)
         by C.nothing e = inl (λ c q p x u. ⊎-elim (λ w. impossible (cc (w .1 .2, e))) (λ w. h c q p x w) u)
         by C.written e = inl (λ c q p x u. ⊎-elim (λ w. impossible (cc (w .1 .2, e))) (λ w. h c q p x w) u)
         by C.outOfStamps e = inl (λ c q p x u. ⊎-elim (λ w. impossible (cc (w .1 .2, e))) (λ w. h c q p x w) u)
@@ -79,7 +79,7 @@ fold-writes Z Q C′ (k ∷ ks) f = go (fold-writes Z Q C′ ks (λ c q p x u. f
     go : AllWrites Z Q C′ ks → (k : Call) → ((c q p : ℕ) (x : List ℕ) → At (OpensWrite Z c q x) (k ∷ ks) p → Q c q x ⊎ C′) → AllWrites Z Q C′ (k ∷ ks)
     go (inr z) k f = inr z
     go (inl h) (toServer j from b out to) f = inl (λ c q p x u. ⊎-elim (λ w. absurd (w .1)) (λ w. h c q p x w) u)
-    go (inl h) (toClient d from b result out to) f = inl (λ c q p x u. ⊎-elim (λ w. absurd (w .1)) (λ w. h c q p x w) u)
+    go (inl h) (toClient d from b lent result out to) f = inl (λ c q p x u. ⊎-elim (λ w. absurd (w .1)) (λ w. h c q p x w) u)
     go (inl h) (beginRead d out to) f = inl (λ c q p x u. ⊎-elim (λ w. absurd (w .1)) (λ w. h c q p x w) u)
     go (inl h) (beginWrite d v out to) f = by (CB.writeTest (Z .g) d (run Z ks .clients d .client) v out to) refl
       where
@@ -98,7 +98,7 @@ write-number Z (k ∷ ks) d r p v (inl u) = go k (u .1)
   where
     go : (k : Call) → OpensWrite Z d r v ks k → 1 ≤ r
     go (toServer j from b out to) w = absurd w
-    go (toClient d from b result out to) w = absurd w
+    go (toClient d from b lent result out to) w = absurd w
     go (beginRead d out to) w = absurd w
     go (beginWrite d v out to) w = omega (arith, w .1)
 

@@ -1,10 +1,12 @@
 -- What is accepted of an honest client's write has the digests of the value that it opened. Assumes nothing.
 use Prim.Native.Nat.{ℕ, _+_, _≤_}
 use native.Mathlib.Omega.{arith}
+use mathlib.Core.Bool.{true}
 use mathlib.Core.Path.{_≡_, refl, ap, sym, _∙_, subst}
 use mathlib.Core.Logic.{_⊎_, inl, inr, ⊎-elim}
 use mathlib.Core.List.{List, [], _∷_, List·Memᴰ, List·Memᴰ·not-nil, List·Memᴰ·append-cases}
-use Rattle.quorum.proofs.Logic.{impossible}
+use Rattle.quorum.proofs.Logic.{impossible, and-split}
+use Rattle.area.specs.Area.{pick}
 use Rattle.blocks.specs.declared.Params.{Params}
 use Rattle.frame.specs.declared.Stamp.{Stamp}
 use Rattle.frame.specs.declared.Party.{Party}
@@ -12,19 +14,22 @@ use Rattle.frame.specs.declared.Verdict.{Verdict}
 use Rattle.frame.specs.declared.Party.the-variants as A
 use Rattle.frame.specs.declared.Verdict.the-variants as J
 use Rattle.group_rules.specs.Coded.{digestsOf, entryOf}
-use Rattle.frame.specs.Messages.{Entry, send, Body, getStamp, askRead, readComplete, blockIs, timeIs, Message, message, Sending, sending, toAll, Judged, numberIn}
+use Rattle.frame.specs.Messages.{Entry, send, Body, getStamp, askRead, readComplete, blockIs, timeIs, Message, message, Sending, sending, toAll, numberIn}
 use Rattle.frame.proofs.Sizes.{Small}
 use Rattle.server_rules.specs.Steps.{Write}
 use Rattle.server_rules.proofs.Parts.{put-same, put-cases}
 use Rattle.client_rules.specs.declared.Client.{Client}
 use Rattle.client_rules.specs.Beginning as CB
 use Rattle.client_rules.specs.Delivery as CD
+use Rattle.client_rules.specs.State.{asking, writing}
 use Rattle.client_rules.specs.Steps as C
+use Rattle.client_rules.specs.Tests as CT
 use Rattle.client_rules.proofs.Shapes.{Keeps, drops, keeps, Shape, idle, hears, shuts, counts, ends, waits, completes, Delivery, refused, taken, shape-delivered, sends as disperses}
 use Rattle.server_rules.proofs.Casts.{mem-all}
+use Rattle.steps.proofs.ClientTaken.{awaited-true, asking-writing, took, passed}
 use Rattle.runs.specs.Admissible.{Admissible}
 use Rattle.runs.specs.Events.{At, Accepts, OpensWrite}
-use Rattle.runs.specs.World.{Setup, Call, toServer, toClient, beginRead, beginWrite, caller, ClientSide, clientLeft, lentBy, run, step, sends, put, clientEffect, readEffect, writeEffect}
+use Rattle.runs.specs.World.{Setup, Call, toServer, toClient, beginRead, beginWrite, caller, World, ClientSide, clientLeft, lentBy, lentTo, run, step, sends, put, clientEffect, readEffect, writeEffect}
 use Rattle.runs.proofs.Agreement.{small}
 use Rattle.runs.proofs.Broadcasts.{SentMessage}
 use Rattle.runs.proofs.Formation.{validity-block}
@@ -34,10 +39,10 @@ use Rattle.runs.proofs.Assumed.{Assumed}
 -- ---- a client sends its lent value's blocks, under its own number
 
 module _ (H : List ℕ → List ℕ) (g : Params) (me : ℕ) where
-  abbrev SendsOwn : ℕ → List ℕ → List Sending → Type 0
+  abbrev pub SendsOwn : ℕ → List ℕ → List Sending → Type 0
   SendsOwn n v l = (b : Party) (d q : ℕ) (e : Entry) → List·Memᴰ (sending b (message d q (blockIs send e))) l → (q ≡ n) × (digestsOf H g v ≡ e .digests)
 
-  record Tells (s : Client) (v : List ℕ) (r : C.Effect) : Type 0 where
+  pub record Tells (s : Client) (v : List ℕ) (r : C.Effect) : Type 0 where
     pub number : r .client .writes ≡ s .writes
     pub own : SendsOwn (s .writes) v (r .sends)
 
@@ -60,32 +65,39 @@ module _ (H : List ℕ → List ℕ) (g : Params) (me : ℕ) where
   keeps-number s a v j (drops z) = refl
   keeps-number s a v j (keeps i z) = refl
 
-  shape-tells : (s : Client) (a v : List ℕ) (j : ℕ) {b : Body} {r : C.Effect} → Shape H g me s a v j b r → Tells s v r
-  shape-tells s a v j (idle b) = quiet-tells s a v
-  shape-tells s a v j (hears T q) = record { number = refl; own = none-own (s .writes) v }
-  shape-tells s a v j (disperses T q l) = record {
-    number = refl;
-    own = λ b d q e u. ⊎-elim
-        (λ y. let w = from-all (λ i. message me (s .writes) (blockIs send (entryOf H g v i))) b _ y in
-        (ap (λ z. z .sequence) (w .1), entry-own v (w .0) e (ap (λ z. z .body) (w .1))))
-        (λ y. let w = from-all (λ i. message me (s .writes) (timeIs send _)) b _ y in impossible (cc (ap (λ z. z .body) (w .1))))
-        (List·Memᴰ·append-cases (toAll g (λ i. message me (s .writes) (blockIs send (entryOf H g v i)))) u);
-  }
-  shape-tells s a v j (shuts T q l) = record { number = refl; own = none-own (s .writes) v }
-  shape-tells s a v j (counts q) = record { number = refl; own = none-own (s .writes) v }
-  shape-tells s a v j (ends q) = record { number = refl; own = none-own (s .writes) v }
-  shape-tells s a v j (waits x e k z) = record { number = keeps-number s a v j k; own = none-own (s .writes) v }
-  shape-tells s a v j (completes x e {s′} k y z) = record {
-    number = keeps-number s a v j k;
-    own = λ b d q y u. let w = from-all (λ i. message me (s′ .reads) readComplete) b _ u in impossible (cc (ap (λ z. z .body) (w .1)));
-  }
+  -- the lent value v is that of the open write, o, while one is open
+  module _ (s : Client) (a v o : List ℕ) (own : writing (s .phase) ≡ true → v ≡ o) where
+    shape-tells : (j q : ℕ) {b : Body} {r : C.Effect} → CT.orderTest H g me s j q b ≡ J.Fine → Shape H g me s a v j b r → Tells s o r
+    unfolding CT.orderTest
+    shape-tells j q t (idle b) = quiet-tells s a o
+    shape-tells j q t (hears T z) = record { number = refl; own = none-own (s .writes) o }
+    shape-tells j q t (disperses T z l) =
+        let e = own (asking-writing H g me (s .phase) (and-split (asking (s .phase)) _ (awaited-true H g me _ t) .0)) in
+        record {
+          number = refl;
+          own = λ b d q y u. ⊎-elim
+              (λ x. let w = from-all (λ i. message me (s .writes) (blockIs send (entryOf H g v i))) b _ x in
+              (ap (λ z. z .sequence) (w .1), ap (digestsOf H g) (sym e) ∙ entry-own v (w .0) y (ap (λ z. z .body) (w .1))))
+              (λ x. let w = from-all (λ i. message me (s .writes) (timeIs send _)) b _ x in impossible (cc (ap (λ z. z .body) (w .1))))
+              (List·Memᴰ·append-cases (toAll g (λ i. message me (s .writes) (blockIs send (entryOf H g v i)))) u);
+        }
+    shape-tells j q t (shuts T z l) = record { number = refl; own = none-own (s .writes) o }
+    shape-tells j q t (counts z) = record { number = refl; own = none-own (s .writes) o }
+    shape-tells j q t (ends z) = record { number = refl; own = none-own (s .writes) o }
+    shape-tells j q t (waits x e k z) = record { number = keeps-number s a v j k; own = none-own (s .writes) o }
+    shape-tells j q t (completes x e {s′} k y z) = record {
+      number = keeps-number s a v j k;
+      own = λ b d q y u. let w = from-all (λ i. message me (s′ .reads) readComplete) b _ u in impossible (cc (ap (λ z. z .body) (w .1)));
+    }
 
-  delivered-tells : (s : Client) (a v : List ℕ) (from : Party) (f result out to : List ℕ) → Tells s v (CD.delivered H g me s a v from f result out to)
-  delivered-tells s a v from f result out to = go (shape-delivered H g me s a v from f result out to)
-    where
-      go : {j : Judged} {r : C.Effect} → Delivery H g me s a v from j r → Tells s v r
-      go (refused x e) = quiet-tells s a v
-      go (taken m e h) = shape-tells s a v (numberIn from) h
+    pub delivered-tells : (from : Party) (f result out to : List ℕ) → Tells s o (CD.delivered H g me s a v from f result out to)
+    delivered-tells from f result out to = go (shape-delivered H g me s a v from f result out to)
+      where
+        go : {r : C.Effect} → Delivery H g me s a v from (CT.judge H g me s a v from f result out to) r → Tells s o r
+        go (refused x e) = quiet-tells s a o
+        go (taken m e h) =
+            let t = took H g me s a v from f result out to m e .passes in
+            shape-tells (numberIn from) (m .sequence) (passed H g me s from m t .order) h
 
   read-tells : (s : Client) (v out to : List ℕ) → Tells s v (CB.readBegun g me s out to)
   unfolding CB.readBegun CB.openRead CB.beginBy
@@ -117,6 +129,11 @@ module _ (Z : Setup) where
   abbrev wr : List Call → ℕ → ℕ
   wr ks c = home ks c .client .writes
 
+  -- what the host lends while a write is open
+  pub lent-own : (w : World) (c : ℕ) (lent : List ℕ) → writing (w .clients c .client .phase) ≡ true → lentTo Z w c lent ≡ w .clients c .value
+  unfolding pick
+  lent-own w c lent e = rw e
+
   -- the number and the lent value stay, or the number rises
   abbrev Next : ClientSide → ClientSide → Type 0
   Next h h′ = ((h′ .client .writes ≡ h .client .writes) × (h′ .value ≡ h .value)) ⊎ (h′ .client .writes ≡ h .client .writes + 1)
@@ -136,8 +153,8 @@ module _ (Z : Setup) where
   next : (ks : List Call) (k : Call) (c : ℕ) → Next (home ks c) (home (k ∷ ks) c)
   unfolding run step CB.writeBegun CB.beginBy
   next ks (toServer j from f out to) c = inl (refl, refl)
-  next ks (toClient d from f result out to) c = next-put (run Z ks .clients) d _ c
-      (inl (delivered-tells H g d (home ks d .client) (home ks d .area) (home ks d .value) from f result out to .number, refl))
+  next ks (toClient d from f lent result out to) c = next-put (run Z ks .clients) d _ c
+      (inl (delivered-tells H g d (home ks d .client) (home ks d .area) (lentTo Z (run Z ks) d lent) (home ks d .value) (lent-own (run Z ks) d lent) from f result out to .number, refl))
   next ks (beginRead d out to) c = next-put (run Z ks .clients) d _ c (inl (read-tells H g d (home ks d .client) [] out to .number, refl))
   next ks (beginWrite d v out to) c = next-put (run Z ks .clients) d _ c (by-test (home ks d) d v (CB.writeTest g d (home ks d .client) v out to))
 
@@ -153,7 +170,7 @@ module _ (Z : Setup) where
   opened : (ks : List Call) (k : Call) (c q : ℕ) (v : List ℕ) → OpensWrite Z c q v ks k → Opened ks k c q v
   unfolding run step CB.writeBegun CB.openWrite CB.beginBy
   opened ks (toServer j from f out to) c q v u = absurd u
-  opened ks (toClient d from f result out to) c q v u = absurd u
+  opened ks (toClient d from f lent result out to) c q v u = absurd u
   opened ks (beginRead d out to) c q v u = absurd u
   opened ks (beginWrite d w out to) c q v u = subst (λ y. Opened ks (beginWrite d w out to) y q v) (sym (u .0)) here
     where
@@ -183,10 +200,10 @@ module _ (Z : Setup) where
   sent-now : (ks : List Call) (k : Call) (c : ℕ) → caller k ≡ A.Client c → SendsOwn H g c (wr ks c) (home ks c .value) (sends Z (run Z ks) k)
   unfolding sends
   sent-now ks (toServer j from f out to) c e = impossible (cc e)
-  sent-now ks (toClient d from f result out to) c e =
+  sent-now ks (toClient d from f lent result out to) c e =
       let h : d ≡ c = cc e in
-      subst (λ y. SendsOwn H g y (wr ks y) (home ks y .value) (clientEffect Z (run Z ks) d from f result out to .sends)) h
-      (delivered-tells H g d (home ks d .client) (home ks d .area) (home ks d .value) from f result out to .own)
+      subst (λ y. SendsOwn H g y (wr ks y) (home ks y .value) (clientEffect Z (run Z ks) d from f lent result out to .sends)) h
+      (delivered-tells H g d (home ks d .client) (home ks d .area) (lentTo Z (run Z ks) d lent) (home ks d .value) (lent-own (run Z ks) d lent) from f result out to .own)
   sent-now ks (beginRead d out to) c e =
       let h : d ≡ c = cc e in
       subst (λ y. SendsOwn H g y (wr ks y) (home ks y .value) (readEffect Z (run Z ks) d out to .sends)) h (read-tells H g d (home ks d .client) (home ks d .value) out to .own)
@@ -200,7 +217,7 @@ module _ (Z : Setup) (G : Assumed Z) where
   abbrev M : Small g
   M = small Z G
 
-  said-low : (ks : List Call) (c : ℕ) (b : Party) (q : ℕ) (e : Entry) → SentMessage Z G M ks (A.Client c) b (message c q (blockIs send e)) → q ≤ wr Z ks c
+  pub said-low : (ks : List Call) (c : ℕ) (b : Party) (q : ℕ) (e : Entry) → SentMessage Z G M ks (A.Client c) b (message c q (blockIs send e)) → q ≤ wr Z ks c
   said-low [] c b q e u = absurd u
   said-low (k ∷ ks) c b q e (inl u) = let w = sent-now Z ks k c (u .0) b c q e (u .1) .0 in let y = up Z ks k c in omega (arith, w, y)
   said-low (k ∷ ks) c b q e (inr u) = let w = said-low ks c b q e u in let y = up Z ks k c in omega (arith, w, y)

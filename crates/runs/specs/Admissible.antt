@@ -7,9 +7,11 @@ use mathlib.Core.List.{List, [], _∷_, List·Memᴰ}
 use Rattle.quorum.specs.Quorum.{Among}
 use Rattle.area.specs.Area.{Bytes}
 use Rattle.frame.specs.declared.Party.{Party}
+use Rattle.frame.specs.declared.Header.{Header}
 use Rattle.frame.specs.declared.Party.the-variants as P
+use Rattle.frame.specs.declared.Opened.the-variants as O
 use Rattle.frame.specs.Messages.{Sending}
-use Rattle.frame.specs.Frames.{build}
+use Rattle.frame.specs.Frames.{build, opened}
 use Rattle.runs.specs.World.{Setup, Call, toServer, toClient, beginRead, beginWrite, caller, run, sends}
 
 module _ (Z : Setup) where
@@ -27,10 +29,13 @@ module _ (Z : Setup) where
   Honest (P.Client c) = Among 8 c × (faultyClient c ≡ false)
 
   -- "A frame named as an honest party's was sent to this receiver in an earlier answer of that party; it may come often, in any order or never. Any
-  -- other frame may be anything", as long as it is bytes.
+  -- other frame may be anything", as long as it is bytes; so may one that does not open, whoever is named.
+  abbrev pub Named : List Call → Party → Party → List ℕ → Type 0
+  Named ks from b f = (h : Header) → opened g f ≡ O.Frame h → Honest from → Sent ks from b f
+
   abbrev pub Proper : List Call → Call → Type 0
-  Proper ks (toServer i from f out to) = Honest (P.Server i) × Bytes f × (Honest from → Sent ks from (P.Server i) f)
-  Proper ks (toClient c from f result out to) = Honest (P.Client c) × Bytes f × (Honest from → Sent ks from (P.Client c) f)
+  Proper ks (toServer i from f out to) = Honest (P.Server i) × Bytes f × Named ks from (P.Server i) f
+  Proper ks (toClient c from f lent result out to) = Honest (P.Client c) × Bytes f × Named ks from (P.Client c) f
   Proper ks (beginRead c out to) = Honest (P.Client c)
   Proper ks (beginWrite c v out to) = Honest (P.Client c) × Bytes v
 

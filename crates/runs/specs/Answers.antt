@@ -20,7 +20,7 @@ use Rattle.client_rules.specs.Rows.{Found}
 use Rattle.client_rules.specs.Steps as C
 use Rattle.client_rules.specs.Delivery as CD
 use Rattle.client_rules.specs.Beginning as CB
-use Rattle.runs.specs.World.{Setup, Sound, DigestSize, Call, toServer, toClient, beginRead, beginWrite, World, initialOf, clientEffect, run, sends}
+use Rattle.runs.specs.World.{Setup, Sound, DigestSize, Call, toServer, toClient, beginRead, beginWrite, World, initialOf, lentTo, clientEffect, run, sends}
 use Rattle.runs.specs.Admissible.{Admissible}
 
 -- m frames from the front of an out area
@@ -63,8 +63,8 @@ module _ (Z : Setup) where
   said w (toServer i from f out to) =
       let r = SD.delivery H g i (w .servers i .server) (w .servers i .area) (initialOf Z i) from f out to in
       record { count = replyCount (r .reply); out = r .out; to = r .to }
-  said w (toClient c from f result out to) =
-      let r = CD.delivery H g c (w .clients c .client) (w .clients c .area) (w .clients c .value) from f result out to in
+  said w (toClient c from f lent result out to) =
+      let r = CD.delivery H g c (w .clients c .client) (w .clients c .area) (lentTo Z w c lent) from f result out to in
       record { count = answerCount g (r .answer); out = r .out; to = r .to }
   said w (beginRead c out to) =
       let r = CB.readBeginning g c (w .clients c .client) out to in
@@ -93,6 +93,6 @@ pub record Tells (ev : C.Event) (answer : Answer) (result left : List ℕ) : Typ
   pub ended-only : answer ≡ A.Written → ev ≡ C.written
 
 unfoldable pub AnswersTell : Type 0
-AnswersTell = (Z : Setup) (w : World) (c : ℕ) (from : Party) (f result out to : List ℕ)
-    → let r = CD.delivery (Z .H) (Z .g) c (w .clients c .client) (w .clients c .area) (w .clients c .value) from f result out to in
-    Tells (clientEffect Z w c from f result out to .event) (r .answer) result (r .result)
+AnswersTell = (Z : Setup) (w : World) (c : ℕ) (from : Party) (f lent result out to : List ℕ)
+    → let r = CD.delivery (Z .H) (Z .g) c (w .clients c .client) (w .clients c .area) (lentTo Z w c lent) from f result out to in
+    Tells (clientEffect Z w c from f lent result out to .event) (r .answer) result (r .result)

@@ -22,7 +22,7 @@ module _ (Z : Setup) where
   -- b was in a frame that was handed in
   abbrev pub InFrame : List ℕ → Event
   InFrame b ks (toServer i from f out to) = Carried f b
-  InFrame b ks (toClient c from f result out to) = Carried f b
+  InFrame b ks (toClient c from f lent result out to) = Carried f b
   InFrame b ks (beginRead c out to) = ⊥
   InFrame b ks (beginWrite c v out to) = ⊥
 

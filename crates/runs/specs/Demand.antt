@@ -101,6 +101,9 @@ module _ (Z : Setup) (ks : List Call) where
         → x .client ≡ y .client → x .sequence ≡ y .sequence → stampOf x ≡ stampOf y
     -- "a write [ends] at its (n - t)th counted ack and is then in the row"
     pub ended : (c q p : ℕ) → At (EndsWrite Z c q) ks p → (o : Operation) × List·Memᴰ o row × (o .reading ≡ false) × (o .client ≡ c) × (o .sequence ≡ q)
+    -- an honest client's operation in the row was begun by it: nobody reads or writes in its name. So `in-time`, and `own` of the values, are about
+    -- every operation of honest clients.
+    pub begun : (o : Operation) → List·Memᴰ o row → Z .faultyClient (o .client) ≡ false → (p : ℕ) × Begins o p
     -- "The row goes by stamp, a write before the reads of its stamp, these as they ended."
     pub sorted : (a b : Operation) → Stands row a b → InOrder a b
     -- "In it a read bears the stamp of the last write before it, or zero if there is none,

@@ -26,37 +26,37 @@ module _ (Z : Setup) where
   -- server i accepts a write, and maybe others in the same call; calls are on honest parties, so i is honest
   abbrev pub Accepts : ℕ → Write → Event
   Accepts i x ks (toServer j from f out to) = (i ≡ j) × List·Memᴰ x (serverEffect Z (run Z ks) j from f out to .accepted)
-  Accepts i x ks (toClient c from f result out to) = ⊥
+  Accepts i x ks (toClient c from f lent result out to) = ⊥
   Accepts i x ks (beginRead c out to) = ⊥
   Accepts i x ks (beginWrite c v out to) = ⊥
 
   -- "A read is completed by the call that answers its value; its stamp is where its search stopped": client c's read q
   abbrev pub CompletesRead : ℕ → ℕ → Found → Event
   CompletesRead c q x ks (toServer j from f out to) = ⊥
-  CompletesRead c q x ks (toClient d from f result out to) =
-      (c ≡ d) × (run Z ks .clients d .client .reads ≡ q) × (clientEffect Z (run Z ks) d from f result out to .event ≡ C.completed x)
+  CompletesRead c q x ks (toClient d from f lent result out to) =
+      (c ≡ d) × (run Z ks .clients d .client .reads ≡ q) × (clientEffect Z (run Z ks) d from f lent result out to .event ≡ C.completed x)
   CompletesRead c q x ks (beginRead d out to) = ⊥
   CompletesRead c q x ks (beginWrite d v out to) = ⊥
 
   -- "a write [ends] at its (n - t)th counted ack": client c's write q
   abbrev pub EndsWrite : ℕ → ℕ → Event
   EndsWrite c q ks (toServer j from f out to) = ⊥
-  EndsWrite c q ks (toClient d from f result out to) =
-      (c ≡ d) × (run Z ks .clients d .client .writes ≡ q) × (clientEffect Z (run Z ks) d from f result out to .event ≡ C.written)
+  EndsWrite c q ks (toClient d from f lent result out to) =
+      (c ≡ d) × (run Z ks .clients d .client .writes ≡ q) × (clientEffect Z (run Z ks) d from f lent result out to .event ≡ C.written)
   EndsWrite c q ks (beginRead d out to) = ⊥
   EndsWrite c q ks (beginWrite d v out to) = ⊥
 
   -- "An operation begins when opened": client c's read q, its write q of the value v
   abbrev pub OpensRead : ℕ → ℕ → Event
   OpensRead c q ks (toServer j from f out to) = ⊥
-  OpensRead c q ks (toClient d from f result out to) = ⊥
+  OpensRead c q ks (toClient d from f lent result out to) = ⊥
   OpensRead c q ks (beginRead d out to) =
       (c ≡ d) × (run Z ks .clients d .client .reads + 1 ≡ q) × (CB.readTest g d (run Z ks .clients d .client) out to ≡ J.Fine)
   OpensRead c q ks (beginWrite d v out to) = ⊥
 
   abbrev pub OpensWrite : ℕ → ℕ → List ℕ → Event
   OpensWrite c q u ks (toServer j from f out to) = ⊥
-  OpensWrite c q u ks (toClient d from f result out to) = ⊥
+  OpensWrite c q u ks (toClient d from f lent result out to) = ⊥
   OpensWrite c q u ks (beginRead d out to) = ⊥
   OpensWrite c q u ks (beginWrite d v out to) =
       (c ≡ d) × (run Z ks .clients d .client .writes + 1 ≡ q) × (u ≡ v) × (CB.writeTest g d (run Z ks .clients d .client) v out to ≡ J.Fine)
@@ -64,6 +64,6 @@ module _ (Z : Setup) where
   -- an honest party decodes v: a server as it compares digests, a client as its read ends
   abbrev pub Decodes : List ℕ → Event
   Decodes v ks (toServer i from f out to) = List·Memᴰ v (serverEffect Z (run Z ks) i from f out to .decodes)
-  Decodes v ks (toClient c from f result out to) = (x : Found) × (clientEffect Z (run Z ks) c from f result out to .event ≡ C.completed x) × (x .bytes ≡ v)
+  Decodes v ks (toClient c from f lent result out to) = (x : Found) × (clientEffect Z (run Z ks) c from f lent result out to .event ≡ C.completed x) × (x .bytes ≡ v)
   Decodes v ks (beginRead c out to) = ⊥
   Decodes v ks (beginWrite c u out to) = ⊥

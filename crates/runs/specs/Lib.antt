@@ -4,3 +4,4 @@ pub mod Events
 pub mod Blocks
 pub mod Demand
 pub mod Answers
+pub mod Promises

@@ -7,7 +7,7 @@ use mathlib.Core.List.{List, [], _∷_}
 use lib.ListN.{length}
 use lib.Dec.{eqb}
 use Rattle.quorum.specs.Quorum.{Faults}
-use Rattle.area.specs.Area.{Bytes}
+use Rattle.area.specs.Area.{Bytes, pick}
 use Rattle.blocks.specs.declared.Params.{Params}
 use Rattle.frame.specs.declared.Party.{Party}
 use Rattle.frame.specs.declared.Verdict.{Verdict}
@@ -15,12 +15,12 @@ use Rattle.frame.specs.declared.Party.the-variants as P
 use Rattle.frame.specs.declared.Verdict.the-variants as J
 use Rattle.frame.specs.Params.{width, Bounded}
 use Rattle.frame.specs.Messages.{Sending}
-use Rattle.frame.specs.Chunks.{areaBytes, rowsBytes}
+use Rattle.frame.specs.Chunks.{areaBytes}
 use Rattle.server_rules.specs.declared.Server.{Server}
 use Rattle.server_rules.specs.Steps as S
 use Rattle.server_rules.specs.Delivery as SD
 use Rattle.client_rules.specs.declared.Client.{Client}
-use Rattle.client_rules.specs.State.{freshClient}
+use Rattle.client_rules.specs.State.{freshClient, writing}
 use Rattle.client_rules.specs.Steps as C
 use Rattle.client_rules.specs.Delivery as CD
 use Rattle.client_rules.specs.Beginning as CB
@@ -39,7 +39,8 @@ pub record Setup : Type 0 where
   pub initialAreas : ℕ → List ℕ
   pub rowsAreas : ℕ → List ℕ
 
--- The parameters are within their bounds, "at most t false servers, any false clients", and the lent areas are large enough for the constructor.
+-- The parameters are within their bounds, "at most t false servers, any false clients", and the areas lent to servers are large enough for the constructor. A
+-- client's rows area may have any length.
 pub record Sound (Z : Setup) : Type 0 where
   pub bounded : Bounded (Z .g)
   pub faults : Faults (Z .g .n) (Z .g .t) (Z .faultyServer)
@@ -47,7 +48,6 @@ pub record Sound (Z : Setup) : Type 0 where
   pub initial-bytes : Bytes (Z .initialValue)
   pub state-room : (j : ℕ) → areaBytes ≤ length (Z .stateAreas j)
   pub initial-room : (j : ℕ) → width (Z .g) ≤ length (Z .initialAreas j)
-  pub rows-room : (c : ℕ) → rowsBytes ≤ length (Z .rowsAreas c)
 
 -- a digest function: of it only its length is assumed
 abbrev pub DigestSize : (List ℕ → List ℕ) → Type 0
@@ -55,17 +55,18 @@ DigestSize H = (b : List ℕ) → length (H b) ≡ 32
 
 -- ---- calls: "a client begins a read or a write of any bytes, or a frame with its sender is handed in"
 
--- Server or client, named sender, frame; a client's result area; the out area and the to area. "Its out area has any size and content."
+-- Server or client, named sender, frame; for a client what its host lends as a value where no write is open, and a result area; the out area and the
+-- to area. "Its out area has any size and content."
 pub data Call : Type 0 where
   toServer : ℕ → Party → List ℕ → List ℕ → List ℕ → Call
-  toClient : ℕ → Party → List ℕ → List ℕ → List ℕ → List ℕ → Call
+  toClient : ℕ → Party → List ℕ → List ℕ → List ℕ → List ℕ → List ℕ → Call
   beginRead : ℕ → List ℕ → List ℕ → Call
   beginWrite : ℕ → List ℕ → List ℕ → List ℕ → Call
 
 -- the party that is called, and answers
 abbrev pub caller : Call → Party
 caller (toServer i from f out to) = P.Server i
-caller (toClient c from f result out to) = P.Client c
+caller (toClient c from f lent result out to) = P.Client c
 caller (beginRead c out to) = P.Client c
 caller (beginWrite c v out to) = P.Client c
 
@@ -109,8 +110,13 @@ module _ (Z : Setup) where
   abbrev pub serverEffect : World → ℕ → Party → List ℕ → List ℕ → List ℕ → S.Effect
   serverEffect w i from f out to = SD.delivered H g i (w .servers i .server) (w .servers i .area) (initialOf i) from f out to
 
-  abbrev pub clientEffect : World → ℕ → Party → List ℕ → List ℕ → List ℕ → List ℕ → C.Effect
-  clientEffect w c from f result out to = CD.delivered H g c (w .clients c .client) (w .clients c .area) (w .clients c .value) from f result out to
+  -- the value that client c's host lends with a frame: that of the open write; where none is open, anything
+  abbrev pub lentTo : World → ℕ → List ℕ → List ℕ
+  lentTo w c lent = pick (writing (w .clients c .client .phase)) (w .clients c .value) lent
+
+  abbrev pub clientEffect : World → ℕ → Party → List ℕ → List ℕ → List ℕ → List ℕ → List ℕ → C.Effect
+  clientEffect w c from f lent result out to =
+      CD.delivered H g c (w .clients c .client) (w .clients c .area) (lentTo w c lent) from f result out to
 
   abbrev pub readEffect : World → ℕ → List ℕ → List ℕ → C.Effect
   readEffect w c out to = CB.readBegun g c (w .clients c .client) out to
@@ -118,7 +124,7 @@ module _ (Z : Setup) where
   abbrev pub writeEffect : World → ℕ → List ℕ → List ℕ → List ℕ → C.Effect
   writeEffect w c v out to = CB.writeBegun g c (w .clients c .client) v out to
 
-  -- the value that a client's host lends from then on: that of a write which was begun
+  -- the value of the last write that was begun
   abbrev pub lentBy : Verdict → List ℕ → List ℕ → List ℕ
   lentBy J.Fine v old = v
   lentBy (J.Bad r) v old = old
@@ -138,9 +144,9 @@ module _ (Z : Setup) where
     servers = put (w .servers) i (serverLeft (serverEffect w i from f out to));
     clients = w .clients;
   }
-  step w (toClient c from f result out to) = record {
+  step w (toClient c from f lent result out to) = record {
     servers = w .servers;
-    clients = put (w .clients) c (clientDone (clientEffect w c from f result out to) (w .clients c .value));
+    clients = put (w .clients) c (clientDone (clientEffect w c from f lent result out to) (w .clients c .value));
   }
   step w (beginRead c out to) = record {
     servers = w .servers;
@@ -160,6 +166,6 @@ module _ (Z : Setup) where
   -- what a call's answer sends; it stands in the answer's out and to areas (Answers.antt in proofs)
   unfoldable pub sends : World → Call → List Sending
   sends w (toServer i from f out to) = serverEffect w i from f out to .sends
-  sends w (toClient c from f result out to) = clientEffect w c from f result out to .sends
+  sends w (toClient c from f lent result out to) = clientEffect w c from f lent result out to .sends
   sends w (beginRead c out to) = readEffect w c out to .sends
   sends w (beginWrite c v out to) = writeEffect w c v out to .sends

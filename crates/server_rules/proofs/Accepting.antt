@@ -5,6 +5,7 @@ use mathlib.Core.Bool.{Bool, true, false, _&&_}
 use mathlib.Core.Path.{_≡_, refl}
 use mathlib.Core.Logic.{_⊎_, inl, inr, ⊎-elim}
 use mathlib.Core.List.{List, [], _∷_, _++_, List·Memᴰ, List·Memᴰ·not-nil, List·Memᴰ·cases-cons, List·Memᴰ·append-cases, List·Memᴰ·eq-of-singleton}
+use mathlib.Core.List.{List·Memᴰ·head, Memᴰ·append-right}
 use lib.ListN.{length, length-append}
 use Rattle.quorum.proofs.Logic.{and-split}
 use Rattle.area.specs.Area.{pick}
@@ -98,6 +99,11 @@ accept-mem s a w y u = ⊎-elim
     (λ v. let (d, l, h, t) = tell-mem (s .readers) (S.stampOf w) (w .entry) 1 8 y v in inl (d, l, omega (arith, h), t))
     (λ v. inr (List·Memᴰ·eq-of-singleton v))
     (List·Memᴰ·append-cases (S.tellFrom (s .readers) (S.stampOf w) (w .entry) 1 8) u)
+
+-- the ack goes out
+pub accept-ack : (s : Server) (a : List ℕ) (w : S.Write) → List·Memᴰ (ackOf w) (S.accept s a w .sends)
+unfolding S.accept
+accept-ack s a w = Memᴰ·append-right (S.tellFrom (s .readers) (S.stampOf w) (w .entry) 1 8) (List·Memᴰ·head refl)
 
 pub accept-length : (s : Server) (a : List ℕ) (w : S.Write) → length (S.accept s a w .sends) ≤ 9
 unfolding S.accept

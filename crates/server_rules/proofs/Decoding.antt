@@ -1,6 +1,6 @@
 -- What a server decodes of a write's frames: what it computes from enough of one digest list has the sizes of an entry, and a block part becomes
 -- complete with the digests of a value that was decoded. Assumes nothing.
-use Prim.Native.Nat.{ℕ, zero, suc, _+_, _≤_, _<_}
+use Prim.Native.Nat.{ℕ, zero, suc, _+_, _≤_}
 use native.Mathlib.Omega.{arith}
 use mathlib.Core.Bool.{Bool, true, false, not, _&&_}
 use mathlib.Core.Path.{_≡_, refl, ap, _∙_, subst}
@@ -12,9 +12,8 @@ use lib.Seq.{length-take-le}
 use lib.Dec.{leb}
 use borrow.Author.Tests.{leb-true, le-leb}
 use Rattle.quorum.specs.Quorum.{count, bit}
-use Rattle.quorum.proofs.Logic.{impossible, and-split, and-true, or-split, or-right}
+use Rattle.quorum.proofs.Logic.{impossible, and-split, and-true, or-right}
 use Rattle.area.specs.Area.{Bytes, pick, same}
-use Rattle.area.proofs.Same.{same-true}
 use Rattle.blocks.specs.declared.Params.{Params}
 use Rattle.blocks.specs.Code.{blockOf, blockLength}
 use Rattle.blocks.proofs.Stripes.{length-blockOf}
@@ -26,6 +25,7 @@ use Rattle.frame.specs.Params.{width, quota}
 use Rattle.server_rules.specs.Broadcast.{Rules, Part, kept, undone, isLike, votes, enough, due, full, matters}
 use Rattle.server_rules.specs.Rules.{chosen, regained, blockRules}
 use Rattle.server_rules.proofs.Parts.{firstOf, settled}
+use Rattle.server_rules.proofs.Thresholds.{due-votes, full-votes, full-supported, quota-blocks, compared}
 
 piece-size : (o : Option Entry) (d : List ℕ) (j : ℕ) (l : List Piece) → length (pieceOf o d j l) ≡ bit (hasList o d) + length l
 unfolding pick
@@ -56,15 +56,6 @@ all-pieces f d n =
     let a = pieces-size f d 0 n in
     let b : count (λ j. hasList (f j) d) (0 + n) ≡ count (λ j. hasList (f j) d) n = ap (count (λ j. hasList (f j) d)) (let h : 0 + n ≡ n = omega arith in h) in
     omega arith
-
--- q is at least k, and above t
-pub quota-blocks : (g : Params) → g .k ≤ quota g
-unfolding quota
-quota-blocks g = omega arith
-
-pub quota-faults : (g : Params) → g .t < quota g
-unfolding quota
-quota-faults g = omega arith
 
 -- a block of a value of the right length
 pub block-width : (g : Params) (v : List ℕ) (j : ℕ) → length v ≡ g .size → length (blockOf (g .k) v j) ≡ width g
@@ -120,24 +111,17 @@ module _ (H : List ℕ → List ℕ) (g : Params) (kk : 1 ≤ g .k) where
       → Sized g (blockRules H g .own me (w .echoes) (w .readies) x)
   sized-own me w x Q s = record { list-is = Q .list-is; block-is = block-width g (regained g (w .echoes) (w .readies) (x .digests)) me s }
 
-  full-votes : (w : Part Entry) (x : Entry) → full (blockRules H g) (g .n) (g .t) w x ≡ true
-      → quota g + g .t ≤ votes (blockRules H g) (g .n) (g .t) (w .readies) x
-  unfolding full votes
-  full-votes w x e = leb-true (quota g + g .t) (votes (blockRules H g) (g .n) (g .t) (w .readies) x) (and-split _ _ e .0)
-
   -- an entry that completes the part, and one that is due
   pub coded : (me : ℕ) (w : Part Entry) (x : Entry) → Sized g x → full (blockRules H g) (g .n) (g .t) w x ≡ true
       → Sized g (blockRules H g .own me (w .echoes) (w .readies) x)
-  coded me w x Q e = sized-own me w x Q (by-readies (w .echoes) (w .readies) x (omega (arith, full-votes w x e)))
+  coded me w x Q e = sized-own me w x Q (by-readies (w .echoes) (w .readies) x (omega (arith, full-votes (blockRules H g) (g .n) (g .t) w x e)))
 
   pub due-sized : g .k + g .t ≤ g .n → (me : ℕ) (w : Part Entry) (x : Entry) → Sized g x → due (blockRules H g) (g .n) (g .t) w x ≡ true
       → Sized g (blockRules H g .own me (w .echoes) (w .readies) x)
-  unfolding due enough votes
   due-sized kn me w x Q e = sized-own me w x Q (⊎-elim
-      (λ a. by-echoes (w .echoes) (w .readies) x (omega (arith, leb-true (g .n) (votes (blockRules H g) (g .n) (g .t) (w .echoes) x + g .t) a)))
-      (λ a. by-readies (w .echoes) (w .readies) x (leb-true (quota g) (votes (blockRules H g) (g .n) (g .t) (w .readies) x) a))
-      (or-split (leb (g .n) (votes (blockRules H g) (g .n) (g .t) (w .echoes) x + g .t)) (leb (quota g) (votes (blockRules H g) (g .n) (g .t) (w .readies) x))
-      (and-split _ _ (and-split (not (w .ready)) _ e .1) .0)))
+      (λ a. by-echoes (w .echoes) (w .readies) x (omega (arith, kn, a)))
+      (λ a. by-readies (w .echoes) (w .readies) x a)
+      (due-votes (blockRules H g) (g .n) (g .t) w x e))
 
   -- ---- what was decoded
 
@@ -155,12 +139,12 @@ module _ (H : List ℕ → List ℕ) (g : Params) (kk : 1 ≤ g .k) where
   full-has : (w : Part Entry) (x : Entry) → w .done ≡ none → full (blockRules H g) (g .n) (g .t) w x ≡ true → Has H g (decodes H g w x) (x .digests)
   unfolding full matters votes
   full-has w x n h =
-      let u = and-split (leb (quota g + g .t) (votes (blockRules H g) (g .n) (g .t) (w .readies) x)) _ h in
+      let u = and-split (leb (blockRules H g .all) (votes (blockRules H g) (g .n) (g .t) (w .readies) x)) _ h in
       let m = or-right (not (w .ready) && enough (blockRules H g) (g .n) (g .t) w x) _ (and-true _ _ (u .0) (ap undone n)) in (
         regained g (w .echoes) (w .readies) (x .digests),
         in-pick _ _ m,
-        same-true _ (x .digests) (u .1),
-        by-readies (w .echoes) (w .readies) x (omega (arith, full-votes w x h)),
+        compared H g (w .echoes) (w .readies) x (full-supported (blockRules H g) (g .n) (g .t) w x h),
+        by-readies (w .echoes) (w .readies) x (omega (arith, full-votes (blockRules H g) (g .n) (g .t) w x h)),
         regained-bytes (w .echoes) (w .readies) (x .digests),
       )
 

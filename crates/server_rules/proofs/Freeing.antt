@@ -26,7 +26,7 @@ use Rattle.server_rules.specs.Steps as S
 use Rattle.server_rules.specs.WellFormed.{Within}
 use Rattle.server_rules.proofs.Parts.{kept-some}
 use Rattle.server_rules.proofs.Views.{shapes, Shaped, present-if}
-use Rattle.server_rules.proofs.Accepting.{Told, ackOf, accept-mem, accept-length}
+use Rattle.server_rules.proofs.Accepting.{Told, ackOf, accept-mem, accept-ack, accept-length}
 use Rattle.server_rules.proofs.Shapes.{Ripe, Freed, nothing, accepts}
 
 -- the completed entry has its sizes
@@ -143,6 +143,12 @@ module _ {g : Params} {s : Server} {a : List ℕ} {c : ℕ} where
   unfolding S.accept
   freed-mem nothing y u = absurd (List·Memᴰ·not-nil u)
   freed-mem (accepts w e R) y u = (w, List·Memᴰ·head refl, accept-mem s a w y u)
+
+  -- each of them is acknowledged
+  pub freed-acked : {r : S.Effect} → Freed g s a c r → (w : S.Write) → List·Memᴰ w (r .accepted) → List·Memᴰ (ackOf w) (r .sends)
+  unfolding S.accept
+  freed-acked nothing w u = absurd (List·Memᴰ·not-nil u)
+  freed-acked (accepts k e R) w u = subst (λ y. List·Memᴰ (ackOf y) (S.accept s a k .sends)) (sym (List·Memᴰ·eq-of-singleton u)) (accept-ack s a k)
 
   pub freed-few : {r : S.Effect} → Freed g s a c r → length (r .sends) ≤ 9
   freed-few nothing = omega arith

@@ -1,5 +1,6 @@
 pub mod Parts
 pub mod Casts
+pub mod Thresholds
 pub mod Decoding
 pub mod Views
 pub mod Accepting

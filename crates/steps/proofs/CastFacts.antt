@@ -10,11 +10,9 @@ use mathlib.Core.Option.{some}
 use mathlib.Core.List.{List, [], _∷_, List·Memᴰ, List·Memᴰ·not-nil, List·Memᴰ·append-cases, List·Memᴰ·eq-of-singleton}
 use lib.ListN.{length, getD}
 use lib.Seq.{getD-set-other}
-use borrow.Author.Tests.{eqb-true}
 use Rattle.quorum.specs.Quorum.{Among}
 use Rattle.quorum.proofs.Logic.{impossible}
 use Rattle.quorum.proofs.Quorums.{AtLeast}
-use Rattle.area.proofs.Same.{same-true}
 use Rattle.blocks.specs.declared.Params.{Params}
 use Rattle.frame.specs.declared.Party.{Party}
 use Rattle.frame.specs.declared.Party.the-variants as A
@@ -33,7 +31,7 @@ use Rattle.server_rules.specs.Steps as S
 use Rattle.server_rules.specs.Tests as ST
 use Rattle.server_rules.proofs.Parts.{noPart, Says}
 use Rattle.server_rules.proofs.Views.{Shaped, shapes, fresh-block-view, fresh-time-view}
-use Rattle.server_rules.proofs.Decoding.{quota-faults}
+use Rattle.server_rules.proofs.Thresholds.{Sane, blocks-sane, times-sane}
 use Rattle.server_rules.proofs.Shapes.{Ripe, Freed, Counted, counted-sequence, Shape, idle, answers, notes, ends, settles, shape-of}
 use Rattle.server_rules.proofs.Passing.{SizedIn, SenderIs, block-sender, time-sender, open-passed, test-split, counted-from, counted-open}
 use Rattle.server_rules.proofs.Within.{slot-within, this-slot}
@@ -41,7 +39,7 @@ use Rattle.server_rules.proofs.Counting.{Hears, own, other, blocks-hear, times-
 use Rattle.server_rules.proofs.Freeing.{freed-ripe, freed-slots, freed-blocks}
 use Rattle.server_rules.proofs.Casts.{IsCast}
 use Rattle.server_rules.proofs.Speaking.{freed-none}
-use Rattle.steps.proofs.PartFacts.{Sane, Heard, PartFacts, rest-facts, Brings, count-facts}
+use Rattle.steps.proofs.PartFacts.{Heard, PartFacts, rest-facts, Brings, count-facts}
 use Rattle.steps.proofs.ServerFits.{ServerShape, counted-shape}
 
 -- One of the two broadcasts: how a slot shows its part, its messages and rules, what an accepted write has of it, and what counts of a payload.
@@ -90,12 +88,7 @@ module _ (H : List ℕ → List ℕ) (g : Params) where
     rules = blockRules H g;
     sel = λ w. w .entry;
     what = λ e. e .digests;
-    sane = record {
-      same-true = λ x y e. same-true (x .digests) (y .digests) e;
-      own-same = λ i es rs x. refl;
-      few-many = quota-faults g;
-      all-many = omega (arith, quota-faults g);
-    };
+    sane = blocks-sane H g;
     is-cast = λ z p. tt;
     inj = block-inj;
     fresh = fresh-block-view g;
@@ -113,7 +106,7 @@ module _ (H : List ℕ → List ℕ) (g : Params) where
     rules = timeRules H g;
     sel = λ w. w .time;
     what = λ T. T;
-    sane = record { same-true = λ x y e. eqb-true x y e; own-same = λ i es rs x. refl; few-many = omega arith; all-many = omega arith };
+    sane = times-sane H g;
     is-cast = λ z p. tt;
     inj = time-inj;
     fresh = λ a c q. fresh-time-view q;

@@ -8,7 +8,7 @@ use mathlib.Core.Logic.{⊎-elim}
 use mathlib.Core.List.{List, [], _++_, List·Memᴰ·not-nil, List·Memᴰ·append-cases}
 use lib.ListN.{length}
 use lib.Dec.{eqb}
-use borrow.Author.Tests.{leb-false, eqb-true, not-false}
+use borrow.Author.Tests.{leb-false, ltb-false, eqb-true, not-false}
 use Rattle.quorum.specs.Quorum.{Among}
 use Rattle.quorum.proofs.Logic.{impossible, and-split}
 use Rattle.area.specs.Area.{Bytes, pick}
@@ -25,9 +25,10 @@ use Rattle.frame.specs.declared.Opened.the-variants as O
 use Rattle.group_rules.specs.Coded.{digestsOf, entryOf, blockAt}
 use Rattle.frame.specs.Frames.{opened, messageIn}
 use Rattle.frame.specs.Messages.{Entry, send, Body, getStamp, askRead, readComplete, blockIs, timeIs, Message, message, Sending, numberIn, fromServer, Judged, bad, good, judgedBy, after, Sized, Formed, FormedBody}
-use Rattle.frame.specs.Params.{paramsTest, listed}
+use Rattle.frame.specs.Params.{paramsTest, listed, clientFrames, outRoom, toRoom}
 use Rattle.frame.specs.Refusals.{andThen}
-use Rattle.frame.specs.Stamps.{lastSequence}
+use Rattle.frame.specs.Stamps.{lastSequence, lastClient}
+use Rattle.frame.specs.Chunks.{rowsBytes}
 use Rattle.frame.proofs.Verdicts.{fine-both, fine-not}
 use Rattle.frame.proofs.Converse.{formed-opened}
 use Rattle.client_rules.specs.declared.Phase.{Phase}
@@ -45,6 +46,14 @@ pub use Rattle.client_rules.proofs.CallFacts.{awaited-true}
 use Rattle.steps.proofs.ServerRanges.{AllFormed, formed-all}
 use Rattle.server_rules.proofs.Decoding.{block-width}
 
+pub by-fine : (v : Verdict) (n m : Message) → judgedBy v n ≡ good m → v ≡ J.Fine
+by-fine J.Fine n m e = refl
+by-fine (J.Bad r) n m e = impossible (cc)
+
+pub after-fine : (v : Verdict) (j : Judged) (m : Message) → after v j ≡ good m → j ≡ good m
+after-fine J.Fine j m e = e
+after-fine (J.Bad r) j m e = impossible (cc)
+
 module _ (H : List ℕ → List ℕ) (g : Params) (me : ℕ) where
   pub record Taken (s : Client) (v : List ℕ) (from : Party) (f : List ℕ) (m : Message) : Type 0 where
     pub header : Header
@@ -55,7 +64,7 @@ module _ (H : List ℕ → List ℕ) (g : Params) (me : ℕ) where
 
   pub data Delivered (s : Client) (a v : List ℕ) (from : Party) (f : List ℕ) (r : C.Effect) : Type 0 where
     refused : r ≡ C.quiet s a → Delivered s a v from f r
-    taken : (m : Message) → Taken s v from f m → r ≡ C.effect H g me s a v from m → Delivered s a v from f r
+    taken : (m : Message) → Taken s v from f m → rowsBytes ≤ length a → r ≡ C.effect H g me s a v from m → Delivered s a v from f r
 
   took-by : (o : Opened) (room : Verdict) (s : Client) (v : List ℕ) (from : Party) (f : List ℕ) (m : Message) → CT.valueTest g s (length v) ≡ J.Fine → opened g f ≡ o
       → CT.judgeOpened H g me o room s from f ≡ good m → Taken s v from f m
@@ -78,13 +87,43 @@ module _ (H : List ℕ → List ℕ) (g : Params) (me : ℕ) where
       go J.Fine p e = took-by (opened g f) _ s v from f m (fine-both (paramsTest g me 8) _ p .1) refl e
       go (J.Bad r) p e = impossible (cc)
 
+  -- what is taken found room
+  pub record Room (a result out to : List ℕ) : Type 0 where
+    pub rows-room : rowsBytes ≤ length a
+    pub value-room : g .size ≤ length result
+    pub out-room : outRoom g (clientFrames g) ≤ length out
+    pub to-room : toRoom (clientFrames g) ≤ length to
+
+  pub send-room : (out to : List ℕ) → CT.sendRoom g (length out) (length to) ≡ J.Fine → (outRoom g (clientFrames g) ≤ length out) × (toRoom (clientFrames g) ≤ length to)
+  unfolding CT.sendRoom
+  send-room out to w =
+      let p₁ = fine-not _ _ _ w in
+      let p₂ = fine-not _ _ _ (p₁ .1) in
+      (ltb-false _ _ (p₁ .0), ltb-false _ _ (p₂ .0))
+
+  pub took-room : (s : Client) (a v : List ℕ) (from : Party) (f result out to : List ℕ) (m : Message) → CT.judge H g me s a v from f result out to ≡ good m → Room a result out to
+  unfolding CT.judge CT.judgeOpened CT.roomTest
+  took-room s a v from f result out to m e = go (opened g f) (after-fine (andThen (paramsTest g me lastClient) (CT.valueTest g s (length v))) _ m e)
+    where
+      room : Verdict
+      room = CT.roomTest g (length a) (length result) (length out) (length to)
+
+      go : (o : Opened) → CT.judgeOpened H g me o room s from f ≡ good m → Room a result out to
+      go (O.Refused r) u = impossible (cc)
+      go (O.Frame h) u =
+          let w = fine-both room (CT.messageTest H g me s from (messageIn g h f)) (by-fine _ _ m u) .0 in
+          let p₁ = fine-not _ _ _ w in
+          let p₂ = fine-not _ _ _ (p₁ .1) in
+          let p₃ = send-room out to (p₂ .1) in
+          record { rows-room = ltb-false _ _ (p₁ .0); value-room = ltb-false _ _ (p₂ .0); out-room = p₃ .0; to-room = p₃ .1 }
+
   pub delivered : (s : Client) (a v : List ℕ) (from : Party) (f result out to : List ℕ) → Delivered s a v from f (CD.delivered H g me s a v from f result out to)
   unfolding CD.delivered CT.answers CT.orderTest CD.effectBy
   delivered s a v from f result out to = go (CT.judge H g me s a v from f result out to) refl
     where
       go : (j : Judged) → CT.judge H g me s a v from f result out to ≡ j → Delivered s a v from f (CD.effectBy H g me j s a v from)
       go (bad r) e = refused refl
-      go (good m) e = taken m (took s a v from f result out to m e) refl
+      go (good m) e = taken m (took s a v from f result out to m e) (took-room s a v from f result out to m e .rows-room) refl
 
   -- what a passed test says
   pub record Passed (s : Client) (from : Party) (m : Message) : Type 0 where
@@ -115,7 +154,7 @@ module _ (H : List ℕ → List ℕ) (g : Params) (me : ℕ) where
   unfolding entryOf
   entry-size D v e j = record { list-is = digests-size D v; block-is = block-width g v j e }
 
-  asking-writing : (p : Phase) → CS.asking p ≡ true → writing p ≡ true
+  pub asking-writing : (p : Phase) → CS.asking p ≡ true → writing p ≡ true
   asking-writing F.Idle e = impossible (cc)
   asking-writing F.Asking e = refl
   asking-writing F.Acking e = refl
@@ -172,7 +211,7 @@ module _ (H : List ℕ → List ℕ) (g : Params) (me : ℕ) where
       where
         go : {r : C.Effect} → Delivered s a v from f r → AllFormed g (r .sends)
         go {r} (refused e) = rw e none-formed
-        go {r} (taken m T e) =
+        go {r} (taken m T z e) =
             let F′ : Formed g m = subst (Formed g) (T .says) (formed-opened g f (T .header) bs (T .opens)) in
             rw e (shape-formed s a v (numberIn from) (m .client) (m .sequence) F′ (passed s from m (T .passes) .order) (T .value) (shape-of H g me s a v from m))
 

@@ -1,25 +1,16 @@
 -- What a counted frame does to a server's part in a broadcast, for any payload: an echo follows the client's own frame, a ready follows n - t echoes or the few
 -- readies that bring forth one, and a delivery all that it asks for. Assumes nothing.
-use Prim.Native.Nat.{ℕ, _+_, _-_, _≤_, _<_}
-use native.Mathlib.Omega.{arith}
-use mathlib.Core.Bool.{Bool, true, false, not}
+use Prim.Native.Nat.{ℕ, _-_, _≤_}
+use mathlib.Core.Bool.{Bool, true, false}
 use mathlib.Core.Path.{_≡_, refl, ap, sym, _∙_}
 use mathlib.Core.Logic.{_⊎_, inl, inr, ⊎-elim}
 use mathlib.Core.Option.{Option, none, some}
-use lib.Dec.{leb}
-use borrow.Author.Tests.{leb-true}
-use Rattle.quorum.proofs.Logic.{impossible, and-split, or-split}
+use Rattle.quorum.proofs.Logic.{impossible}
 use Rattle.quorum.proofs.Quorums.{AtLeast}
 use Rattle.frame.specs.Messages.{Stage, send, echo, ready}
-use Rattle.server_rules.specs.Broadcast.{Rules, Part, isLike, votes, enough, due, full, kept}
+use Rattle.server_rules.specs.Broadcast.{Rules, Part, isLike, votes, due, full, kept}
+use Rattle.server_rules.proofs.Thresholds.{due-votes, full-votes, Sane}
 use Rattle.server_rules.proofs.Parts.{put, firstOf, withEcho, withReady, settled, counted, Says, put-cases}
-
--- π is what counts of a payload: the time itself, or the digest list of an entry
-pub record Sane {P D : Type 0} (R : Rules P) (t : ℕ) (π : P → D) : Type 0 where
-  pub same-true : (x y : P) → R .alike x y ≡ true → π x ≡ π y
-  pub own-same : (i : ℕ) (es rs : ℕ → Option P) (x : P) → π (R .own i es rs x) ≡ π x
-  pub few-many : t < R .few
-  pub all-many : t < R .all
 
 module _ {P D : Type 0} (R : Rules P) (n t : ℕ) (π : P → D) where
   -- held of j, or new: N says what is new
@@ -68,27 +59,20 @@ module _ {P D : Type 0} (R : Rules P) (n t : ℕ) (π : P → D) (O : Sane R t �
       (kr : (j : ℕ) (p : P) → w .readies j ≡ some p → (s .readies j ≡ some p) ⊎ NR j p) where
     why-due : (d : D) → π x ≡ d → due R n t w x ≡ true → AtLeast n (n - t) (Heard R n t π (s .echoes) NE d)
         ⊎ AtLeast n (R .few) (Heard R n t π (s .readies) NR d)
-    unfolding due enough votes
-    why-due d q e =
-        let z = and-split _ _ (and-split (not (w .ready)) _ e .1) .0 in
-        ⊎-elim
-        (λ a. inl (by-votes (w .echoes) (s .echoes) NE x ke (n - t) (omega (arith, leb-true n (votes R n t (w .echoes) x + t) a)) d q))
-        (λ b. inr (by-votes (w .readies) (s .readies) NR x kr (R .few) (leb-true (R .few) (votes R n t (w .readies) x) b) d q))
-        (or-split (leb n (votes R n t (w .echoes) x + t)) (leb (R .few) (votes R n t (w .readies) x)) z)
+    why-due d q e = ⊎-elim
+        (λ a. inl (by-votes (w .echoes) (s .echoes) NE x ke (n - t) a d q))
+        (λ b. inr (by-votes (w .readies) (s .readies) NR x kr (R .few) b d q))
+        (due-votes R n t w x e)
 
     own-eq : {p : P} → p ≡ R .own i (w .echoes) (w .readies) x → π x ≡ π p
     own-eq e = sym (ap π e ∙ O .own-same i (w .echoes) (w .readies) x)
-
-    full-votes : full R n t w x ≡ true → R .all ≤ votes R n t (w .readies) x
-    unfolding full votes
-    full-votes f = leb-true (R .all) (votes R n t (w .readies) x) (and-split _ _ f .0)
 
     done-from : (o : Option P) (d : Bool) (p : P) → w .done ≡ o → full R n t w x ≡ d → firstOf o (kept d (R .own i (w .echoes) (w .readies) x)) ≡ some p
         → (s .done ≡ some p) ⊎ AtLeast n (R .all) (Heard R n t π (s .readies) NR (π p))
     done-from (some y) d p e f z = inl (sym g ∙ e ∙ z)
     done-from none true p e f z =
         let q : R .own i (w .echoes) (w .readies) x ≡ p = cc in
-        inr (by-votes (w .readies) (s .readies) NR x kr (R .all) (full-votes f) (π p) (own-eq (sym q)))
+        inr (by-votes (w .readies) (s .readies) NR x kr (R .all) (full-votes R n t w x f) (π p) (own-eq (sym q)))
     done-from none false p e f z = impossible (cc)
 
     settle-facts : (Said : Stage → P → Type 0)

@@ -147,7 +147,7 @@ module _ (H : List ℕ → List ℕ) (g : Params) (B : Bounded g) (M : Small g) 
   body-seen s a f X v j lo hi (timeIs z T) Q = record { client = refl; sends = refl; event = refl; area = X }
   body-seen s a f X v j lo hi (valueIs x e) Q = keep-seen s a f X j lo hi x e Q (placeFor (rowOf s j) x) refl
 
-  judge-seen : (s : Client) (a v : List ℕ) (from : Party) (f result out to : List ℕ) → length a ≡ rowsBytes
+  pub judge-seen : (s : Client) (a v : List ℕ) (from : Party) (f result out to : List ℕ) → length a ≡ rowsBytes
       → CT.judge H g me s a v from f result out to ≡ judgeBy H g me s v from f result out to
   unfolding CT.judge judgeBy
   judge-seen s a v from f result out to e i =

@@ -5,37 +5,46 @@ use mathlib.Core.Bool.{Bool, true, false, not, cond, _&&_}
 use mathlib.Core.Path.{_≡_, refl, ap, sym, _∙_, subst}
 use mathlib.Core.Logic.{_⊎_, inl, inr, ⊎-elim}
 use mathlib.Core.List.{List, [], _∷_, List·Memᴰ, List·Memᴰ·head, List·Memᴰ·tail}
+use mathlib.Core.Option.{some}
 use lib.ListN.{length, drop}
 use lib.Seq.{length-sets}
 use lib.Dec.{eqb, leb, ltb}
 use borrow.Author.Tests.{eqb-true, leb-true, le-leb, ltb-true, not-true}
 use Rattle.quorum.proofs.Logic.{impossible, and-split, and-true, or-split}
-use Rattle.area.specs.Area.{Bytes, same}
+use Rattle.area.specs.Area.{Bytes, pick, same}
 use Rattle.area.proofs.Same.{same-true}
 use Rattle.frame.specs.declared.Party.{Party}
 use Rattle.frame.specs.declared.Verdict.{Verdict}
+use Rattle.frame.specs.declared.Header.{Header}
+use Rattle.frame.specs.declared.Refusal.{Refusal}
 use Rattle.frame.specs.declared.Party.the-variants as P
 use Rattle.frame.specs.declared.Verdict.the-variants as J
+use Rattle.frame.specs.declared.Opened.the-variants as O
 use Rattle.frame.specs.Params.{width, Bounded}
-use Rattle.frame.specs.Messages.{Sending, numberIn}
-use Rattle.frame.specs.Frames.{build}
+use Rattle.frame.specs.Messages.{Sending, numberIn, Judged, bad, good}
+use Rattle.frame.specs.Frames.{build, opened}
 use Rattle.frame.specs.Chunks.{entryAt, areaBytes, rowsBytes}
 use Rattle.frame.proofs.Sizes.{Small, small}
 use Rattle.server_rules.specs.declared.Server.{Server}
 use Rattle.server_rules.specs.State.{freshServer}
 use Rattle.server_rules.specs.Delivery as SD
 use Rattle.client_rules.specs.declared.Client.{Client}
+use Rattle.client_rules.specs.State.{writing}
 use Rattle.client_rules.specs.Steps as C
+use Rattle.client_rules.specs.Delivery as CD
 use Rattle.client_rules.specs.Beginning as CB
-use Rattle.runs.specs.World.{Setup, Call, toServer, toClient, beginRead, beginWrite, caller, ServerSide, ClientSide, World, put, initialOf, start, lentBy, step, run, sends, serverEffect, clientEffect}
+use Rattle.runs.specs.World.{Setup, Call, toServer, toClient, beginRead, beginWrite, caller, ServerSide, ClientSide, World, put, initialOf, start, lentBy, lentTo, step, run, sends, serverEffect, clientEffect}
 use Rattle.server_rules.specs.Steps.{Write}
 use Rattle.client_rules.specs.Rows.{Found}
 use Rattle.runs.specs.Events.{Event, At, Accepts, CompletesRead, EndsWrite, OpensRead, OpensWrite}
-use Rattle.runs.specs.Admissible.{Sent, Honest, Proper, Admissible}
+use Rattle.runs.specs.Admissible.{Sent, Named, Honest, Proper, Admissible}
 use Rattle.witness.proofs.Areas.{Shows}
-use Rattle.witness.proofs.Served.{Sees, served, server-seen}
-use Rattle.witness.proofs.Asked.{Hears, asked, client-seen}
-use Rattle.witness.proofs.Images.{ServerImage, ClientImage, Answer, Image, sameParty, amongSends, wasSent, allBytes, honest, properFrame, properCall, seenServer, seenClient, advance, image, acceptedIn, endIn}
+use Rattle.witness.specs.Refusals.{Refuses}
+use Rattle.witness.proofs.Served.{Sees, served, server-seen, judge-seen as judge-server}
+use Rattle.witness.proofs.Served as Served
+use Rattle.witness.proofs.Asked.{Hears, asked, client-seen, judge-seen as judge-client}
+use Rattle.witness.proofs.Asked as Asked
+use Rattle.witness.proofs.Images.{ServerImage, ClientImage, Answer, Image, sameParty, amongSends, wasSent, allBytes, judgedBad, verdictBad, isFrame, honest, properFrame, properCall, lentIn, seenServer, seenClient, advance, image, refusedIn, acceptedIn, endIn}
 
 -- f with x at i and h with y at i are alike where f and h are
 put-both : {A B : Type 0} (R : A → B → Type 0) (f : ℕ → A) (h : ℕ → B) (i : ℕ) (x : A) (y : B) → R x y → ((j : ℕ) → R (f j) (h j)) → (j : ℕ) → R (put f i x j) (put h i y j)
@@ -119,12 +128,16 @@ module _ (Z : Setup) (G : Exact Z) where
       subst (λ s. Sees g (serverEffect Z w i from f out to) (served H g i s (v .servers i .entries) (initialOf Z i) from f out to)) (D .servers i .server)
       (server-seen H g (G .bounded) M i (w .servers i .server) (w .servers i .area) (v .servers i .entries) (D .servers i .area) (initialOf Z i) (initial-is i) from f out to)
 
-  client-at : (w : World) (v : Image) → Depicts w v → (c : ℕ) (from : Party) (f result out to : List ℕ)
-      → Hears g (clientEffect Z w c from f result out to) (seenClient Z v c from f result out to)
-  client-at w v D c from f result out to =
-      subst (λ s. Hears g (clientEffect Z w c from f result out to) (asked H g c s (v .clients c .entries) (v .clients c .value) from f result out to)) (D .clients c .client)
-      (subst (λ u. Hears g (clientEffect Z w c from f result out to) (asked H g c (w .clients c .client) (v .clients c .entries) u from f result out to)) (D .clients c .value)
-      (client-seen H g (G .bounded) M c (w .clients c .client) (w .clients c .area) (v .clients c .entries) (D .clients c .area) (w .clients c .value) from f result out to))
+  -- what a host lends
+  lent-at : (w : World) (v : Image) → Depicts w v → (c : ℕ) (lent : List ℕ) → lentTo Z w c lent ≡ lentIn Z v c lent
+  lent-at w v D c lent i = pick (writing (D .clients c .client i .phase)) (D .clients c .value i) lent
+
+  client-at : (w : World) (v : Image) → Depicts w v → (c : ℕ) (from : Party) (f lent result out to : List ℕ)
+      → Hears g (clientEffect Z w c from f lent result out to) (seenClient Z v c from f lent result out to)
+  client-at w v D c from f lent result out to =
+      subst (λ s. Hears g (clientEffect Z w c from f lent result out to) (asked H g c s (v .clients c .entries) (lentIn Z v c lent) from f result out to)) (D .clients c .client)
+      (subst (λ u. Hears g (clientEffect Z w c from f lent result out to) (asked H g c (w .clients c .client) (v .clients c .entries) u from f result out to)) (lent-at w v D c lent)
+      (client-seen H g (G .bounded) M c (w .clients c .client) (w .clients c .area) (v .clients c .entries) (D .clients c .area) (lentTo Z w c lent) from f result out to))
 
   advances : (w : World) (v : Image) → Depicts w v → (k : Call) → Depicts (step Z w k) (advance Z v k)
   unfolding step advance
@@ -134,8 +147,8 @@ module _ (Z : Setup) (G : Exact Z) where
         servers = put-both ServerLike (w .servers) (v .servers) i _ _ (record { server = S .server; area = S .area }) (D .servers);
         clients = D .clients;
       }
-  advances w v D (toClient c from f result out to) =
-      let S = client-at w v D c from f result out to in
+  advances w v D (toClient c from f lent result out to) =
+      let S = client-at w v D c from f lent result out to in
       record {
         servers = D .servers;
         clients = put-both ClientLike (w .clients) (v .clients) c _ _ (record { client = S .client; area = S .area; value = D .clients c .value }) (D .clients);
@@ -174,7 +187,7 @@ module _ (Z : Setup) (G : Exact Z) where
   logged-by : (ks : List Call) (k : Call) → Logged ks (image Z ks .log) → Logged (k ∷ ks) (advance Z (image Z ks) k .log)
   unfolding advance sends
   logged-by ks (toServer i from f out to) h = (refl, server-at (run Z ks) (image Z ks) (depicts ks) i from f out to .sends, h)
-  logged-by ks (toClient c from f result out to) h = (refl, client-at (run Z ks) (image Z ks) (depicts ks) c from f result out to .sends, h)
+  logged-by ks (toClient c from f lent result out to) h = (refl, client-at (run Z ks) (image Z ks) (depicts ks) c from f lent result out to .sends, h)
   logged-by ks (beginRead c out to) h = (refl, ap (λ s. CB.readBegun g c s out to .sends) (depicts ks .clients c .client), h)
   logged-by ks (beginWrite c v out to) h = (refl, ap (λ s. CB.writeBegun g c s v out to .sends) (depicts ks .clients c .client), h)
 
@@ -214,30 +227,36 @@ module _ (Z : Setup) (G : Exact Z) where
   is-honest (P.Server j) h = and-true _ _ (and-true _ _ (le-leb 1 j (h .0 .0)) (le-leb j (g .n) (h .0 .1))) (ap not (h .1))
   is-honest (P.Client c) h = and-true _ _ (and-true _ _ (le-leb 1 c (h .0 .0)) (le-leb c 8 (h .0 .1))) (ap not (h .1))
 
-  frame-proper : (ks : List Call) (b a : Party) (f : List ℕ) → properFrame Z (image Z ks .log) b a f ≡ true → Honest Z b × Bytes f × (Honest Z a → Sent Z ks a b f)
+  frame-is : (f : List ℕ) (h : Header) → opened g f ≡ O.Frame h → isFrame (opened g f) ≡ true
+  unfolding isFrame
+  frame-is f h o = ap isFrame o
+
+  frame-proper : (ks : List Call) (b a : Party) (f : List ℕ) → properFrame Z (image Z ks .log) b a f ≡ true → Honest Z b × Bytes f × Named Z ks a b f
   unfolding properFrame
   frame-proper ks b a f e =
       let w = and-split (honest Z b) _ e in
       let y = and-split (allBytes f) _ (w .1) in (
         honest-is b (w .0),
         are-bytes f (y .0),
-        λ h. ⊎-elim
-            (λ u. impossible (cc (is-honest a h, not-true (honest Z a) u)))
+        λ h o t. ⊎-elim
+            (λ u. impossible (cc (is-honest a t, not-true (honest Z a) u)))
+            (⊎-elim
             (λ u. sent-by ks (image Z ks .log) (logged ks) a b f u)
-            (or-split (not (honest Z a)) _ (y .1)),
+            (λ u. impossible (cc (frame-is f h o, not-true (isFrame (opened g f)) u))))
+            (⊎-elim (λ u. inl u) (λ u. inr (or-split (wasSent (image Z ks .log) a b f) _ u)) (or-split (not (honest Z a)) _ (y .1))),
       )
 
   call-proper : (ks : List Call) (k : Call) → properCall Z (image Z ks .log) k ≡ true → Proper Z ks k
   unfolding properCall
   call-proper ks (toServer i from f out to) e = frame-proper ks (P.Server i) from f e
-  call-proper ks (toClient c from f result out to) e = frame-proper ks (P.Client c) from f e
+  call-proper ks (toClient c from f lent result out to) e = frame-proper ks (P.Client c) from f e
   call-proper ks (beginRead c out to) e = honest-is (P.Client c) e
   call-proper ks (beginWrite c v out to) e = let w = and-split (honest Z (P.Client c)) _ e in (honest-is (P.Client c) (w .0), are-bytes v (w .1))
 
   proper-split : (v : Image) (k : Call) → advance Z v k .proper ≡ true → (v .proper ≡ true) × (properCall Z (v .log) k ≡ true)
   unfolding advance
   proper-split v (toServer i from f out to) e = and-split (v .proper) _ e
-  proper-split v (toClient c from f result out to) e = and-split (v .proper) _ e
+  proper-split v (toClient c from f lent result out to) e = and-split (v .proper) _ e
   proper-split v (beginRead c out to) e = and-split (v .proper) _ e
   proper-split v (beginWrite c u out to) e = and-split (v .proper) _ e
 
@@ -255,7 +274,7 @@ module _ (Z : Setup) (G : Exact Z) where
   unfolding acceptedIn
   accepts-by ks (toServer j from f out to) i x h e =
       (ap numberIn (sym h), subst (List·Memᴰ x) (sym (server-at (run Z ks) (image Z ks) (depicts ks) j from f out to .accepted)) e)
-  accepts-by ks (toClient c from f result out to) i x h e = impossible (cc)
+  accepts-by ks (toClient c from f lent result out to) i x h e = impossible (cc)
   accepts-by ks (beginRead c out to) i x h e = impossible (cc)
   accepts-by ks (beginWrite c v out to) i x h e = impossible (cc)
 
@@ -263,11 +282,11 @@ module _ (Z : Setup) (G : Exact Z) where
       → endIn Z (image Z ks) k ≡ C.completed x → CompletesRead Z c q x ks k
   unfolding endIn
   completes-by ks (toServer j from f out to) c q x h r e = impossible (cc)
-  completes-by ks (toClient d from f result out to) c q x h r e =
+  completes-by ks (toClient d from f lent result out to) c q x h r e =
       let w : c ≡ d = ap numberIn (sym h) in (
         w,
         ap (λ y. run Z ks .clients y .client .reads) (sym w) ∙ ap (λ s. s .reads) (depicts ks .clients c .client) ∙ r,
-        client-at (run Z ks) (image Z ks) (depicts ks) d from f result out to .event ∙ e,
+        client-at (run Z ks) (image Z ks) (depicts ks) d from f lent result out to .event ∙ e,
       )
   completes-by ks (beginRead d out to) c q x h r e = impossible (cc)
   completes-by ks (beginWrite d v out to) c q x h r e = impossible (cc)
@@ -276,11 +295,11 @@ module _ (Z : Setup) (G : Exact Z) where
       → endIn Z (image Z ks) k ≡ C.written → EndsWrite Z c q ks k
   unfolding endIn
   ends-by ks (toServer j from f out to) c q h r e = impossible (cc)
-  ends-by ks (toClient d from f result out to) c q h r e =
+  ends-by ks (toClient d from f lent result out to) c q h r e =
       let w : c ≡ d = ap numberIn (sym h) in (
         w,
         ap (λ y. run Z ks .clients y .client .writes) (sym w) ∙ ap (λ s. s .writes) (depicts ks .clients c .client) ∙ r,
-        client-at (run Z ks) (image Z ks) (depicts ks) d from f result out to .event ∙ e,
+        client-at (run Z ks) (image Z ks) (depicts ks) d from f lent result out to .event ∙ e,
       )
   ends-by ks (beginRead d out to) c q h r e = impossible (cc)
   ends-by ks (beginWrite d v out to) c q h r e = impossible (cc)
@@ -296,6 +315,39 @@ module _ (Z : Setup) (G : Exact Z) where
   opens-write-by ks c q v out to r e =
       let h = depicts ks .clients c .client in
       (refl, ap (λ s. s .writes + 1) h ∙ r, refl, ap (λ s. CB.writeTest g c s v out to) h ∙ e)
+
+  -- ---- refusals
+
+  judged-bad : (j : Judged) (r : Refusal) → judgedBad j ≡ some r → j ≡ bad r
+  unfolding judgedBad
+  judged-bad (bad x) r e = let h : x ≡ r = cc e in ap bad h
+  judged-bad (good m) r e = impossible (cc e)
+
+  verdict-bad : (b : Verdict) (r : Refusal) → verdictBad b ≡ some r → b ≡ J.Bad r
+  unfolding verdictBad
+  verdict-bad (J.Bad x) r e = let h : x ≡ r = cc e in ap J.Bad h
+  verdict-bad J.Fine r e = impossible (cc e)
+
+  pub refuses-by : (ks : List Call) (k : Call) (r : Refusal) → refusedIn Z (image Z ks) k ≡ some r → Refuses Z r ks k
+  unfolding refusedIn SD.delivery SD.outcomeOf SD.replyOf CD.delivery CD.outcomeOf CD.answerOf CB.readBeginning CB.writeBeginning CB.begunOf CB.beginAnswer
+  refuses-by ks (toServer i from f out to) r e =
+      let D = depicts ks .servers i in
+      let p = run Z ks .servers i in
+      let j = judge-server H g (G .bounded) M i (p .server) (p .area) (initialOf Z i) from f out to (D .area .long) (initial-is i) in
+      let b = j ∙ ap (λ s. Served.judgeBy H g i s from f out to) (D .server) ∙ judged-bad _ r e in
+      ap (λ x. SD.replyOf H g i x (length (serverEffect Z (run Z ks) i from f out to .sends))) b
+  refuses-by ks (toClient c from f lent result out to) r e =
+      let D = depicts ks .clients c in
+      let p = run Z ks .clients c in
+      let j = judge-client H g (G .bounded) M c (p .client) (p .area) (lentTo Z (run Z ks) c lent) from f result out to (D .area .long) in
+      let b = j ∙ (λ z. Asked.judgeBy H g c (D .client z) (lent-at (run Z ks) (image Z ks) (depicts ks) c lent z) from f result out to) ∙ judged-bad _ r e in
+      ap (λ x. CD.answerOf x (clientEffect Z (run Z ks) c from f lent result out to)) b
+  refuses-by ks (beginRead c out to) r e =
+      ap (λ b. CB.beginAnswer g c b (CB.readBegun g c (run Z ks .clients c .client) out to))
+      (ap (λ s. CB.readTest g c s out to) (depicts ks .clients c .client) ∙ verdict-bad _ r e)
+  refuses-by ks (beginWrite c v out to) r e =
+      ap (λ b. CB.beginAnswer g c b (CB.writeBegun g c (run Z ks .clients c .client) v out to))
+      (ap (λ s. CB.writeTest g c s v out to) (depicts ks .clients c .client) ∙ verdict-bad _ r e)
 
 -- what happens before the last n calls happens in the run
 pub at-drop : (E : Event) (n : ℕ) (ks : List Call) (p : ℕ) → At E (drop n ks) p → At E ks p

@@ -3,6 +3,7 @@ use native.Mathlib.Omega.{arith}
 use mathlib.Core.Path.{refl}
 use mathlib.Core.Logic.{inl, inr}
 use mathlib.Core.List.{List·Memᴰ·head, List·Memᴰ·tail}
+use lib.Dec.{eqb}
 use Rattle.quorum.proofs.Logic.{impossible}
 use Rattle.frame.specs.Frames.{build}
 use Rattle.runs.specs.Events.{At, CompletesRead}
@@ -38,8 +39,10 @@ use Rattle.client_rules.specs.State as ClState
 use Rattle.client_rules.specs.Steps as ClSteps
 use Rattle.client_rules.specs.Tests as ClTests
 use Rattle.runs.specs.World as RuWorld
+use Rattle.runs.specs.World.{Sound}
 use Rattle.witness.specs.Toy as Toy
-use Rattle.witness.specs.FalseParties.{g, initial, Z, falseTime, question, answer, calls, found}
+use Rattle.witness.specs.FalseParties.{g, initial, Z, falseTime, question, answer, calls, found, Shown}
+use Rattle.witness.proofs.Setups as Setups
 use Rattle.witness.proofs.Images.{allBytes}
 use Rattle.witness.proofs.Depicted.{are-bytes}
 
@@ -49,18 +52,18 @@ unfolding allBytes Toy.toy Toy.zeros Toy.four Toy.setup Toy.handServer Toy.handC
 computed = (
   inl (refl, (refl, refl, refl)),
   (
-    (((omega arith, omega arith), refl), are-bytes (build (answer 4)) refl, λ h. impossible (cc (h .1))),
+    (((omega arith, omega arith), refl), are-bytes (build (answer 4)) refl, λ x o h. impossible (cc (h .1))),
     (
-      (((omega arith, omega arith), refl), are-bytes (build (answer 2)) refl, λ h. inr (inl (refl, _, List·Memᴰ·head refl, refl, refl))),
+      (((omega arith, omega arith), refl), are-bytes (build (answer 2)) refl, λ x o h. inr (inl (refl, _, List·Memᴰ·head refl, refl, refl))),
       (
-        (((omega arith, omega arith), refl), are-bytes (build (answer 1)) refl, λ h. inr (inl (refl, _, List·Memᴰ·head refl, refl, refl))),
+        (((omega arith, omega arith), refl), are-bytes (build (answer 1)) refl, λ x o h. inr (inl (refl, _, List·Memᴰ·head refl, refl, refl))),
         (
-          (((omega arith, omega arith), refl), are-bytes (build question) refl, λ h. inr (inl (refl, _, List·Memᴰ·tail (List·Memᴰ·head refl), refl, refl))),
+          (((omega arith, omega arith), refl), are-bytes (build question) refl, λ x o h. inr (inl (refl, _, List·Memᴰ·tail (List·Memᴰ·head refl), refl, refl))),
           (
-            (((omega arith, omega arith), refl), are-bytes (build question) refl, λ h. inl (refl, _, List·Memᴰ·head refl, refl, refl)),
+            (((omega arith, omega arith), refl), are-bytes (build question) refl, λ x o h. inl (refl, _, List·Memᴰ·head refl, refl, refl)),
             (
               ((omega arith, omega arith), refl),
-              ((((omega arith, omega arith), refl), are-bytes (build falseTime) refl, λ h. impossible (cc (h .1))), tt),
+              ((((omega arith, omega arith), refl), are-bytes (build falseTime) refl, λ x o h. impossible (cc (h .1))), tt),
             ),
           ),
         ),
@@ -69,10 +72,10 @@ computed = (
   ),
 )
 
--- the read completes with the initial value
-pub completes : At (CompletesRead Z 2 1 found) calls 6
-completes = computed .0
+sound : Sound Z
+unfolding Z g Toy.four initial QuQuorum.count
+sound = Setups.sound Toy.toy g initial 4 (λ c. eqb c 1) (Setups.bounded 1 1 (omega arith) (omega arith) (omega arith) (omega arith))
+    (record { many = omega arith; few = omega arith }) refl (omega arith, tt)
 
--- and the list of calls is a run
-pub admissible : Admissible Z calls
-admissible = computed .1
+pub shown : Shown
+shown = record { sound = sound; admissible = computed .1; completes = computed .0 }

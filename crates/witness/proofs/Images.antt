@@ -3,24 +3,32 @@
 use Prim.Native.Nat.{ℕ}
 use mathlib.Core.Bool.{Bool, true, false, not, _&&_, _||_}
 use mathlib.Core.List.{List, [], _∷_}
+use mathlib.Core.Option.{Option, none, some}
 use lib.Dec.{eqb, leb, ltb}
-use Rattle.area.specs.Area.{same}
+use Rattle.area.specs.Area.{pick, same}
 use Rattle.frame.specs.declared.Party.{Party}
+use Rattle.frame.specs.declared.Opened.{Opened}
+use Rattle.frame.specs.declared.Refusal.{Refusal}
+use Rattle.frame.specs.declared.Verdict.{Verdict}
+use Rattle.frame.specs.declared.Verdict.the-variants as J
 use Rattle.frame.specs.declared.Party.the-variants as P
-use Rattle.frame.specs.Messages.{Entry, Sending}
-use Rattle.frame.specs.Frames.{build}
+use Rattle.frame.specs.declared.Opened.the-variants as O
+use Rattle.frame.specs.Messages.{Entry, Sending, Judged, bad, good}
+use Rattle.frame.specs.Frames.{build, opened}
 use Rattle.frame.specs.Chunks.{entryAt}
 use Rattle.server_rules.specs.declared.Server.{Server}
 use Rattle.server_rules.specs.State.{freshServer}
 use Rattle.client_rules.specs.declared.Client.{Client}
-use Rattle.client_rules.specs.State.{freshClient}
+use Rattle.client_rules.specs.State.{freshClient, writing}
 use Rattle.client_rules.specs.Steps as C
 use Rattle.client_rules.specs.Beginning as CB
 use Rattle.runs.specs.World.{Setup, Call, toServer, toClient, beginRead, beginWrite, put, initialOf, start, lentBy, run, sends}
 use Rattle.server_rules.specs.Steps.{Write}
 use Rattle.runs.specs.Events.{Event}
 use Rattle.witness.proofs.Served.{Seen, served}
+use Rattle.witness.proofs.Served as Served
 use Rattle.witness.proofs.Asked.{Heard, asked}
+use Rattle.witness.proofs.Asked as Asked
 
 -- ---- what is seen
 
@@ -65,6 +73,18 @@ unfoldable pub allBytes : List ℕ → Bool
 allBytes [] = true
 allBytes (x ∷ l) = ltb x 256 && allBytes l
 
+unfoldable pub judgedBad : Judged → Option Refusal
+judgedBad (bad r) = some r
+judgedBad (good m) = none
+
+unfoldable pub verdictBad : Verdict → Option Refusal
+verdictBad (J.Bad r) = some r
+verdictBad J.Fine = none
+
+unfoldable pub isFrame : Opened → Bool
+isFrame (O.Frame h) = true
+isFrame (O.Refused r) = false
+
 module _ (Z : Setup) where
   open Setup Z using (H, g, faultyServer, faultyClient)
 
@@ -72,13 +92,13 @@ module _ (Z : Setup) where
   honest (P.Server j) = (leb 1 j && leb j (g .n)) && not (faultyServer j)
   honest (P.Client c) = (leb 1 c && leb c 8) && not (faultyClient c)
 
-  -- a frame handed to b from a: b is honest, and an honest a has sent it to b
+  -- a frame handed to b from a: b is honest, and an honest a has sent it to b, unless it does not open
   unfoldable pub properFrame : List Answer → Party → Party → List ℕ → Bool
-  properFrame l b a f = honest b && (allBytes f && (not (honest a) || wasSent l a b f))
+  properFrame l b a f = honest b && (allBytes f && (not (honest a) || (wasSent l a b f || not (isFrame (opened g f)))))
 
   unfoldable pub properCall : List Answer → Call → Bool
   properCall l (toServer i from f out to) = properFrame l (P.Server i) from f
-  properCall l (toClient c from f result out to) = properFrame l (P.Client c) from f
+  properCall l (toClient c from f lent result out to) = properFrame l (P.Client c) from f
   properCall l (beginRead c out to) = honest (P.Client c)
   properCall l (beginWrite c v out to) = honest (P.Client c) && allBytes v
 
@@ -87,8 +107,12 @@ module _ (Z : Setup) where
   abbrev pub seenServer : Image → ℕ → Party → List ℕ → List ℕ → List ℕ → Seen
   seenServer w i from f out to = served H g i (w .servers i .server) (w .servers i .entries) (initialOf Z i) from f out to
 
-  abbrev pub seenClient : Image → ℕ → Party → List ℕ → List ℕ → List ℕ → List ℕ → Heard
-  seenClient w c from f result out to = asked H g c (w .clients c .client) (w .clients c .entries) (w .clients c .value) from f result out to
+  -- what client c's host lends
+  abbrev pub lentIn : Image → ℕ → List ℕ → List ℕ
+  lentIn w c lent = pick (writing (w .clients c .client .phase)) (w .clients c .value) lent
+
+  abbrev pub seenClient : Image → ℕ → Party → List ℕ → List ℕ → List ℕ → List ℕ → List ℕ → Heard
+  seenClient w c from f lent result out to = asked H g c (w .clients c .client) (w .clients c .entries) (lentIn w c lent) from f result out to
 
   unfoldable pub advance : Image → Call → Image
   advance w (toServer i from f out to) =
@@ -100,9 +124,9 @@ module _ (Z : Setup) where
         log = record { by = P.Server i; sends = r .sends } ∷ w .log;
         proper = p;
       }
-  advance w (toClient c from f result out to) =
-      let r = seenClient w c from f result out to in
-      let p = w .proper && properCall (w .log) (toClient c from f result out to) in
+  advance w (toClient c from f lent result out to) =
+      let r = seenClient w c from f lent result out to in
+      let p = w .proper && properCall (w .log) (toClient c from f lent result out to) in
       record {
         servers = w .servers;
         clients = put (w .clients) c (record { client = r .client; entries = r .entries; value = w .clients c .value });
@@ -141,15 +165,22 @@ module _ (Z : Setup) where
   }
   image (k ∷ ks) = advance (image ks) k
 
+  -- whether a call is refused, and why
+  unfoldable pub refusedIn : Image → Call → Option Refusal
+  refusedIn w (toServer i from f out to) = judgedBad (Served.judgeBy H g i (w .servers i .server) from f out to)
+  refusedIn w (toClient c from f lent result out to) = judgedBad (Asked.judgeBy H g c (w .clients c .client) (lentIn w c lent) from f result out to)
+  refusedIn w (beginRead c out to) = verdictBad (CB.readTest g c (w .clients c .client) out to)
+  refusedIn w (beginWrite c v out to) = verdictBad (CB.writeTest g c (w .clients c .client) v out to)
+
   -- what a call accepts, and what it ends
   unfoldable pub acceptedIn : Image → Call → List Write
   acceptedIn w (toServer i from f out to) = seenServer w i from f out to .accepted
-  acceptedIn w (toClient c from f result out to) = []
+  acceptedIn w (toClient c from f lent result out to) = []
   acceptedIn w (beginRead c out to) = []
   acceptedIn w (beginWrite c v out to) = []
 
   unfoldable pub endIn : Image → Call → C.Event
   endIn w (toServer i from f out to) = C.nothing
-  endIn w (toClient c from f result out to) = seenClient w c from f result out to .event
+  endIn w (toClient c from f lent result out to) = seenClient w c from f lent result out to .event
   endIn w (beginRead c out to) = C.nothing
   endIn w (beginWrite c v out to) = C.nothing

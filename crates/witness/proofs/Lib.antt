@@ -3,5 +3,8 @@ pub mod Served
 pub mod Asked
 pub mod Images
 pub mod Depicted
+pub mod Setups
 pub mod WriteRead
 pub mod FalseParties
+pub mod Colliding
+pub mod Contending

@@ -241,7 +241,7 @@ module _ (H : List ℕ → List ℕ) (g : Params) (B : Bounded g) (M : Small g) 
   body-seen s a f X initial from c q is (timeIs z T) Q p = time-seen s a f X c is (numberIn from) z T
   body-seen s a f X initial from c q is (valueIs x e) Q p = record { server = refl; sends = refl; accepted = refl; area = X }
 
-  judge-seen : (s : Server) (a initial : List ℕ) (from : Party) (f out to : List ℕ) → length a ≡ areaBytes → length initial ≡ width g
+  pub judge-seen : (s : Server) (a initial : List ℕ) (from : Party) (f out to : List ℕ) → length a ≡ areaBytes → length initial ≡ width g
       → ST.judge H g me s a initial from f out to ≡ judgeBy H g me s from f out to
   unfolding ST.judge judgeBy
   judge-seen s a initial from f out to e h i =

@@ -9,7 +9,9 @@ use Rattle.frame.specs.Stamps.{zeroStamp}
 use Rattle.frame.specs.Messages.{send, Message, message, askRead, timeIs, valueIs}
 use Rattle.group_rules.specs.Coded.{entryOf, digestsOf}
 use Rattle.client_rules.specs.Rows.{Found}
-use Rattle.runs.specs.World.{Setup, Call}
+use Rattle.runs.specs.World.{Setup, Sound, Call}
+use Rattle.runs.specs.Admissible.{Admissible}
+use Rattle.runs.specs.Events.{At, CompletesRead}
 use Rattle.witness.specs.Toy.{toy, four, setup, handServer, handClient, startRead}
 
 unfoldable pub g : Params
@@ -19,7 +21,7 @@ unfoldable pub initial : List ℕ
 initial = 9 ∷ []
 
 unfoldable pub Z : Setup
-Z = setup g initial (λ c. eqb c 1)
+Z = setup toy g initial 4 (λ c. eqb c 1)
 
 -- what false client 1 sends, what client 2 asks, and what server j answers, false server 4 too
 unfoldable pub falseTime : Message
@@ -40,3 +42,9 @@ calls =
 -- what the read finds
 unfoldable pub found : Found
 found = record { stamp = zeroStamp; digests = digestsOf toy g initial; bytes = initial }
+
+-- what is shown: the theorem speaks of this run, and the read completes
+pub record Shown : Type 0 where
+  pub sound : Sound Z
+  pub admissible : Admissible Z calls
+  pub completes : At (CompletesRead Z 2 1 found) calls 6

@@ -1,3 +1,6 @@
 pub mod Toy
 pub mod WriteRead
 pub mod FalseParties
+pub mod Colliding
+pub mod Refusals
+pub mod Contending

@@ -10,8 +10,10 @@ use Rattle.frame.specs.Messages.{Entry, Stage, send, echo, ready, message, getS
 use Rattle.group_rules.specs.Coded.{entryOf, digestsOf}
 use Rattle.server_rules.specs.Steps.{Write}
 use Rattle.client_rules.specs.Rows.{Found}
-use Rattle.runs.specs.World.{Setup, Call}
-use Rattle.runs.specs.Demand.{Operation}
+use Rattle.runs.specs.World.{Setup, Sound, Call}
+use Rattle.runs.specs.Admissible.{Admissible}
+use Rattle.runs.specs.Events.{At, Accepts, CompletesRead, EndsWrite, OpensRead, OpensWrite}
+use Rattle.runs.specs.Demand.{Operation, Stands, Demand3}
 use Rattle.witness.specs.Toy.{toy, four, setup, handServer, handClient, startRead, startWrite}
 
 unfoldable pub g : Params
@@ -26,7 +28,7 @@ value = 1 ∷ 2 ∷ 3 ∷ []
 
 -- no client is false
 unfoldable pub Z : Setup
-Z = setup g initial (λ c. false)
+Z = setup toy g initial 4 (λ c. false)
 
 -- what server j gets of the value; the write's stamp: the largest time is 0
 unfoldable pub entryFor : ℕ → Entry
@@ -122,3 +124,19 @@ write = record { reading = false; client = 1; sequence = 1; stamp = stamp }
 
 unfoldable pub read : Operation
 read = record { reading = true; client = 2; sequence = 1; stamp = stamp }
+
+-- ---- what is shown
+
+pub record Shown : Type 0 where
+  -- the theorem speaks of this run
+  pub sound : Sound Z
+  pub admissible : Admissible Z calls
+  -- client 1, which is honest, begins its write 1 of the value; server 2, which is honest, accepts it; it ends
+  pub writes : At (OpensWrite Z 1 1 value) calls 0
+  pub accepts : At (Accepts Z 2 (writeAt 2)) calls 24
+  pub ends : At (EndsWrite Z 1 1) calls 30
+  -- then client 2's read 1 begins, and it returns what was written, with the write's stamp
+  pub opens : At (OpensRead Z 2 1) calls 31
+  pub completes : At (CompletesRead Z 2 1 found) calls 36
+  -- the write stands before the read in the row
+  pub in-order : (D : Demand3 Z calls) → Stands (D .row) write read

@@ -1,0 +1,38 @@
+-- "At n - t first stamps" blocks and time go out, "At n - t acks [the write] has ended": not at fewer. Assumes nothing.
+use Prim.Native.Nat.{ℕ, _-_, _≤_}
+use native.Mathlib.Omega.{arith}
+use mathlib.Core.Bool.{Bool, true, false}
+use mathlib.Core.Path.{_≡_, refl}
+use mathlib.Core.List.{List, List·Memᴰ, List·Memᴰ·not-nil}
+use lib.ListN.{getD, set}
+use borrow.Author.Tests.{leb-true}
+use Rattle.quorum.specs.Quorum.{count}
+use Rattle.quorum.proofs.Logic.{impossible}
+use Rattle.blocks.specs.declared.Params.{Params}
+use Rattle.frame.specs.Messages.{Sending}
+use Rattle.client_rules.specs.declared.Client.{Client}
+use Rattle.client_rules.specs.Steps as C
+
+module _ (H : List ℕ → List ℕ) (g : Params) (me : ℕ) where
+  end-true : (b : Bool) (s : Client) (a : List ℕ) (h : List Bool) → C.endBy H g me b s a h .event ≡ C.written → b ≡ true
+  unfolding C.endBy
+  end-true true s a h e = refl
+  end-true false s a h e = impossible (cc e)
+
+  send-true : (b : Bool) (s : Client) (a v : List ℕ) (x : Sending) → List·Memᴰ x (C.gatherBy H g me b s a v .sends) → b ≡ true
+  unfolding C.gatherBy
+  send-true true s a v x u = refl
+  send-true false s a v x u = absurd (List·Memᴰ·not-nil u)
+
+  module _ (s : Client) (a : List ℕ) (j : ℕ) where
+    -- how many servers are marked once server j's stamp or ack came
+    abbrev pub marked : ℕ
+    marked = count (λ i. getD (set (s .heard) j true) i false) (g .n)
+
+    pub ended-acks : C.onAck H g me s a j .event ≡ C.written → g .n - g .t ≤ marked
+    unfolding C.onAck C.quorate
+    ended-acks e = let h = leb-true (g .n) _ (end-true _ s a _ e) in omega (arith, h)
+
+    pub sent-stamps : (v : List ℕ) (T : ℕ) (x : Sending) → List·Memᴰ x (C.onStamp H g me s a v j T .sends) → g .n - g .t ≤ marked
+    unfolding C.onStamp C.quorate
+    sent-stamps v T x u = let h = leb-true (g .n) _ (send-true _ _ a v x u) in omega (arith, h)

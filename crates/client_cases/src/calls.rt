@@ -29,8 +29,7 @@ fn count_of(size: usize, bytes: &[u8]) -> usize
 }
 
 fn answered(
-    g: Params,
-    me: u8,
+    c: Given,
     s: Client,
     value: &[u8],
     from: Party,
@@ -41,7 +40,8 @@ fn answered(
     to: &mut [u8],
 ) -> Client {
     let before = image_of(s, rows, result, out, to);
-    let r = deliver(g, me, s, value, from, f, rows, result, out, to);
+    let g = c.g;
+    let r = deliver(g, c.me, s, value, from, f, rows, result, out, to);
     let a = r.answer;
     let y = r.client;
     let after = image_of(y, rows, result, out, to);
@@ -63,11 +63,9 @@ pub fn hand_from(name: &[u8], c: Given, x: Trial, from: Party, f: &[u8]) -> Tria
     let l = count_of(c.result, &result);
     let o = count_of(c.out, &out);
     let w = count_of(c.to, &to);
-    let g = c.g;
     let s = x.client;
     let client = answered(
-        g,
-        c.me,
+        c,
         s,
         &value[..v],
         from,

@@ -6,13 +6,13 @@ pub mod tests;
 pub mod writing;
 
 use blocks::Params;
+use client::Call;
 use client::tests::room_test;
 use client::tests::value_test;
 use client_rules::Answer;
 use client_rules::Answered;
 use client_rules::Client;
 use client_rules::Phase;
-use frame::Header;
 use frame::Opened;
 use frame::Party;
 use frame::Refusal;
@@ -64,29 +64,31 @@ fn reason(o: Opened) -> Refusal
 
 // The step of an opened frame, or its refusal by 11 to 14.
 fn step(
-    g: Params,
-    me: u8,
     s: Client,
+    k: Call,
     value: &[u8],
-    from: Party,
-    h: Header,
     f: &[u8],
     area: &mut [u8],
     result: &mut [u8],
     out: &mut [u8],
     to: &mut [u8],
 ) -> Answered
-    requires { ⌜ Admitted g s (h .kind) (length (now value)) (length (now f)) (length (now area)) (length (now result)) (length (now out)) (length (now to)) ⌝ }
-    ensures { λ r. ⌜ outcome r (now (area .exit)) (now (result .exit)) (now (out .exit)) (now (to .exit)) ≡ answered (messageTest digestOf g me s from (messageIn g h (now (f .entry)))) s (now (area .entry)) (effect digestOf g me s (now (area .entry)) (now (value .entry)) from (messageIn g h (now (f .entry)))) (now (result .entry)) (now (out .entry)) (now (to .entry)) ⌝ }
+    requires { ⌜ Admitted (k .params) s (k .header .kind) (length (now value)) (length (now f)) (length (now area)) (length (now result))
+        (length (now out)) (length (now to)) ⌝ }
+    ensures { λ r. ⌜ outcome r (now (area .exit)) (now (result .exit)) (now (out .exit)) (now (to .exit))
+        ≡ answered (messageTest digestOf (k .params) (k .me) s (k .from) (messageIn (k .params) (k .header) (now (f .entry)))) s (now (area .entry))
+        (effect digestOf (k .params) (k .me) s (now (area .entry)) (now (value .entry)) (k .from) (messageIn (k .params) (k .header) (now (f .entry))))
+        (now (result .entry)) (now (out .entry)) (now (to .entry)) ⌝ }
 {
+    let h = k.header;
     if h.kind == 2 {
-        return on_stamp(s, g, me, value, from, h, f, out, to);
+        return on_stamp(s, k, value, f, out, to);
     }
     if h.kind == 9 {
-        return on_ack(s, g, me, from, h);
+        return on_ack(s, k);
     }
     if h.kind == 11 {
-        return on_value(s, g, me, from, h, f, area, result, out, to);
+        return on_value(s, k, f, area, result, out, to);
     }
     Answered {
         answer: Answer::Refused(Refusal::Sender),
@@ -107,7 +109,8 @@ pub fn deliver(
     out: &mut [u8],
     to: &mut [u8],
 ) -> Answered
-    ensures { λ r. ⌜ outcome r (now (area .exit)) (now (result .exit)) (now (out .exit)) (now (to .exit)) ≡ delivery digestOf g me s (now (area .entry)) (now (value .entry)) from (now (f .entry)) (now (result .entry)) (now (out .entry)) (now (to .entry)) ⌝ }
+    ensures { λ r. ⌜ outcome r (now (area .exit)) (now (result .exit)) (now (out .exit)) (now (to .exit))
+        ≡ delivery digestOf g me s (now (area .entry)) (now (value .entry)) from (now (f .entry)) (now (result .entry)) (now (out .entry)) (now (to .entry)) ⌝ }
 {
     let p = s.phase;
     let call = call_test(g, me as usize, p, value.len());
@@ -118,7 +121,7 @@ pub fn deliver(
         };
     }
     let opened = open_frame(g, f);
-    let Opened::Frame(h) = opened else {
+    let Opened::Frame(header) = opened else {
         let r = reason(opened);
         return Answered {
             answer: Answer::Refused(r),
@@ -132,5 +135,11 @@ pub fn deliver(
             client: s,
         };
     }
-    step(g, me, s, value, from, h, f, area, result, out, to)
+    let k = Call {
+        params: g,
+        me,
+        from,
+        header,
+    };
+    step(s, k, value, f, area, result, out, to)
 }

@@ -1,7 +1,7 @@
 // Values of an open read: kind 11.
 use crate::record::with_row;
 use crate::tests::entry_test;
-use blocks::Params;
+use client::Call;
 use client::Spot;
 use client::rows::place_for;
 use client::rows::row_with;
@@ -9,8 +9,6 @@ use client_rules::Answer;
 use client_rules::Answered;
 use client_rules::Client;
 use client_search::settle;
-use frame::Header;
-use frame::Party;
 use frame::Stamp;
 use frame::Verdict;
 use frame::entries::keep_entry;
@@ -31,8 +29,7 @@ ghost use Rattle.client.specs.Stages.{Lent, stepped, answered};
 // A value from server j with stamp x is kept, if there is a place for it; then the rows are searched.
 fn keep(
     s: Client,
-    g: Params,
-    me: u8,
+    k: Call,
     j: usize,
     x: Stamp,
     f: &[u8],
@@ -41,38 +38,45 @@ fn keep(
     out: &mut [u8],
     to: &mut [u8],
 ) -> Answered
-    requires { ⌜ Lent g (length (now area)) (length (now result)) (length (now out)) (length (now to)) × (1 ≤ j) × (j ≤ g .n) × (22 + entryLength g ≤ length (now f)) ⌝ }
-    ensures { λ r. ⌜ outcome r (now (area .exit)) (now (result .exit)) (now (out .exit)) (now (to .exit)) ≡ stepped (onValue digestOf g me s (now (area .entry)) j x (entryIn g (now (f .entry)) 22)) (now (result .entry)) (now (out .entry)) (now (to .entry)) ⌝ }
+    requires { ⌜ Lent (k .params) (length (now area)) (length (now result)) (length (now out)) (length (now to)) × (1 ≤ j) × (j ≤ k .params .n) ×
+        (22 + entryLength (k .params) ≤ length (now f)) ⌝ }
+    ensures { λ r. ⌜ outcome r (now (area .exit)) (now (result .exit)) (now (out .exit)) (now (to .exit))
+        ≡ stepped (onValue digestOf (k .params) (k .me) s (now (area .entry)) j x (entryIn (k .params) (now (f .entry)) 22))
+        (now (result .entry)) (now (out .entry)) (now (to .entry)) ⌝ }
 {
     let row = s.rows[j];
     let spot = place_for(row, x);
     let Spot::At(i) = spot else {
-        return settle(s, g, me, area, result, out, to);
+        return settle(s, k.params, k.me, area, result, out, to);
     };
-    keep_entry(area, 4 * j - 4 + i, g, f, 22);
+    keep_entry(area, 4 * j - 4 + i, k.params, f, 22);
     let kept = row_with(row, i, x);
     let client = with_row(s, j, kept);
-    settle(client, g, me, area, result, out, to)
+    settle(client, k.params, k.me, area, result, out, to)
 }
 
 // 11: a server's value.
 pub fn on_value(
     s: Client,
-    g: Params,
-    me: u8,
-    from: Party,
-    h: Header,
+    k: Call,
     f: &[u8],
     area: &mut [u8],
     result: &mut [u8],
     out: &mut [u8],
     to: &mut [u8],
 ) -> Answered
-    requires { ⌜ Lent g (length (now area)) (length (now result)) (length (now out)) (length (now to)) × (22 + entryLength g ≤ length (now f)) ⌝ }
-    ensures { λ r. ⌜ outcome r (now (area .exit)) (now (result .exit)) (now (out .exit)) (now (to .exit)) ≡ answered (messageTest digestOf g me s from (message (h .client) (h .sequence) (valueIs (stampIn (now (f .entry))) (entryIn g (now (f .entry)) 22)))) s (now (area .entry)) (onValue digestOf g me s (now (area .entry)) (numberIn from) (stampIn (now (f .entry))) (entryIn g (now (f .entry)) 22)) (now (result .entry)) (now (out .entry)) (now (to .entry)) ⌝ }
+    requires { ⌜ Lent (k .params) (length (now area)) (length (now result)) (length (now out)) (length (now to)) ×
+        (22 + entryLength (k .params) ≤ length (now f)) ⌝ }
+    ensures { λ r. ⌜ outcome r (now (area .exit)) (now (result .exit)) (now (out .exit)) (now (to .exit))
+        ≡ answered (messageTest digestOf (k .params) (k .me) s (k .from) (message (k .header .client) (k .header .sequence)
+        (valueIs (stampIn (now (f .entry))) (entryIn (k .params) (now (f .entry)) 22)))) s (now (area .entry))
+        (onValue digestOf (k .params) (k .me) s (now (area .entry)) (numberIn (k .from)) (stampIn (now (f .entry))) (entryIn (k .params) (now (f .entry)) 22))
+        (now (result .entry)) (now (out .entry)) (now (to .entry)) ⌝ }
 {
+    let from = k.from;
+    let h = k.header;
     let x = stamp_in(f);
-    let v = entry_test(s, g, me, from, h, x, f);
+    let v = entry_test(s, k.params, k.me, from, h, x, f);
     if let Verdict::Bad(r) = v {
         return Answered {
             answer: Answer::Refused(r),
@@ -80,5 +84,5 @@ pub fn on_value(
         };
     }
     let j = number_in(from) as usize;
-    keep(s, g, me, j, x, f, area, result, out, to)
+    keep(s, k, j, x, f, area, result, out, to)
 }

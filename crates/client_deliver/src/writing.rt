@@ -1,9 +1,11 @@
 // Stamps and acks of an open write: kinds 2 and 9.
+use crate::dispersal::Write;
 use crate::dispersal::disperse;
 use crate::record::in_phase;
 use crate::record::shut;
 use crate::tests::reply_test;
 use blocks::Params;
+use client::Call;
 use client::counts::is_quorate;
 use client::counts::largest_time;
 use client::phases::is_acking;
@@ -12,8 +14,6 @@ use client_rules::Answer;
 use client_rules::Answered;
 use client_rules::Client;
 use client_rules::Phase;
-use frame::Header;
-use frame::Party;
 use frame::Verdict;
 use frame::parties::number_in;
 ghost use mathlib.Core.Path.{_≡_};
@@ -38,7 +38,8 @@ const LAST_TIME: u64 = 18446744073709551615;
 // "At n - t first stamps, take the largest time": it goes out with the blocks, or the write closes as out of stamps.
 fn gather(s: Client, g: Params, me: u8, value: &[u8], out: &mut [u8], to: &mut [u8]) -> Answered
     requires { ⌜ Bounded g × (length (now value) ≡ g .size) × Room firstPlace (2 * g .n) (largestFrame g) (length (now out)) (length (now to)) ⌝ }
-    ensures { λ r. ⌜ ((a l : List ℕ) → outcome r a l (now (out .exit)) (now (to .exit)) ≡ stepped (gatherBy digestOf g me true s a (now (value .entry))) l (now (out .entry)) (now (to .entry))) ⌝ }
+    ensures { λ r. ⌜ ((a l : List ℕ) → outcome r a l (now (out .exit)) (now (to .exit))
+        ≡ stepped (gatherBy digestOf g me true s a (now (value .entry))) l (now (out .entry)) (now (to .entry))) ⌝ }
 {
     let times = s.times;
     let time = largest_time(times, g.n);
@@ -49,7 +50,12 @@ fn gather(s: Client, g: Params, me: u8, value: &[u8], out: &mut [u8], to: &mut [
             client,
         };
     }
-    let p = disperse(value, g, me, s.writes, time, out, to);
+    let w = Write {
+        params: g,
+        me,
+        sequence: s.writes,
+    };
+    let p = disperse(value, w, time, out, to);
     let heard = [false; 11];
     let client = in_phase(s, Phase::Acking, heard, times);
     Answered {
@@ -61,22 +67,25 @@ fn gather(s: Client, g: Params, me: u8, value: &[u8], out: &mut [u8], to: &mut [
 // 2: a server's stamp.
 pub fn on_stamp(
     s: Client,
-    g: Params,
-    me: u8,
+    k: Call,
     value: &[u8],
-    from: Party,
-    h: Header,
     f: &[u8],
     out: &mut [u8],
     to: &mut [u8],
 ) -> Answered
-    requires { ⌜ Stamping g s (length (now value)) (length (now out)) (length (now to)) × (17 ≤ length (now f)) ⌝ }
-    ensures { λ r. ⌜ ((a l : List ℕ) → outcome r a l (now (out .exit)) (now (to .exit)) ≡ answered (messageTest digestOf g me s from (message (h .client) (h .sequence) (stampIs (be8 (now (f .entry)) 9)))) s a (onStamp digestOf g me s a (now (value .entry)) (numberIn from) (be8 (now (f .entry)) 9)) l (now (out .entry)) (now (to .entry))) ⌝ }
+    requires { ⌜ Stamping (k .params) s (length (now value)) (length (now out)) (length (now to)) × (17 ≤ length (now f)) ⌝ }
+    ensures { λ r. ⌜ ((a l : List ℕ) → outcome r a l (now (out .exit)) (now (to .exit))
+        ≡ answered (messageTest digestOf (k .params) (k .me) s (k .from) (message (k .header .client) (k .header .sequence)
+        (stampIs (be8 (now (f .entry)) 9)))) s a
+        (onStamp digestOf (k .params) (k .me) s a (now (value .entry)) (numberIn (k .from)) (be8 (now (f .entry)) 9)) l
+        (now (out .entry)) (now (to .entry))) ⌝ }
 {
+    let from = k.from;
+    let h = k.header;
     let p = s.phase;
     let mut heard = s.heard;
     let mut times = s.times;
-    let v = reply_test(g, me, from, h, is_asking(p), s.writes, heard);
+    let v = reply_test(k.params, k.me, from, h, is_asking(p), s.writes, heard);
     if let Verdict::Bad(r) = v {
         return Answered {
             answer: Answer::Refused(r),
@@ -87,24 +96,28 @@ pub fn on_stamp(
     heard[j] = true;
     times[j] = area::read8(f, 9);
     let client = in_phase(s, Phase::Asking, heard, times);
-    if !is_quorate(g, heard) {
+    if !is_quorate(k.params, heard) {
         return Answered {
             answer: Answer::Sent(0),
             client,
         };
     }
-    gather(client, g, me, value, out, to)
+    gather(client, k.params, k.me, value, out, to)
 }
 
 // 9: a server's ack.
-pub fn on_ack(s: Client, g: Params, me: u8, from: Party, h: Header) -> Answered
-    requires { ⌜ Bounded g ⌝ }
-    ensures { λ r. ⌜ ((a l o t : List ℕ) → outcome r a l o t ≡ answered (messageTest digestOf g me s from (message (h .client) (h .sequence) ack)) s a (onAck digestOf g me s a (numberIn from)) l o t) ⌝ }
+pub fn on_ack(s: Client, k: Call) -> Answered
+    requires { ⌜ Bounded (k .params) ⌝ }
+    ensures { λ r. ⌜ ((a l o t : List ℕ) → outcome r a l o t
+        ≡ answered (messageTest digestOf (k .params) (k .me) s (k .from) (message (k .header .client) (k .header .sequence) ack)) s a
+        (onAck digestOf (k .params) (k .me) s a (numberIn (k .from))) l o t) ⌝ }
 {
+    let from = k.from;
+    let h = k.header;
     let p = s.phase;
     let mut heard = s.heard;
     let times = s.times;
-    let v = reply_test(g, me, from, h, is_acking(p), s.writes, heard);
+    let v = reply_test(k.params, k.me, from, h, is_acking(p), s.writes, heard);
     if let Verdict::Bad(r) = v {
         return Answered {
             answer: Answer::Refused(r),
@@ -113,7 +126,7 @@ pub fn on_ack(s: Client, g: Params, me: u8, from: Party, h: Header) -> Answered
     }
     let j = number_in(from) as usize;
     heard[j] = true;
-    if !is_quorate(g, heard) {
+    if !is_quorate(k.params, heard) {
         let client = in_phase(s, Phase::Acking, heard, times);
         return Answered {
             answer: Answer::Sent(0),

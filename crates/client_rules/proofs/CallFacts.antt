@@ -25,21 +25,23 @@ use Rattle.frame.specs.declared.Verdict.the-variants as J
 use Rattle.frame.specs.Chunks.{rowsBytes}
 use Rattle.group_rules.specs.Coded.{entryOf}
 use Rattle.frame.specs.Messages.{Entry, send, Body, getStamp, ack, askRead, readComplete, stampIs, blockIs, timeIs, valueIs, Message, message, Sending, sending, toAll, Sized, FormedBody}
-use Rattle.frame.proofs.Chunks.{length-store}
 use Rattle.frame.proofs.Sizes.{Small}
 use Rattle.frame.proofs.Verdicts.{fine-both}
 use Rattle.client_rules.specs.declared.Phase.{Phase}
+use Rattle.client_rules.specs.declared.Row.{Row}
 use Rattle.client_rules.specs.declared.Client.{Client}
 use Rattle.client_rules.specs.declared.Phase.the-variants as F
 use Rattle.client_rules.specs.Rows.{used, Kept, placesFrom, rowView, rowWith, Found, search}
 use Rattle.client_rules.specs.State.{freshRow, freshClient, noRow, rowOf, inPhase, shut, withRow, heardOf, largest}
+use Rattle.client_rules.specs.WellFormed.{Within}
 use Rattle.client_rules.specs.Beginning as CB
 use Rattle.client_rules.specs.State as CS
 use Rattle.client_rules.specs.Steps as C
 use Rattle.client_rules.specs.Tests as CT
 use Rattle.client_rules.proofs.Views as CV
-use Rattle.client_rules.proofs.Shapes.{dispersed, largestNow, Keeps, drops, keeps, Shape, idle, hears, shuts, counts, ends, waits, completes, shape-of}
+use Rattle.client_rules.proofs.Shapes.{dispersed, largestNow, Keeps, drops, keeps, Shape, idle, hears, shuts, counts, ends, waits, completes, shape-length, shape-of}
 use Rattle.client_rules.proofs.Shapes.{sends as disperses}
+use Rattle.client_rules.proofs.Within.{Empty, fresh-within, read-within, write-within, step-within}
 use Rattle.client_rules.proofs.Agreed.{finds}
 use Rattle.client_rules.proofs.Sends.{mem-all}
 
@@ -80,9 +82,7 @@ le-largest f (suc k) j i = go (λ l. le-largest f k j (i .0, l)) (ℕ-discrete j
 -- ---- a client's state that calls find
 
 pub record ClientShape (s : Client) (a : List ℕ) : Type 0 where
-  pub shaped : CV.Shaped s
-  pub heard-many : length (s .heard) ≡ 11
-  pub times-many : length (s .times) ≡ 11
+  pub within : Within CV.shapes s
   pub room : rowsBytes ≤ length a
 
 pub set-cases : {A : Type 0} (l : List A) (i : ℕ) (v d : A) → i < length l → (j : ℕ) → ((j ≡ i) × (getD (set l i v) j d ≡ v)) ⊎ (getD (set l i v) j d ≡ getD l j d)
@@ -92,13 +92,13 @@ set-cases l i v d h j = go (ℕ-discrete j i)
     go (yes z) = inl (z, ap (λ y. getD (set l i v) y d) z ∙ getD-set-same l i v d h)
     go (no z) = inr (getD-set-other l i j v d z)
 
-pub row-shaped : (s : Client) → CV.Shaped s → (j : ℕ) → j ≤ 10 → (i : ℕ) (x : Stamp) → CV.Shaped (withRow s j (rowWith (rowOf s j) i x))
-row-shaped s S j hj i x = record {
-  rows-many = length-set (s .rows) j _ ∙ S .rows-many;
+pub row-shaped : (l : List Row) → CV.Shaped l → (j : ℕ) → j ≤ 10 → (i : ℕ) (x : Stamp) → CV.Shaped (set l j (rowWith (getD l j noRow) i x))
+row-shaped l S j hj i x = record {
+  rows-many = length-set l j _ ∙ S .rows-many;
   stamps-many = λ m hm. ⊎-elim
-      (λ w. ap (λ r. length (r .stamps)) (w .1) ∙ length-set (rowOf s j .stamps) i x ∙ S .stamps-many j hj)
+      (λ w. ap (λ r. length (r .stamps)) (w .1) ∙ length-set (getD l j noRow .stamps) i x ∙ S .stamps-many j hj)
       (λ w. ap (λ r. length (r .stamps)) w ∙ S .stamps-many m hm)
-      (set-cases (s .rows) j (rowWith (rowOf s j) i x) noRow (omega (arith, S .rows-many)) m);
+      (set-cases l j (rowWith (getD l j noRow) i x) noRow (omega (arith, S .rows-many)) m);
 }
 
 fresh-row : (n m : ℕ) → (getD (replicate n freshRow) m noRow .count ≡ 0)
@@ -107,12 +107,15 @@ fresh-row zero m = refl
 fresh-row (suc n) zero = refl
 fresh-row (suc n) (suc m) = fresh-row n m
 
-pub rows-shaped : (s : Client) → s .rows ≡ replicate 11 freshRow → CV.Shaped s
+pub rows-shaped : (l : List Row) → l ≡ replicate 11 freshRow → CV.Shaped l
 unfolding freshRow
-rows-shaped s e = record {
+rows-shaped l e = record {
   rows-many = ap length e ∙ length-replicate 11 freshRow;
   stamps-many = λ j h. ap (λ l. length (getD l j noRow .stamps)) e ∙ ap (λ r. length (r .stamps)) (getD-replicate 11 j freshRow noRow (omega arith));
 }
+
+shapes-empty : Empty CV.shapes
+shapes-empty = record { heard = refl; times = refl; rows = rows-shaped _ refl }
 
 pub no-rows : (g : Params) (s : Client) (a : List ℕ) (j : ℕ) (k : Kept) → s .rows ≡ replicate 11 freshRow → List·Memᴰ k (rowView g s a j) → ⊥
 unfolding rowView placesFrom
@@ -121,8 +124,7 @@ no-rows g s a j k e u =
     List·Memᴰ·not-nil (subst (λ n. List·Memᴰ k (placesFrom g a j (rowOf s j) 0 n)) c u)
 
 pub client-shape-fresh : (a : List ℕ) → rowsBytes ≤ length a → ClientShape freshClient a
-unfolding freshClient
-client-shape-fresh a R = record { shaped = rows-shaped freshClient refl; heard-many = refl; times-many = refl; room = R }
+client-shape-fresh a R = record { within = fresh-within CV.shapes shapes-empty tt; room = R }
 
 -- ---- the facts
 
@@ -194,7 +196,7 @@ module _ (H : List ℕ → List ℕ) (g : Params) (M : Small g) (few : g .n ≤ 
         go : Dec (i ≡ j) → KnowsT i T′
         go (yes z) =
             let w = kept-some (getD (heardNow j) i false) (getD (timesNow j T) i 0) T′ e in
-            let t : T ≡ T′ = sym (getD-set-same (s .times) j T 0 (omega (arith, X .times-many, few, ij .1))) ∙ ap (λ y. getD (timesNow j T) y 0) (sym z) ∙ w .1 in
+            let t : T ≡ T′ = sym (getD-set-same (s .times) j T 0 (omega (arith, X .within .times, few, ij .1))) ∙ ap (λ y. getD (timesNow j T) y 0) (sym z) ∙ w .1 in
             inr (subst (λ y. N i (message me (s .writes) (stampIs y))) t (subst (λ y. N y (message me (s .writes) (stampIs T))) (sym z) new))
         go (no z) =
             let u : kept (getD (heardNow j) i false) (getD (timesNow j T) i 0) ≡ timeOf s i =
@@ -203,22 +205,6 @@ module _ (H : List ℕ → List ℕ) (g : Params) (M : Small g) (few : g .n ≤ 
 
     abbrev asked : ℕ → ℕ → Client
     asked j T = inPhase s F.Asking (heardNow j) (timesNow j T)
-
-    asked-trim : ClientShape s a → (j T : ℕ) → ClientShape (asked j T) a
-    asked-trim X j T = record {
-      shaped = record { rows-many = X .shaped .rows-many; stamps-many = X .shaped .stamps-many };
-      heard-many = length-set (s .heard) j true ∙ X .heard-many;
-      times-many = length-set (s .times) j T ∙ X .times-many;
-      room = X .room;
-    }
-
-    phase-trim : ClientShape s a → (p : Phase) (h : List Bool) (ts : List ℕ) → length h ≡ 11 → length ts ≡ 11 → ClientShape (inPhase s p h ts) a
-    phase-trim X p h ts eh et = record {
-      shaped = record { rows-many = X .shaped .rows-many; stamps-many = X .shaped .stamps-many };
-      heard-many = eh;
-      times-many = et;
-      room = X .room;
-    }
 
     body-all : (f : ℕ → Message) (b : Party) (m : Message) → List·Memᴰ (sending b m) (toAll g f) → (j : ℕ) × (m .body ≡ f j .body) × (m .sequence ≡ f j .sequence)
     unfolding toAll
@@ -245,9 +231,10 @@ module _ (H : List ℕ → List ℕ) (g : Params) (M : Small g) (few : g .n ≤ 
       time-same T₁ T₂ e = cc
 
       -- the time that is sent is the largest of them, so at least each
-      send-facts : C.quorate g (heardNow j) ≡ true → ClientFacts (inPhase s F.Acking (replicate 11 false) (timesNow j T)) a (dispersed H g me s a v j (largestNow H g me s a v j T)) C.nothing
-      send-facts e = record {
-        client-shape = phase-trim X F.Acking (replicate 11 false) (timesNow j T) refl (length-set (s .times) j T ∙ X .times-many);
+      send-facts : ClientShape (inPhase s F.Acking (replicate 11 false) (timesNow j T)) a → C.quorate g (heardNow j) ≡ true
+          → ClientFacts (inPhase s F.Acking (replicate 11 false) (timesNow j T)) a (dispersed H g me s a v j (largestNow H g me s a v j T)) C.nothing
+      send-facts Y e = record {
+        client-shape = Y;
         writes-up = omega arith;
         reads-up = omega arith;
         t-kept = λ i T′ is q z. impossible (cc);
@@ -269,14 +256,9 @@ module _ (H : List ℕ → List ℕ) (g : Params) (M : Small g) (few : g .n ≤ 
         read-why = λ v z. impossible (cc);
       }
 
-      shut-facts : ClientFacts (shut (asked j T)) a [] C.outOfStamps
-      shut-facts = record {
-        client-shape = record {
-          shaped = record { rows-many = X .shaped .rows-many; stamps-many = X .shaped .stamps-many };
-          heard-many = length-set (s .heard) j true ∙ X .heard-many;
-          times-many = length-set (s .times) j T ∙ X .times-many;
-          room = X .room;
-        };
+      shut-facts : ClientShape (shut (asked j T)) a → ClientFacts (shut (asked j T)) a [] C.outOfStamps
+      shut-facts Y = record {
+        client-shape = Y;
         writes-up = omega arith;
         reads-up = omega arith;
         t-kept = λ i T′ is q z. impossible (cc);
@@ -289,8 +271,8 @@ module _ (H : List ℕ → List ℕ) (g : Params) (M : Small g) (few : g .n ≤ 
         read-why = λ v z. impossible (cc);
       }
 
-      hear-facts : ClientFacts (asked j T) a [] C.nothing
-      hear-facts = turn-facts (asked j T) a (asked-trim X j T) refl refl (λ i T′ is q z. stamp-knows X p j T ij new i T′ z) (λ i is q z. impossible (cc)) (λ i k is q z. impossible (cc))
+      hear-facts : ClientShape (asked j T) a → ClientFacts (asked j T) a [] C.nothing
+      hear-facts Y = turn-facts (asked j T) a Y refl refl (λ i T′ is q z. stamp-knows X p j T ij new i T′ z) (λ i is q z. impossible (cc)) (λ i k is q z. impossible (cc))
 
     -- ---- acks
 
@@ -299,12 +281,12 @@ module _ (H : List ℕ → List ℕ) (g : Params) (M : Small g) (few : g .n ≤ 
       knows i e = ⊎-elim
           (λ w. inr (subst (λ y. N y (message me (s .writes) ack)) (sym (w .0)) new))
           (λ w. inl (p, sym w ∙ e))
-          (set-cases (s .heard) j true false (omega (arith, X .heard-many, few, ij .1)) i)
+          (set-cases (s .heard) j true false (omega (arith, X .within .heard, few, ij .1)) i)
 
-      end-facts : C.quorate g (heardNow j) ≡ true → ClientFacts (inPhase s F.Idle (heardNow j) (s .times)) a [] C.written
+      end-facts : ClientShape (inPhase s F.Idle (heardNow j) (s .times)) a → C.quorate g (heardNow j) ≡ true → ClientFacts (inPhase s F.Idle (heardNow j) (s .times)) a [] C.written
       unfolding C.quorate
-      end-facts e = record {
-        client-shape = phase-trim X F.Idle (heardNow j) (s .times) (length-set (s .heard) j true ∙ X .heard-many) (X .times-many);
+      end-facts Y e = record {
+        client-shape = Y;
         writes-up = omega arith;
         reads-up = omega arith;
         t-kept = λ i T′ is q z. impossible (cc);
@@ -321,28 +303,22 @@ module _ (H : List ℕ → List ℕ) (g : Params) (M : Small g) (few : g .n ≤ 
         read-why = λ v z. impossible (cc);
       }
 
-      count-facts : ClientFacts (inPhase s F.Acking (heardNow j) (s .times)) a [] C.nothing
-      count-facts = turn-facts (inPhase s F.Acking (heardNow j) (s .times)) a
-          (phase-trim X F.Acking (heardNow j) (s .times) (length-set (s .heard) j true ∙ X .heard-many) (X .times-many)) refl refl
+      count-facts : ClientShape (inPhase s F.Acking (heardNow j) (s .times)) a → ClientFacts (inPhase s F.Acking (heardNow j) (s .times)) a [] C.nothing
+      count-facts Y = turn-facts (inPhase s F.Acking (heardNow j) (s .times)) a Y refl refl
           (λ i T′ is q z. impossible (cc)) (λ i is q z. knows i z) (λ i k is q z. impossible (cc))
 
     -- ---- values
 
     -- the rows s′ and a′ are searched
-    module _ (s′ : Client) (a′ : List ℕ) (X : ClientShape s′ a′) (ew : s′ .writes ≡ s .writes) (er : s′ .reads ≡ s .reads) (p : s′ .phase ≡ F.Reading)
+    module _ (s′ : Client) (a′ : List ℕ) (ew : s′ .writes ≡ s .writes) (er : s′ .reads ≡ s .reads) (p : s′ .phase ≡ F.Reading)
         (f : (i : ℕ) (k : Kept) → Among (g .n) i → List·Memᴰ k (rowView g s′ a′ i) → KnowsV i k) where
-      wait-facts : ClientFacts s′ a′ [] C.nothing
-      wait-facts = turn-facts s′ a′ X ew er (λ i T′ is q z. impossible (cc)) (λ i is q z. impossible (cc)) (λ i k is q z. f i k is z)
+      wait-facts : ClientShape s′ a′ → ClientFacts s′ a′ [] C.nothing
+      wait-facts Y = turn-facts s′ a′ Y ew er (λ i T′ is q z. impossible (cc)) (λ i is q z. impossible (cc)) (λ i k is q z. f i k is z)
 
-      complete-facts : (y : Found) → search g (rowView g s′ a′) ≡ some y
+      complete-facts : ClientShape (inPhase s′ F.Idle (s′ .heard) (s′ .times)) a′ → (y : Found) → search g (rowView g s′ a′) ≡ some y
           → ClientFacts (inPhase s′ F.Idle (s′ .heard) (s′ .times)) a′ (toAll g (λ i. message me (s′ .reads) readComplete)) (C.completed y)
-      complete-facts y e = record {
-        client-shape = record {
-          shaped = record { rows-many = X .shaped .rows-many; stamps-many = X .shaped .stamps-many };
-          heard-many = X .heard-many;
-          times-many = X .times-many;
-          room = X .room;
-        };
+      complete-facts Y y e = record {
+        client-shape = Y;
         writes-up = omega (arith, ew);
         reads-up = omega (arith, er);
         t-kept = λ i T′ is q z. impossible (cc);
@@ -359,7 +335,6 @@ module _ (H : List ℕ → List ℕ) (g : Params) (M : Small g) (few : g .n ≤ 
 
     -- a value of server j, kept or dropped
     pub record Kept-facts (s′ : Client) (a′ : List ℕ) : Type 0 where
-      pub shape : ClientShape s′ a′
       pub writes : s′ .writes ≡ s .writes
       pub reads : s′ .reads ≡ s .reads
       pub phase : s′ .phase ≡ F.Reading
@@ -367,21 +342,15 @@ module _ (H : List ℕ → List ℕ) (g : Params) (M : Small g) (few : g .n ≤ 
 
     keep-facts : ClientShape s a → s .phase ≡ F.Reading → (v : List ℕ) (j : ℕ) (x : Stamp) (e : Entry) → Sized g e → Among (g .n) j → N j (message me (s .reads) (valueIs x e))
         → {s′ : Client} {a′ : List ℕ} → Keeps H g me s a v j x e s′ a′ → Kept-facts s′ a′
-    keep-facts X p v j x e Q ij new (drops z) = record { shape = X; writes = refl; reads = refl; phase = p; each = λ i k is u. inl (p, u) }
+    keep-facts X p v j x e Q ij new (drops z) = record { writes = refl; reads = refl; phase = p; each = λ i k is u. inl (p, u) }
     keep-facts X p v j x e Q ij new (keeps i z) = record {
-      shape = record {
-        shaped = row-shaped s (X .shaped) j (omega (arith, few, ij .1)) i x;
-        heard-many = X .heard-many;
-        times-many = X .times-many;
-        room = rw length-store (X .room);
-      };
       writes = refl;
       reads = refl;
       phase = p;
       each = λ m k is u. ⊎-elim
           (λ w. inr (subst (λ y. N m (message me (s .reads) (valueIs (y .stamp) (y .entry)))) (sym (w .1)) (subst (λ y. N y (message me (s .reads) (valueIs x e))) (sym (w .0)) new)))
           (λ w. inl (p, w))
-          (CV.row-kept g M s (X .shaped) a (X .room) j (ij .0, omega (arith, few, ij .1)) x e Q i (CV.goes (rowOf s j) x i z) m (is .0) k u);
+          (CV.row-kept g M s (X .within .rows) a (X .room) j (ij .0, omega (arith, few, ij .1)) x e Q i (CV.goes (rowOf s j) x i z) m (is .0) k u);
     }
 
   asking-is : (p : Phase) → CS.asking p ≡ true → p ≡ F.Asking
@@ -429,21 +398,39 @@ module _ (H : List ℕ → List ℕ) (g : Params) (M : Small g) (few : g .n ≤ 
     abbrev Of : Body → C.Effect → Type 0
     Of b r = ClientFacts s a (Brought j (message me q b)) (r .client) (r .area) (r .sends) (r .event)
 
+    -- the law of a step keeps the shape
+    shape-after : {b : Body} {r : C.Effect} → Shape H g me s a v j b r → ClientShape (r .client) (r .area)
+    shape-after {b} {r} h = record {
+      within = step-within CV.shapes H g me s a v j (X .within) h (record {
+        empty = refl;
+        flag = λ l e. length-set l j true ∙ e;
+        time = λ T i l e. length-set l j T ∙ e;
+        row = λ x e i m l S. row-shaped l S j (omega (arith, few, ij .1)) m x;
+      });
+      room = rw (shape-length H g me s a v j h) (X .room);
+    }
+
     shape-facts : {b : Body} {r : C.Effect} → FormedBody g b → CT.orderTest H g me s j q b ≡ J.Fine → Shape H g me s a v j b r → Of b r
     shape-facts f o (idle b) = quiet-facts s a _ X
-    shape-facts f o (hears T z) = let w = stamp-open s j q T o in hear-facts s a _ X (w .0) v j T ij (refl, ap (λ y. message me y (stampIs T)) (w .1))
-    shape-facts f o (disperses T z l) = let w = stamp-open s j q T o in send-facts s a _ X (w .0) v j T ij (refl, ap (λ y. message me y (stampIs T)) (w .1)) z
-    shape-facts f o (shuts T z l) = let w = stamp-open s j q T o in shut-facts s a _ X (w .0) v j T ij (refl, ap (λ y. message me y (stampIs T)) (w .1))
-    shape-facts f o (counts z) = let w = ack-open s j q o in count-facts s a _ X (w .0) j ij (refl, ap (λ y. message me y ack) (w .1))
-    shape-facts f o (ends z) = let w = ack-open s j q o in end-facts s a _ X (w .0) j ij (refl, ap (λ y. message me y ack) (w .1)) z
+    shape-facts f o (hears T z) =
+        let w = stamp-open s j q T o in
+        hear-facts s a _ X (w .0) v j T ij (refl, ap (λ y. message me y (stampIs T)) (w .1)) (shape-after (hears T z))
+    shape-facts f o (disperses T z l) =
+        let w = stamp-open s j q T o in
+        send-facts s a _ X (w .0) v j T ij (refl, ap (λ y. message me y (stampIs T)) (w .1)) (shape-after (disperses T z l)) z
+    shape-facts f o (shuts T z l) =
+        let w = stamp-open s j q T o in
+        shut-facts s a _ X (w .0) v j T ij (refl, ap (λ y. message me y (stampIs T)) (w .1)) (shape-after (shuts T z l))
+    shape-facts f o (counts z) = let w = ack-open s j q o in count-facts s a _ X (w .0) j ij (refl, ap (λ y. message me y ack) (w .1)) (shape-after (counts z))
+    shape-facts f o (ends z) = let w = ack-open s j q o in end-facts s a _ X (w .0) j ij (refl, ap (λ y. message me y ack) (w .1)) (shape-after (ends z)) z
     shape-facts f o (waits x e k z) =
         let w = value-open s j q x e o in
         let K = keep-facts s a (Brought j (message me q (valueIs x e))) X (w .0) v j x e (f .0) ij (refl, ap (λ y. message me y (valueIs x e)) (w .1)) k in
-        wait-facts s a (Brought j (message me q (valueIs x e))) _ _ (K .shape) (K .writes) (K .reads) (K .phase) (K .each)
+        wait-facts s a (Brought j (message me q (valueIs x e))) _ _ (K .writes) (K .reads) (K .phase) (K .each) (shape-after (waits x e k z))
     shape-facts f o (completes x e k y z) =
         let w = value-open s j q x e o in
         let K = keep-facts s a (Brought j (message me q (valueIs x e))) X (w .0) v j x e (f .0) ij (refl, ap (λ y. message me y (valueIs x e)) (w .1)) k in
-        complete-facts s a (Brought j (message me q (valueIs x e))) _ _ (K .shape) (K .writes) (K .reads) (K .phase) (K .each) y z
+        complete-facts s a (Brought j (message me q (valueIs x e))) _ _ (K .writes) (K .reads) (K .phase) (K .each) (shape-after (completes x e k y z)) y z
 
   pub effect-facts : (s : Client) (a v : List ℕ) → ClientShape s a → (j q : ℕ) (b : Body) → Among (g .n) j → FormedBody g b → CT.orderTest H g me s j q b ≡ J.Fine
       → ClientFacts s a (Brought j (message me q b)) (C.effect H g me s a v (A.Server j) (message me q b) .client) (C.effect H g me s a v (A.Server j) (message me q b) .area)
@@ -463,7 +450,7 @@ module _ (H : List ℕ → List ℕ) (g : Params) (M : Small g) (few : g .n ≤ 
       go : (y : Verdict) → ClientFacts s a Nought (CB.beginBy g me y s (CB.openRead g me s) .client) a (CB.beginBy g me y s (CB.openRead g me s) .sends) (CB.beginBy g me y s (CB.openRead g me s) .event)
       go (J.Bad r) = quiet-facts s a _ X
       go J.Fine = record {
-        client-shape = record { shaped = rows-shaped _ refl; heard-many = X .heard-many; times-many = X .times-many; room = X .room };
+        client-shape = record { within = read-within CV.shapes shapes-empty g me s (X .within) tt; room = X .room };
         writes-up = omega arith;
         reads-up = omega arith;
         t-kept = λ i T′ is q z. impossible (cc);
@@ -487,12 +474,7 @@ module _ (H : List ℕ → List ℕ) (g : Params) (M : Small g) (few : g .n ≤ 
       go : (y : Verdict) → ClientFacts s a Nought (CB.beginBy g me y s (CB.openWrite g me s) .client) a (CB.beginBy g me y s (CB.openWrite g me s) .sends) (CB.beginBy g me y s (CB.openWrite g me s) .event)
       go (J.Bad r) = quiet-facts s a _ X
       go J.Fine = record {
-        client-shape = record {
-          shaped = record { rows-many = X .shaped .rows-many; stamps-many = X .shaped .stamps-many };
-          heard-many = refl;
-          times-many = refl;
-          room = X .room;
-        };
+        client-shape = record { within = write-within CV.shapes shapes-empty g me s (X .within) tt; room = X .room };
         writes-up = omega arith;
         reads-up = omega arith;
         t-kept = λ i T′ is q z. absurd (no-time i T′ z);

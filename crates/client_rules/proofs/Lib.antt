@@ -2,5 +2,6 @@ pub mod Views
 pub mod Sends
 pub mod Shapes
 pub mod Quotas
+pub mod Within
 pub mod Agreed
 pub mod CallFacts

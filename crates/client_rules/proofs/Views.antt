@@ -24,11 +24,17 @@ use Rattle.frame.proofs.Sizes.{Small}
 use Rattle.client_rules.specs.declared.Row.{Row}
 use Rattle.client_rules.specs.declared.Client.{Client}
 use Rattle.client_rules.specs.Rows.{used, Kept, placesFrom, rowView, smallest, placeFor, rowWith}
+use Rattle.client_rules.specs.WellFormed.{Bounds}
 use Rattle.client_rules.specs.State.{noRow, noStamp, rowOf, withRow}
 
-pub record Shaped (s : Client) : Type 0 where
-  pub rows-many : length (s .rows) ≡ 11
-  pub stamps-many : (j : ℕ) → j ≤ 10 → length (rowOf s j .stamps) ≡ 4
+-- eleven rows, of four places each
+pub record Shaped (l : List Row) : Type 0 where
+  pub rows-many : length l ≡ 11
+  pub stamps-many : (j : ℕ) → j ≤ 10 → length (getD l j noRow .stamps) ≡ 4
+
+-- of a client that calls find: eleven flags and times of servers, and such rows
+abbrev pub shapes : Bounds
+shapes = record { number = λ q. Unit {0}; heard = λ l. length l ≡ 11; times = λ l. length l ≡ 11; rows = Shaped }
 
 -- what stands at place i of server j's row
 abbrev pub placed : Params → List ℕ → ℕ → Row → ℕ → Kept
@@ -95,7 +101,7 @@ unfolding pick
 count-why r i G true e p h ne = ⊎-elim (λ w. omega (arith, w .1, ne)) (λ w. absurd (omega (arith, ltb-true (r .count) 4 e))) (G .either)
 count-why r i G false e p h ne = h
 
-module _ (g : Params) (M : Small g) (s : Client) (S : Shaped s) (a : List ℕ) (room : rowsBytes ≤ length a) (j : ℕ) (at : Among 10 j)
+module _ (g : Params) (M : Small g) (s : Client) (S : Shaped (s .rows)) (a : List ℕ) (room : rowsBytes ≤ length a) (j : ℕ) (at : Among 10 j)
     (x : Stamp) (e : Entry) (Q : Sized g e) (i : ℕ) (G : Goes (rowOf s j) i) where
   abbrev next : Client
   next = withRow s j (rowWith (rowOf s j) i x)

@@ -4,3 +4,4 @@ pub mod Tests
 pub mod Steps
 pub mod Delivery
 pub mod Beginning
+pub mod WellFormed

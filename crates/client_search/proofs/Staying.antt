@@ -97,7 +97,7 @@ unfolding pick
 count-up n true = omega arith
 count-up n false = omega arith
 
-module _ (g : Params) (M : Small g) (s : Client) (S : Shaped s) (a : List ℕ) (j : ℕ) (at : Among 10 j) (x : Stamp) (e : Entry) (Q : Sized g e)
+module _ (g : Params) (M : Small g) (s : Client) (S : Shaped (s .rows)) (a : List ℕ) (j : ℕ) (at : Among 10 j) (x : Stamp) (e : Entry) (Q : Sized g e)
     (i : ℕ) (goes-to : placeFor (rowOf s j) x ≡ some i) where
   abbrev next : Client
   next = withRow s j (rowWith (rowOf s j) i x)

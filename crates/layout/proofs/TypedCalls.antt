@@ -2,7 +2,7 @@
 use Prim.Native.Nat.{ℕ, zero, suc, _+_}
 use native.Mathlib.Omega.{arith}
 use borrow.Author.Tests.{ltb-true, leb-false}
-use mathlib.Core.Path.{_≡_, refl, ap, _∙_}
+use mathlib.Core.Path.{_≡_, refl, ap, subst, _∙_}
 use mathlib.Core.Bool.{Bool, true, false, not}
 use mathlib.Core.List.{List, [], _∷_}
 use lib.ListN.{length, getD, set, replicate, length-set}
@@ -19,7 +19,7 @@ use Rattle.frame.specs.declared.Verdict.the-variants as J
 use Rattle.frame.specs.Refusals.{andThen}
 use Rattle.frame.specs.Params.{paramsTest}
 use Rattle.frame.specs.Stamps.{zeroStamp, lastSequence, lastClient}
-use Rattle.frame.specs.Messages.{Entry, Body, FormedBody, Message, numberIn, judgedBy, after}
+use Rattle.frame.specs.Messages.{Entry, Body, stampIs, valueIs, FormedBody, Message, numberIn, judgedBy, after}
 use Rattle.frame.specs.Frames.{headerIn, frameTest, openedBy, opened, messageIn}
 use Rattle.frame.proofs.Verdicts.{fine-not, fine-both}
 use Rattle.frame.proofs.Converse.{formed-opened}
@@ -30,13 +30,13 @@ use Rattle.client_rules.specs.State.{freshRow, freshClient, idle, rowOf, inPhas
 use Rattle.client_rules.specs.Rows.{rowWith}
 use Rattle.client_rules.specs.Tests.{sendRoom, roomTest, valueTest, messageTest, judgeOpened, judge}
 use Rattle.client_rules.specs.Steps.{Effect}
-use Rattle.client_rules.proofs.Shapes.{Keeps, drops, keeps, Shape, hears, shuts, counts, ends, waits, completes, shape-of}
-use Rattle.client_rules.proofs.Shapes.{idle as rests, sends as disperses}
+use Rattle.client_rules.proofs.Shapes.{shape-of}
+use Rattle.client_rules.proofs.Within.{Empty, fresh-within, read-within, write-within, Grants, step-within}
 use Rattle.client_rules.specs.Beginning.{idleTest, closedTest, lengthTest, readTest, writeTest, openRead, openWrite, beginBy, readBegun, writeBegun, begunOf, readBeginning, writeBeginning}
 use Rattle.client_rules.specs.Delivery.{effectBy, delivered, outcomeOf, delivery}
 use Rattle.layout.specs.Fields.{flagAt, stampAt, flagsAt, numbersAt}
 use Rattle.layout.specs.Clients.{stampsAt, keptAt, rowsAt, clientAt, clientIn}
-use Rattle.layout.specs.Typed.{Word, Long, TypedStamp, TypedRow, TypedClient}
+use Rattle.layout.specs.Typed.{Word, Long, TypedStamp, TypedRow, clientWidths, TypedClient}
 use Rattle.server_rules.specs.WellFormed.{Every, Array}
 use Rattle.layout.proofs.TypedSteps.{array-row, stamp-in}
 use Rattle.server_rules.proofs.Within.{array-set, every-replicate}
@@ -73,10 +73,12 @@ fresh-row =
 fresh-rows : Array 11 TypedRow (replicate 11 freshRow)
 fresh-rows = (refl, every-replicate TypedRow 11 freshRow fresh-row)
 
+fresh-parts : Empty clientWidths
+fresh-parts = record { heard = refl; times = fresh-times; rows = fresh-rows }
+
 -- a fresh client's numbers are within their widths
 pub typed-client-fresh : TypedClient freshClient
-unfolding freshClient
-typed-client-fresh = record { writes = omega arith; reads = omega arith; heard = refl; times = fresh-times; rows = fresh-rows }
+typed-client-fresh = fresh-within clientWidths fresh-parts (omega arith)
 
 -- ---- beginnings
 
@@ -95,12 +97,10 @@ module _ (g : Params) (me : ℕ) (s : Client) (t : TypedClient s) where
   typed-begun (J.Bad r) x h = t
 
   read-open : idleTest s (s .reads) ≡ J.Fine → TypedClient (openRead g me s .client)
-  unfolding openRead
-  read-open e = record { writes = t .writes; reads = number-left s (s .reads) e; heard = t .heard; times = t .times; rows = fresh-rows }
+  read-open e = read-within clientWidths fresh-parts g me s t (number-left s (s .reads) e)
 
   write-open : idleTest s (s .writes) ≡ J.Fine → TypedClient (openWrite g me s .client)
-  unfolding openWrite
-  write-open e = record { writes = number-left s (s .writes) e; reads = t .reads; heard = refl; times = fresh-times; rows = t .rows }
+  write-open e = write-within clientWidths fresh-parts g me s t (number-left s (s .writes) e)
 
   read-left : (out to : List ℕ) → readTest g me s out to ≡ J.Fine → idleTest s (s .reads) ≡ J.Fine
   unfolding readTest
@@ -124,25 +124,13 @@ module _ (g : Params) (me : ℕ) (s : Client) (t : TypedClient s) where
   unfolding writeBeginning begunOf writeBegun
   typed-write v out to = typed-begun (writeTest g me s v out to) (openWrite g me s) (λ e. write-open (write-left v out to e))
 
--- ---- a client with a part changed
+-- ---- rows
 
 -- an element is replaced by one that has P if the old one had; past the array's end nothing is replaced
 every-turned : {A : Type 0} (P : A → Type 0) (xs : List A) (i : ℕ) (d x : A) → Every P xs → (P (getD xs i d) → P x) → Every P (set xs i x)
 every-turned P [] i d x e f = e
 every-turned P (y ∷ xs) zero d x e f = (f (e .0), e .1)
 every-turned P (y ∷ xs) (suc i) d x e f = (e .0, every-turned P xs i d x (e .1) f)
-
-phase-kept : (s : Client) (p : Phase) (h : List Bool) (ts : List ℕ) → TypedClient s → length h ≡ 11 → Array 11 Long ts → TypedClient (inPhase s p h ts)
-phase-kept s p h ts t u v = record { writes = t .writes; reads = t .reads; heard = u; times = v; rows = t .rows }
-
-row-kept : (s : Client) (j : ℕ) (r : Row) → TypedClient s → (TypedRow (rowOf s j) → TypedRow r) → TypedClient (withRow s j r)
-row-kept s j r t f = record {
-  writes = t .writes;
-  reads = t .reads;
-  heard = t .heard;
-  times = t .times;
-  rows = (length-set (s .rows) j r ∙ t .rows .0, every-turned TypedRow (s .rows) j noRow r (t .rows .1) f);
-}
 
 count-kept : (b : Bool) (n : ℕ) → ltb n 4 ≡ b → Long n → Long (pick b (n + 1) n)
 unfolding pick
@@ -155,34 +143,27 @@ row-with r i x y t = record { count = count-kept (ltb (r .count) 4) (r .count) r
 -- ---- any frame
 
 module _ (H : List ℕ → List ℕ) (g : Params) (me : ℕ) where
-  typed-keeps : (s : Client) (a v : List ℕ) (j : ℕ) {x : Stamp} {e : Entry} {s′ : Client} {a′ : List ℕ} → TypedStamp x → TypedClient s → Keeps H g me s a v j x e s′ a′ → TypedClient s′
-  typed-keeps s a v j y t (drops z) = t
-  typed-keeps s a v j {x} y t (keeps i z) = row-kept s j _ t (row-with (rowOf s j) i x y)
-
-  typed-shape : (s : Client) (a v : List ℕ) (j : ℕ) {b : Body} {r : Effect} → FormedBody g b → TypedClient s → Shape H g me s a v j b r → TypedClient (r .client)
-  typed-shape s a v j h t (rests b) = t
-  typed-shape s a v j h t (hears T z) = phase-kept s _ _ _ t (length-set (s .heard) j true ∙ t .heard) (array-set Long 11 (s .times) j T (t .times) h)
-  typed-shape s a v j h t (disperses T z l) = phase-kept s _ _ _ t refl (array-set Long 11 (s .times) j T (t .times) h)
-  typed-shape s a v j h t (shuts T z l) = record {
-    writes = t .writes;
-    reads = t .reads;
-    heard = length-set (s .heard) j true ∙ t .heard;
-    times = array-set Long 11 (s .times) j T (t .times) h;
-    rows = t .rows;
+  -- what the widths grant to a step for a frame of bytes
+  typed-grants : (j : ℕ) (b : Body) → FormedBody g b → Grants clientWidths j b
+  typed-grants j b h = record {
+    empty = refl;
+    flag = λ l e. length-set l j true ∙ e;
+    time = λ T i l e. array-set Long 11 l j T e (subst (FormedBody g) i h);
+    row = λ x e i m l t.
+        let k : FormedBody g (valueIs x e) = subst (FormedBody g) i h in
+        let w = k .2 in (
+          length-set l j _ ∙ t .0,
+          every-turned TypedRow l j noRow (rowWith (getD l j noRow) m x) (t .1)
+              (row-with (getD l j noRow) m x (record { time = k .1; writer = omega (arith, w); sequence = k .3 })),
+        );
   }
-  typed-shape s a v j h t (counts z) = phase-kept s _ _ (s .times) t (length-set (s .heard) j true ∙ t .heard) (t .times)
-  typed-shape s a v j h t (ends z) = phase-kept s _ _ (s .times) t (length-set (s .heard) j true ∙ t .heard) (t .times)
-  typed-shape s a v j h t (waits x e k z) = let w = h .2 in typed-keeps s a v j (record { time = h .1; writer = omega (arith, w); sequence = h .3 }) t k
-  typed-shape s a v j h t (completes x e {s′} k y z) =
-      let w = h .2 in
-      let u = typed-keeps s a v j (record { time = h .1; writer = omega (arith, w); sequence = h .3 }) t k in
-      phase-kept s′ _ (s′ .heard) (s′ .times) u (u .heard) (u .times)
 
   module _ (s : Client) (t : TypedClient s) (a value : List ℕ) (from : Party) where
     -- the verdict is of 10 to 14; a frame that is turned down changes nothing
     typed-judged : (v : Verdict) (m : Message) → FormedBody g (m .body) → TypedClient (effectBy H g me (judgedBy v m) s a value from .client)
     unfolding effectBy
-    typed-judged J.Fine m h = typed-shape s a value (numberIn from) h t (shape-of H g me s a value from m)
+    typed-judged J.Fine m h =
+        step-within clientWidths H g me s a value (numberIn from) t (shape-of H g me s a value from m) (typed-grants (numberIn from) (m .body) h)
     typed-judged (J.Bad r) m h = t
 
     -- p is of 1 to 3, u of 4 to 9, v of 10

@@ -5,6 +5,7 @@ use lib.ListN.{length}
 use Rattle.frame.specs.declared.Stamp.{Stamp}
 use Rattle.client_rules.specs.declared.Row.{Row}
 use Rattle.client_rules.specs.declared.Client.{Client}
+use Rattle.client_rules.specs.WellFormed as C
 use Rattle.server_rules.specs.declared.BlockPart.{BlockPart}
 use Rattle.server_rules.specs.declared.TimePart.{TimePart}
 use Rattle.server_rules.specs.declared.Slot.{Slot}
@@ -30,12 +31,12 @@ pub record TypedRow (r : Row) : Type 0 where
   pub count : Long (r .count)
   pub stamps : Array 4 TypedStamp (r .stamps)
 
-pub record TypedClient (s : Client) : Type 0 where
-  pub writes : Word (s .writes)
-  pub reads : Word (s .reads)
-  pub heard : length (s .heard) ≡ 11
-  pub times : Array 11 Long (s .times)
-  pub rows : Array 11 TypedRow (s .rows)
+-- numbers of 32 bits, eleven servers' flags, numbers of 64 bits and rows
+abbrev pub clientWidths : C.Bounds
+clientWidths = record { number = Word; heard = λ l. length l ≡ 11; times = Array 11 Long; rows = Array 11 TypedRow }
+
+abbrev pub TypedClient : Client → Type 0
+TypedClient = C.Within clientWidths
 
 -- ---- a server's record
 

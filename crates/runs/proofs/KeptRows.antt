@@ -48,7 +48,7 @@ use Rattle.runs.proofs.Assumed.{Assumed}
 -- ---- rows of which each entry has a property
 
 record Holds (g : Params) (Q : ℕ → Entry → Type 0) (s : Client) (a : List ℕ) : Type 0 where
-  pub shaped : CV.Shaped s
+  pub shaped : CV.Shaped (s .rows)
   pub each : (j : ℕ) → 1 ≤ j → (k : Kept) → List·Memᴰ k (rowView g s a j) → Q j (k .entry)
 
 abbrev Held : (g : Params) (Q : ℕ → Entry → Type 0) → C.Effect → Type 0
@@ -71,14 +71,14 @@ same-rows g Q s s′ a e X = record {
 }
 
 fresh-holds : (g : Params) (Q : ℕ → Entry → Type 0) (s : Client) (a : List ℕ) → s .rows ≡ replicate 11 freshRow → Holds g Q s a
-fresh-holds g Q s a e = record { shaped = rows-shaped s e; each = λ j i k u. absurd (no-rows g s a j k e u) }
+fresh-holds g Q s a e = record { shaped = rows-shaped (s .rows) e; each = λ j i k u. absurd (no-rows g s a j k e u) }
 
 -- ---- a value that is kept
 
 stored-holds : (g : Params) → Small g → (Q : ℕ → Entry → Type 0) (s : Client) (a : List ℕ) → rowsBytes ≤ length a → (j : ℕ) → Among 10 j → (x : Stamp) (e : Entry) → Sized g e → Q j e
     → (i : ℕ) → placeFor (rowOf s j) x ≡ some i → Holds g Q s a → Holds g Q (withRow s j (rowWith (rowOf s j) i x)) (storeEntry a (placeAt j i) e)
 stored-holds g M Q s a R j is x e z new i p X = record {
-  shaped = row-shaped s (X .shaped) j (is .1) i x;
+  shaped = row-shaped (s .rows) (X .shaped) j (is .1) i x;
   each = λ m lo k u. ⊎-elim
       (λ w. subst (λ y. Q y (k .entry)) (sym (w .0)) (subst (λ y. Q j y) (sym (ap (λ y. y .entry) (w .1))) new))
       (λ w. X .each m lo k w)

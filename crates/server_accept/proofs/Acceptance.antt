@@ -9,8 +9,9 @@ use mathlib.Core.List.{List, [], _∷_, _++_}
 use lib.ListN.{set}
 use lib.Seq.{set-getD}
 use lib.Dec.{ltb}
-use borrow.Author.Tests.{lt-ltb, le-ltb}
+use borrow.Author.Tests.{lt-ltb, le-ltb, ltb-true, ltb-false}
 use Rattle.area.specs.Area.{pick}
+use Rattle.area.proofs.Tests.{and-left, and-right}
 use Rattle.blocks.specs.declared.Params.{Params}
 use Rattle.frame.specs.declared.Party.the-variants as P
 use Rattle.frame.specs.declared.Stamp.{Stamp}
@@ -30,7 +31,7 @@ use Rattle.server_rules.specs.Steps.{Write, stampOf, tellFrom, accept, bothDone
 use Rattle.server.specs.Stages.{Holds, Progress, progress, moved}
 use Rattle.server.proofs.Answers.{none-sent}
 use Rattle.server.proofs.Scopes.{as-it-was}
-use Rattle.server_accept.specs.Telling.{toldTo, opensIn, writeIn}
+use Rattle.server_accept.specs.Telling.{toldTo, opensIn, ripeIn, writeIn}
 
 -- ---- values to listeners
 
@@ -135,6 +136,24 @@ accepted g w c s z rs a a′ d b newer q q₁ q₂ k i j h f n m e =
     let y = opened-next w c s z rs newer g a k h e in
     λ l. progress (y l) (v l) (u l)
 
+-- the three answers of the test
+pub unripe-time : (x : Slot) → x .times .delivered ≡ false → false ≡ ripeIn x
+unfolding ripeIn
+unripe-time x h = rw h
+
+pub unripe-blocks : (x : Slot) → x .times .delivered ≡ true → x .blocks .complete ≡ false → false ≡ ripeIn x
+unfolding ripeIn
+unripe-blocks x h i = rw (h, i)
+
+pub ripe-below : (x : Slot) → x .times .delivered ≡ true → x .blocks .complete ≡ true → ltb (x .times .time) lastTime ≡ ripeIn x
+unfolding ripeIn
+ripe-below x h i = rw (h, i)
+
+-- the time of a write that can be accepted is below the last
+pub ripe-time : (x : Slot) → ripeIn x ≡ true → x .times .time < lastTime
+unfolding ripeIn
+ripe-time x h = ltb-true (x .times .time) lastTime (and-right (x .blocks .complete) _ (and-right (x .times .delivered) _ h))
+
 -- nothing can be accepted, or the write is
 module _ (g : Params) (w : Server) (c : ℕ) (s : Scope) (rs : List Reader) (a : List ℕ) (q : Outbox) (k : Holds w c s rs) where
   abbrev x : Slot
@@ -156,11 +175,11 @@ module _ (g : Params) (w : Server) (c : ℕ) (s : Scope) (rs : List Reader) (a :
   unfolding free freeBy
   waits h = none-sent w (withScope w c s) a q (as-it-was w c s (k .scope)) ∙ ap (λ (y : Option Write). moved (freeBy y w a) q) (sym h)
 
-  pub wait-time : x .times .delivered ≡ false → progress (withScope w c s) a q ≡ moved (free g w a c) q
+  wait-time : x .times .delivered ≡ false → progress (withScope w c s) a q ≡ moved (free g w a c) q
   unfolding bothDone
   wait-time h = waits (ripe-is false (x .blocks .complete) h refl)
 
-  pub wait-blocks : x .times .delivered ≡ true → x .blocks .complete ≡ false → progress (withScope w c s) a q ≡ moved (free g w a c) q
+  wait-blocks : x .times .delivered ≡ true → x .blocks .complete ≡ false → progress (withScope w c s) a q ≡ moved (free g w a c) q
   unfolding bothDone
   wait-blocks h i = waits (ripe-is true false h i)
 
@@ -169,12 +188,30 @@ module _ (g : Params) (w : Server) (c : ℕ) (s : Scope) (rs : List Reader) (a :
   unfolding bothDone
   below b h i l = ripe-is true true h i ∙ ap (λ (y : Bool). pick y (some (writeIn g s c a)) none) l
 
-  pub wait-last : x .times .delivered ≡ true → x .blocks .complete ≡ true → lastTime ≤ x .times .time
+  wait-last : x .times .delivered ≡ true → x .blocks .complete ≡ true → lastTime ≤ x .times .time
       → progress (withScope w c s) a q ≡ moved (free g w a c) q
   unfolding pick
   wait-last h i l = waits (below false h i (le-ltb (x .times .time) lastTime l))
 
-  pub freed : (r : Progress) → x .times .delivered ≡ true → x .blocks .complete ≡ true → x .times .time < lastTime
+  freed : (r : Progress) → x .times .delivered ≡ true → x .blocks .complete ≡ true → x .times .time < lastTime
       → r ≡ moved (accept w a (writeIn g s c a)) q → r ≡ moved (free g w a c) q
   unfolding free freeBy pick
   freed r h i l e = e ∙ ap (λ (y : Option Write). moved (freeBy y w a) q) (sym (below true h i (lt-ltb (x .times .time) lastTime l)))
+
+  -- where the slot is not ripe nothing is accepted, and where it is the write
+  pub unripe : ripeIn x ≡ false → progress (withScope w c s) a q ≡ moved (free g w a c) q
+  unfolding ripeIn
+  unripe h = go (x .times .delivered) (x .blocks .complete) refl refl h
+    where
+      go : (d b : Bool) → x .times .delivered ≡ d → x .blocks .complete ≡ b → d && (b && ltb (x .times .time) lastTime) ≡ false
+          → progress (withScope w c s) a q ≡ moved (free g w a c) q
+      go false b i j l = wait-time i
+      go true false i j l = wait-blocks i j
+      go true true i j l = wait-last i j (ltb-false (x .times .time) lastTime l)
+
+  pub ripened : (r : Progress) → ripeIn x ≡ true → r ≡ moved (accept w a (writeIn g s c a)) q → r ≡ moved (free g w a c) q
+  unfolding ripeIn
+  ripened r h e =
+      let i = and-right (x .times .delivered) _ h in
+      freed r (and-left (x .times .delivered) _ h) (and-left (x .blocks .complete) _ i)
+      (ltb-true (x .times .time) lastTime (and-right (x .blocks .complete) _ i)) e

@@ -3,14 +3,16 @@ use Prim.Native.Nat.{ℕ, _+_}
 use mathlib.Core.Path.{_≡_}
 use mathlib.Core.Bool.{Bool, _&&_}
 use mathlib.Core.List.{List, [], _∷_}
+use lib.Dec.{ltb}
 use Rattle.area.specs.Area.{pick}
 use Rattle.blocks.specs.declared.Params.{Params}
 use Rattle.frame.specs.declared.Stamp.{Stamp}
 use Rattle.frame.specs.declared.Party.the-variants as P
-use Rattle.frame.specs.Stamps.{older}
+use Rattle.frame.specs.Stamps.{older, lastTime}
 use Rattle.frame.specs.Messages.{Entry, message, Sending, sending, valueIs}
 use Rattle.frame.specs.Chunks.{entryAt, completeAt}
 use Rattle.frame.specs.Outbox.{Outbox, outbox}
+use Rattle.server_rules.specs.declared.Slot.{Slot}
 use Rattle.server_rules.specs.declared.Reader.{Reader}
 use Rattle.server_rules.specs.declared.Scope.{Scope}
 use Rattle.server_rules.specs.declared.Server.{Server}
@@ -27,6 +29,10 @@ toldTo r c x e = pick (r .listening && older (r .noted) x) (sending (P.Client c)
 -- the scope after its write was accepted; newer says whether the write's stamp x is larger than the server's
 unfoldable pub opensIn : Scope → Bool → Stamp → Scope
 opensIn s newer x = record { stamp = pick newer x (s .stamp); slot = freshSlot (s .slot .sequence + 1); reader = s .reader }
+
+-- the write of a slot can be accepted
+unfoldable pub ripeIn : Slot → Bool
+ripeIn x = x .times .delivered && (x .blocks .complete && ltb (x .times .time) lastTime)
 
 -- the write of client c's scope s, its time delivered and its blocks complete
 abbrev pub writeIn : Params → Scope → ℕ → List ℕ → Write

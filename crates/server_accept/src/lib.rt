@@ -11,6 +11,7 @@ use frame::stamps::is_older;
 use server_rules::Reader;
 use server_rules::Scope;
 use server_rules::Server;
+use server_rules::Slot;
 use server_rules::fresh::fresh_slot;
 ghost use mathlib.Core.Path.{_≡_};
 ghost use Prim.Native.Nat.{_+_, _*_, _≤_, _<_};
@@ -22,9 +23,9 @@ ghost use Rattle.frame.specs.Stamps.{lastTime};
 ghost use Rattle.frame.specs.Messages.{entry};
 ghost use Rattle.frame.specs.Outbox.{outbox, sent, Room};
 ghost use Rattle.frame.specs.Chunks.{entryAt, presentAt, storeIf};
-ghost use Rattle.server_rules.specs.Steps.{accept, free, tellFrom};
+ghost use Rattle.server_rules.specs.Steps.{accept, tellFrom};
 ghost use Rattle.server.specs.Stages.{Lent};
-ghost use Rattle.server_accept.specs.Telling.{toldTo, opensIn, writeIn, Freeing};
+ghost use Rattle.server_accept.specs.Telling.{toldTo, opensIn, ripeIn, writeIn, Freeing};
 
 // What an acceptance leaves of its client's scope, and where the next frame of the step goes.
 pub struct Freed {
@@ -127,8 +128,23 @@ fn opens_next(s: Scope, newer: bool, x: Stamp) -> Scope
     y
 }
 
+// Whether the write of a slot can be accepted: its time delivered, and not the last, and its blocks complete.
+pub fn is_ripe(x: Slot) -> bool
+    ensures { λ r. ⌜ r ≡ ripeIn x ⌝ }
+{
+    let t = x.times;
+    let b = x.blocks;
+    if !t.delivered {
+        return false;
+    }
+    if !b.complete {
+        return false;
+    }
+    t.time < Server::LAST_TIME
+}
+
 // The write of client c's scope is accepted with its delivered time, its entry being the completed one.
-fn accept(
+pub fn accept(
     s: Scope,
     readers: [Reader; 9],
     g: Params,
@@ -161,34 +177,4 @@ fn accept(
     replace(newer, area, g, from);
     let scope = opens_next(s, newer, x);
     Freed { scope, place }
-}
-
-// The write of client c's scope is accepted if it can be.
-pub fn free(
-    s: Scope,
-    readers: [Reader; 9],
-    g: Params,
-    c: u8,
-    area: &mut [u8],
-    out: &mut [u8],
-    to: &mut [u8],
-    p: Place,
-) -> Freed
-    requires { ⌜ Lent g c (length (now area)) p 9 (length (now out)) (length (now to)) × (s .slot .sequence < 4294967296) ⌝ }
-    ensures { λ r. ⌜ Freeing s readers c (λ w. free g w (now (area .entry)) c)
-        (outbox (now (out .entry)) (now (to .entry)) p) r (now (area .exit)) (now (out .exit)) (now (to .exit)) ⌝ }
-{
-    let x = s.slot;
-    let t = x.times;
-    let b = x.blocks;
-    if !t.delivered {
-        return Freed { scope: s, place: p };
-    }
-    if !b.complete {
-        return Freed { scope: s, place: p };
-    }
-    if Server::LAST_TIME <= t.time {
-        return Freed { scope: s, place: p };
-    }
-    accept(s, readers, g, c, area, out, to, p)
 }

@@ -14,7 +14,10 @@ use Rattle.frame.specs.declared.Opened.the-variants as O
 use Rattle.frame.specs.declared.Refusal.{Refusal}
 use Rattle.frame.specs.declared.Refusal.the-variants as R
 use Rattle.frame.specs.Refusals.{andThen}
-use Rattle.frame.specs.Params.{largestFrame, paramsTest}
+use Rattle.frame.specs.declared.Place.{Place}
+use Rattle.frame.specs.declared.Verdict.{Verdict}
+use Rattle.frame.specs.declared.Verdict.the-variants as J
+use Rattle.frame.specs.Params.{Bounded, largestFrame, paramsTest}
 use Rattle.frame.specs.Messages.{Entry, Stage, send, echo, ready, Body, blockIs, timeIs}
 use Rattle.frame.specs.Frames.{bodyAt, bodyLength, headerIn, frameTest, openedBy, entryIn, messageIn}
 use Rattle.frame.specs.Outbox.{Outbox, outbox, firstPlace, Room}
@@ -22,13 +25,14 @@ use Rattle.server_rules.specs.declared.Slot.{Slot}
 use Rattle.server_rules.specs.declared.Reader.{Reader}
 use Rattle.server_rules.specs.declared.Scope.{Scope}
 use Rattle.server_rules.specs.declared.Server.{Server}
+use Rattle.server_rules.specs.declared.Reply.the-variants as Y
 use Rattle.server_rules.specs.Tests.{roomTest, messageTest}
 use Rattle.server_rules.specs.Steps.{effect}
 use Rattle.server_rules.specs.Delivery.{Outcome}
 use Rattle.server.specs.declared.Call.{Call}
 use Rattle.server.specs.declared.Counted.{Counted}
 use Rattle.server.specs.declared.Taken.{Taken}
-use Rattle.server.specs.Stages.{Holds, Handled, handled, blockFrame, timeFrame, outcomeIn, answered, Lent}
+use Rattle.server.specs.Stages.{slotIn, Holds, Handled, handled, blockFrame, timeFrame, outcomeIn, answered, Lent}
 
 -- ---- 1 to 10
 
@@ -53,6 +57,14 @@ pub record Handed (k : Call) (f area out to : ℕ) : Type 0 where
   pub kind-high : k .header .kind ≤ 12
   pub frame-is : f ≡ bodyAt + bodyLength (k .params) (k .header .kind)
 
+-- the same, without the state area, at which the step of a client's own frame does not look
+pub record HandedOwn (k : Call) (f out to : ℕ) : Type 0 where
+  pub bounded : Bounded (k .params)
+  pub room : Room firstPlace (k .params .n + 9) (largestFrame (k .params)) out to
+  pub own-low : 1 ≤ k .me
+  pub own-high : k .me ≤ k .params .n
+  pub frame-is : f ≡ bodyAt + bodyLength (k .params) (k .header .kind)
+
 -- the outcome of a frame f that was let in
 unfoldable pub stepFor : (List ℕ → List ℕ) → Call → Server → List ℕ → List ℕ → List ℕ → List ℕ → List ℕ → Outcome
 stepFor H k s a initial f out to =
@@ -65,6 +77,12 @@ Stepping s rs k a₀ initial f out₀ to₀ r a out to =
     (w : Server) → Holds w (k .header .client) s rs → outcomeIn w (k .header .client) r a out to ≡ stepFor digestOf k w a₀ initial f out₀ to₀
 
 -- ---- kinds 3 to 8: a write's two broadcasts
+
+-- 4, 5, 7 and 8, which servers send
+pub record OfServers (kind : ℕ) : Type 0 where
+  pub low : 4 ≤ kind
+  pub high : kind ≤ 8
+  pub other : kind ≡ 6 → ⊥
 
 -- what a frame of a write says: a stage, with an entry or a time
 pub data Vote : Type 0 where
@@ -98,3 +116,8 @@ voteFrame H k x a (time z T) q = timeFrame H k x a z T q
 pub record VoteHandled (k : Call) (x : Slot) (a₀ f out₀ to₀ : List ℕ) (r : Counted) (a out to : List ℕ) : Type 0 where
   pub handles : handled r a out to ≡ voteFrame digestOf k x a₀ (voteIn (k .params) (k .header .kind) f) (outbox out₀ to₀ firstPlace)
   pub room : Room (r .place) 9 (largestFrame (k .params)) (length out) (length to)
+
+-- what a counted frame leaves of its scope where nothing can be accepted behind it: s itself, or its slot is x
+unfoldable pub storedBy : Verdict → Scope → Slot → Place → Taken
+storedBy (J.Bad r) s x p = record { reply = Y.Refused r; scope = s }
+storedBy J.Fine s x p = record { reply = Y.Step (p .count); scope = slotIn s x }

@@ -11,7 +11,8 @@ use server::asking::on_read;
 use server::asking::on_read_complete;
 use server::replies::taken;
 use server::state::with_slot;
-use server_accept::free;
+use server_accept::accept;
+use server_accept::is_ripe;
 use server_blocks::storing::on_block_echo;
 use server_blocks::storing::on_block_ready;
 use server_blocks::storing::on_block_send;
@@ -22,13 +23,60 @@ use server_rules::Slot;
 use server_times::on_time_echo;
 use server_times::on_time_ready;
 use server_times::on_time_send;
-ghost use Prim.Native.Nat.{ℕ, _≤_};
+ghost use Prim.Native.Nat.{ℕ, _≤_, _<_};
+ghost use mathlib.Core.Path.{_≡_};
 ghost use mathlib.Core.List.{List};
 ghost use lib.ListN.{length};
 ghost use Rattle.frame.specs.Params.{width};
-ghost use Rattle.server_deliver.specs.Handed.{Handed, VoteHandled, Stepping};
+ghost use Rattle.server_deliver.specs.Handed.{Handed, HandedOwn, OfServers, storedBy, VoteHandled, Stepping};
 
-// Kinds 3 to 5, whose body is a digest list and a block.
+// ---- the client's own frames of its write: kinds 3 and 6
+
+// Nothing can be accepted behind such a frame: the slot is stored, unless the frame was turned down.
+fn stored(s: Scope, n: Counted) -> Taken
+    ensures { λ r. ⌜ r ≡ storedBy (n .verdict) s (n .slot) (n .place) ⌝ }
+{
+    let v = n.verdict;
+    if let Verdict::Bad(r) = v {
+        return Taken {
+            reply: Reply::Refused(r),
+            scope: s,
+        };
+    }
+    let slot = n.slot;
+    let place = n.place;
+    let y = with_slot(s, slot);
+    taken(y, place)
+}
+
+// Kind 3, whose body is a digest list and a block.
+fn step_of_blocks(s: Scope, k: Call, f: &[u8], out: &mut [u8], to: &mut [u8]) -> Taken
+    requires { ⌜ HandedOwn k (length (now f)) (length (now out)) (length (now to)) × (k .header .kind ≡ 3) ⌝ }
+    ensures { λ r. ⌜ ((rs : List Reader) (a i : List ℕ) → Stepping s rs k a i (now (f .entry)) (now (out .entry)) (now (to .entry))
+        r a (now (out .exit)) (now (to .exit))) ⌝ }
+{
+    let g = k.params;
+    let x = s.slot;
+    let middle = BODY_AT + 32 * g.n;
+    let end = middle + width(g);
+    let n = on_block_send(x, k, &f[BODY_AT..middle], &f[middle..end], out, to);
+    stored(s, n)
+}
+
+// Kind 6.
+fn step_of_time(s: Scope, k: Call, f: &[u8], out: &mut [u8], to: &mut [u8]) -> Taken
+    requires { ⌜ HandedOwn k (length (now f)) (length (now out)) (length (now to)) × (k .header .kind ≡ 6) ⌝ }
+    ensures { λ r. ⌜ ((rs : List Reader) (a i : List ℕ) → Stepping s rs k a i (now (f .entry)) (now (out .entry)) (now (to .entry))
+        r a (now (out .exit)) (now (to .exit))) ⌝ }
+{
+    let x = s.slot;
+    let n = on_time_send(x, k, f, out, to);
+    stored(s, n)
+}
+
+// ---- servers' frames of a write: kinds 4, 5, 7 and 8
+
+// Kinds 4 and 5, whose body is a digest list and a block.
 fn count_blocks(
     x: Slot,
     k: Call,
@@ -37,7 +85,7 @@ fn count_blocks(
     out: &mut [u8],
     to: &mut [u8],
 ) -> Counted
-    requires { ⌜ Handed k (length (now f)) (length (now area)) (length (now out)) (length (now to)) × (3 ≤ k .header .kind) × (k .header .kind ≤ 5) ⌝ }
+    requires { ⌜ Handed k (length (now f)) (length (now area)) (length (now out)) (length (now to)) × (4 ≤ k .header .kind) × (k .header .kind ≤ 5) ⌝ }
     ensures { λ r. ⌜ VoteHandled k x (now (area .entry)) (now (f .entry)) (now (out .entry)) (now (to .entry))
         r (now (area .exit)) (now (out .exit)) (now (to .exit)) ⌝ }
 {
@@ -47,25 +95,15 @@ fn count_blocks(
     let end = middle + width(g);
     let list = &f[BODY_AT..middle];
     let block = &f[middle..end];
-    if h.kind == 3 {
-        return on_block_send(x, k, list, block, out, to);
-    }
     if h.kind == 4 {
         return on_block_echo(x, k, list, block, area, out, to);
     }
     on_block_ready(x, k, list, block, area, out, to)
 }
 
-// Kinds 3 to 8, of a write's two broadcasts, counted in its slot.
-fn count_frame(
-    x: Slot,
-    k: Call,
-    f: &[u8],
-    area: &mut [u8],
-    out: &mut [u8],
-    to: &mut [u8],
-) -> Counted
-    requires { ⌜ Handed k (length (now f)) (length (now area)) (length (now out)) (length (now to)) × (3 ≤ k .header .kind) × (k .header .kind ≤ 8) ⌝ }
+// Kinds 4, 5, 7 and 8, counted in the slot.
+fn count_vote(x: Slot, k: Call, f: &[u8], area: &mut [u8], out: &mut [u8], to: &mut [u8]) -> Counted
+    requires { ⌜ Handed k (length (now f)) (length (now area)) (length (now out)) (length (now to)) × OfServers (k .header .kind) ⌝ }
     ensures { λ r. ⌜ VoteHandled k x (now (area .entry)) (now (f .entry)) (now (out .entry)) (now (to .entry))
         r (now (area .exit)) (now (out .exit)) (now (to .exit)) ⌝ }
 {
@@ -73,16 +111,52 @@ fn count_frame(
     if h.kind < 6 {
         return count_blocks(x, k, f, area, out, to);
     }
-    if h.kind == 6 {
-        return on_time_send(x, k, f, out, to);
-    }
     if h.kind == 7 {
         return on_time_echo(x, k, f, out, to);
     }
     on_time_ready(x, k, f, out, to)
 }
 
-// Kinds 3 to 8: counted, and behind an echo or a ready the write is accepted if it can be.
+// Counted; then the write is accepted if it can be.
+fn step_of_vote(
+    s: Scope,
+    readers: [Reader; 9],
+    k: Call,
+    f: &[u8],
+    area: &mut [u8],
+    out: &mut [u8],
+    to: &mut [u8],
+) -> Taken
+    requires { ⌜ Handed k (length (now f)) (length (now area)) (length (now out)) (length (now to)) ×
+        OfServers (k .header .kind) × (k .header .sequence < 4294967296) ⌝ }
+    ensures { λ r. ⌜ ((i : List ℕ) → Stepping s readers k (now (area .entry)) i (now (f .entry)) (now (out .entry)) (now (to .entry))
+        r (now (area .exit)) (now (out .exit)) (now (to .exit))) ⌝ }
+{
+    let h = k.header;
+    let x = s.slot;
+    let n = count_vote(x, k, f, area, out, to);
+    let v = n.verdict;
+    if let Verdict::Bad(r) = v {
+        return Taken {
+            reply: Reply::Refused(r),
+            scope: s,
+        };
+    }
+    let slot = n.slot;
+    let place = n.place;
+    let y = with_slot(s, slot);
+    if !is_ripe(slot) {
+        return taken(y, place);
+    }
+    let m = accept(y, readers, k.params, h.client, area, out, to, place);
+    let scope = m.scope;
+    let last = m.place;
+    taken(scope, last)
+}
+
+// ---- any frame
+
+// Kinds 3 to 8, of a write's two broadcasts.
 fn step_of_write(
     s: Scope,
     readers: [Reader; 9],
@@ -97,28 +171,13 @@ fn step_of_write(
         r (now (area .exit)) (now (out .exit)) (now (to .exit))) ⌝ }
 {
     let h = k.header;
-    let x = s.slot;
-    let n = count_frame(x, k, f, area, out, to);
-    let v = n.verdict;
-    if let Verdict::Bad(r) = v {
-        return Taken {
-            reply: Reply::Refused(r),
-            scope: s,
-        };
-    }
-    let slot = n.slot;
-    let place = n.place;
-    let y = with_slot(s, slot);
     if h.kind == 3 {
-        return taken(y, place);
+        return step_of_blocks(s, k, f, out, to);
     }
     if h.kind == 6 {
-        return taken(y, place);
+        return step_of_time(s, k, f, out, to);
     }
-    let m = free(y, readers, k.params, h.client, area, out, to, place);
-    let scope = m.scope;
-    let last = m.place;
-    taken(scope, last)
+    step_of_vote(s, readers, k, f, area, out, to)
 }
 
 // Kinds 1 to 12; 2, 9 and 11 do not go to servers.

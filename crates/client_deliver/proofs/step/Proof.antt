@@ -6,8 +6,8 @@ use Rattle.client_deliver.proofs.step.Tie as tie
 
 on-stamp-requires : tie.Need-on-stamp-requires
 on-stamp-requires c κs =
-    let A = c .before .before .before .before .before .before .before .before .before .before .pre in
-    (record { bounded = A .lent .bounded; whole = A .whole; room = A .lent .room }, stamp-long (c .before .before .before .before .before .before .before .before .before .before .args .g) _ _ (A .frame-is) (c .before .before .if1 .taken))
+    let A = c .before .before .before .before .before .before .before .before .before .before .before .pre in
+    (record { bounded = A .lent .bounded; whole = A .whole; room = A .lent .room }, stamp-long (c .before .before .before .before .before .before .before .before .before .before .before .args .k .params) _ _ (A .frame-is) (c .before .before .if1 .taken))
 
 same-length : tie.Need-same-length
 same-length c = search needs
@@ -17,19 +17,19 @@ same-length-2 c = search needs
 
 returns : tie.Need-returns
 returns c =
-    let a = c .before .before .before .before .before .before .before .before .before .before .before .before .before .before .before .args in
-    of-stamp (a .g) (a .me) (a .s) (a .area .now) (a .value .now) (a .from) (a .f .now) (a .result .now) _ _ (a .h) _ (c .before .before .before .before .before .before .before .if1 .taken) (c .before .before .before .before .on-stamp .ensures (a .area .now) (a .result .now))
+    let a = c .before .before .before .before .before .before .before .before .before .before .before .before .before .before .before .before .args in
+    of-stamp (a .k .params) (a .k .me) (a .s) (a .area .now) (a .value .now) (a .k .from) (a .f .now) (a .result .now) _ _ (a .k .header) _ (c .before .before .before .before .before .before .before .if1 .taken) (c .before .before .before .before .on-stamp .ensures (a .area .now) (a .result .now))
 
 on-ack-requires : tie.Need-on-ack-requires
 on-ack-requires c κs = search needs
 
 returns-2 : tie.Need-returns-2
 returns-2 c =
-    let a = c .before .before .before .before .before .before .before .before .before .before .before .args in
-    of-ack (a .g) (a .me) (a .s) (a .area .now) (a .value .now) (a .from) (a .f .now) (a .result .now) _ _ (a .h) _ (c .before .if2 .taken) (c .on-ack .ensures (a .area .now) (a .result .now) (a .out .now) (a .to .now))
+    let a = c .before .before .before .before .before .before .before .before .before .before .before .before .args in
+    of-ack (a .k .params) (a .k .me) (a .s) (a .area .now) (a .value .now) (a .k .from) (a .f .now) (a .result .now) _ _ (a .k .header) _ (c .before .if2 .taken) (c .on-ack .ensures (a .area .now) (a .result .now) (a .out .now) (a .to .now))
 
 on-value-requires : tie.Need-on-value-requires
-on-value-requires c κs = (c .before .before .before .before .before .before .before .before .before .before .before .before .before .before .before .before .pre .lent, value-long (c .before .before .before .before .before .before .before .before .before .before .before .before .before .before .before .before .args .g) _ _ (c .before .before .before .before .before .before .before .before .before .before .before .before .before .before .before .before .pre .frame-is) (c .before .before .before .before .if3 .taken))
+on-value-requires c κs = (c .before .before .before .before .before .before .before .before .before .before .before .before .before .before .before .before .before .pre .lent, value-long (c .before .before .before .before .before .before .before .before .before .before .before .before .before .before .before .before .before .args .k .params) _ _ (c .before .before .before .before .before .before .before .before .before .before .before .before .before .before .before .before .before .pre .frame-is) (c .before .before .before .before .if3 .taken))
 
 same-length-3 : tie.Need-same-length-3
 same-length-3 c = search needs
@@ -45,13 +45,13 @@ same-length-6 c = search needs
 
 returns-3 : tie.Need-returns-3
 returns-3 c =
-    let a = c .before .before .before .before .before .before .before .before .before .before .before .before .before .before .before .before .before .before .before .before .before .before .before .before .before .args in
-    of-value (a .g) (a .me) (a .s) (a .area .now) (a .value .now) (a .from) (a .f .now) (a .result .now) _ _ (a .h) _ (c .before .before .before .before .before .before .before .before .before .before .before .before .before .if3 .taken) (c .before .before .before .before .before .before .before .before .on-value .ensures)
+    let a = c .before .before .before .before .before .before .before .before .before .before .before .before .before .before .before .before .before .before .before .before .before .before .before .before .before .before .args in
+    of-value (a .k .params) (a .k .me) (a .s) (a .area .now) (a .value .now) (a .k .from) (a .f .now) (a .result .now) _ _ (a .k .header) _ (c .before .before .before .before .before .before .before .before .before .before .before .before .before .if3 .taken) (c .before .before .before .before .before .before .before .before .on-value .ensures)
 
 returns-4 : tie.Need-returns-4
 returns-4 c =
-    let a = c .before .before .before .before .before .before .before .before .before .before .before .before .args in
-    of-others (a .g) (a .me) (a .s) (a .area .now) (a .value .now) (a .from) (a .f .now) (a .result .now) _ _ (a .h) (c .before .before .before .before .if1 .left) (c .before .before .if2 .left) (c .if3 .left)
+    let a = c .before .before .before .before .before .before .before .before .before .before .before .before .before .args in
+    of-others (a .k .params) (a .k .me) (a .s) (a .area .now) (a .value .now) (a .k .from) (a .f .now) (a .result .now) _ _ (a .k .header) (c .before .before .before .before .if1 .left) (c .before .before .if2 .left) (c .if3 .left)
 
 pub step-spec : {M : Type 1} → statement M
 step-spec =

@@ -20,36 +20,36 @@ slice-aggregate-digests c = search needs
 
 digests-requires : tie.Need-digests-requires
 digests-requires c κs =
-    let B = c .before .before .before .before .before .before .before .before .pre .0 in (
-      record { bounded = B; short = omega (arith, c .before .before .before .before .before .before .before .before .pre .1, B .size-high); tables = record { powers = c .before .before .before .before .powers .ensures; logs = c .before .before .before .logs .ensures } },
+    let B = c .before .before .before .before .before .before .before .before .before .pre .0 in (
+      record { bounded = B; short = omega (arith, c .before .before .before .before .before .before .before .before .before .pre .1, B .size-high); tables = record { powers = c .before .before .before .before .powers .ensures; logs = c .before .before .before .logs .ensures } },
       omega (arith, B .servers-high),
     )
 
-mul-w : tie.Need-mul-w
-mul-w c = search needs
+mul-listed : tie.Need-mul-listed
+mul-listed c = search needs
 
 array-share-prefix-list : tie.Need-array-share-prefix-list
-array-share-prefix-list c = omega (arith, c .before .before .before .before .before .before .before .before .before .before .before .pre .0 .servers-high, c .before .before .digests .kept .1 .1 .0)
+array-share-prefix-list c = omega (arith, c .before .before .before .before .before .before .before .before .before .before .before .before .pre .0 .servers-high, c .before .before .digests .kept .1 .1 .0)
 
 slice-aggregate-own-blocks : tie.Need-slice-aggregate-own-blocks
 slice-aggregate-own-blocks c =
-    let n : 32 * c .before .before .before .before .before .before .before .before .before .before .before .before .args .g .n ≤ length (c .before .before .before .digests .last .1 .1 .0) = omega (arith, c .before .before .before .before .before .before .before .before .before .before .before .before .pre .0 .servers-high, c .before .before .before .digests .kept .1 .1 .0) in
+    let n : 32 * c .before .before .before .before .before .before .before .before .before .before .before .before .before .args .w .params .n ≤ length (c .before .before .before .digests .last .1 .1 .0) = omega (arith, c .before .before .before .before .before .before .before .before .before .before .before .before .before .pre .0 .servers-high, c .before .before .before .digests .kept .1 .1 .0) in
     sym (length-take-le _ _ n)
 
 own-blocks-requires : tie.Need-own-blocks-requires
 own-blocks-requires c κs =
-    let B = c .before .before .before .before .before .before .before .before .before .before .before .before .before .before .before .before .pre .0 in (
+    let B = c .before .before .before .before .before .before .before .before .before .before .before .before .before .before .before .before .before .pre .0 in (
       record {
         bounded = B;
-        whole = c .before .before .before .before .before .before .before .before .before .before .before .before .before .before .before .before .pre .1;
-        list-is = list-front (c .before .before .before .before .before .before .before .before .before .before .before .before .before .before .before .before .args .g) (c .before .before .before .before .before .before .before .before .before .before .before .before .before .before .before .before .args .value .now) _ _ B (omega arith) (c .before .before .before .before .before .before .before .digests .ensures);
+        whole = c .before .before .before .before .before .before .before .before .before .before .before .before .before .before .before .before .before .pre .1;
+        list-is = list-front (c .before .before .before .before .before .before .before .before .before .before .before .before .before .before .before .before .before .args .w .params) (c .before .before .before .before .before .before .before .before .before .before .before .before .before .before .before .before .before .args .value .now) _ _ B (omega arith) (c .before .before .before .before .before .before .before .digests .ensures);
         tables = record { powers = c .before .before .before .before .before .before .before .before .before .before .before .before .powers .ensures; logs = c .before .before .before .before .before .before .before .before .before .before .before .logs .ensures };
       },
-      block-room (c .before .before .before .before .before .before .before .before .before .before .before .before .before .before .before .before .args .g) _ _ _ (c .before .before .before .before .before .before .before .before .before .before .before .before .before .before .before .before .pre .2),
+      block-room (c .before .before .before .before .before .before .before .before .before .before .before .before .before .before .before .before .before .args .w .params) _ _ _ (c .before .before .before .before .before .before .before .before .before .before .before .before .before .before .before .before .before .pre .2),
     )
 
 time-all-requires : tie.Need-time-all-requires
-time-all-requires c κs = (c .before .before .before .before .before .before .before .before .before .before .before .before .before .before .before .before .before .before .before .before .before .before .before .pre .0, time-room (c .before .before .before .before .before .before .before .before .before .before .before .before .before .before .before .before .before .before .before .before .before .before .before .args .g) (c .before .before .before .before .before .before .before .before .before .before .before .before .before .before .before .before .before .before .before .before .before .before .before .args .value .now) (c .before .before .before .before .before .before .before .before .before .before .before .before .before .before .before .before .before .before .before .before .before .before .before .pre .1) _ _ _ _ _ _ _ _ (c .before .before .before .before .before .before .own-blocks .ensures) (c .before .before .before .before .before .before .before .before .before .before .before .before .before .before .before .before .before .before .before .before .before .before .before .pre .2))
+time-all-requires c κs = (c .before .before .before .before .before .before .before .before .before .before .before .before .before .before .before .before .before .before .before .before .before .before .before .before .pre .0, time-room (c .before .before .before .before .before .before .before .before .before .before .before .before .before .before .before .before .before .before .before .before .before .before .before .before .args .w .params) (c .before .before .before .before .before .before .before .before .before .before .before .before .before .before .before .before .before .before .before .before .before .before .before .before .args .value .now) (c .before .before .before .before .before .before .before .before .before .before .before .before .before .before .before .before .before .before .before .before .before .before .before .before .pre .1) _ _ _ _ _ _ _ _ (c .before .before .before .before .before .before .own-blocks .ensures) (c .before .before .before .before .before .before .before .before .before .before .before .before .before .before .before .before .before .before .before .before .before .before .before .before .pre .2))
 
 same-length : tie.Need-same-length
 same-length c = search needs
@@ -68,7 +68,7 @@ disperse-spec =
     logs-requires
     slice-aggregate-digests
     digests-requires
-    mul-w
+    mul-listed
     array-share-prefix-list
     slice-aggregate-own-blocks
     own-blocks-requires

@@ -19,8 +19,8 @@ enum-known-v c = search needs
 returns : tie.Need-returns
 unfolding messageTest orderTest answers
 returns c =
-    let a = c .before .before .before .before .before .before .before .before .before .before .args in
-    refused-is _ _ (a .s) (a .area .now) _ _ _ _ (value-verdict (a .g) (a .me) (a .s) (a .from) (a .h) _ _ _ _ (c .before .before .before .before .stamp-in .ensures) (c .before .before .before .entry-test .ensures)) _ (c .before .v .given .1)
+    let a = c .before .before .before .before .before .before .before .before .before .before .before .args in
+    refused-is _ _ (a .s) (a .area .now) _ _ _ _ (value-verdict (a .k .params) (a .k .me) (a .s) (a .k .from) (a .k .header) _ _ _ _ (c .before .before .before .before .stamp-in .ensures) (c .before .before .before .entry-test .ensures)) _ (c .before .v .given .1)
 
 enum-told : tie.Need-enum-told
 enum-told c = search needs
@@ -33,9 +33,9 @@ cast-j c = search needs
 
 keep-requires : tie.Need-keep-requires
 keep-requires c κs =
-    let a = c .before .before .before .before .before .before .before .before .before .before .before .before .before .before .args in
-    let n = fine-sender (a .g) (a .from) (a .h .client) (a .me) _ _ _ (c .before .before .before .before .before .before .before .entry-test .ensures) (c .before .before .before .before .before .enum-told .given .1) (c .before .before .before .before .number-in .ensures) in
-    (c .before .before .before .before .before .before .before .before .before .before .before .before .before .before .pre .0, n .0, n .1, c .before .before .before .before .before .before .before .before .before .before .before .before .before .before .pre .1)
+    let a = c .before .before .before .before .before .before .before .before .before .before .before .before .before .before .before .args in
+    let n = fine-sender (a .k .params) (a .k .from) (a .k .header .client) (a .k .me) _ _ _ (c .before .before .before .before .before .before .before .entry-test .ensures) (c .before .before .before .before .before .enum-told .given .1) (c .before .before .before .before .number-in .ensures) in
+    (c .before .before .before .before .before .before .before .before .before .before .before .before .before .before .before .pre .0, n .0, n .1, c .before .before .before .before .before .before .before .before .before .before .before .before .before .before .before .pre .1)
 
 same-length : tie.Need-same-length
 same-length c = search needs
@@ -52,9 +52,9 @@ same-length-4 c = search needs
 returns-2 : tie.Need-returns-2
 unfolding messageTest orderTest answers
 returns-2 c =
-    let a = c .before .before .before .before .before .before .before .before .before .before .before .before .before .before .before .before .before .before .before .before .before .before .before .args in
-    step-is _ _ (a .s) (a .area .now) _ _ _ _ (value-verdict (a .g) (a .me) (a .s) (a .from) (a .h) _ _ _ _ (c .before .before .before .before .before .before .before .before .before .before .before .before .before .before .before .before .before .stamp-in .ensures) (c .before .before .before .before .before .before .before .before .before .before .before .before .before .before .before .before .entry-test .ensures)) _ (c .before .before .before .before .before .before .before .before .before .before .before .before .before .before .enum-told .given .1)
-    (kept-from (a .g) (a .me) (a .s) (a .area .now) _ _ _ _ _ _ _ _ _ (c .before .before .before .before .before .before .before .before .before .before .before .before .before .number-in .ensures) (c .before .before .before .before .before .before .before .before .before .before .before .before .before .before .before .before .before .stamp-in .ensures) (c .before .before .before .before .before .before .before .before .keep .ensures))
+    let a = c .before .before .before .before .before .before .before .before .before .before .before .before .before .before .before .before .before .before .before .before .before .before .before .before .args in
+    step-is _ _ (a .s) (a .area .now) _ _ _ _ (value-verdict (a .k .params) (a .k .me) (a .s) (a .k .from) (a .k .header) _ _ _ _ (c .before .before .before .before .before .before .before .before .before .before .before .before .before .before .before .before .before .stamp-in .ensures) (c .before .before .before .before .before .before .before .before .before .before .before .before .before .before .before .before .entry-test .ensures)) _ (c .before .before .before .before .before .before .before .before .before .before .before .before .before .before .enum-told .given .1)
+    (kept-from (a .k .params) (a .k .me) (a .s) (a .area .now) _ _ _ _ _ _ _ _ _ (c .before .before .before .before .before .before .before .before .before .before .before .before .before .number-in .ensures) (c .before .before .before .before .before .before .before .before .before .before .before .before .before .before .before .before .before .stamp-in .ensures) (c .before .before .before .before .before .before .before .before .keep .ensures))
 
 pub on-value-spec : {M : Type 1} → statement M
 on-value-spec =

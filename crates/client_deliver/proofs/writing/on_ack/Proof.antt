@@ -21,7 +21,7 @@ enum-known-v c = search needs
 returns : tie.Need-returns
 unfolding messageTest orderTest answers
 returns c =
-    let a = c .before .before .before .before .before .before .before .args in
+    let a = c .before .before .before .before .before .before .before .before .args in
     λ z l o t. refused-is _ _ (a .s) z _ l o t (verdict-in _ _ _ _ (acking (a .s .phase)) _ (c .before .before .before .reply-test .ensures) (c .before .before .before .before .is-acking .ensures)) _ (c .before .v .given .1)
 
 enum-told : tie.Need-enum-told
@@ -35,9 +35,9 @@ cast-j c = search needs
 
 array-write-heard : tie.Need-array-write-heard
 array-write-heard c =
-    let a = c .before .before .before .before .before .before .before .args in
-    let n = fine-sender (a .g) (a .from) (a .h .client) (a .me) _ _ _ (c .before .before .before .reply-test .ensures) (c .before .enum-told .given .1) (c .number-in .ensures) in
-    omega (arith, n .1, c .before .before .before .before .before .before .before .pre .servers-high)
+    let a = c .before .before .before .before .before .before .before .before .args in
+    let n = fine-sender (a .k .params) (a .k .from) (a .k .header .client) (a .k .me) _ _ _ (c .before .before .before .reply-test .ensures) (c .before .enum-told .given .1) (c .number-in .ensures) in
+    omega (arith, n .1, c .before .before .before .before .before .before .before .before .pre .servers-high)
 
 is-quorate-requires : tie.Need-is-quorate-requires
 is-quorate-requires c κs = search needs
@@ -48,9 +48,9 @@ in-phase-requires c κs = search needs
 returns-2 : tie.Need-returns-2
 unfolding messageTest orderTest answers
 returns-2 c =
-    let a = c .before .before .before .before .before .before .before .before .before .before .args in
+    let a = c .before .before .before .before .before .before .before .before .before .before .before .args in
     λ z l o t. step-is _ _ (a .s) z _ l o t (verdict-in _ _ _ _ (acking (a .s .phase)) _ (c .before .before .before .before .before .before .reply-test .ensures) (c .before .before .before .before .before .before .before .is-acking .ensures)) _ (c .before .before .before .before .enum-told .given .1)
-    (ack-waits (a .g) (a .me) (a .s) z l o t _ _ _ _ (c .before .before .before .number-in .ensures) (c .before .before .is-quorate .ensures) (c .in-phase .ensures) (c .before .if1 .taken))
+    (ack-waits (a .k .params) (a .k .me) (a .s) z l o t _ _ _ _ (c .before .before .before .number-in .ensures) (c .before .before .is-quorate .ensures) (c .in-phase .ensures) (c .before .if1 .taken))
 
 in-phase-requires-2 : tie.Need-in-phase-requires-2
 in-phase-requires-2 c κs = search needs
@@ -58,9 +58,9 @@ in-phase-requires-2 c κs = search needs
 returns-3 : tie.Need-returns-3
 unfolding messageTest orderTest answers
 returns-3 c =
-    let a = c .before .before .before .before .before .before .before .before .before .before .args in
+    let a = c .before .before .before .before .before .before .before .before .before .before .before .args in
     λ z l o t. step-is _ _ (a .s) z _ l o t (verdict-in _ _ _ _ (acking (a .s .phase)) _ (c .before .before .before .before .before .before .reply-test .ensures) (c .before .before .before .before .before .before .before .is-acking .ensures)) _ (c .before .before .before .before .enum-told .given .1)
-    (ack-ends (a .g) (a .me) (a .s) z l o t _ _ _ _ (c .before .before .before .number-in .ensures) (c .before .before .is-quorate .ensures) (c .in-phase2 .ensures) (c .before .if1 .left))
+    (ack-ends (a .k .params) (a .k .me) (a .s) z l o t _ _ _ _ (c .before .before .before .number-in .ensures) (c .before .before .is-quorate .ensures) (c .in-phase2 .ensures) (c .before .if1 .left))
 
 pub on-ack-spec : {M : Type 1} → statement M
 on-ack-spec =

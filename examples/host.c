@@ -1,4 +1,5 @@
-/* A host in C: a digest, blocks, histories, an index of accession numbers, a client that begins a write, and a whole run of a register whose parties are all in this process. */
+/* A host in C that makes every call: a digest, blocks, histories, an index of accession numbers, a client that begins a write, and a whole run of a
+ * register whose parties are all in this process. */
 #include <stdio.h>
 #include <string.h>
 #include "semduoli.h"
@@ -119,15 +120,17 @@ static uint64_t hand_to_server(const struct parcel *p)
 
 static uint64_t hand_to_client(const struct parcel *p)
 {
-    uint8_t out[SEMDUOLI_CLIENT_OUT(N, K, SIZE)], to[SEMDUOLI_CLIENT_TO(N)], result[SIZE], me = p->to[1];
+    uint8_t out[SEMDUOLI_CLIENT_OUT(N, K, SIZE)], to[SEMDUOLI_CLIENT_TO(N)], result[SIZE], stamp[SEMDUOLI_STAMP], me = p->to[1];
     struct client *c = &clients[me];
     uint64_t answer = semduoli_client_deliver(N, T, K, SIZE, me, p->from[0], p->from[1], c->value, c->value ? SIZE : 0, p->frame, p->length, c->rows,
-                                              sizeof c->rows, result, sizeof result, c->state, sizeof c->state, out, sizeof out, to, sizeof to);
+                                              sizeof c->rows, result, sizeof result, stamp, sizeof stamp, c->state, sizeof c->state, out, sizeof out, to,
+                                              sizeof to);
     add_sent(SEMDUOLI_CLASS_CLIENT, me, answer, out, to);
     if (SEMDUOLI_OUTCOME(answer) == SEMDUOLI_WRITTEN)
         printf("client %u has written\n", me);
     if (SEMDUOLI_OUTCOME(answer) == SEMDUOLI_VALUE)
-        printf("client %u has read %.*s\n", me, SIZE, (const char *)result);
+        printf("client %u has read %.*s, stamp %llu %u %u\n", me, SIZE, (const char *)result, (unsigned long long)semduoli_stamp_time(stamp),
+               semduoli_stamp_writer(stamp), (unsigned)semduoli_stamp_sequence(stamp));
     return answer;
 }
 
@@ -139,7 +142,7 @@ static void carry(void)
         uint64_t answer = p.to[0] == SEMDUOLI_CLASS_SERVER ? hand_to_server(&p) : hand_to_client(&p);
         if (SEMDUOLI_REFUSAL(answer))
             refused++;
-        if (SEMDUOLI_REFUSAL(answer) == 13)
+        if (SEMDUOLI_REFUSAL(answer) == SEMDUOLI_REFUSED_AHEAD)
             waiting[added++ % WAITING] = p;
     }
     printf("frames handed in so far: %u, of them refused: %u\n", (unsigned)taken, (unsigned)refused);
@@ -156,6 +159,18 @@ static void begin(uint8_t me, const uint8_t *value)
     add_sent(SEMDUOLI_CLASS_CLIENT, me, answer, out, to);
 }
 
+/* what is open at a client, and what a server holds and works on for client 1 */
+static void show_open(uint8_t client, uint8_t server)
+{
+    uint8_t stamp[SEMDUOLI_STAMP];
+    uint64_t open = semduoli_client_open(clients[client].state, SEMDUOLI_CLIENT);
+    uint64_t held = semduoli_server_stamp(servers[server].state, SEMDUOLI_SERVER, stamp, sizeof stamp);
+    uint64_t works = semduoli_server_open(1, servers[server].state, SEMDUOLI_SERVER);
+    printf("client %u: open %u, sequence %u\n", client, SEMDUOLI_OUTCOME(open), (unsigned)SEMDUOLI_SEQUENCE(open));
+    printf("server %u: %u, works on write %u of client 1, holds", server, (unsigned)held, (unsigned)SEMDUOLI_SEQUENCE(works));
+    show(" stamp", stamp, sizeof stamp);
+}
+
 static void whole_run(const uint8_t *initial, const uint8_t *value)
 {
     for (uint8_t j = 1; j <= N; j++) {
@@ -169,9 +184,12 @@ static void whole_run(const uint8_t *initial, const uint8_t *value)
     begin(2, NULL);
     carry();
     begin(1, value);
+    show_open(1, 1);
     carry();
     begin(2, NULL);
+    show_open(2, 1);
     carry();
+    show_open(2, 1);
 }
 
 /* what server 1 answers to client 1's get-stamp from this sender, so many bytes of the frame and of the record being lent */
@@ -229,5 +247,12 @@ int main(void)
     hand_get_stamp("from a third class", 2, 1, 9, SEMDUOLI_SERVER);
     hand_get_stamp("record short", SEMDUOLI_CLASS_CLIENT, 1, 9, 0);
     hand_get_stamp("record and frame short", SEMDUOLI_CLASS_CLIENT, 1, 3, 0);
+
+    printf("version: %u\n", (unsigned)(semduoli_version() == SEMDUOLI_VERSION));
+    answer = semduoli_begin_read(N, T, K, SIZE, 257, state, sizeof state, out, sizeof out, to, sizeof to);
+    printf("read of client 257: refusal %u\n", SEMDUOLI_REFUSAL(answer));
+    printf("open, record short: %u\n", (unsigned)semduoli_client_open(state, SEMDUOLI_CLIENT - 1));
+    printf("stamp, area short: %u\n", (unsigned)semduoli_server_stamp(servers[1].state, SEMDUOLI_SERVER, digest, SEMDUOLI_STAMP - 1));
+    printf("open of client 9: %u\n", (unsigned)semduoli_server_open(9, servers[1].state, SEMDUOLI_SERVER));
     return 0;
 }

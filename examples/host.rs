@@ -15,26 +15,31 @@ mod semduoli {
             pub fn semduoli_index_insert(v: *const u8, v_len: usize, index: *mut u8, index_len: usize) -> u64;
             pub fn semduoli_index_search(number: u64, index: *const u8, index_len: usize) -> u64;
             pub fn semduoli_server_fresh(
-                n: usize, t: usize, k: usize, size: usize, me: u8, v: *const u8, v_len: usize, area: *mut u8, area_len: usize, initial: *mut u8,
+                n: usize, t: usize, k: usize, size: usize, me: usize, v: *const u8, v_len: usize, area: *mut u8, area_len: usize, initial: *mut u8,
                 initial_len: usize, state: *mut u8, state_len: usize,
             ) -> u64;
             pub fn semduoli_server_deliver(
-                n: usize, t: usize, k: usize, size: usize, me: u8, class: usize, sender: usize, f: *const u8, f_len: usize, area: *mut u8,
+                n: usize, t: usize, k: usize, size: usize, me: usize, class: usize, sender: usize, f: *const u8, f_len: usize, area: *mut u8,
                 area_len: usize, initial: *const u8, initial_len: usize, state: *mut u8, state_len: usize, out: *mut u8, out_len: usize, to: *mut u8,
                 to_len: usize,
             ) -> u64;
+            pub fn semduoli_version() -> u64;
+            pub fn semduoli_server_stamp(state: *const u8, state_len: usize, stamp: *mut u8, stamp_len: usize) -> u64;
+            pub fn semduoli_server_open(client: usize, state: *const u8, state_len: usize) -> u64;
+            pub fn semduoli_client_open(state: *const u8, state_len: usize) -> u64;
             pub fn semduoli_client_fresh(state: *mut u8, state_len: usize) -> u64;
             pub fn semduoli_begin_read(
-                n: usize, t: usize, k: usize, size: usize, me: u8, state: *mut u8, state_len: usize, out: *mut u8, out_len: usize, to: *mut u8, to_len: usize,
+                n: usize, t: usize, k: usize, size: usize, me: usize, state: *mut u8, state_len: usize, out: *mut u8, out_len: usize, to: *mut u8,
+                to_len: usize,
             ) -> u64;
             pub fn semduoli_begin_write(
-                n: usize, t: usize, k: usize, size: usize, me: u8, state: *mut u8, state_len: usize, v: *const u8, v_len: usize, out: *mut u8,
+                n: usize, t: usize, k: usize, size: usize, me: usize, state: *mut u8, state_len: usize, v: *const u8, v_len: usize, out: *mut u8,
                 out_len: usize, to: *mut u8, to_len: usize,
             ) -> u64;
             pub fn semduoli_client_deliver(
-                n: usize, t: usize, k: usize, size: usize, me: u8, class: usize, sender: usize, v: *const u8, v_len: usize, f: *const u8, f_len: usize,
-                rows: *mut u8, rows_len: usize, result: *mut u8, result_len: usize, state: *mut u8, state_len: usize, out: *mut u8, out_len: usize,
-                to: *mut u8, to_len: usize,
+                n: usize, t: usize, k: usize, size: usize, me: usize, class: usize, sender: usize, v: *const u8, v_len: usize, f: *const u8, f_len: usize,
+                rows: *mut u8, rows_len: usize, result: *mut u8, result_len: usize, stamp: *mut u8, stamp_len: usize, state: *mut u8, state_len: usize,
+                out: *mut u8, out_len: usize, to: *mut u8, to_len: usize,
             ) -> u64;
         }
     }
@@ -70,6 +75,8 @@ mod semduoli {
     pub const ROWS: usize = 23040;
     pub const LINES: usize = 64;
     pub const INDEX: usize = 577;
+    pub const STAMP: usize = 13;
+    pub const VERSION: u64 = 1;
 
     // What happened at a client.
     pub const WRITTEN: u64 = 1;
@@ -89,6 +96,10 @@ mod semduoli {
 
         pub fn count(&self) -> usize {
             (self.0 >> 16 & 0xffff) as usize
+        }
+
+        pub fn sequence(&self) -> u64 {
+            self.0 >> 16
         }
     }
 
@@ -120,7 +131,7 @@ mod semduoli {
         Answer(unsafe { raw::semduoli_index_search(number, index.as_ptr(), index.len()) })
     }
 
-    pub fn server_fresh(g: &Params, me: u8, v: &[u8], area: &mut [u8], initial: &mut [u8], state: &mut [u8]) -> Answer {
+    pub fn server_fresh(g: &Params, me: usize, v: &[u8], area: &mut [u8], initial: &mut [u8], state: &mut [u8]) -> Answer {
         Answer(unsafe {
             raw::semduoli_server_fresh(
                 g.n, g.t, g.k, g.size, me, v.as_ptr(), v.len(), area.as_mut_ptr(), area.len(), initial.as_mut_ptr(), initial.len(), state.as_mut_ptr(),
@@ -131,7 +142,7 @@ mod semduoli {
 
     #[allow(clippy::too_many_arguments)]
     pub fn server_deliver(
-        g: &Params, me: u8, from: Party, f: &[u8], area: &mut [u8], initial: &[u8], state: &mut [u8], out: &mut [u8], to: &mut [u8],
+        g: &Params, me: usize, from: Party, f: &[u8], area: &mut [u8], initial: &[u8], state: &mut [u8], out: &mut [u8], to: &mut [u8],
     ) -> Answer {
         Answer(unsafe {
             raw::semduoli_server_deliver(
@@ -141,11 +152,27 @@ mod semduoli {
         })
     }
 
+    pub fn version() -> u64 {
+        unsafe { raw::semduoli_version() }
+    }
+
+    pub fn server_stamp(state: &[u8], stamp: &mut [u8]) -> Answer {
+        Answer(unsafe { raw::semduoli_server_stamp(state.as_ptr(), state.len(), stamp.as_mut_ptr(), stamp.len()) })
+    }
+
+    pub fn server_open(client: usize, state: &[u8]) -> Answer {
+        Answer(unsafe { raw::semduoli_server_open(client, state.as_ptr(), state.len()) })
+    }
+
+    pub fn client_open(state: &[u8]) -> Answer {
+        Answer(unsafe { raw::semduoli_client_open(state.as_ptr(), state.len()) })
+    }
+
     pub fn client_fresh(state: &mut [u8]) -> Answer {
         Answer(unsafe { raw::semduoli_client_fresh(state.as_mut_ptr(), state.len()) })
     }
 
-    pub fn begin_read(g: &Params, me: u8, state: &mut [u8], out: &mut [u8], to: &mut [u8]) -> Answer {
+    pub fn begin_read(g: &Params, me: usize, state: &mut [u8], out: &mut [u8], to: &mut [u8]) -> Answer {
         Answer(unsafe {
             raw::semduoli_begin_read(
                 g.n, g.t, g.k, g.size, me, state.as_mut_ptr(), state.len(), out.as_mut_ptr(), out.len(), to.as_mut_ptr(), to.len(),
@@ -153,7 +180,7 @@ mod semduoli {
         })
     }
 
-    pub fn begin_write(g: &Params, me: u8, state: &mut [u8], v: &[u8], out: &mut [u8], to: &mut [u8]) -> Answer {
+    pub fn begin_write(g: &Params, me: usize, state: &mut [u8], v: &[u8], out: &mut [u8], to: &mut [u8]) -> Answer {
         Answer(unsafe {
             raw::semduoli_begin_write(
                 g.n, g.t, g.k, g.size, me, state.as_mut_ptr(), state.len(), v.as_ptr(), v.len(), out.as_mut_ptr(), out.len(), to.as_mut_ptr(), to.len(),
@@ -163,12 +190,14 @@ mod semduoli {
 
     #[allow(clippy::too_many_arguments)]
     pub fn client_deliver(
-        g: &Params, me: u8, from: Party, v: &[u8], f: &[u8], rows: &mut [u8], result: &mut [u8], state: &mut [u8], out: &mut [u8], to: &mut [u8],
+        g: &Params, me: usize, from: Party, v: &[u8], f: &[u8], rows: &mut [u8], result: &mut [u8], stamp: &mut [u8], state: &mut [u8], out: &mut [u8],
+        to: &mut [u8],
     ) -> Answer {
         Answer(unsafe {
             raw::semduoli_client_deliver(
                 g.n, g.t, g.k, g.size, me, from.0, from.1, v.as_ptr(), v.len(), f.as_ptr(), f.len(), rows.as_mut_ptr(), rows.len(),
-                result.as_mut_ptr(), result.len(), state.as_mut_ptr(), state.len(), out.as_mut_ptr(), out.len(), to.as_mut_ptr(), to.len(),
+                result.as_mut_ptr(), result.len(), stamp.as_mut_ptr(), stamp.len(), state.as_mut_ptr(), state.len(), out.as_mut_ptr(), out.len(),
+                to.as_mut_ptr(), to.len(),
             )
         })
     }
@@ -268,7 +297,7 @@ impl Run {
         let mut clients: Vec<Client> = (0..=clients).map(client).collect();
         for j in 1..servers.len() {
             let s = &mut servers[j];
-            let answer = semduoli::server_fresh(&g, j as u8, initial, &mut s.area, &mut s.initial, &mut s.state);
+            let answer = semduoli::server_fresh(&g, j, initial, &mut s.area, &mut s.initial, &mut s.state);
             println!("server {j} afresh: {}", answer.0);
         }
         for c in &mut clients {
@@ -295,21 +324,25 @@ impl Run {
     fn hand_to_server(&mut self, p: &Parcel) -> semduoli::Answer {
         let (mut out, mut to) = self.areas(self.g.n + 9);
         let s = &mut self.servers[p.to.1];
-        let answer = semduoli::server_deliver(&self.g, p.to.1 as u8, p.from, &p.frame, &mut s.area, &s.initial, &mut s.state, &mut out, &mut to);
+        let answer = semduoli::server_deliver(&self.g, p.to.1, p.from, &p.frame, &mut s.area, &s.initial, &mut s.state, &mut out, &mut to);
         self.add_sent(p.to, &answer, &out, &to);
         answer
     }
 
     fn hand_to_client(&mut self, p: &Parcel) -> semduoli::Answer {
         let (mut out, mut to) = self.areas(2 * self.g.n);
-        let mut result = vec![0; self.g.size];
-        let c = &mut self.clients[p.to.1];
-        let answer =
-            semduoli::client_deliver(&self.g, p.to.1 as u8, p.from, &c.value, &p.frame, &mut c.rows, &mut result, &mut c.state, &mut out, &mut to);
+        let (mut result, mut stamp) = (vec![0; self.g.size], [0; semduoli::STAMP]);
+        let (me, c) = (p.to.1, &mut self.clients[p.to.1]);
+        let answer = semduoli::client_deliver(
+            &self.g, me, p.from, &c.value, &p.frame, &mut c.rows, &mut result, &mut stamp, &mut c.state, &mut out, &mut to,
+        );
         self.add_sent(p.to, &answer, &out, &to);
         match answer.outcome() {
             semduoli::WRITTEN => println!("client {} has written", p.to.1),
-            semduoli::VALUE => println!("client {} has read {}", p.to.1, String::from_utf8_lossy(&result)),
+            semduoli::VALUE => {
+                let (time, sequence) = (u64::from_be_bytes(stamp[..8].try_into().unwrap()), u32::from_be_bytes(stamp[9..].try_into().unwrap()));
+                println!("client {me} has read {}, stamp {time} {} {sequence}", String::from_utf8_lossy(&result), stamp[8]);
+            }
             _ => {}
         }
         answer
@@ -331,9 +364,9 @@ impl Run {
     }
 
     // A client begins the write of a value, or a read where there is none.
-    fn begin(&mut self, me: u8, value: &[u8]) {
+    fn begin(&mut self, me: usize, value: &[u8]) {
         let (mut out, mut to) = self.areas(2 * self.g.n);
-        let c = &mut self.clients[me as usize];
+        let c = &mut self.clients[me];
         c.value = value.to_vec();
         let answer = if value.is_empty() {
             semduoli::begin_read(&self.g, me, &mut c.state, &mut out, &mut to)
@@ -341,7 +374,17 @@ impl Run {
             semduoli::begin_write(&self.g, me, &mut c.state, value, &mut out, &mut to)
         };
         println!("client {me} begins: refusal {}, frames {}", answer.refusal(), answer.count());
-        self.add_sent(semduoli::Party(semduoli::CLASS_CLIENT, me as usize), &answer, &out, &to);
+        self.add_sent(semduoli::Party(semduoli::CLASS_CLIENT, me), &answer, &out, &to);
+    }
+
+    // What is open at a client, and what a server holds and works on for client 1.
+    fn show_open(&self, client: usize, server: usize) {
+        let (mut stamp, state) = ([0; semduoli::STAMP], &self.servers[server].state);
+        let open = semduoli::client_open(&self.clients[client].state);
+        println!("client {client}: open {}, sequence {}", open.outcome(), open.sequence());
+        let (held, works) = (semduoli::server_stamp(state, &mut stamp), semduoli::server_open(1, state));
+        print!("server {server}: {}, works on write {} of client 1, holds", held.0, works.sequence());
+        show(" stamp", &stamp);
     }
 
     // What server 1 answers to client 1's get-stamp from this sender, so many bytes of the frame and of the record being lent.
@@ -399,12 +442,21 @@ fn main() {
     run.begin(2, b"");
     run.carry();
     run.begin(1, value);
+    run.show_open(1, 1);
     run.carry();
     run.begin(2, b"");
+    run.show_open(2, 1);
     run.carry();
+    run.show_open(2, 1);
     run.hand_get_stamp("from client 1", semduoli::CLASS_CLIENT, 1, 9, semduoli::SERVER);
     run.hand_get_stamp("from client 257", semduoli::CLASS_CLIENT, 257, 9, semduoli::SERVER);
     run.hand_get_stamp("from a third class", 2, 1, 9, semduoli::SERVER);
     run.hand_get_stamp("record short", semduoli::CLASS_CLIENT, 1, 9, 0);
     run.hand_get_stamp("record and frame short", semduoli::CLASS_CLIENT, 1, 3, 0);
+
+    println!("version: {}", (semduoli::version() == semduoli::VERSION) as u8);
+    println!("read of client 257: refusal {}", semduoli::begin_read(&run.g, 257, &mut state, &mut out, &mut to).refusal());
+    println!("open, record short: {}", semduoli::client_open(&state[..semduoli::CLIENT - 1]).0);
+    println!("stamp, area short: {}", semduoli::server_stamp(&run.servers[1].state, &mut digest[..semduoli::STAMP - 1]).0);
+    println!("open of client 9: {}", semduoli::server_open(9, &run.servers[1].state).0);
 }

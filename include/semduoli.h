@@ -1,4 +1,4 @@
-/* The register for hosts in C. Link libregister.a (`rt staticlib register` writes it, for x86-64 Linux).
+/* The register for hosts in C and C++. Link libregister.a (`rt staticlib register` writes it, for x86-64 Linux).
  *
  * Numbers and lent areas of bytes are all that is passed. An area is a pointer and its length in bytes. A call reads and writes only the areas
  * it is lent, keeps no pointer after it returns, and allocates nothing. Of an area of length 0 the pointer is not used and may be NULL. An area
@@ -6,26 +6,36 @@
  * bytes stay as they were. Calls with different areas may run at the same time.
  *
  * n, t, k and size are a register's parameters: n servers (4 to 10), of which at most t are false (at least 1, n > 3t), k blocks that decode a
- * value (1 to n - 2t), and the length of a value in bytes (1 to 256). All parties of a register are given the same ones in every call. Any numbers
- * are accepted; those out of bounds are answered 1 to 3. The own number me is passed in one byte, so a host must not pass a larger number as me: C
- * would pass its lowest byte.
+ * value (1 to n - 2t), and the length of a value in bytes (1 to 256). All parties of a register are given the same ones in every call. me is the
+ * own number of the party that is called: a server's, 1 to n, or a client's, 1 to 8. Every number may have any value, and none has to be tested
+ * before a call: those out of bounds are answered 1 to 3.
  *
  * The answer is one number:
- *   bits 0 to 7    0, or the refusal's number, 1 to 19, 25 or 26; then all other bits are 0, and every lent byte is as it was
+ *   bits 0 to 7    0, or the refusal's number, one of enum semduoli_refusal; then all other bits are 0, and every lent byte is as it was
  *   bits 8 to 15   what happened (see each call)
  *   bits 16 on     how many (see each call)
- * The lowest number that applies is answered:
- *    1 n, t or own number out of bounds           11 sender or receiver not the kind's or not the owner
- *    2 k out of bounds                            12 frame old, repeated or not awaited
- *    3 size out of bounds, or value not that long 13 frame above the open sequence; offer it again
- *    4 frame under 9 bytes, or length field wrong 14 block against its digest
- *    5 frame's version not 1                      15 an operation is open
- *    6 frame's kind not 1 to 12                   16 sequences used up
- *    7 frame's client not 1 to 8, or sequence 0   17 a write after one that closed as out of stamps
- *    8 frame's body length wrong for its kind     18 history malformed
- *    9 stamp parts mixed, or blocks not fit       19 history reads a stamp that is not listed
- *   10 lent area short                           25 index full
- *                                                26 value under 8 bytes, tested before 25
+ * The lowest number that applies is answered.
+ *
+ * WHAT A HOST MUST DO
+ *
+ * 1. Keep what belongs together. Of each party the host keeps the record and its areas, of a client also the value of its open write, and the frames
+ *    that it sent and that may not have arrived. Before a frame of an answer leaves, all of this is stored durably, as one: after a crash the host
+ *    finds either all of what was before the call or all of what is after it. A party whose state was lost, or which is older than frames that it
+ *    sent, must not be started again.
+ * 2. Send again what may have been lost, until the receiver's host has confirmed that it took the frame over: that it was handed in and answered by
+ *    anything but 10 and 13, or is kept there to be handed in again. Repeats do no harm, in any order: they are answered 12, a get-stamp is answered again.
+ *    An operation may stay open as long as a frame between honest parties is missing.
+ * 3. Hand a frame that a server answered 13 in again when its sequence has come: when semduoli_server_open of the client that the frame names (byte 4)
+ *    is the frame's sequence (bytes 5 to 8) or above. And bound what is kept of such frames: a false party can make 13s for ever. Keep at most some, say
+ *    four, for each sender and client; what is beyond is dropped and not confirmed, and comes again by its sender's resending.
+ * 4. Authenticate the links. What is proved takes it that the class and number of a frame's sender are true: a frame is handed in as that party's
+ *    whose key or connection it came by, never as the party's that the frame itself names.
+ * 5. Call a party's record from one thread at a time, and give a call stack enough: up to 11,000 bytes were measured (docs/PERFORMANCE.md has them
+ *    for each call), which is no bound; 64 KB is ample.
+ * 6. Lend areas of the sizes below. The largest frame there can be has SEMDUOLI_FRAME_MOST bytes, and SEMDUOLI_OUT_MOST and SEMDUOLI_TO_MOST bytes
+ *    are enough as out and to for every party of every register.
+ *
+ * examples/first.c is a small host, and examples/bank.c one that does all of this.
  */
 #ifndef SEMDUOLI_H
 #define SEMDUOLI_H
@@ -37,23 +47,40 @@
 extern "C" {
 #endif
 
-/* ---- sizes in bytes */
+/* The version of this header. It rises when a call or the meaning of an answer changes; semduoli_version answers that of the linked library. */
+#define SEMDUOLI_VERSION 1
+
+/* ---- bounds */
+
+#define SEMDUOLI_SERVERS_MOST 10
+#define SEMDUOLI_CLIENTS_MOST 8
+#define SEMDUOLI_SIZE_MOST 256
+
+/* ---- sizes in bytes. k is not 0 where a size depends on it. */
 
 #define SEMDUOLI_DIGEST 32
-/* the records of a server and of a client */
+/* the records of a server and of a client: state */
 #define SEMDUOLI_SERVER 2353
 #define SEMDUOLI_CLIENT 769
-/* what a server keeps of digests and blocks, and a client of the values that an open read has received */
+/* what a server keeps of digests and blocks, area, and a client of the values that an open read has received, rows */
 #define SEMDUOLI_AREA 97344
 #define SEMDUOLI_ROWS 23040
-/* a block, and the largest frame */
+/* a block, and all blocks of a value; a server's block of the initial value: initial */
 #define SEMDUOLI_BLOCK(k, size) (((size) + (k) - 1) / (k))
+#define SEMDUOLI_BLOCKS(n, k, size) ((n) * SEMDUOLI_BLOCK(k, size))
+#define SEMDUOLI_INITIAL(k, size) SEMDUOLI_BLOCK(k, size)
+/* the largest frame of a register, and of any */
 #define SEMDUOLI_FRAME(n, k, size) (22 + 32 * (n) + SEMDUOLI_BLOCK(k, size))
+#define SEMDUOLI_FRAME_MOST SEMDUOLI_FRAME(SEMDUOLI_SERVERS_MOST, 1, SEMDUOLI_SIZE_MOST)
 /* the areas out and to: n + 9 largest frames of a server's call, 2n of a client's, and two bytes for the receiver of each */
 #define SEMDUOLI_SERVER_OUT(n, k, size) (((n) + 9) * SEMDUOLI_FRAME(n, k, size))
 #define SEMDUOLI_SERVER_TO(n) (2 * ((n) + 9))
 #define SEMDUOLI_CLIENT_OUT(n, k, size) (2 * (n) * SEMDUOLI_FRAME(n, k, size))
 #define SEMDUOLI_CLIENT_TO(n) (4 * (n))
+#define SEMDUOLI_OUT_MOST SEMDUOLI_CLIENT_OUT(SEMDUOLI_SERVERS_MOST, 1, SEMDUOLI_SIZE_MOST)
+#define SEMDUOLI_TO_MOST SEMDUOLI_CLIENT_TO(SEMDUOLI_SERVERS_MOST)
+/* a stamp: time (8), writer (1) and write sequence (4), high byte first */
+#define SEMDUOLI_STAMP 13
 /* line numbers of a history */
 #define SEMDUOLI_LINES 64
 /* an index of accession numbers, and the values that it takes */
@@ -65,6 +92,32 @@ extern "C" {
 #define SEMDUOLI_REFUSAL(answer) ((unsigned)((answer) & 0xff))
 #define SEMDUOLI_OUTCOME(answer) ((unsigned)((answer) >> 8 & 0xff))
 #define SEMDUOLI_COUNT(answer) ((unsigned)((answer) >> 16 & 0xffff))
+#define SEMDUOLI_SEQUENCE(answer) ((uint64_t)((answer) >> 16))
+
+enum semduoli_refusal {
+    SEMDUOLI_ACCEPTED = 0,            /* none */
+    SEMDUOLI_REFUSED_PARTIES = 1,     /* n, t or own number out of bounds */
+    SEMDUOLI_REFUSED_THRESHOLD = 2,   /* k out of bounds */
+    SEMDUOLI_REFUSED_LENGTH = 3,      /* size out of bounds, or value not that long */
+    SEMDUOLI_REFUSED_FRAMING = 4,     /* frame under 9 bytes, or length field wrong */
+    SEMDUOLI_REFUSED_VERSION = 5,     /* frame's version not 1 */
+    SEMDUOLI_REFUSED_KIND = 6,        /* frame's kind not 1 to 12 */
+    SEMDUOLI_REFUSED_OWNER = 7,       /* frame's client not 1 to 8, or sequence 0; a client that is asked for not 1 to 8 */
+    SEMDUOLI_REFUSED_BODY = 8,        /* frame's body length wrong for its kind */
+    SEMDUOLI_REFUSED_CONTENT = 9,     /* stamp parts mixed, writer above 8, or blocks not fit */
+    SEMDUOLI_REFUSED_ROOM = 10,       /* lent area short */
+    SEMDUOLI_REFUSED_SENDER = 11,     /* sender or receiver not the kind's or not the owner */
+    SEMDUOLI_REFUSED_STALE = 12,      /* frame old, repeated or not awaited */
+    SEMDUOLI_REFUSED_AHEAD = 13,      /* frame above the open sequence; hand it in again when that has moved */
+    SEMDUOLI_REFUSED_DIGEST = 14,     /* block against its digest */
+    SEMDUOLI_REFUSED_BUSY = 15,       /* an operation is open */
+    SEMDUOLI_REFUSED_EXHAUSTED = 16,  /* sequences used up */
+    SEMDUOLI_REFUSED_CLOSED = 17,     /* a write after one that closed as out of stamps */
+    SEMDUOLI_REFUSED_RECORD = 18,     /* history malformed */
+    SEMDUOLI_REFUSED_UNLISTED = 19,   /* history reads a stamp that is not listed */
+    SEMDUOLI_REFUSED_FULL = 25,       /* index full */
+    SEMDUOLI_REFUSED_SHORT = 26       /* value under 8 bytes for the index, tested before 25 */
+};
 
 /* the class of a party: of a frame's sender, and in the to area */
 #define SEMDUOLI_CLASS_CLIENT 0
@@ -76,9 +129,37 @@ extern "C" {
 #define SEMDUOLI_OUT_OF_STAMPS 2
 #define SEMDUOLI_VALUE 3
 
+/* what is open at a client */
+#define SEMDUOLI_OPEN_NOTHING 0
+#define SEMDUOLI_OPEN_ASKING 1  /* a write that awaits stamps */
+#define SEMDUOLI_OPEN_ACKING 2  /* a write that awaits acks */
+#define SEMDUOLI_OPEN_READING 3 /* a read */
+
 /* what was judged of a history */
 #define SEMDUOLI_ORDERED 0
 #define SEMDUOLI_OFFENDING 1
+
+/* The parts of a stamp. */
+static inline uint64_t semduoli_stamp_time(const uint8_t *stamp)
+{
+    uint64_t time = 0;
+    for (int i = 0; i < 8; i++)
+        time = time << 8 | stamp[i];
+    return time;
+}
+
+static inline unsigned semduoli_stamp_writer(const uint8_t *stamp)
+{
+    return stamp[8];
+}
+
+static inline uint32_t semduoli_stamp_sequence(const uint8_t *stamp)
+{
+    return (uint32_t)stamp[9] << 24 | (uint32_t)stamp[10] << 16 | (uint32_t)stamp[11] << 8 | stamp[12];
+}
+
+/* The version of the library: SEMDUOLI_VERSION where this header is its own. */
+uint64_t semduoli_version(void);
 
 /* ---- digests and blocks: the answer is 0 or a refusal */
 
@@ -124,22 +205,29 @@ uint64_t semduoli_index_search(uint64_t number, const uint8_t *index, size_t ind
  * Frames that a call sends lie end to end from the start of out; the count says how many they are. Each begins with two bytes, high byte first, that
  * say how many bytes follow. The to area has two bytes for each frame in the same order: the class of its receiver, SEMDUOLI_CLASS_CLIENT or
  * SEMDUOLI_CLASS_SERVER, and its number. The host carries each frame to its receiver and hands it in there, by a deliver call, with the class and
- * the number of the party that sent it. A frame that is answered 13 is handed in again later. A sender of another class, or whose number is above
- * 255, is nobody: 11, unless a lower number applies. */
+ * the number of the party that sent it. A sender of another class, or whose number is above 255, is nobody: 11, unless a lower number applies. */
 
 /* ---- a server, of which the host keeps, beside the record, the area of SEMDUOLI_AREA bytes and its block of the initial value, initial */
 
 /* Makes server me (1 to n) afresh: writes its record, writes the digests of the initial value to the start of the area, and the server's block of
- * that value, SEMDUOLI_BLOCK(k, size) bytes, to the start of initial. All servers are given the same value. The answer is 0 or a refusal: 1, 2, 3
+ * that value, SEMDUOLI_INITIAL(k, size) bytes, to the start of initial. All servers are given the same value. The answer is 0 or a refusal: 1, 2, 3
  * or 10. */
-uint64_t semduoli_server_fresh(size_t n, size_t t, size_t k, size_t size, uint8_t me, const uint8_t *value, size_t value_length, uint8_t *area,
+uint64_t semduoli_server_fresh(size_t n, size_t t, size_t k, size_t size, size_t me, const uint8_t *value, size_t value_length, uint8_t *area,
                                size_t area_length, uint8_t *initial, size_t initial_length, uint8_t *state, size_t state_length);
 
 /* Hands a frame to server me. The count says how many frames are sent, 0 to n + 9; out has SEMDUOLI_SERVER_OUT bytes at least, to has
  * SEMDUOLI_SERVER_TO. Of the record only the stamp and what it has of the client that the frame names are written. Refusals: 1 to 14. */
-uint64_t semduoli_server_deliver(size_t n, size_t t, size_t k, size_t size, uint8_t me, size_t sender_class, size_t sender, const uint8_t *frame,
+uint64_t semduoli_server_deliver(size_t n, size_t t, size_t k, size_t size, size_t me, size_t sender_class, size_t sender, const uint8_t *frame,
                                  size_t frame_length, uint8_t *area, size_t area_length, const uint8_t *initial, size_t initial_length,
                                  uint8_t *state, size_t state_length, uint8_t *out, size_t out_length, uint8_t *to, size_t to_length);
+
+/* The stamp that the server holds, the largest of the writes that it accepted, into the first SEMDUOLI_STAMP bytes of stamp; all 0 in a fresh
+ * server. The answer is 0 or 10. */
+uint64_t semduoli_server_stamp(const uint8_t *state, size_t state_length, uint8_t *stamp, size_t stamp_length);
+
+/* The sequence of the write of a client (1 to 8) that the server works on: SEMDUOLI_SEQUENCE(answer), 2^32 where none is left. A frame of that client
+ * that was answered 13 is handed in again when this has come to its sequence. Refusals: 7, 10. */
+uint64_t semduoli_server_open(size_t client, const uint8_t *state, size_t state_length);
 
 /* ---- a client, of which the host keeps, beside the record, the area of SEMDUOLI_ROWS bytes, rows, of any content at first; out has
  * SEMDUOLI_CLIENT_OUT bytes at least, to has SEMDUOLI_CLIENT_TO */
@@ -147,25 +235,31 @@ uint64_t semduoli_server_deliver(size_t n, size_t t, size_t k, size_t size, uint
 /* Writes a fresh client's record. The answer is 0 or 10. */
 uint64_t semduoli_client_fresh(uint8_t *state, size_t state_length);
 
+/* Which operation is open: the outcome is SEMDUOLI_OPEN_NOTHING, .._ASKING, .._ACKING or .._READING, and SEMDUOLI_SEQUENCE(answer) its sequence, 0 where
+ * nothing is open. Refusal: 10. */
+uint64_t semduoli_client_open(const uint8_t *state, size_t state_length);
+
 /* Client me (1 to 8) begins a read. SEMDUOLI_SENT, and the count is n. Refusals: 1, 2, 3, 10, 15, 16. */
-uint64_t semduoli_begin_read(size_t n, size_t t, size_t k, size_t size, uint8_t me, uint8_t *state, size_t state_length, uint8_t *out,
+uint64_t semduoli_begin_read(size_t n, size_t t, size_t k, size_t size, size_t me, uint8_t *state, size_t state_length, uint8_t *out,
                              size_t out_length, uint8_t *to, size_t to_length);
 
 /* Client me begins the write of a value. SEMDUOLI_SENT, and the count is n. The value is lent again, unchanged, to the deliver calls that carry the
  * write on. Refusals: 1, 2, 3, 10, 15, 16, 17. */
-uint64_t semduoli_begin_write(size_t n, size_t t, size_t k, size_t size, uint8_t me, uint8_t *state, size_t state_length, const uint8_t *value,
+uint64_t semduoli_begin_write(size_t n, size_t t, size_t k, size_t size, size_t me, uint8_t *state, size_t state_length, const uint8_t *value,
                               size_t value_length, uint8_t *out, size_t out_length, uint8_t *to, size_t to_length);
 
 /* Hands a frame to client me, with the value of its open write; where no write is open the value is not looked at and may have length 0.
- *   SEMDUOLI_SENT            nothing has ended; the count says how many frames are sent, 0 or 2n
+ *   SEMDUOLI_SENT            nothing has ended; the count says how many frames are sent, 0 or 2n. With 2n a write goes out: its stamp is the time in its
+ *                            kind 6 frames (byte 3 is 6, bytes 9 to 16 the time) plus 1, me, and its sequence
  *   SEMDUOLI_WRITTEN         the write has ended; nothing is sent
  *   SEMDUOLI_OUT_OF_STAMPS   the write has closed as out of stamps; nothing is sent, and the client writes no more
- *   SEMDUOLI_VALUE           the read has ended; its value is in the first size bytes of result, and n frames are sent, as the count says
- * result has size bytes at least, and stays as it was unless a read ends. Refusals: 1 to 12, 14. */
-uint64_t semduoli_client_deliver(size_t n, size_t t, size_t k, size_t size, uint8_t me, size_t sender_class, size_t sender, const uint8_t *value,
+ *   SEMDUOLI_VALUE           the read has ended; its value is in the first size bytes of result, its stamp in the first SEMDUOLI_STAMP bytes of stamp,
+ *                            and n frames are sent, as the count says
+ * result has size bytes at least, stamp SEMDUOLI_STAMP; they stay as they were unless a read ends. Refusals: 1 to 12, 14. */
+uint64_t semduoli_client_deliver(size_t n, size_t t, size_t k, size_t size, size_t me, size_t sender_class, size_t sender, const uint8_t *value,
                                  size_t value_length, const uint8_t *frame, size_t frame_length, uint8_t *rows, size_t rows_length,
-                                 uint8_t *result, size_t result_length, uint8_t *state, size_t state_length, uint8_t *out, size_t out_length,
-                                 uint8_t *to, size_t to_length);
+                                 uint8_t *result, size_t result_length, uint8_t *stamp, size_t stamp_length, uint8_t *state, size_t state_length,
+                                 uint8_t *out, size_t out_length, uint8_t *to, size_t to_length);
 
 #ifdef __cplusplus
 }

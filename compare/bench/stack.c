@@ -41,7 +41,7 @@ struct parcel {
 };
 
 static struct server servers[N + 1];
-static uint8_t state[SEMDUOLI_CLIENT], rows[SEMDUOLI_ROWS], first[SIZE], value[SIZE], result[SIZE];
+static uint8_t state[SEMDUOLI_CLIENT], rows[SEMDUOLI_ROWS], first[SIZE], value[SIZE], result[SIZE], stamp[SEMDUOLI_STAMP];
 static uint8_t out[SEMDUOLI_SERVER_OUT(N, K, SIZE) + SEMDUOLI_CLIENT_OUT(N, K, SIZE)], to[SEMDUOLI_SERVER_TO(N) + SEMDUOLI_CLIENT_TO(N)];
 static struct parcel waiting[WAITING];
 static size_t taken, added;
@@ -96,7 +96,7 @@ static void *client_deliver(void *parcel)
 {
     const struct parcel *f = parcel;
     answer = semduoli_client_deliver(p.n, p.t, p.k, p.size, ME, f->from[0], f->from[1], value, p.size, f->frame, f->length, rows, sizeof rows, result,
-                                     sizeof result, state, sizeof state, out, sizeof out, to, sizeof to);
+                                     sizeof result, stamp, sizeof stamp, state, sizeof state, out, sizeof out, to, sizeof to);
     return NULL;
 }
 

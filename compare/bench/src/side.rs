@@ -3,7 +3,7 @@
 
 use linked::calls;
 use register::flat::{Client, Done, Outcome, Server};
-use register::layout::{client_in, put_client, put_scope, put_server, scope_in, CLIENT, SERVER};
+use register::layout::{client_in, put_client, put_scope, put_server, scope_in, CLIENT, SERVER, STAMP};
 use register::{accession, blocks, sha256, Params, Party, Refusal};
 
 /// A frame handed to a party, and the areas lent for what it sends.
@@ -196,7 +196,7 @@ impl Side for Proved {
     }
 
     fn to_server(state: &mut [u8; SERVER], h: Handed, initial: &[u8], area: &mut [u8]) -> Told {
-        bits(calls::server_deliver(h.p, h.own as u8, h.from, h.frame, area, initial, state, h.out, h.to))
+        bits(calls::server_deliver(h.p, h.own, h.from, h.frame, area, initial, state, h.out, h.to))
     }
 
     fn to_client(
@@ -206,8 +206,10 @@ impl Side for Proved {
         rows: &mut [u8],
         value: &mut [u8],
     ) -> Told {
-        let me = h.own as u8;
-        bits(calls::client_deliver(h.p, me, h.from, written, h.frame, rows, value, state, h.out, h.to))
+        let (from, frame, mut stamp) = (h.from, h.frame, [0; STAMP]);
+        bits(calls::client_deliver(
+            h.p, h.own, from, written, frame, rows, value, &mut stamp, state, h.out, h.to,
+        ))
     }
 
     fn begin(
@@ -219,8 +221,8 @@ impl Side for Proved {
         to: &mut [u8],
     ) -> Told {
         bits(match write {
-            Some(value) => calls::begin_write(p, own as u8, state, value, out, to),
-            None => calls::begin_read(p, own as u8, state, out, to),
+            Some(value) => calls::begin_write(p, own, state, value, out, to),
+            None => calls::begin_read(p, own, state, out, to),
         })
     }
 

@@ -87,7 +87,10 @@ fn print_client(out: &mut dyn Write, step: Result<register::client::Step, Refusa
     print_sends(out, &step.sends)?;
     match step.outcome {
         Outcome::Going => Ok(()),
-        Outcome::Value(_, value) => writeln!(out, "value {}", to_hex(&value)),
+        Outcome::Value(stamp, value) => {
+            let register::frame::Stamp { time, writer, sequence } = stamp;
+            writeln!(out, "value {} {time} {writer} {sequence}", to_hex(&value))
+        }
         Outcome::Written => writeln!(out, "written"),
         Outcome::OutOfStamps => writeln!(out, "out of stamps"),
     }

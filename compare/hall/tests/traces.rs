@@ -8,6 +8,20 @@ fn answer(input: &[u8]) -> Vec<u8> {
     out
 }
 
+/// The kept runs have value lines without the stamp: these are compared up to there.
+fn without_stamps(answers: &[u8]) -> Vec<u8> {
+    let mut kept = Vec::new();
+    for line in answers.split_inclusive(|&c| c == b'\n') {
+        if line.starts_with(b"value ") {
+            kept.extend(line.trim_ascii_end().split(|&c| c == b' ').take(2).collect::<Vec<_>>().join(&b' '));
+            kept.push(b'\n');
+        } else {
+            kept.extend(line);
+        }
+    }
+    kept
+}
+
 #[test]
 fn traces() {
     let folder = Path::new(env!("CARGO_MANIFEST_DIR")).join("../traces");
@@ -15,7 +29,7 @@ fn traces() {
     for entry in std::fs::read_dir(folder).unwrap() {
         let path = entry.unwrap().path();
         if path.extension().is_some_and(|e| e == "in") {
-            let given = answer(&std::fs::read(&path).unwrap());
+            let given = without_stamps(&answer(&std::fs::read(&path).unwrap()));
             let expected = std::fs::read(path.with_extension("out")).unwrap();
             if given != expected {
                 let lines = |bytes: &[u8]| String::from_utf8_lossy(bytes).into_owned();

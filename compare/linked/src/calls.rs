@@ -46,13 +46,22 @@ mod raw {
             index_length: usize,
         ) -> u64;
         pub fn semduoli_index_search(number: u64, index: *const u8, index_length: usize) -> u64;
+        pub fn semduoli_version() -> u64;
+        pub fn semduoli_client_open(state: *const u8, state_length: usize) -> u64;
+        pub fn semduoli_server_stamp(
+            state: *const u8,
+            state_length: usize,
+            stamp: *mut u8,
+            stamp_length: usize,
+        ) -> u64;
+        pub fn semduoli_server_open(client: usize, state: *const u8, state_length: usize) -> u64;
         pub fn semduoli_client_fresh(state: *mut u8, state_length: usize) -> u64;
         pub fn semduoli_begin_read(
             n: usize,
             t: usize,
             k: usize,
             size: usize,
-            me: u8,
+            me: usize,
             state: *mut u8,
             state_length: usize,
             out: *mut u8,
@@ -65,7 +74,7 @@ mod raw {
             t: usize,
             k: usize,
             size: usize,
-            me: u8,
+            me: usize,
             state: *mut u8,
             state_length: usize,
             value: *const u8,
@@ -80,7 +89,7 @@ mod raw {
             t: usize,
             k: usize,
             size: usize,
-            me: u8,
+            me: usize,
             value: *const u8,
             value_length: usize,
             area: *mut u8,
@@ -95,7 +104,7 @@ mod raw {
             t: usize,
             k: usize,
             size: usize,
-            me: u8,
+            me: usize,
             class: usize,
             sender: usize,
             frame: *const u8,
@@ -116,7 +125,7 @@ mod raw {
             t: usize,
             k: usize,
             size: usize,
-            me: u8,
+            me: usize,
             class: usize,
             sender: usize,
             value: *const u8,
@@ -127,6 +136,8 @@ mod raw {
             rows_length: usize,
             result: *mut u8,
             result_length: usize,
+            stamp: *mut u8,
+            stamp_length: usize,
             state: *mut u8,
             state_length: usize,
             out: *mut u8,
@@ -183,11 +194,27 @@ pub fn index_search(number: u64, index: &[u8]) -> u64 {
     unsafe { raw::semduoli_index_search(number, index.as_ptr(), index.len()) }
 }
 
+pub fn version() -> u64 {
+    unsafe { raw::semduoli_version() }
+}
+
+pub fn client_open(state: &[u8]) -> u64 {
+    unsafe { raw::semduoli_client_open(state.as_ptr(), state.len()) }
+}
+
+pub fn server_stamp(state: &[u8], stamp: &mut [u8]) -> u64 {
+    unsafe { raw::semduoli_server_stamp(state.as_ptr(), state.len(), stamp.as_mut_ptr(), stamp.len()) }
+}
+
+pub fn server_open(client: usize, state: &[u8]) -> u64 {
+    unsafe { raw::semduoli_server_open(client, state.as_ptr(), state.len()) }
+}
+
 pub fn client_fresh(state: &mut [u8]) -> u64 {
     unsafe { raw::semduoli_client_fresh(state.as_mut_ptr(), state.len()) }
 }
 
-pub fn begin_read(p: &Params, me: u8, state: &mut [u8], out: &mut [u8], to: &mut [u8]) -> u64 {
+pub fn begin_read(p: &Params, me: usize, state: &mut [u8], out: &mut [u8], to: &mut [u8]) -> u64 {
     unsafe {
         raw::semduoli_begin_read(
             p.n,
@@ -205,7 +232,14 @@ pub fn begin_read(p: &Params, me: u8, state: &mut [u8], out: &mut [u8], to: &mut
     }
 }
 
-pub fn begin_write(p: &Params, me: u8, state: &mut [u8], value: &[u8], out: &mut [u8], to: &mut [u8]) -> u64 {
+pub fn begin_write(
+    p: &Params,
+    me: usize,
+    state: &mut [u8],
+    value: &[u8],
+    out: &mut [u8],
+    to: &mut [u8],
+) -> u64 {
     unsafe {
         raw::semduoli_begin_write(
             p.n,
@@ -227,7 +261,7 @@ pub fn begin_write(p: &Params, me: u8, state: &mut [u8], value: &[u8], out: &mut
 
 pub fn server_fresh(
     p: &Params,
-    me: u8,
+    me: usize,
     value: &[u8],
     area: &mut [u8],
     initial: &mut [u8],
@@ -252,19 +286,27 @@ pub fn server_fresh(
     }
 }
 
-/// Class and number of a sender.
-fn sender(from: Party) -> (usize, usize) {
-    match from {
-        Party::Client(c) => (0, c),
-        Party::Server(j) => (1, j),
+/// A sender as a host names it: any class, and any number.
+#[derive(Clone, Copy, Debug, PartialEq, Eq)]
+pub struct Sender {
+    pub class: usize,
+    pub number: usize,
+}
+
+impl From<Party> for Sender {
+    fn from(party: Party) -> Sender {
+        match party {
+            Party::Client(number) => Sender { class: 0, number },
+            Party::Server(number) => Sender { class: 1, number },
+        }
     }
 }
 
 #[allow(clippy::too_many_arguments)]
 pub fn server_deliver(
     p: &Params,
-    me: u8,
-    from: Party,
+    me: usize,
+    from: impl Into<Sender>,
     frame: &[u8],
     area: &mut [u8],
     initial: &[u8],
@@ -272,7 +314,7 @@ pub fn server_deliver(
     out: &mut [u8],
     to: &mut [u8],
 ) -> u64 {
-    let (class, number) = sender(from);
+    let Sender { class, number } = from.into();
     unsafe {
         raw::semduoli_server_deliver(
             p.n,
@@ -301,17 +343,18 @@ pub fn server_deliver(
 #[allow(clippy::too_many_arguments)]
 pub fn client_deliver(
     p: &Params,
-    me: u8,
-    from: Party,
+    me: usize,
+    from: impl Into<Sender>,
     value: &[u8],
     frame: &[u8],
     rows: &mut [u8],
     result: &mut [u8],
+    stamp: &mut [u8],
     state: &mut [u8],
     out: &mut [u8],
     to: &mut [u8],
 ) -> u64 {
-    let (class, number) = sender(from);
+    let Sender { class, number } = from.into();
     unsafe {
         raw::semduoli_client_deliver(
             p.n,
@@ -329,6 +372,8 @@ pub fn client_deliver(
             rows.len(),
             result.as_mut_ptr(),
             result.len(),
+            stamp.as_mut_ptr(),
+            stamp.len(),
             state.as_mut_ptr(),
             state.len(),
             out.as_mut_ptr(),

@@ -85,6 +85,10 @@ pub const KINDS: &[Kind] = &[
         refusals: &[10, 18, 19], outcomes: &["with an order", "with an offending pair"],
     },
     Kind { name: "index", usual: 10_000, refusals: &[10, 25, 26], outcomes: &["index calls"], case: accession::index },
+    Kind {
+        name: "asked", usual: 20_000, case: single::asked, refusals: &[7, 10],
+        outcomes: &["nothing open, or a server's", "open, awaiting stamps", "open, awaiting acks", "open reads"],
+    },
     Kind { name: "fresh", usual: 5_000, refusals: &[1, 2, 3, 10], outcomes: &["servers made"], case: single::fresh },
     Kind {
         name: "server", usual: 60_000, case: single::server,
@@ -96,7 +100,8 @@ pub const KINDS: &[Kind] = &[
     },
     Kind {
         name: "run", usual: 500, case: runs::lockstep,
-        refusals: &[3, 4, 5, 6, 7, 8, 10, 11, 12, 13, 14, 15], outcomes: &["steps", "writes ended", "", "reads ended"],
+        refusals: &[3, 4, 5, 6, 7, 8, 9, 10, 11, 12, 13, 14, 15, 17],
+        outcomes: &["steps", "writes ended", "writes out of stamps", "reads ended"],
     },
 ];
 

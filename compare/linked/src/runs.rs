@@ -3,17 +3,19 @@
 //! say with the clear style.
 
 use crate::{bits, calls, same_answer, same_bytes, Difference, Seen};
-use register::flat::{self, Done};
+use register::flat::{self, Done, Outcome};
 use register::frame::client_named;
-use register::layout::{client_in, put_client, put_scope, put_server, server_in, CLIENT, SERVER};
+use register::layout::{
+    client_in, put_client, put_scope, put_server, put_stamp, server_in, stamp_in, CLIENT, SERVER, STAMP,
+};
 use register::{Params, Refusal};
 use simulate::run::{parameters_of, run, Options};
 use simulate::style::{Answer, Ended, Handed, OtherClient, OtherServer, Sending, Style, Told};
 
 pub const LINKED: Style = Style { name: "linked", server: fresh_server, client: fresh_client };
 
-/// What an answer tells, once it is the twin's.
-fn told(answer: u64, twin: Result<Done, Refusal>) -> Answer {
+/// What an answer tells, once it is the twin's; stamp has a read's stamp.
+fn told(answer: u64, twin: Result<Done, Refusal>, stamp: &[u8]) -> Answer {
     same_answer(answer, bits(twin))?;
     if let Err(refusal) = twin {
         return Ok(Err(refusal));
@@ -21,7 +23,7 @@ fn told(answer: u64, twin: Result<Done, Refusal>) -> Answer {
     let ended = match answer >> 8 & 0xff {
         1 => Ended::Written,
         2 => Ended::OutOfStamps,
-        3 => Ended::Value,
+        3 => Ended::Value(stamp_in(stamp)),
         _ => Ended::Nothing,
     };
     Ok(Ok(Told { frames: (answer >> 16) as usize, ended }))
@@ -54,7 +56,7 @@ fn fresh_server(
     let twin =
         flat::Server::fresh(p, own, value, &mut twin_initial, &mut twin_area).expect("sound parameters");
     let mut state = [0xee; SERVER];
-    let answer = calls::server_fresh(p, own as u8, value, area, initial, &mut state);
+    let answer = calls::server_fresh(p, own, value, area, initial, &mut state);
     assert_eq!(answer, 0, "a fresh server of {p:?}");
     assert!(initial == twin_initial, "initial area of a fresh server of {p:?}");
     let server = Server { state, twin, twin_area };
@@ -77,11 +79,10 @@ impl OtherServer for Server {
         let Handed { p, own, from, frame } = handed;
         let (mut sent, mut expected) = (copies(&sending), self.state);
         let (out, to) = (&mut *sending.out, &mut *sending.to);
-        let answer =
-            calls::server_deliver(p, own as u8, from, frame, area, initial, &mut self.state, out, to);
+        let answer = calls::server_deliver(p, own, from, frame, area, initial, &mut self.state, out, to);
         let (out, to) = (&mut sent.0[..], &mut sent.1[..]);
         let twin = self.twin.deliver(p, own, initial, &mut self.twin_area, from, frame, out, to);
-        let told = told(answer, twin)?;
+        let told = told(answer, twin, &[])?;
         same_sent(&sending, &sent)?;
         if told.is_ok() {
             put_scope(&self.twin, client_named(frame), &mut expected);
@@ -120,8 +121,8 @@ impl Client {
 impl OtherClient for Client {
     fn begin_read(&mut self, p: &Params, own: usize, sending: Sending) -> Answer {
         let mut sent = copies(&sending);
-        let answer = calls::begin_read(p, own as u8, &mut self.state, sending.out, sending.to);
-        let told = told(answer, self.twin.begin_read(p, own, &mut sent.0, &mut sent.1))?;
+        let answer = calls::begin_read(p, own, &mut self.state, sending.out, sending.to);
+        let told = told(answer, self.twin.begin_read(p, own, &mut sent.0, &mut sent.1), &[])?;
         same_sent(&sending, &sent)?;
         self.compare()?;
         Ok(told)
@@ -129,8 +130,8 @@ impl OtherClient for Client {
 
     fn begin_write(&mut self, p: &Params, own: usize, value: &[u8], sending: Sending) -> Answer {
         let mut sent = copies(&sending);
-        let answer = calls::begin_write(p, own as u8, &mut self.state, value, sending.out, sending.to);
-        let told = told(answer, self.twin.begin_write(p, own, value, &mut sent.0, &mut sent.1))?;
+        let answer = calls::begin_write(p, own, &mut self.state, value, sending.out, sending.to);
+        let told = told(answer, self.twin.begin_write(p, own, value, &mut sent.0, &mut sent.1), &[])?;
         same_sent(&sending, &sent)?;
         self.compare()?;
         Ok(told)
@@ -147,13 +148,28 @@ impl OtherClient for Client {
         let Handed { p, own, from, frame } = handed;
         let (mut sent, mut twin_rows, mut twin_value) = (copies(&sending), rows.to_vec(), value.to_vec());
         let (out, to) = (&mut *sending.out, &mut *sending.to);
-        let me = own as u8;
-        let answer =
-            calls::client_deliver(p, me, from, written, frame, rows, value, &mut self.state, out, to);
+        let (mut stamp, mut twin_stamp) = ([0xee; STAMP + 2], [0xee; STAMP + 2]);
+        let answer = calls::client_deliver(
+            p,
+            own,
+            from,
+            written,
+            frame,
+            rows,
+            value,
+            &mut stamp,
+            &mut self.state,
+            out,
+            to,
+        );
         let (out, to) = (&mut sent.0[..], &mut sent.1[..]);
         let twin = self.twin.deliver(p, own, written, &mut twin_rows, from, frame, out, to, &mut twin_value);
-        let told = told(answer, twin)?;
+        if let Ok(Done { outcome: Outcome::Value(x), .. }) = &twin {
+            put_stamp(x, &mut twin_stamp);
+        }
+        let told = told(answer, twin, &stamp)?;
         same_sent(&sending, &sent)?;
+        same_bytes("stamp", &stamp, &twin_stamp)?;
         same_bytes("rows", rows, &twin_rows)?;
         same_bytes("result", value, &twin_value)?;
         self.compare()?;
@@ -172,5 +188,5 @@ pub fn lockstep(seed: u64) -> Result<Seen, Difference> {
         run(seed, options).map_err(|violation| format!("{:?}: {violation}", parameters_of(seed)))?;
     let mut refusals = Seen::default().refusals;
     refusals[..summary.refusals.len()].copy_from_slice(&summary.refusals);
-    Ok(Seen { refusals, outcomes: [summary.steps, summary.writes, 0, summary.reads] })
+    Ok(Seen { refusals, outcomes: [summary.steps, summary.writes, summary.closed, summary.reads] })
 }

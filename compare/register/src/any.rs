@@ -1,7 +1,7 @@
 //! Random calls of any kind: any parameters, own numbers, senders, frames and lent sizes, mostly one thing wrong.
 
 use crate::client::KEPT;
-use crate::flat::{Client, Operation, Reader, Server, ROWS_AREA, SEATS, STATE_AREA};
+use crate::flat::{Client, Operation, Reader, Server, CHUNK, ROWS_AREA, SEATS, STATE_AREA};
 use crate::frame::{build, Body, Stage, Stamp};
 use crate::params::{Params, Party, CLIENTS, DIGEST};
 use crate::random::Random;
@@ -134,10 +134,23 @@ fn scramble_server(server: &mut Server, random: &mut Random) {
 fn scramble_client(client: &mut Client, random: &mut Random) {
     (client.counted, client.times) = (some_flags(random), some_times(random));
     for (kept, row) in client.kept.iter_mut().zip(&mut client.stamps) {
-        *kept = random.range(0, KEPT) as u8;
+        *kept = random.range(0, KEPT) as u64;
         let first = random.range(1, 2) as u64;
         *row = std::array::from_fn(|i| Stamp { time: first + i as u64, writer: 1, sequence: 1 });
     }
+}
+
+/// A rows area: one list and block in all chunks, or one of two in each.
+fn some_rows(length: usize, random: &mut Random) -> Vec<u8> {
+    let differ = random.chance(1, 2);
+    let mut rows = vec![2; length];
+    for chunk in rows.chunks_mut(CHUNK) {
+        if differ && random.chance(1, 3) {
+            let at = random.below(chunk.len());
+            chunk[at] = 7;
+        }
+    }
+    rows
 }
 
 /// A frame handed to a server, with everything lent.
@@ -159,7 +172,7 @@ pub struct ServerCall {
 
 pub fn server_call(random: &mut Random) -> ServerCall {
     let p = some_params(random);
-    let own = random.pick(&[1, 1, 1, 2, 2, 3, 4, 4, 0, 7, 10, 11, 255]);
+    let own = random.pick(&[1, 1, 1, 2, 2, 3, 4, 4, 0, 7, 10, 11, 255, 257, 260, usize::MAX]);
     let bounds = bounds(&p, own, p.n);
     let sane = if bounds.is_none() { p } else { Params::new(10, 1, 1, 256) };
     let (mut initial, mut area) = (vec![1; sane.block()], vec![2; STATE_AREA]);
@@ -211,7 +224,7 @@ pub struct ClientCall {
 
 pub fn client_call(random: &mut Random) -> ClientCall {
     let p = some_params(random);
-    let own = random.pick(&[3, 3, 3, 3, 3, 3, 1, 8, 0, 9, 255]);
+    let own = random.pick(&[3, 3, 3, 3, 3, 3, 3, 3, 1, 8, 0, 9, 255, 259, usize::MAX]);
     let bounds = bounds(&p, own, 8);
     let sane = if bounds.is_none() { p } else { Params::new(10, 1, 1, 256) };
     let mut client = Client::fresh();
@@ -224,11 +237,15 @@ pub fn client_call(random: &mut Random) -> ClientCall {
     }
     let length = if random.chance(1, 8) { some_size(sane.l, random) } else { sane.l };
     let written = vec![1; length];
-    let rows = vec![2; some_size(ROWS_AREA, random)];
+    let rows = some_rows(some_size(ROWS_AREA, random), random);
     let out = vec![3; some_size(sane.client_room(), random)];
     let to = vec![4; some_size(4 * sane.n, random)];
     let value = vec![5; some_size(sane.l, random)];
     let act = random.pick(&[ClientAct::Read, ClientAct::Write, ClientAct::Deliver, ClientAct::Deliver]);
     let (from, frame) = (some_party(3, random), some_frame(&p, 3, random));
+    if random.chance(1, 4) {
+        // All servers are counted but the sender: a stamp or an ack may end something.
+        client.counted = std::array::from_fn(|j| from != Party::Server(j));
+    }
     ClientCall { p, own, act, from, frame, client, written, rows, value, out, to, bounds, sane }
 }

@@ -17,6 +17,7 @@ use crate::frame::Stamp;
 
 pub const SERVER: usize = 2353;
 pub const CLIENT: usize = 769;
+pub const STAMP: usize = 13;
 
 /// Where a client's slot begins in a server's record.
 const fn slot_at(client: usize) -> usize {
@@ -180,7 +181,7 @@ pub fn put_scope(server: &Server, client: usize, bytes: &mut [u8]) {
     Target(&mut bytes[reader_at(client)..]).reader(&server.readers[client]);
 }
 
-/// The client that the first bytes say; an unknown operation is none, and a row has at most four.
+/// The client that the first bytes say; an unknown operation is none.
 pub fn client_in(bytes: &[u8]) -> Client {
     let mut source = Source(bytes);
     let (writes, reads, out_of_stamps) = (source.four(), source.four(), source.flag());
@@ -193,10 +194,20 @@ pub fn client_in(bytes: &[u8]) -> Client {
     let (counted, times) = (source.flags(), source.times());
     let (mut kept, mut stamps) = ([0; SEATS], [[Stamp::default(); KEPT]; SEATS]);
     for (count, row) in kept.iter_mut().zip(&mut stamps) {
-        *count = source.eight().min(KEPT as u64) as u8;
+        *count = source.eight();
         *row = std::array::from_fn(|_| source.stamp());
     }
     Client { operation, writes, reads, out_of_stamps, counted, times, kept, stamps }
+}
+
+/// Writes a stamp to the first bytes.
+pub fn put_stamp(stamp: &Stamp, bytes: &mut [u8]) {
+    Target(bytes).stamp(stamp);
+}
+
+/// The stamp that the first bytes say.
+pub fn stamp_in(bytes: &[u8]) -> Stamp {
+    Source(bytes).stamp()
 }
 
 /// Writes a client to the first bytes.
@@ -215,7 +226,7 @@ pub fn put_client(client: &Client, bytes: &mut [u8]) {
     target.flags(&client.counted);
     target.times(&client.times);
     for (count, row) in client.kept.iter().zip(&client.stamps) {
-        target.put((*count as u64).to_be_bytes());
+        target.put(count.to_be_bytes());
         row.iter().for_each(|stamp| target.stamp(stamp));
     }
 }

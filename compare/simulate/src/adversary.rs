@@ -556,8 +556,13 @@ impl Adversary {
             if random.chance(1, 4) {
                 block = &wrong;
             }
+            // A stamp with some parts zero: 9.
+            if random.chance(1, 8) {
+                stamp = Stamp { sequence: stamp.sequence ^ 1, ..stamp };
+            }
+            let time = if random.chance(1, 20) { u64::MAX } else { self.some_time(world, random) };
             let body = match frame.body {
-                Body::GetStamp => Body::Stamp { time: self.some_time(world, random) },
+                Body::GetStamp => Body::Stamp { time },
                 Body::Read => Body::Value { stamp, digests, block },
                 _ => Body::Ack,
             };

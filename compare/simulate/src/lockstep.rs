@@ -216,9 +216,9 @@ impl ClientPair {
                     Outcome::Going => Ended::Nothing,
                     Outcome::Written => Ended::Written,
                     Outcome::OutOfStamps => Ended::OutOfStamps,
-                    Outcome::Value(_, bytes) => {
+                    Outcome::Value(stamp, bytes) => {
                         expected_value[..bytes.len()].copy_from_slice(bytes);
-                        Ended::Value
+                        Ended::Value(*stamp)
                     }
                 };
                 if told.ended != ended {
@@ -250,7 +250,7 @@ impl ClientPair {
             Operation::Read(rows) => {
                 b.operation == flat::Operation::Read
                     && rows.iter().enumerate().all(|(i, row)| {
-                        row.len() == b.kept[i + 1] as usize
+                        row.len() as u64 == b.kept[i + 1]
                             && row.iter().enumerate().all(|(place, kept)| {
                                 let chunk = flat::row_chunk(i + 1, place);
                                 kept.stamp == b.stamps[i + 1][place]

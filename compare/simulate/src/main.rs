@@ -91,9 +91,9 @@ fn main() -> ExitCode {
             }
         }
     }
-    let Summary { reads, writes, foreign, steps, refusals, overflows, .. } = total;
+    let Summary { reads, writes, foreign, steps, refusals, overflows, closed, .. } = total;
     println!("{steps} steps; honest clients ended {reads} reads and {writes} writes");
-    println!("{foreign} writes of false clients accepted; {overflows} values came to a row that had four");
+    println!("{foreign} writes of false clients accepted; {overflows} values came to a row that had four; {closed} writes out of stamps");
     print!("{}", refusal_lines(&refusals));
     println!("simulate: {failures} of {count} runs fail, {:.1} s", progress.seconds());
     if failures == 0 {

@@ -35,6 +35,8 @@ pub struct Summary {
     pub refusals: [u64; 20],
     /// Values that came to a row of four.
     pub overflows: u64,
+    /// Writes that closed as out of stamps.
+    pub closed: u64,
     /// The script, if asked for.
     pub script: Vec<String>,
 }
@@ -46,6 +48,7 @@ impl Summary {
         self.foreign += other.foreign;
         self.steps += other.steps;
         self.overflows += other.overflows;
+        self.closed += other.closed;
         for (a, b) in self.refusals.iter_mut().zip(other.refusals) {
             *a += b;
         }
@@ -354,6 +357,7 @@ pub fn run(seed: u64, options: Options) -> Result<Summary, Violation> {
         steps: run.world.steps,
         refusals: run.world.refusals,
         overflows: run.world.overflows,
+        closed: run.world.closed,
         script: run.world.script.unwrap_or_default(),
     })
 }

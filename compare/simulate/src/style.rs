@@ -1,15 +1,16 @@
 //! Another implementation of a party on lent areas, which a run calls beside the clear one. `FLAT` is the plain Rust one.
 
 use register::flat::{self, Outcome};
+use register::frame::Stamp;
 use register::{Params, Party, Refusal};
 
-/// What a call ended.
+/// What a call ended, a read with its stamp.
 #[derive(Clone, Copy, Debug, PartialEq, Eq)]
 pub enum Ended {
     Nothing,
     Written,
     OutOfStamps,
-    Value,
+    Value(Stamp),
 }
 
 /// What an answer tells: how many frames were sent, and what ended.
@@ -98,7 +99,7 @@ fn told(answer: Result<flat::Done, Refusal>, out: &[u8]) -> Answer {
         Outcome::Going | Outcome::Accepted => Ended::Nothing,
         Outcome::Written => Ended::Written,
         Outcome::OutOfStamps => Ended::OutOfStamps,
-        Outcome::Value(_) => Ended::Value,
+        Outcome::Value(stamp) => Ended::Value(stamp),
     };
     Ok(Ok(Told { frames: done.frames, ended }))
 }

@@ -32,6 +32,8 @@ pub struct World {
     pub refusals: [u64; 20],
     /// Values that came to a row of four.
     pub overflows: u64,
+    /// Writes that closed as out of stamps.
+    pub closed: u64,
     /// The calls as lines of the hall program, if asked for.
     pub script: Option<Vec<String>>,
     calls: u64,
@@ -70,6 +72,7 @@ impl World {
             steps: 0,
             refusals: [0; 20],
             overflows: 0,
+            closed: 0,
             script: None,
             calls: 0,
             begun: [0; 9],
@@ -219,7 +222,8 @@ impl World {
                         let name = (c, client.clear.writes);
                         self.seen.writes.get_mut(&name).expect("a begun write").ended = Some(self.calls);
                     }
-                    Outcome::OutOfStamps | Outcome::Going => {}
+                    Outcome::OutOfStamps => self.closed += 1,
+                    Outcome::Going => {}
                 }
                 self.record(to, step.sends);
             }

@@ -84,7 +84,7 @@ fn finds_an_ack_counted_twice() {
 
 #[test]
 fn finds_a_block_against_its_digest() {
-    must_find(Variant::NoDigest, 1, bytes);
+    must_find(Variant::NoDigest, 600, bytes);
 }
 
 #[test]
@@ -99,7 +99,7 @@ fn finds_missing_comparison() {
 
 #[test]
 fn finds_few_echoes() {
-    must_find(Variant::FewEchoes, 1, |v| matches!(v, Violation::Agreement(_)));
+    must_find(Variant::FewEchoes, 1900, |v| matches!(v, Violation::Agreement(_)));
 }
 
 #[test]

@@ -168,13 +168,13 @@ fn put_answered(
         }
         Answer::Value(stamp) => {
             let y = put_step(o, text, out, to, n);
-            put_value(y, text, value)
+            put_value(y, text, value, stamp)
         }
         Answer::Refused(x) => put_refused(o, text, x),
     }
 }
 
-// A frame is handed to client j, whose open write's value lies in values.
+// A frame is handed to client j, whose open write's value lies in values. The delivery is lent its record, and updates it.
 pub fn hand_client(
     h: Hall,
     j: usize,
@@ -196,10 +196,10 @@ pub fn hand_client(
     let size = count_of(g.size, value);
     let mut out = [0u8; 12000];
     let mut to = [0u8; 64];
-    let r = client_deliver::deliver(
+    let r = site::lend(
+        clients[i],
         g,
         byte_of(j),
-        clients[i],
         &value[..size],
         from,
         f,

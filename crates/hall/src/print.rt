@@ -3,6 +3,7 @@ use console::output::Out;
 use console::output::put;
 use console::output::put_decimal;
 use frame::Refusal;
+use frame::Stamp;
 use frame::refusals::number_of;
 ghost use Prim.Native.Nat.{_≤_};
 ghost use lib.ListN.{length};
@@ -59,10 +60,23 @@ pub fn put_refused(o: Out, text: &mut [u8], r: Refusal) -> Out {
     put(b, text, b"\n")
 }
 
-pub fn put_value(o: Out, text: &mut [u8], value: &[u8]) -> Out {
+fn put_field(o: Out, text: &mut [u8], x: u64) -> Out {
+    let a = put(o, text, b" ");
+    put_decimal(a, text, x)
+}
+
+fn put_stamp(o: Out, text: &mut [u8], s: Stamp) -> Out {
+    let a = put_field(o, text, s.time);
+    let b = put_field(a, text, s.writer as u64);
+    put_field(b, text, s.sequence as u64)
+}
+
+// A read's value and its stamp.
+pub fn put_value(o: Out, text: &mut [u8], value: &[u8], stamp: Stamp) -> Out {
     let a = put(o, text, b"value ");
     let b = put_bytes(a, text, value);
-    put(b, text, b"\n")
+    let c = put_stamp(b, text, stamp);
+    put(c, text, b"\n")
 }
 
 pub fn put_written(o: Out, text: &mut [u8]) -> Out {

@@ -7,3 +7,4 @@ pub mod ServerBack
 pub mod ScopeBack
 pub mod TypedSteps
 pub mod TypedCalls
+pub mod AreBytes

@@ -11,11 +11,14 @@ use Rattle.area.specs.Area.{pick, Bytes}
 use Rattle.sha256.specs.Hash.{digestOf}
 use Rattle.blocks.specs.declared.Params.{Params}
 use Rattle.frame.specs.declared.Party.{Party}
+use Rattle.frame.specs.declared.Stamp.{Stamp}
 use Rattle.frame.specs.declared.Verdict.{Verdict}
 use Rattle.frame.specs.declared.Verdict.the-variants as J
 use Rattle.frame.specs.Stamps.{lastClient}
+use Rattle.frame.specs.Frames.{stampBytes}
 use Rattle.frame.specs.Messages.{Judged, bad, good}
 use Rattle.client_rules.specs.declared.Answer.{Answer}
+use Rattle.client_rules.specs.declared.Answer.the-variants as Y
 use Rattle.client_rules.specs.declared.Client.{Client}
 use Rattle.client_rules.specs.State.{freshClient}
 use Rattle.client_rules.specs.Tests.{judge}
@@ -28,9 +31,10 @@ use Rattle.layout.proofs.ClientBack.{client-stored}
 use Rattle.layout.proofs.TypedCalls.{typed-client-in, typed-client-fresh, typed-read, typed-write, typed-client-delivery}
 use Rattle.register.specs.Answers.{testAnswer}
 use Rattle.register.specs.Calls.{wrote, freshCall, Began, began, isRefusal, stateAfter, beganOf, readCall, writeCall}
-use Rattle.register.specs.Handed.{ClientGot, clientGot, clientGotOf, clientCall}
-use Rattle.register.specs.Short.{readShort, valueShort, frameShort}
-use Rattle.register.proofs.Laws.{enough, short}
+use Rattle.register.specs.Handed.{stampSize, stampAfter, clientGot, clientGotOf, clientCall}
+use Rattle.register.specs.Short.{readShort, valueShort, frameShort, stampShort}
+use Rattle.register.proofs.Laws.{enough, short, ends}
+use Rattle.register.proofs.Handed.{client-whole}
 
 -- ---- the record's bytes after a call that answers a and leaves s
 
@@ -55,12 +59,6 @@ module _ (a : Answer) (s : Client) (state : List ℕ) where
   pub after-kept : isRefusal a ≡ true → stateAfter a s state ≡ state
   unfolding stateAfter pick
   after-kept e = ap (λ b. pick b state (sets state 0 (clientBytes s))) e
-
--- a call has one of two ends, x where the record's area is short; if each leaves l, the call does
-ends : {C : Type 0} (f : C → List ℕ) (b : Bool) (x y : C) (l : List ℕ) → f x ≡ l → f y ≡ l → f (pick b x y) ≡ l
-unfolding pick
-ends f true x y l p q = p
-ends f false x y l p q = q
 
 -- ---- what an answer says of the client
 
@@ -182,35 +180,55 @@ module _ (g : Params) (me : ℕ) (value state out to : List ℕ) where
 
 -- ---- a frame
 
-module _ (g : Params) (me : ℕ) (from : Party) (value f rows result state out to : List ℕ) where
+module _ (g : Params) (me : ℕ) (from : Party) (value f rows result stamp state out to : List ℕ) where
   -- the outcome of the delivery to the client that the bytes say
   abbrev pub delivers : Outcome
   delivers = delivery digestOf g me (clientIn state) rows value from f result out to
 
   -- the record's bytes after the call
   abbrev pub keeps : List ℕ
-  keeps = clientCall g me from value f rows result state out to .state
+  keeps = clientCall g me from value f rows result stamp state out to .state
 
-  abbrev shortly : ClientGot
-  shortly = clientGot (testAnswer (frameShort g me lastClient f)) rows result state out to
+  -- a call one of whose areas for record and stamp is short leaves the bytes as they were; if the delivery leaves l, the call does
+  keeps-by : (l : List ℕ) → state ≡ l → stateAfter (delivers .answer) (delivers .client) state ≡ l → keeps ≡ l
+  unfolding clientCall clientGotOf
+  keeps-by l p q =
+      ends (λ z. z .state) (ltb (length state) clientSize) (clientGot (testAnswer (frameShort g me lastClient f)) rows result stamp state out to) _ l p
+      (ends (λ z. z .state) (ltb (length stamp) stampSize)
+      (clientGot (testAnswer (stampShort g me (clientIn state) (length value) f)) rows result stamp state out to)
+      (clientGotOf g delivers stamp state) l p q)
 
   -- after a call the bytes say the client that the delivery leaves, whether it was turned down or not
-  pub client-record-back : clientSize ≤ length state → Bytes state → Bytes f → clientIn keeps ≡ delivers .client
-  unfolding clientCall clientGotOf
-  client-record-back long p q =
-      ap (λ z. clientIn (z .state)) (sym (enough (length state) clientSize shortly (clientGotOf g delivers state) long))
+  pub client-record-back : clientSize ≤ length state → stampSize ≤ length stamp → Bytes state → Bytes f → clientIn keeps ≡ delivers .client
+  unfolding clientGotOf
+  client-record-back long wide p q =
+      ap (λ z. clientIn (z .state)) (sym (client-whole g me from value f rows result stamp state out to long wide))
       ∙ after-back (delivers .answer) (delivers .client) state
       (typed-client-delivery digestOf g me (clientIn state) (typed-client-in state p) rows value from f result out to q) long
       (client-stays digestOf g me (clientIn state) rows value from f result out to)
 
   -- a call that is turned down leaves the bytes as they were
   pub client-record-kept : isRefusal (delivers .answer) ≡ true → keeps ≡ state
-  unfolding clientCall clientGotOf
-  client-record-kept e =
-      ends (λ z. z .state) (ltb (length state) clientSize) shortly (clientGotOf g delivers state) state refl
-      (after-kept (delivers .answer) (delivers .client) state e)
+  client-record-kept e = keeps-by state refl (after-kept (delivers .answer) (delivers .client) state e)
 
   -- and so does one whose area for the record is short
   pub client-short-kept : length state < clientSize → keeps ≡ state
   unfolding clientCall
-  client-short-kept h = ap (λ z. z .state) (sym (short (length state) clientSize shortly (clientGotOf g delivers state) h))
+  client-short-kept h =
+      ap (λ z. z .state) (sym (short (length state) clientSize (clientGot (testAnswer (frameShort g me lastClient f)) rows result stamp state out to) _ h))
+
+  -- or for the stamp
+  pub client-stamp-kept : length stamp < stampSize → keeps ≡ state
+  unfolding clientCall
+  client-stamp-kept h =
+      ends (λ z. z .state) (ltb (length state) clientSize) (clientGot (testAnswer (frameShort g me lastClient f)) rows result stamp state out to) _ state refl
+      (ap (λ z. z .state)
+      (sym (short (length stamp) stampSize (clientGot (testAnswer (stampShort g me (clientIn state) (length value) f)) rows result stamp state out to)
+      (clientGotOf g delivers stamp state) h)))
+
+  -- a call that ends a read leaves the read's stamp at the start of the stamp area
+  pub read-stamped : clientSize ≤ length state → stampSize ≤ length stamp → (x : Stamp) → delivers .answer ≡ Y.Value x
+      → clientCall g me from value f rows result stamp state out to .stamp ≡ sets stamp 0 (stampBytes x)
+  unfolding clientGotOf stampAfter
+  read-stamped long wide x e =
+      sym (ap (λ z. z .stamp) (client-whole g me from value f rows result stamp state out to long wide)) ∙ ap (λ a. stampAfter a stamp) e

@@ -38,6 +38,12 @@ module _ {A : Type 0} (n m : ℕ) (x y : A) where
   unfolding pick
   short h = sym (ap (λ b. pick b x y) (lt-ltb n m h))
 
+-- a call has one of two ends; if each leaves l, the call does
+pub ends : {C : Type 0} (f : C → List ℕ) (b : Bool) (x y : C) (l : List ℕ) → f x ≡ l → f y ≡ l → f (pick b x y) ≡ l
+unfolding pick
+ends f true x y l p q = p
+ends f false x y l p q = q
+
 -- ---- digests and the block code
 
 pub digest-done : (m out o d : List ℕ) → length m ≤ 256 → 32 ≤ length out → d ≡ digestOf m → o ≡ sets out 0 d → wrote 0 o ≡ digestCall m out

@@ -2,5 +2,6 @@ pub mod Answers
 pub mod Short
 pub mod Calls
 pub mod Handed
+pub mod Asked
 pub mod ServerCalls
 pub mod Accession

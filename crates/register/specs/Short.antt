@@ -1,4 +1,5 @@
--- A call whose record's area is short: 10, but a lower number first. g are the parameters, and me is one of parties 1 to most. These are definitions.
+-- A call whose area for the record or for a stamp is short: 10, but a lower number first. g are the parameters, and me is one of parties 1 to most. These are
+-- definitions.
 use Prim.Native.Nat.{ℕ}
 use mathlib.Core.List.{List}
 use Rattle.blocks.specs.declared.Params.{Params}
@@ -11,6 +12,8 @@ use Rattle.frame.specs.Refusals.{andThen}
 use Rattle.frame.specs.Params.{paramsTest}
 use Rattle.frame.specs.Stamps.{lastClient}
 use Rattle.frame.specs.Frames.{opened}
+use Rattle.client_rules.specs.declared.Client.{Client}
+use Rattle.client_rules.specs.Tests.{valueTest}
 use Rattle.client_rules.specs.Beginning.{lengthTest}
 
 -- a client begins a read
@@ -28,3 +31,7 @@ openedShort (O.Refused r) = J.Bad r
 
 unfoldable pub frameShort : Params → ℕ → ℕ → List ℕ → Verdict
 frameShort g me most f = andThen (paramsTest g me most) (openedShort (opened g f))
+
+-- a frame f is handed to client s with a value of length v, and the area for a read's stamp is short
+unfoldable pub stampShort : Params → ℕ → Client → ℕ → List ℕ → Verdict
+stampShort g me s v f = andThen (paramsTest g me lastClient) (andThen (valueTest g s v) (openedShort (opened g f)))

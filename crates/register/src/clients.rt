@@ -4,6 +4,7 @@ use crate::answers::test_answer;
 use crate::senders::sender_of;
 use crate::short::frame_short;
 use crate::short::read_short;
+use crate::short::stamp_short;
 use crate::short::value_short;
 use blocks::Params;
 use client::fresh::fresh_client;
@@ -11,13 +12,14 @@ use client_rules::Answer;
 use client_rules::Client;
 use layout::clients::client_at;
 use layout::clients::put_client;
+use layout::fields::put_stamp;
 ghost use mathlib.Core.Path.{_≡_};
 ghost use Prim.Native.Nat.{_≤_};
 ghost use lib.ListN.{length};
 ghost use Rattle.layout.specs.Clients.{clientSize};
 ghost use Rattle.register.specs.Answers.{clientAnswer};
 ghost use Rattle.register.specs.Calls.{params, wrote, freshCall, began, isRefusal, stateAfter, readCall, writeCall};
-ghost use Rattle.register.specs.Handed.{senderOf, clientGot, clientCall};
+ghost use Rattle.register.specs.Handed.{senderOf, stampSize, stampAfter, clientGot, clientCall};
 
 // Writes a fresh client's record.
 #[no_mangle]
@@ -67,20 +69,24 @@ pub extern "C" fn semduoli_begin_read(
     t: usize,
     k: usize,
     size: usize,
-    me: u8,
+    me: usize,
     state: &mut [u8],
     out: &mut [u8],
     to: &mut [u8],
 ) -> u64
     ensures { λ r. ⌜ began r (now (state .exit)) (now (out .exit)) (now (to .exit)) ≡ readCall (params n t k size) me (now (state .entry)) (now (out .entry)) (now (to .entry)) ⌝ }
 {
+    if 255 < me {
+        return 1;
+    }
+    let own = me as u8;
     let g = Params { n, t, k, size };
     if state.len() < 769 {
-        let short = read_short(g, me);
+        let short = read_short(g, own);
         return test_answer(short);
     }
     let s = client_at(state, 0);
-    let done = client::begin::begin_read(g, me, s, out, to);
+    let done = client::begin::begin_read(g, own, s, out, to);
     let answer = done.answer;
     let after = done.client;
     keep(answer, after, state, n)
@@ -93,7 +99,7 @@ pub extern "C" fn semduoli_begin_write(
     t: usize,
     k: usize,
     size: usize,
-    me: u8,
+    me: usize,
     state: &mut [u8],
     value: &[u8],
     out: &mut [u8],
@@ -101,19 +107,37 @@ pub extern "C" fn semduoli_begin_write(
 ) -> u64
     ensures { λ r. ⌜ began r (now (state .exit)) (now (out .exit)) (now (to .exit)) ≡ writeCall (params n t k size) me (now (value .entry)) (now (state .entry)) (now (out .entry)) (now (to .entry)) ⌝ }
 {
+    if 255 < me {
+        return 1;
+    }
+    let own = me as u8;
     let g = Params { n, t, k, size };
     if state.len() < 769 {
-        let short = value_short(g, me, 8, value.len());
+        let short = value_short(g, own, 8, value.len());
         return test_answer(short);
     }
     let s = client_at(state, 0);
-    let done = client::begin::begin_write(g, me, s, value, out, to);
+    let done = client::begin::begin_write(g, own, s, value, out, to);
     let answer = done.answer;
     let after = done.client;
     keep(answer, after, state, n)
 }
 
 // ---- a frame is handed in
+
+// Writes a completed read's stamp.
+fn put_read(a: Answer, stamp: &mut [u8])
+    requires { ⌜ stampSize ≤ length (now stamp) ⌝ }
+    ensures { λ _. ⌜ now (stamp .exit) ≡ stampAfter a (now (stamp .entry)) ⌝ }
+{
+    match a {
+        Answer::Sent(m) => {}
+        Answer::Written => {}
+        Answer::OutOfStamps => {}
+        Answer::Value(x) => put_stamp(x, stamp, 0),
+        Answer::Refused(r) => {}
+    }
+}
 
 // Delivers a frame to client me, whose open write's value is lent.
 #[no_mangle]
@@ -122,28 +146,38 @@ pub extern "C" fn semduoli_client_deliver(
     t: usize,
     k: usize,
     size: usize,
-    me: u8,
+    me: usize,
     class: usize,
     sender: usize,
     value: &[u8],
     f: &[u8],
     rows: &mut [u8],
     result: &mut [u8],
+    stamp: &mut [u8],
     state: &mut [u8],
     out: &mut [u8],
     to: &mut [u8],
 ) -> u64
-    ensures { λ r. ⌜ clientGot r (now (rows .exit)) (now (result .exit)) (now (state .exit)) (now (out .exit)) (now (to .exit)) ≡ clientCall (params n t k size) me (senderOf class sender) (now (value .entry)) (now (f .entry)) (now (rows .entry)) (now (result .entry)) (now (state .entry)) (now (out .entry)) (now (to .entry)) ⌝ }
+    ensures { λ r. ⌜ clientGot r (now (rows .exit)) (now (result .exit)) (now (stamp .exit)) (now (state .exit)) (now (out .exit)) (now (to .exit)) ≡ clientCall (params n t k size) me (senderOf class sender) (now (value .entry)) (now (f .entry)) (now (rows .entry)) (now (result .entry)) (now (stamp .entry)) (now (state .entry)) (now (out .entry)) (now (to .entry)) ⌝ }
 {
+    if 255 < me {
+        return 1;
+    }
+    let own = me as u8;
     let g = Params { n, t, k, size };
     if state.len() < 769 {
-        let short = frame_short(g, me, 8, f);
+        let short = frame_short(g, own, 8, f);
+        return test_answer(short);
+    }
+    let s = client_at(state, 0);
+    if stamp.len() < 13 {
+        let short = stamp_short(g, own, s, value.len(), f);
         return test_answer(short);
     }
     let from = sender_of(class, sender);
-    let s = client_at(state, 0);
-    let done = client_deliver::deliver(g, me, s, value, from, f, rows, result, out, to);
+    let done = client_deliver::deliver(g, own, s, value, from, f, rows, result, out, to);
     let answer = done.answer;
     let after = done.client;
+    put_read(answer, stamp);
     keep(answer, after, state, n)
 }

@@ -1,6 +1,7 @@
 // The register for hosts in C and Rust: a static library whose functions take numbers and lent areas of bytes only. include/semduoli.h says the same for a host.
 pub mod accession;
 pub mod answers;
+pub mod asked;
 pub mod clients;
 pub mod coding;
 pub mod histories;

@@ -71,7 +71,7 @@ pub extern "C" fn semduoli_server_fresh(
     t: usize,
     k: usize,
     size: usize,
-    me: u8,
+    me: usize,
     value: &[u8],
     area: &mut [u8],
     initial: &mut [u8],
@@ -80,12 +80,16 @@ pub extern "C" fn semduoli_server_fresh(
     ensures { λ r. ⌜ made r (now (area .exit)) (now (initial .exit)) (now (state .exit))
         ≡ makeCall (params n t k size) me (now (value .entry)) (now (area .entry)) (now (initial .entry)) (now (state .entry)) ⌝ }
 {
+    if 255 < me {
+        return 1;
+    }
+    let own = me as u8;
     let g = Params { n, t, k, size };
     if state.len() < 2353 {
-        let short = value_short(g, me, n, value.len());
+        let short = value_short(g, own, n, value.len());
         return test_answer(short);
     }
-    let done = construct(g, me, value, area, initial);
+    let done = construct(g, own, value, area, initial);
     let reply = done.reply;
     let after = done.server;
     keep_fresh(reply, after, state)
@@ -100,7 +104,7 @@ pub extern "C" fn semduoli_server_deliver(
     t: usize,
     k: usize,
     size: usize,
-    me: u8,
+    me: usize,
     class: usize,
     sender: usize,
     f: &[u8],
@@ -114,13 +118,17 @@ pub extern "C" fn semduoli_server_deliver(
         ≡ serverCall (params n t k size) me (senderOf class sender) (now (f .entry)) (now (area .entry)) (now (initial .entry))
         (now (state .entry)) (now (out .entry)) (now (to .entry)) ⌝ }
 {
+    if 255 < me {
+        return 1;
+    }
+    let own = me as u8;
     let g = Params { n, t, k, size };
     if state.len() < 2353 {
-        let short = frame_short(g, me, n, f);
+        let short = frame_short(g, own, n, f);
         return test_answer(short);
     }
     let from = sender_of(class, sender);
-    let opened = admit(g, me, f, area.len(), initial.len(), out.len(), to.len());
+    let opened = admit(g, own, f, area.len(), initial.len(), out.len(), to.len());
     let Opened::Frame(header) = opened else {
         let r = refusal(opened);
         return server_answer(Reply::Refused(r));
@@ -130,7 +138,7 @@ pub extern "C" fn semduoli_server_deliver(
     let readers = readers_at(state, 2191);
     let call = Call {
         params: g,
-        me,
+        me: own,
         from,
         header,
     };

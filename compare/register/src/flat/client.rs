@@ -25,8 +25,8 @@ pub struct Client {
     /// Servers whose stamp, or then ack, was counted, and the times of the stamps.
     pub counted: [bool; SEATS],
     pub times: [u64; SEATS],
-    /// Stamps kept of each server, and how many.
-    pub kept: [u8; SEATS],
+    /// Stamps kept of each server, and how many; a number above four stands for four.
+    pub kept: [u64; SEATS],
     pub stamps: [[Stamp; KEPT]; SEATS],
 }
 
@@ -48,6 +48,11 @@ impl Client {
     /// The largest time counted.
     pub fn largest(&self, p: &Params) -> u64 {
         self.times[1..=p.n].iter().copied().max().unwrap_or(0)
+    }
+
+    /// How many stamps are kept of a server.
+    fn used(&self, server: usize) -> usize {
+        self.kept[server].min(KEPT as u64) as usize
     }
 
     fn check_begin(&self, p: &Params, used: u32, out: &[u8], to: &[u8]) -> Result<(), Refusal> {
@@ -228,7 +233,7 @@ impl Client {
         digests: &[u8],
         block: &[u8],
     ) -> Result<(), Refusal> {
-        let kept = self.kept[server] as usize;
+        let kept = self.used(server);
         let row = &mut self.stamps[server];
         if row[..kept].contains(&stamp) {
             return Err(Refusal::Old);
@@ -257,14 +262,14 @@ impl Client {
 
     /// The place in a server's row with this stamp and list.
     fn find(&self, p: &Params, rows: &[u8], server: usize, stamp: Stamp, digests: &[u8]) -> Option<usize> {
-        (0..self.kept[server] as usize)
+        (0..self.used(server))
             .find(|&i| self.stamps[server][i] == stamp && list_in(p, rows, row_chunk(server, i)) == digests)
     }
 
     /// The search of the rows: the first stamp and list in n − t of them ends the read.
     fn settle(&mut self, p: &Params, rows: &[u8], frame: &Frame, out: &mut Out, value: &mut [u8]) -> Outcome {
         for j in 1..=p.n {
-            for i in 0..self.kept[j] as usize {
+            for i in 0..self.used(j) {
                 let stamp = self.stamps[j][i];
                 let digests = list_in(p, rows, row_chunk(j, i));
                 let mut numbers = [0; MAX_K];

@@ -1,0 +1,314 @@
+/* A host that does what include/semduoli.h asks of one. Four servers and two clients of a register, each with a file that holds all that belongs to it;
+ * links that lose and repeat frames, those to one server so often that it lags behind; a false server that, besides what it must, sends frames of
+ * far-off writes for ever; parties that are started again from their files. The host writes down what its clients saw, by its own clock, and has it
+ * judged. The argument names the folder of the files. */
+#define _POSIX_C_SOURCE 200809L
+#include <stdio.h>
+#include <stdlib.h>
+#include <string.h>
+#include <unistd.h>
+#include "semduoli.h"
+
+enum { N = 4, T = 1, K = 2, SIZE = 8, SLOW = 3, FALSE_SERVER = 4, CLIENTS = 2, UNSENT = 512, KEPT = 4, ROUNDS = 2000 };
+
+/* a frame, with its sender and its receiver */
+struct parcel {
+    uint8_t from[2], to[2], frame[SEMDUOLI_FRAME(N, K, SIZE)];
+    size_t length;
+};
+
+/* all that belongs to a party: record and areas; of a client's open operation the value, its kind, when it began, and its stamp; what was sent and
+ * nobody has confirmed; the frames that a server answered 13, at most KEPT for each sender and client */
+struct party {
+    uint8_t class_, number;
+    uint8_t state[SEMDUOLI_SERVER], area[SEMDUOLI_AREA], initial[SEMDUOLI_INITIAL(K, SIZE)], value[SIZE], stamp[SEMDUOLI_STAMP];
+    char kind;
+    uint32_t start;
+    struct parcel unsent[UNSENT], early[CLIENTS + 1][N + 1][KEPT];
+    size_t unsent_count, early_count[CLIENTS + 1][N + 1];
+};
+
+static struct party servers[N + 1], clients[CLIENTS + 1];
+static const char *folder;
+static uint32_t now;
+static unsigned handed_in, lost, repeated, ahead, dropped, again, restarts;
+static char history[4096];
+
+/* ---- what is kept */
+
+static void path_of(const struct party *p, const char *suffix, char *path, size_t length)
+{
+    snprintf(path, length, "%s/%c%u%s", folder, p->class_ == SEMDUOLI_CLASS_SERVER ? 's' : 'c', p->number, suffix);
+}
+
+static void stop(const char *what)
+{
+    perror(what);
+    exit(1);
+}
+
+/* stores a party as one: the new file takes the old one's place when it is whole and on the disk */
+static void store(const struct party *p)
+{
+    char path[512], fresh[512];
+    path_of(p, "", path, sizeof path);
+    path_of(p, ".new", fresh, sizeof fresh);
+    FILE *file = fopen(fresh, "wb");
+    if (!file || fwrite(p, sizeof *p, 1, file) != 1 || fflush(file) || fsync(fileno(file)) || fclose(file) || rename(fresh, path))
+        stop(path);
+}
+
+/* starts a party again from its file */
+static void restart(struct party *p)
+{
+    char path[512];
+    path_of(p, "", path, sizeof path);
+    memset(p, 0xee, sizeof *p);
+    FILE *file = fopen(path, "rb");
+    if (!file || fread(p, sizeof *p, 1, file) != 1 || fclose(file))
+        stop(path);
+    restarts++;
+}
+
+/* ---- frames */
+
+static uint64_t sequence_of(const uint8_t *frame)
+{
+    return (uint64_t)frame[5] << 24 | (uint64_t)frame[6] << 16 | (uint64_t)frame[7] << 8 | frame[8];
+}
+
+/* the frames of an answer are to be sent, and stay until they are confirmed */
+static void add_sent(struct party *p, uint64_t answer, const uint8_t *out, const uint8_t *to)
+{
+    for (unsigned i = 0; i < SEMDUOLI_COUNT(answer); i++) {
+        struct parcel *q = &p->unsent[p->unsent_count++];
+        if (p->unsent_count > UNSENT)
+            abort();
+        q->from[0] = p->class_;
+        q->from[1] = p->number;
+        memcpy(q->to, to + 2 * i, 2);
+        q->length = 2 + 256 * out[0] + out[1];
+        memcpy(q->frame, out, q->length);
+        out += q->length;
+    }
+}
+
+/* keeps a frame that came too early, or does not confirm it */
+static int keep_early(struct party *s, const struct parcel *q)
+{
+    size_t client = q->frame[4], sender = q->from[0] == SEMDUOLI_CLASS_SERVER ? q->from[1] : 0;
+    ahead++;
+    if (client > CLIENTS || s->early_count[client][sender] == KEPT) {
+        dropped++;
+        return 0;
+    }
+    s->early[client][sender][s->early_count[client][sender]++] = *q;
+    store(s);
+    return 1;
+}
+
+static uint64_t to_server(struct party *s, const struct parcel *q)
+{
+    uint8_t out[SEMDUOLI_SERVER_OUT(N, K, SIZE)], to[SEMDUOLI_SERVER_TO(N)];
+    uint64_t answer = semduoli_server_deliver(N, T, K, SIZE, s->number, q->from[0], q->from[1], q->frame, q->length, s->area, sizeof s->area, s->initial,
+                                              sizeof s->initial, s->state, SEMDUOLI_SERVER, out, sizeof out, to, sizeof to);
+    handed_in++;
+    add_sent(s, answer, out, to);
+    return answer;
+}
+
+/* hands the frames in that came too early and whose sequence has come */
+static void hand_early(struct party *s)
+{
+    for (size_t c = 1; c <= CLIENTS; c++)
+        for (size_t j = 0; j <= N; j++)
+            for (size_t i = 0; i < s->early_count[c][j]; i++) {
+                struct parcel q = s->early[c][j][i];
+                if (sequence_of(q.frame) > SEMDUOLI_SEQUENCE(semduoli_server_open(c, s->state, SEMDUOLI_SERVER)))
+                    continue;
+                s->early[c][j][i] = s->early[c][j][--s->early_count[c][j]];
+                to_server(s, &q);
+                again++;
+                c = 1, j = 0, i = (size_t)-1; /* the sequence may have moved: from the beginning */
+            }
+}
+
+/* ---- clients, and what they saw */
+
+/* a line of the history: an operation has ended */
+static void note(const struct party *c)
+{
+    char line[128];
+    snprintf(line, sizeof line, "%c %u %u %llu %u %u %u\n", c->kind, c->start, ++now, (unsigned long long)semduoli_stamp_time(c->stamp),
+             semduoli_stamp_writer(c->stamp), (unsigned)semduoli_stamp_sequence(c->stamp), c->number);
+    strncat(history, line, sizeof history - strlen(history) - 1);
+}
+
+/* The stamp of a write: one above the time that the client sends (kind 6, the last frames of the step that sends 2n), its number, and the sequence. */
+static void note_stamp(struct party *c)
+{
+    const uint8_t *frame = c->unsent[c->unsent_count - 1].frame;
+    uint8_t *stamp = c->stamp;
+    memcpy(stamp, frame + 9, 8);
+    for (int i = 7; i >= 0 && ++stamp[i] == 0; i--)
+        ;
+    stamp[8] = c->number;
+    memcpy(stamp + 9, frame + 5, 4);
+}
+
+static int to_client(struct party *c, const struct parcel *q)
+{
+    uint8_t out[SEMDUOLI_CLIENT_OUT(N, K, SIZE)], to[SEMDUOLI_CLIENT_TO(N)], result[SIZE];
+    uint64_t answer = semduoli_client_deliver(N, T, K, SIZE, c->number, q->from[0], q->from[1], c->value, SIZE, q->frame, q->length, c->area,
+                                              sizeof c->area, result, SIZE, c->stamp, SEMDUOLI_STAMP, c->state, SEMDUOLI_CLIENT, out,
+                                              sizeof out, to, sizeof to);
+    handed_in++;
+    if (SEMDUOLI_REFUSAL(answer))
+        return 1;
+    add_sent(c, answer, out, to);
+    if (SEMDUOLI_OUTCOME(answer) == SEMDUOLI_SENT && SEMDUOLI_COUNT(answer) == 2 * N)
+        note_stamp(c);
+    store(c);
+    if (SEMDUOLI_OUTCOME(answer) != SEMDUOLI_SENT)
+        note(c);
+    if (SEMDUOLI_OUTCOME(answer) == SEMDUOLI_VALUE)
+        printf("client %u has read %.*s\n", c->number, SIZE, (const char *)result);
+    return 1;
+}
+
+/* a client that has nothing open begins the next of its operations: values are written, and "" is a read */
+static int begin(struct party *c, const char *const *script, size_t *at)
+{
+    uint8_t out[SEMDUOLI_CLIENT_OUT(N, K, SIZE)], to[SEMDUOLI_CLIENT_TO(N)];
+    if (SEMDUOLI_OUTCOME(semduoli_client_open(c->state, SEMDUOLI_CLIENT)) != SEMDUOLI_OPEN_NOTHING)
+        return 1;
+    const char *value = script[*at];
+    if (!value)
+        return 0;
+    ++*at;
+    c->kind = *value ? 'W' : 'R';
+    c->start = ++now;
+    memcpy(c->value, value, *value ? SIZE : 0);
+    add_sent(c,
+             *value ? semduoli_begin_write(N, T, K, SIZE, c->number, c->state, SEMDUOLI_CLIENT, c->value, SIZE, out, sizeof out, to, sizeof to)
+                    : semduoli_begin_read(N, T, K, SIZE, c->number, c->state, SEMDUOLI_CLIENT, out, sizeof out, to, sizeof to),
+             out, to);
+    store(c);
+    return 1;
+}
+
+/* ---- links */
+
+/* a frame arrives; whether it is confirmed. What the receiver sends is stored before, and leaves later. The sender is the one whose link it came by. */
+static int arrive(const struct parcel *q)
+{
+    if (q->to[0] == SEMDUOLI_CLASS_CLIENT)
+        return to_client(&clients[q->to[1]], q);
+    struct party *s = &servers[q->to[1]];
+    uint64_t answer = to_server(s, q);
+    if (SEMDUOLI_REFUSAL(answer) == SEMDUOLI_REFUSED_AHEAD)
+        return keep_early(s, q);
+    if (!SEMDUOLI_REFUSAL(answer)) {
+        hand_early(s);
+        store(s);
+    }
+    return 1;
+}
+
+static unsigned chance(unsigned of)
+{
+    static uint32_t x = 20071;
+    x = x * 1664525 + 1013904223;
+    return (x >> 16) % of;
+}
+
+/* sends each frame that is not confirmed, so often until it is */
+static void send_all(struct party *p)
+{
+    for (size_t i = 0; i < p->unsent_count;) {
+        struct parcel q = p->unsent[i];
+        int slow = q.to[0] == SEMDUOLI_CLASS_SERVER && q.to[1] == SLOW;
+        if (slow ? chance(12) : chance(3) == 0) {
+            lost++;
+            i++;
+            continue;
+        }
+        int confirmed = arrive(&q);
+        if (confirmed && chance(4) == 0) {
+            arrive(&q);
+            repeated++;
+            confirmed = chance(2); /* the confirmation may be lost too */
+        }
+        if (!confirmed)
+            i++;
+        else if (p->unsent_count--)
+            memmove(&p->unsent[i], &p->unsent[i + 1], (p->unsent_count - i) * sizeof q);
+    }
+}
+
+/* the false server's frame to server j: an echo of a time, of client 1's write number 1000 and more */
+static void send_false(uint8_t j, unsigned round)
+{
+    struct parcel q = {{SEMDUOLI_CLASS_SERVER, FALSE_SERVER},
+                       {SEMDUOLI_CLASS_SERVER, j},
+                       {0, 15, 1, 7, 1, 0, 0, (uint8_t)(4 + round / 256), (uint8_t)round},
+                       17};
+    arrive(&q);
+}
+
+/* ---- the run */
+
+static void judge(void)
+{
+    uint8_t lines[SEMDUOLI_LINES];
+    uint64_t answer = semduoli_judge((const uint8_t *)history, strlen(history), lines, sizeof lines);
+    printf("%s", history);
+    if (SEMDUOLI_REFUSAL(answer)) {
+        printf("refused %u\n", SEMDUOLI_REFUSAL(answer));
+        exit(1);
+    }
+    printf(SEMDUOLI_OUTCOME(answer) == SEMDUOLI_ORDERED ? "order" : "no order");
+    for (unsigned i = 0; SEMDUOLI_OUTCOME(answer) == SEMDUOLI_ORDERED && i < SEMDUOLI_COUNT(answer); i++)
+        printf(" %u", lines[i]);
+    printf("\n");
+}
+
+int main(int count, char **arguments)
+{
+    static const char *const first[] = {"", "rye   81", "", "oats  92", "", "rye   79", "", NULL};
+    static const char *const second[] = {"wheat 97", "", "", "rye   80", "", "", "spelt 64", "", NULL};
+    const char *const *scripts[] = {NULL, first, second};
+    size_t at[CLIENTS + 1] = {0};
+    folder = count > 1 ? arguments[1] : ".";
+    for (uint8_t j = 1; j <= N; j++) {
+        struct party *s = &servers[j];
+        s->class_ = SEMDUOLI_CLASS_SERVER, s->number = j;
+        if (semduoli_server_fresh(N, T, K, SIZE, j, (const uint8_t *)"nothing.", SIZE, s->area, sizeof s->area, s->initial, sizeof s->initial, s->state,
+                                  SEMDUOLI_SERVER))
+            return 1;
+        store(s);
+    }
+    for (uint8_t c = 1; c <= CLIENTS; c++) {
+        clients[c].class_ = SEMDUOLI_CLASS_CLIENT, clients[c].number = c;
+        if (semduoli_client_fresh(clients[c].state, SEMDUOLI_CLIENT))
+            return 1;
+        store(&clients[c]);
+    }
+    unsigned round = 0;
+    for (int open = 1; open && round < ROUNDS; round++) {
+        open = 0;
+        for (uint8_t c = 1; c <= CLIENTS; c++) {
+            open |= begin(&clients[c], scripts[c], &at[c]);
+            send_all(&clients[c]);
+        }
+        for (uint8_t j = 1; j <= N; j++) {
+            send_all(&servers[j]);
+            send_false(j, round);
+        }
+        restart(round % 2 ? &servers[1 + round / 2 % N] : &clients[1 + round / 2 % CLIENTS]);
+    }
+    judge();
+    printf("rounds %u, handed in %u, lost %u, repeated %u, starts from a file %u\n", round, handed_in, lost, repeated, restarts);
+    printf("came too early %u, of them not kept %u, handed in again %u\n", ahead, dropped, again);
+    return round == ROUNDS;
+}

@@ -55,17 +55,19 @@ params-fine g B me most is = rw (
   ← length-yes (g .size) (B .size-low) (B .size-high),
 )
 
+-- the constructor's tests pass
+pub fresh-fine : (Z : Setup) → Assumed Z → (j : ℕ) → Among (Z .g .n) j
+    → SD.constructTest (Z .H) (Z .g) j (Z .initialValue) (length (Z .stateAreas j)) (length (Z .initialAreas j)) ≡ J.Fine
+unfolding SD.constructTest pick
+fresh-fine Z G j is = rw (
+  params-fine (Z .g) (G .bounded) j (Z .g .n) is,
+  eq-eqb (length (Z .initialValue)) (Z .g .size) (G .initial-size),
+  le-ltb (length (Z .stateAreas j)) areaBytes (G .state-room j),
+  le-ltb (length (Z .initialAreas j)) _ (G .initial-room j),
+)
+
 module _ (Z : Setup) (G : Assumed Z) (M : Small (Z .g)) where
   open Setup Z using (H, g, initialValue, faultyServer, faultyClient, stateAreas, initialAreas, rowsAreas)
-
-  fresh-fine : (j : ℕ) → Among (g .n) j → SD.constructTest H g j initialValue (length (stateAreas j)) (length (initialAreas j)) ≡ J.Fine
-  unfolding SD.constructTest pick
-  fresh-fine j is = rw (
-    params-fine g (G .bounded) j (g .n) is,
-    eq-eqb (length initialValue) (g .size) (G .initial-size),
-    le-ltb (length (stateAreas j)) areaBytes (G .state-room j),
-    le-ltb (length (initialAreas j)) _ (G .initial-room j),
-  )
 
   first-silent : (j c : ℕ) → readerOf (serverAt Z G M [] j .server) c .listening ≡ false
   unfolding run start SD.construction freshServer SD.constructBy
@@ -77,7 +79,7 @@ module _ (Z : Setup) (G : Assumed Z) (M : Small (Z .g)) where
 
   first-shown : (j : ℕ) → Among (g .n) j → shown Z G M [] j ≡ stamps Z G M .initial
   unfolding run start SD.construction presentEntry freshServer SD.constructBy
-  first-shown j is = go (SD.constructTest H g j initialValue (length (stateAreas j)) (length (initialAreas j))) (fresh-fine j is)
+  first-shown j is = go (SD.constructTest H g j initialValue (length (stateAreas j)) (length (initialAreas j))) (fresh-fine Z G j is)
     where
       go : (b : Verdict) → b ≡ J.Fine → _≡_ {A = Stamped Z G M} (
         SD.constructBy H g j b initialValue (stateAreas j) (initialAreas j) .server .stamp,

@@ -28,7 +28,7 @@ use Rattle.runs.specs.Promises.{valueBy, RunsGoOn, Acknowledges, Accepte
 
 -- ---- the next state
 
-other-put : {A : Type 0} (f : ℕ → A) (i : ℕ) (v : A) (j : ℕ) → (i ≡ j → ⊥) → put f i v j ≡ f j
+pub other-put : {A : Type 0} (f : ℕ → A) (i : ℕ) (v : A) (j : ℕ) → (i ≡ j → ⊥) → put f i v j ≡ f j
 other-put f i v j ne = ⊎-elim (λ w. absurd (ne (sym (w .0)))) (λ w. w) (put-cases f i v j)
 
 -- the answer says whether the write was begun

@@ -1,0 +1,241 @@
+# Writes the scripts of this folder for the hall program, NAME.in, with what must be answered, NAME.out: single calls at a client and at a server, each
+# expected answer worked out here from the specification. Run it in this folder.
+from frames import (ECHO, READY, SEND, SERVERS, ack, block, complete, entry, frame, get_stamp, read, stamp, the_time, value)
+
+VALUE, OTHER, THIRD = bytes([1, 2, 3]), bytes([10, 11, 12]), bytes([1, 2, 4])
+LAST = 2**64 - 1
+
+
+# ---- scripts
+
+class Script:
+    def __init__(self, name):
+        self.name, self.lines, self.answers = name, [], []
+
+    def say(self, line, *answers):
+        self.lines.append(line)
+        self.answers += answers
+
+    def refused(self, line, number):
+        self.say(line, f'refused {number}')
+
+    def step(self, line, sent=(), last=None):
+        self.say(line, 'step', *(f'> {to} {f.hex()}' for to, f in sent), *([last] if last else []))
+
+    def write(self):
+        for suffix, content in (('in', self.lines), ('out', self.answers)):
+            with open(f'{self.name}.{suffix}', 'w') as file:
+                file.write(''.join(line + '\n' for line in content))
+
+
+def to_all(f):
+    return [(f's {j}', f(j)) for j in SERVERS]
+
+
+def opened(name):
+    s = Script(name)
+    s.say('hall 4 1 2 3 010203', 'ready')
+    return s
+
+
+# ---- clients
+
+def bounds():
+    s = Script('bounds')
+    s.say('C 1 read', 'what?')
+    for n, t in ((6, 2), (3, 1), (11, 1), (4, 0)):
+        s.refused(f'hall {n} {t} 1 3 010203', 1)
+    for k in (0, 3):
+        s.refused(f'hall 4 1 {k} 3 010203', 2)
+    s.refused('hall 4 1 2 0 -', 3)
+    s.refused(f'hall 4 1 2 257 {bytes(257).hex()}', 3)
+    s.refused('hall 4 1 2 3 0102', 3)
+    s.say('hall 4 1 2 3 010203', 'ready')
+    for c in (0, 9, 256):
+        s.refused(f'C {c} read', 1)
+        s.refused(f'C {c} write 010203', 1)
+        s.refused(f'C {c} s 1 {stamp(1, 1, 5).hex()}', 1)
+    for j in (0, 5, 256):
+        s.refused(f'S {j} c 1 {get_stamp(1, 1).hex()}', 1)
+    for v in ('0102', '01020304', '-'):
+        s.refused(f'C 1 write {v}', 3)
+    s.write()
+
+
+def busy(s):
+    """15, in either operation."""
+    s.step('C 1 read', to_all(lambda j: read(1, 1)))
+    s.refused('C 1 read', 15)
+    s.refused('C 1 write 010203', 15)
+    s.step('C 2 write 010203', to_all(lambda j: get_stamp(2, 1)))
+    s.refused('C 2 read', 15)
+    s.refused('C 2 write 010203', 15)
+
+
+def turned_down(s):
+    """Frames to client 2, whose first write awaits stamps: 4 to 9, 11, 12."""
+    def of(f, number, sender='s 1', c=2):
+        s.refused(f'C {c} {sender} {f.hex()}', number)
+
+    of(b'\0\7\1', 4)
+    of(b'\0\10' + ack(2, 1)[2:], 4)
+    of(frame(9, 2, 1, version=2), 5)
+    for kind in (0, 13):
+        of(frame(kind, 2, 1), 6)
+    of(frame(9, 0, 1), 7)
+    of(frame(9, 9, 1), 7)
+    of(frame(9, 2, 0), 7)
+    of(frame(9, 2, 1, b'\0'), 8)
+    of(frame(2, 2, 1), 8)
+    for t, writer, sequence in ((3, 0, 1), (0, 2, 1), (3, 2, 0), (3, 9, 1)):
+        of(value(2, 1, t, writer, sequence, VALUE, 1), 9)
+    of(get_stamp(2, 1), 11)
+    of(stamp(2, 1, 5), 11, c=3)
+    for sender in ('c 2', 's 0', 's 5'):
+        of(stamp(2, 1, 5), 11, sender)
+    of(stamp(2, 2, 5), 12)
+    of(ack(2, 1), 12)
+    of(value(2, 1, 5, 2, 1, VALUE, 1), 12)
+    of(stamp(3, 1, 5), 12, c=3)
+
+
+def writes(s):
+    """Client 4 writes twice."""
+    def stamped(j, q, t, sent=()):
+        s.step(f'C 4 s {j} {stamp(4, q, t).hex()}', sent)
+
+    def spread(q, t):
+        return to_all(lambda j: block(SEND, 4, q, VALUE, j)) + to_all(lambda j: the_time(SEND, 4, q, t))
+
+    s.step('C 4 write 010203', to_all(lambda j: get_stamp(4, 1)))
+    stamped(1, 1, 5)
+    s.refused(f'C 4 s 1 {stamp(4, 1, 6).hex()}', 12)
+    stamped(2, 1, 9)
+    stamped(4, 1, 7, spread(1, 9))
+    s.refused(f'C 4 s 3 {stamp(4, 1, 8).hex()}', 12)
+    s.step(f'C 4 s 1 {ack(4, 1).hex()}')
+    s.refused(f'C 4 s 1 {ack(4, 1).hex()}', 12)
+    s.step(f'C 4 s 3 {ack(4, 1).hex()}')
+    s.step(f'C 4 s 4 {ack(4, 1).hex()}', last='written')
+    s.refused(f'C 4 s 2 {ack(4, 1).hex()}', 12)
+    s.step('C 4 write 010203', to_all(lambda j: get_stamp(4, 2)))
+    s.refused(f'C 4 s 3 {stamp(4, 1, 9).hex()}', 12)
+    stamped(3, 2, LAST - 1)
+    stamped(1, 2, 0)
+    stamped(2, 2, 0, spread(2, LAST - 1))
+    s.refused(f'C 4 s 2 {ack(4, 1).hex()}', 12)
+
+
+def closes(s):
+    """Client 5's write closes as out of stamps: 17 from then on, but it reads."""
+    s.step('C 5 write 010203', to_all(lambda j: get_stamp(5, 1)))
+    s.step(f'C 5 s 2 {stamp(5, 1, 0).hex()}')
+    s.step(f'C 5 s 3 {stamp(5, 1, LAST).hex()}')
+    s.step(f'C 5 s 4 {stamp(5, 1, 3).hex()}', last='out of stamps')
+    s.refused(f'C 5 s 1 {stamp(5, 1, 3).hex()}', 12)
+    s.refused('C 5 write 010203', 17)
+    s.step('C 5 read', to_all(lambda j: read(5, 1)))
+
+
+def reads(s):
+    """Client 6 reads three times: what does not count, two lists of one stamp, and which stamps a row keeps."""
+    def got(j, q, t, v=VALUE, sent=(), last=None):
+        s.step(f'C 6 s {j} {value(6, q, t, 2 if t else 0, 1 if t else 0, v, j).hex()}', sent, last)
+
+    def ends(j, q, t, v=VALUE):
+        got(j, q, t, v, to_all(lambda i: complete(6, q)), f'value {v.hex()} {t} 2 1')
+
+    s.step('C 6 read', to_all(lambda j: read(6, 1)))
+    changed = value(6, 1, 5, 2, 1, VALUE, 1)[:-1] + b'\2'
+    for f, number in ((stamp(6, 1, 5), 12), (ack(6, 1), 12), (value(6, 2, 5, 2, 1, VALUE, 1)[:-1] + b'\2', 12), (changed, 14)):
+        s.refused(f'C 6 s 1 {f.hex()}', number)
+    s.refused(f'C 6 s 2 {value(6, 1, 5, 2, 1, VALUE, 1).hex()}', 14)
+    got(2, 1, 0)
+    got(4, 1, 5)
+    s.refused(f'C 6 s 4 {value(6, 1, 5, 2, 1, VALUE, 4).hex()}', 12)
+    got(1, 1, 5)
+    ends(3, 1, 5)
+    s.refused(f'C 6 s 2 {value(6, 1, 5, 2, 1, VALUE, 2).hex()}', 12)
+    s.step('C 6 read', to_all(lambda j: read(6, 2)))
+    got(1, 2, 7, THIRD)
+    got(2, 2, 7, VALUE)
+    got(3, 2, 7, THIRD)
+    ends(4, 2, 7, THIRD)
+    s.step('C 6 read', to_all(lambda j: read(6, 3)))
+    for t in (3, 1, 2, 4, 5, 1, 1):  # the fifth stamp drops time 1, and time 1 is then dropped itself, each time it comes
+        got(1, 3, t)
+    s.refused(f'C 6 s 1 {value(6, 3, 5, 2, 1, VALUE, 1).hex()}', 12)
+    for j, t in ((2, 1), (3, 1), (2, 5)):
+        got(j, 3, t)
+    ends(3, 3, 5)
+
+
+# ---- server 2
+
+def at_server():
+    s = opened('server')
+
+    def of(sender, f, result):
+        line = f'S 2 {sender} {f.hex()}'
+        s.refused(line, result) if isinstance(result, int) else s.step(line, result)
+
+    asked = get_stamp(1, 5)
+    for f, number in ((asked[:8], 4), (asked + b'\0', 4), (frame(1, 1, 5, version=2), 5), (frame(0, 1, 5), 6), (frame(13, 1, 5), 6),
+                      (frame(1, 0, 5), 7), (frame(1, 9, 5), 7), (frame(1, 1, 0), 7), (frame(1, 1, 5, b'\0'), 8),
+                      (frame(3, 1, 1, entry(OTHER, 2) + b'\0'), 8)):
+        of('c 1', f, number)
+    of('s 1', value(1, 5, 0, 1, 0, VALUE, 1), 9)
+    of('s 1', asked, 11)
+    of('c 2', asked, 11)
+    for f in (stamp(1, 5, 0), ack(1, 5), value(1, 5, 0, 0, 0, VALUE, 1)):
+        of('s 1', f, 11)
+    of('c 1', block(ECHO, 1, 1, OTHER, 1), 11)
+    of('s 0', block(ECHO, 1, 1, OTHER, 1), 11)
+    of('s 5', the_time(READY, 1, 1, 5), 11)
+
+    # a get-stamp, and reads by clients 8, 3, 5 and 4, which listen from then on
+    of('c 1', asked, [('c 1', stamp(1, 5, 0))])
+    for c in (8, 3, 5, 4):
+        of(f'c {c}', read(c, 1), [(f'c {c}', value(c, 1, 0, 0, 0, VALUE, 2))])
+    of('c 3', read(3, 1), 12)
+
+    # the blocks of client 1's write 1
+    of('c 1', block(SEND, 1, 2, OTHER, 2), 13)
+    of('c 1', block(SEND, 1, 1, OTHER, 1), 14)
+    of('c 1', block(SEND, 1, 1, OTHER, 2), to_all(lambda j: block(ECHO, 1, 1, OTHER, 2)))
+    of('c 1', block(SEND, 1, 1, OTHER, 2), 12)
+    of('s 1', block(ECHO, 1, 1, OTHER, 2), 14)
+    of('s 1', block(ECHO, 1, 1, OTHER, 1), [])
+    of('s 1', block(ECHO, 1, 1, OTHER, 1), 12)
+    of('s 3', block(ECHO, 1, 1, OTHER, 3), [])
+    of('s 4', block(ECHO, 1, 1, OTHER, 4), to_all(lambda j: block(READY, 1, 1, OTHER, 2)))
+    for j in (1, 3, 4):
+        of(f's {j}', block(READY, 1, 1, OTHER, j), [])
+    of('s 4', block(READY, 1, 1, OTHER, 4), 12)
+
+    # its time, and acceptance: values by rising client number, and the ack
+    of('c 1', the_time(SEND, 1, 1, 5), to_all(lambda j: the_time(ECHO, 1, 1, 5)))
+    of('c 1', the_time(SEND, 1, 1, 5), 12)
+    for j, t in ((1, 5), (3, 6), (2, 5)):
+        of(f's {j}', the_time(ECHO, 1, 1, t), [])
+    of('s 4', the_time(ECHO, 1, 1, 5), to_all(lambda j: the_time(READY, 1, 1, 5)))
+    for j in (2, 3):
+        of(f's {j}', the_time(READY, 1, 1, 5), [])
+    of('s 1', the_time(READY, 1, 1, 5), [(f'c {c}', value(c, 1, 6, 1, 1, OTHER, 2)) for c in (3, 4, 5, 8)] + [('c 1', ack(1, 1))])
+    of('s 4', the_time(READY, 1, 1, 5), 12)
+
+    # afterwards: a read is completed, the stamp is the new one, and write 2 is open
+    of('c 3', complete(3, 1), [])
+    of('c 3', complete(3, 1), 12)
+    of('c 1', get_stamp(1, 6), [('c 1', stamp(1, 6, 6))])
+    of('c 3', read(3, 2), [('c 3', value(3, 2, 6, 1, 1, OTHER, 2))])
+    of('c 1', the_time(SEND, 1, 2, 9), to_all(lambda j: the_time(ECHO, 1, 2, 9)))
+    s.write()
+
+
+bounds()
+client = opened('client')
+for part in (busy, turned_down, writes, closes, reads):
+    part(client)
+client.write()
+at_server()

@@ -1,0 +1,1 @@
+// Theory only: what hosts do with the exported calls makes a run of `runs`, in specs/ and proofs/.

@@ -22,14 +22,14 @@ fn without_stamps(answers: &[u8]) -> Vec<u8> {
     kept
 }
 
-#[test]
-fn traces() {
-    let folder = Path::new(env!("CARGO_MANIFEST_DIR")).join("../traces");
+/// Answers every script of a folder, holds what was answered, as seen by `kept`, against what is expected, and says how many scripts there are.
+fn scripts(folder: &str, kept: fn(&[u8]) -> Vec<u8>) -> usize {
+    let folder = Path::new(env!("CARGO_MANIFEST_DIR")).join(folder);
     let mut count = 0;
     for entry in std::fs::read_dir(folder).unwrap() {
         let path = entry.unwrap().path();
         if path.extension().is_some_and(|e| e == "in") {
-            let given = without_stamps(&answer(&std::fs::read(&path).unwrap()));
+            let given = kept(&answer(&std::fs::read(&path).unwrap()));
             let expected = std::fs::read(path.with_extension("out")).unwrap();
             if given != expected {
                 let lines = |bytes: &[u8]| String::from_utf8_lossy(bytes).into_owned();
@@ -42,7 +42,17 @@ fn traces() {
             count += 1;
         }
     }
-    assert_eq!(count, 16);
+    count
+}
+
+#[test]
+fn traces() {
+    assert_eq!(scripts("../traces", without_stamps), 16);
+}
+
+#[test]
+fn cases() {
+    assert_eq!(scripts("../cases", <[u8]>::to_vec), 3);
 }
 
 #[test]

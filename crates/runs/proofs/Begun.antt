@@ -67,7 +67,8 @@ module _ (Z : Setup) where
   Opens c q ks k = (v : List ℕ) × OpensWrite Z c q v ks k
 
   -- a number that the call leaves to client d stays to all
-  same-put : (π : Client → ℕ) (f : ℕ → ClientSide) (d : ℕ) (h : ClientSide) (c : ℕ) → π (h .client) ≡ π (f d .client) → π (put f d h c .client) ≡ π (f c .client)
+  same-put : (π : Client → ℕ) (f : ℕ → ClientSide) (d : ℕ) (h : ClientSide) (c : ℕ) → π (h .client) ≡ π (f d .client)
+      → π (put f d h c .client) ≡ π (f c .client)
   same-put π f d h c e = ⊎-elim
       (λ w. ap (λ x. π (x .client)) (w .1) ∙ e ∙ ap (λ z. π (f z .client)) (sym (w .0)))
       (λ w. ap (λ x. π (x .client)) w)
@@ -112,7 +113,8 @@ module _ (Z : Setup) where
   unfolding run step CB.readBegun CB.writeBegun CB.openWrite CB.beginBy
   writes-rise c ks (toServer j from f out to) = inl refl
   writes-rise c ks (toClient d from f lent result out to) = inl (same-put (λ s. s .writes) (run Z ks .clients) d _ c
-      (delivered-tells H g d (home ks d .client) (home ks d .area) (lentTo Z (run Z ks) d lent) (home ks d .value) (lent-own Z (run Z ks) d lent) from f result out to .number))
+      (delivered-tells H g d (home ks d .client) (home ks d .area) (lentTo Z (run Z ks) d lent) (home ks d .value)
+      (lent-own Z (run Z ks) d lent) from f result out to .number))
   writes-rise c ks (beginRead d out to) = inl (same-put (λ s. s .writes) (run Z ks .clients) d
       (clientLeft Z (readEffect Z (run Z ks) d out to) (home ks d .area) (home ks d .value))
       c (read-writes d (home ks d .client) (CB.readTest g d (home ks d .client) out to)))

@@ -75,7 +75,8 @@ fresh-holds g Q s a e = record { shaped = rows-shaped (s .rows) e; each = λ j i
 
 -- ---- a value that is kept
 
-stored-holds : (g : Params) → Small g → (Q : ℕ → Entry → Type 0) (s : Client) (a : List ℕ) → rowsBytes ≤ length a → (j : ℕ) → Among 10 j → (x : Stamp) (e : Entry) → Sized g e → Q j e
+stored-holds : (g : Params) → Small g → (Q : ℕ → Entry → Type 0) (s : Client) (a : List ℕ) → rowsBytes ≤ length a
+    → (j : ℕ) → Among 10 j → (x : Stamp) (e : Entry) → Sized g e → Q j e
     → (i : ℕ) → placeFor (rowOf s j) x ≡ some i → Holds g Q s a → Holds g Q (withRow s j (rowWith (rowOf s j) i x)) (storeEntry a (placeAt j i) e)
 stored-holds g M Q s a R j is x e z new i p X = record {
   shaped = row-shaped (s .rows) (X .shaped) j (is .1) i x;
@@ -89,7 +90,8 @@ stored-holds g M Q s a R j is x e z new i p X = record {
 
 module _ (H : List ℕ → List ℕ) (g : Params) (me : ℕ) where
   module _ (M : Small g) (few : g .n ≤ 10) (Q : ℕ → Entry → Type 0) where
-    keeps-holds : (s : Client) (a v : List ℕ) → rowsBytes ≤ length a → (j : ℕ) → Among 10 j → (x : Stamp) (e : Entry) → Sized g e → Q j e → {s′ : Client} {a′ : List ℕ}
+    keeps-holds : (s : Client) (a v : List ℕ) → rowsBytes ≤ length a
+        → (j : ℕ) → Among 10 j → (x : Stamp) (e : Entry) → Sized g e → Q j e → {s′ : Client} {a′ : List ℕ}
         → Keeps H g me s a v j x e s′ a′ → Holds g Q s a → Holds g Q s′ a′
     keeps-holds s a v R j is x e z new (drops o) X = X
     keeps-holds s a v R j is x e z new (keeps i o) X = stored-holds g M Q s a R j is x e z new i o X

@@ -1,5 +1,5 @@
--- A client's rows area that is too short is never looked at, since each delivery with it is turned down (10): for the facts of a run zeros may stand in its place.
--- Assumes nothing.
+-- A client's rows area that is too short is never looked at, since each delivery with it is turned down (10): for the facts of a run zeros may stand
+-- in its place. Assumes nothing.
 use Prim.Native.Nat.{ℕ, _≤_}
 use native.Mathlib.Omega.{arith}
 use mathlib.Core.Bool.{Bool, true, false}

@@ -154,7 +154,11 @@ module _ (Z : Setup) where
   unfolding run step CB.writeBegun CB.beginBy
   next ks (toServer j from f out to) c = inl (refl, refl)
   next ks (toClient d from f lent result out to) c = next-put (run Z ks .clients) d _ c
-      (inl (delivered-tells H g d (home ks d .client) (home ks d .area) (lentTo Z (run Z ks) d lent) (home ks d .value) (lent-own (run Z ks) d lent) from f result out to .number, refl))
+      (inl (
+        delivered-tells H g d (home ks d .client) (home ks d .area) (lentTo Z (run Z ks) d lent) (home ks d .value)
+            (lent-own (run Z ks) d lent) from f result out to .number,
+        refl,
+      ))
   next ks (beginRead d out to) c = next-put (run Z ks .clients) d _ c (inl (read-tells H g d (home ks d .client) [] out to .number, refl))
   next ks (beginWrite d v out to) c = next-put (run Z ks .clients) d _ c (by-test (home ks d) d v (CB.writeTest g d (home ks d .client) v out to))
 
@@ -203,7 +207,8 @@ module _ (Z : Setup) where
   sent-now ks (toClient d from f lent result out to) c e =
       let h : d ≡ c = cc e in
       subst (λ y. SendsOwn H g y (wr ks y) (home ks y .value) (clientEffect Z (run Z ks) d from f lent result out to .sends)) h
-      (delivered-tells H g d (home ks d .client) (home ks d .area) (lentTo Z (run Z ks) d lent) (home ks d .value) (lent-own (run Z ks) d lent) from f result out to .own)
+      (delivered-tells H g d (home ks d .client) (home ks d .area) (lentTo Z (run Z ks) d lent) (home ks d .value)
+      (lent-own (run Z ks) d lent) from f result out to .own)
   sent-now ks (beginRead d out to) c e =
       let h : d ≡ c = cc e in
       subst (λ y. SendsOwn H g y (wr ks y) (home ks y .value) (readEffect Z (run Z ks) d out to .sends)) h (read-tells H g d (home ks d .client) (home ks d .value) out to .own)

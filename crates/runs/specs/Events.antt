@@ -64,6 +64,7 @@ module _ (Z : Setup) where
   -- an honest party decodes v: a server as it compares digests, a client as its read ends
   abbrev pub Decodes : List ℕ → Event
   Decodes v ks (toServer i from f out to) = List·Memᴰ v (serverEffect Z (run Z ks) i from f out to .decodes)
-  Decodes v ks (toClient c from f lent result out to) = (x : Found) × (clientEffect Z (run Z ks) c from f lent result out to .event ≡ C.completed x) × (x .bytes ≡ v)
+  Decodes v ks (toClient c from f lent result out to) =
+      (x : Found) × (clientEffect Z (run Z ks) c from f lent result out to .event ≡ C.completed x) × (x .bytes ≡ v)
   Decodes v ks (beginRead c out to) = ⊥
   Decodes v ks (beginWrite c u out to) = ⊥

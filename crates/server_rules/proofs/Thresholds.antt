@@ -1,5 +1,5 @@
--- What a ready and a delivery rest on: n - t echoes of one payload, or readies above t, and, of blocks, a comparison of all digests that was equal. An edit of a
--- threshold is refused here. Assumes nothing.
+-- What a ready and a delivery rest on: n - t echoes of one payload, or readies above t, and, of blocks, a comparison of all digests that was equal.
+-- An edit of a threshold is refused here. Assumes nothing.
 use Prim.Native.Nat.{ℕ, _+_, _-_, _≤_, _<_}
 use native.Mathlib.Omega.{arith}
 use mathlib.Core.Bool.{true, not, _||_}
@@ -27,7 +27,8 @@ module _ {P : Type 0} (R : Rules P) (n t : ℕ) (w : Part P) (x : P) where
   -- a ready follows n - t echoes, or the few readies that bring forth one
   pub due-votes : due R n t w x ≡ true → (n - t ≤ votes R n t (w .echoes) x) ⊎ (R .few ≤ votes R n t (w .readies) x)
   unfolding due enough
-  due-votes e = ⊎-elim (λ h. inl (omega (arith, h))) (λ h. inr h) (either n _ (R .few) _ (and-split (enough R n t w x) _ (and-split (not (w .ready)) _ e .1) .0))
+  due-votes e = ⊎-elim (λ h. inl (omega (arith, h))) (λ h. inr h)
+      (either n _ (R .few) _ (and-split (enough R n t w x) _ (and-split (not (w .ready)) _ e .1) .0))
 
   -- a delivery follows all the readies that it asks for, and the payload is supported
   pub full-votes : full R n t w x ≡ true → R .all ≤ votes R n t (w .readies) x

@@ -94,14 +94,16 @@ module _ (H : List ℕ → List ℕ) (g : Params) (me : ℕ) where
     pub out-room : outRoom g (clientFrames g) ≤ length out
     pub to-room : toRoom (clientFrames g) ≤ length to
 
-  pub send-room : (out to : List ℕ) → CT.sendRoom g (length out) (length to) ≡ J.Fine → (outRoom g (clientFrames g) ≤ length out) × (toRoom (clientFrames g) ≤ length to)
+  pub send-room : (out to : List ℕ) → CT.sendRoom g (length out) (length to) ≡ J.Fine
+      → (outRoom g (clientFrames g) ≤ length out) × (toRoom (clientFrames g) ≤ length to)
   unfolding CT.sendRoom
   send-room out to w =
       let p₁ = fine-not _ _ _ w in
       let p₂ = fine-not _ _ _ (p₁ .1) in
       (ltb-false _ _ (p₁ .0), ltb-false _ _ (p₂ .0))
 
-  pub took-room : (s : Client) (a v : List ℕ) (from : Party) (f result out to : List ℕ) (m : Message) → CT.judge H g me s a v from f result out to ≡ good m → Room a result out to
+  pub took-room : (s : Client) (a v : List ℕ) (from : Party) (f result out to : List ℕ) (m : Message)
+      → CT.judge H g me s a v from f result out to ≡ good m → Room a result out to
   unfolding CT.judge CT.judgeOpened CT.roomTest
   took-room s a v from f result out to m e = go (opened g f) (after-fine (andThen (paramsTest g me lastClient) (CT.valueTest g s (length v))) _ m e)
     where

@@ -1,5 +1,5 @@
--- The run of Contending.antt, computed: it is admissible, calls are refused, two writes are accepted, and the read ends with the one whose stamp is larger. Assumes
--- nothing.
+-- The run of Contending.antt, computed: it is admissible, calls are refused, two writes are accepted, and the read ends with the one whose stamp is
+-- larger. Assumes nothing.
 use native.Mathlib.Omega.{arith}
 use mathlib.Core.Bool.{true, false}
 use mathlib.Core.Path.{_≡_, refl, sym, ap, _∙_}
@@ -121,11 +121,13 @@ room = at-drop (Refuses Z R.Room) 50 calls 22
 
 larger : At (Accepts Z 1 (write 2)) calls 62
 unfolding opening asking refused blocks times spread first second told calls time Toy.handServer
-larger = at-drop (Accepts Z 1 (write 2)) 10 calls 62 (inl (refl, accepts-by Z exact first (time ready 2 2 1) 1 (write 2) refl (rw (computed .larger) (List·Memᴰ·head refl))))
+larger = at-drop (Accepts Z 1 (write 2)) 10 calls 62
+    (inl (refl, accepts-by Z exact first (time ready 2 2 1) 1 (write 2) refl (rw (computed .larger) (List·Memᴰ·head refl))))
 
 smaller : At (Accepts Z 1 (write 1)) calls 65
 unfolding opening asking refused blocks times spread first second told calls time Toy.handServer
-smaller = at-drop (Accepts Z 1 (write 1)) 7 calls 65 (inl (refl, accepts-by Z exact second (time ready 1 2 1) 1 (write 1) refl (rw (computed .smaller) (List·Memᴰ·head refl))))
+smaller = at-drop (Accepts Z 1 (write 1)) 7 calls 65
+    (inl (refl, accepts-by Z exact second (time ready 1 2 1) 1 (write 1) refl (rw (computed .smaller) (List·Memᴰ·head refl))))
 
 completes : At (CompletesRead Z 3 1 found) calls 72
 unfolding opening asking refused blocks times spread first second told calls valueFrom Toy.handClient
@@ -176,8 +178,10 @@ module _ (D : Demand3 Z calls) where
   in-order : Stands (D .row) (writing 1) (writing 2) × Stands (D .row) (writing 2) reading
   unfolding writing reading
   in-order = (
-    ⊎-elim (λ s. s) (λ s. absurd (not-back (D .sorted (writing 2) (writing 1) s))) (either (D .row) (writing 1) (writing 2) (λ e. absurd (omega (arith, ap (λ o. o .client) e))) one two),
-    ⊎-elim (λ s. s) (λ s. absurd (not-first (D .sorted reading (writing 2) s))) (either (D .row) (writing 2) reading (λ e. absurd (omega (arith, ap (λ o. o .client) e))) two last),
+    ⊎-elim (λ s. s) (λ s. absurd (not-back (D .sorted (writing 2) (writing 1) s)))
+        (either (D .row) (writing 1) (writing 2) (λ e. absurd (omega (arith, ap (λ o. o .client) e))) one two),
+    ⊎-elim (λ s. s) (λ s. absurd (not-first (D .sorted reading (writing 2) s)))
+        (either (D .row) (writing 2) reading (λ e. absurd (omega (arith, ap (λ o. o .client) e))) two last),
   )
 
 pub shown : Shown

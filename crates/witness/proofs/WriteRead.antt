@@ -58,7 +58,8 @@ exact = Setups.exact Toy.toy g initial 4 (λ c. false) bounded
 
 sound : Sound Z
 unfolding Z g Toy.four initial QuQuorum.count
-sound = Setups.sound Toy.toy g initial 4 (λ c. false) bounded (record { many = omega arith; few = omega arith }) refl (omega arith, (omega arith, (omega arith, tt)))
+sound = Setups.sound Toy.toy g initial 4 (λ c. false) bounded
+    (record { many = omega arith; few = omega arith }) refl (omega arith, (omega arith, (omega arith, tt)))
 
 -- ---- the run, computed
 
@@ -122,7 +123,16 @@ in-order D = D .in-time write read 30 31
     (inr (refl, ends)) (inl (refl, opens)) (omega arith)
 
 pub shown : Shown
-shown = record { sound = sound; admissible = admissible; writes = writes; accepts = accepts; ends = ends; opens = opens; completes = completes; in-order = in-order }
+shown = record {
+  sound = sound;
+  admissible = admissible;
+  writes = writes;
+  accepts = accepts;
+  ends = ends;
+  opens = opens;
+  completes = completes;
+  in-order = in-order;
+}
 
 -- so the theorem gives demand 3 of this run
 pub demand : Demand3 Z calls

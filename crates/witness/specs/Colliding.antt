@@ -1,6 +1,6 @@
--- Why demand 3 has an alternative. A run, as a list of calls, latest first, with a digest that is 32 bytes long and alike for all blocks: server 1 is false and gives
--- client 2 another block with the initial value's digests. Client 2's read ends with a value that nobody wrote; client 3's, with the same stamp, with the initial
--- one. The theorem holds of this run too: it shows the two blocks. k = 1. These are definitions.
+-- Why demand 3 has an alternative. A run, as a list of calls, latest first, with a digest that is 32 bytes long and alike for all blocks: server 1 is
+-- false and gives client 2 another block with the initial value's digests. Client 2's read ends with a value that nobody wrote; client 3's, with the
+-- same stamp, with the initial one. The theorem holds of this run too: it shows the two blocks. k = 1. These are definitions.
 use Prim.Native.Nat.{ℕ}
 use mathlib.Core.Bool.{false}
 use mathlib.Core.Path.{_≡_}

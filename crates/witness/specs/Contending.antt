@@ -1,6 +1,6 @@
--- A run, as a list of calls, latest first: clients 1 and 2 write at the same time, while client 3 reads and is told of both writes. Server 4 is false and lies: to
--- client 3 about a value that nobody wrote, to client 2 about its time, to server 2 about client 2's blocks, to server 1 with a block that does not match its digest.
--- Calls are refused. The read ends with the value of the write whose stamp is larger. k = 2. These are definitions.
+-- A run, as a list of calls, latest first: clients 1 and 2 write at the same time, while client 3 reads and is told of both writes. Server 4 is false
+-- and lies: to client 3 about a value that nobody wrote, to client 2 about its time, to server 2 about client 2's blocks, to server 1 with a block that
+-- does not match its digest. Calls are refused. The read ends with the value of the write whose stamp is larger. k = 2. These are definitions.
 use Prim.Native.Nat.{ℕ}
 use mathlib.Core.Bool.{true, false}
 use mathlib.Core.List.{List, [], _∷_}

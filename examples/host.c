@@ -44,6 +44,19 @@ static void judge(const char *text)
         printf("history: %u and %u offend\n", (unsigned)(answer >> 16 & 0xff), (unsigned)(answer >> 24 & 0xff));
 }
 
+/* The first line of a history's sheet, and its page number, at the right of the last line; the area has so many bytes. */
+static void lay(const char *text, size_t room)
+{
+    uint8_t sheet[SEMDUOLI_SHEET(64)];
+    uint64_t answer = semduoli_sheet((const uint8_t *)text, strlen(text), sheet, room);
+    if (SEMDUOLI_REFUSAL(answer))
+        printf("sheet: refused %u\n", SEMDUOLI_REFUSAL(answer));
+    else if (SEMDUOLI_OUTCOME(answer) == SEMDUOLI_ORDERED)
+        printf("sheet: pages %u, %.63s, page %c\n", SEMDUOLI_COUNT(answer), (const char *)sheet, sheet[SEMDUOLI_PAGE - 2]);
+    else
+        printf("sheet: %u and %u offend\n", (unsigned)(answer >> 16 & 0xff), (unsigned)(answer >> 24 & 0xff));
+}
+
 static void insert(const char *value, uint8_t *index, size_t index_length)
 {
     uint64_t answer = semduoli_index_insert((const uint8_t *)value, strlen(value), index, index_length);
@@ -228,6 +241,10 @@ int main(void)
     judge("W 1 4 1 2 1 2\nR 4 6 0 0 0 2\n");
     judge("W 1 4 1 2 1 2\nR 4 6 0 0 0 3\n");
     judge("W 1 2 5 1 1\n");
+    lay("R 5 6 1 1 1 0\nW 1 7 1 1 1 3\n", SEMDUOLI_SHEET(2));
+    lay("R 5 6 1 1 1 0\nW 1 7 1 1 1 3\n", SEMDUOLI_SHEET(2) - 1);
+    lay("W 1 2 5 1 1 0\nW 3 4 4 2 1 0\n", 0);
+    lay("W 1 2 5 1 1\n", 0);
     find_lots();
 
     uint8_t state[SEMDUOLI_CLIENT], out[SEMDUOLI_CLIENT_OUT(N, K, SIZE)], to[SEMDUOLI_CLIENT_TO(N)];

@@ -11,6 +11,7 @@ mod semduoli {
                 n: usize, t: usize, k: usize, size: usize, js: *const u8, js_len: usize, bs: *const u8, bs_len: usize, out: *mut u8, out_len: usize,
             ) -> u64;
             pub fn semduoli_judge(text: *const u8, text_len: usize, lines: *mut u8, lines_len: usize) -> u64;
+            pub fn semduoli_sheet(text: *const u8, text_len: usize, out: *mut u8, out_len: usize) -> u64;
             pub fn semduoli_index_fresh(index: *mut u8, index_len: usize) -> u64;
             pub fn semduoli_index_insert(v: *const u8, v_len: usize, index: *mut u8, index_len: usize) -> u64;
             pub fn semduoli_index_search(number: u64, index: *const u8, index_len: usize) -> u64;
@@ -74,6 +75,7 @@ mod semduoli {
     pub const AREA: usize = 97344;
     pub const ROWS: usize = 23040;
     pub const LINES: usize = 64;
+    pub const PAGE: usize = 4380;
     pub const INDEX: usize = 577;
     pub const STAMP: usize = 13;
     pub const VERSION: u64 = 1;
@@ -117,6 +119,10 @@ mod semduoli {
 
     pub fn judge(text: &[u8], lines: &mut [u8]) -> Answer {
         Answer(unsafe { raw::semduoli_judge(text.as_ptr(), text.len(), lines.as_mut_ptr(), lines.len()) })
+    }
+
+    pub fn sheet(text: &[u8], out: &mut [u8]) -> Answer {
+        Answer(unsafe { raw::semduoli_sheet(text.as_ptr(), text.len(), out.as_mut_ptr(), out.len()) })
     }
 
     pub fn index_fresh(index: &mut [u8]) -> Answer {
@@ -233,6 +239,20 @@ fn judge(text: &str) {
         show("history:", &lines[..answer.count()]);
     } else {
         println!("history: {} and {} offend", answer.0 >> 16 & 0xff, answer.0 >> 24 & 0xff);
+    }
+}
+
+// The first line of a history's sheet, and its page number, at the right of the last line; the area has so many bytes.
+fn lay(text: &str, room: usize) {
+    let mut sheet = [0; 2 * semduoli::PAGE];
+    let answer = semduoli::sheet(text.as_bytes(), &mut sheet[..room]);
+    if answer.refusal() != 0 {
+        println!("sheet: refused {}", answer.refusal());
+    } else if answer.outcome() == 0 {
+        let (line, number) = (String::from_utf8_lossy(&sheet[..63]), sheet[semduoli::PAGE - 2] as char);
+        println!("sheet: pages {}, {line}, page {number}", answer.count());
+    } else {
+        println!("sheet: {} and {} offend", answer.0 >> 16 & 0xff, answer.0 >> 24 & 0xff);
     }
 }
 
@@ -424,6 +444,10 @@ fn main() {
     judge("W 1 4 1 2 1 2\nR 4 6 0 0 0 2\n");
     judge("W 1 4 1 2 1 2\nR 4 6 0 0 0 3\n");
     judge("W 1 2 5 1 1\n");
+    lay("R 5 6 1 1 1 0\nW 1 7 1 1 1 3\n", semduoli::PAGE);
+    lay("R 5 6 1 1 1 0\nW 1 7 1 1 1 3\n", semduoli::PAGE - 1);
+    lay("W 1 2 5 1 1 0\nW 3 4 4 2 1 0\n", 0);
+    lay("W 1 2 5 1 1\n", 0);
     find_lots();
 
     let mut state = [0xff; semduoli::CLIENT];

@@ -83,6 +83,9 @@ extern "C" {
 #define SEMDUOLI_STAMP 13
 /* line numbers of a history */
 #define SEMDUOLI_LINES 64
+/* a page of a history's sheet, and the sheet of so many operations, which has one page or two */
+#define SEMDUOLI_PAGE 4380
+#define SEMDUOLI_SHEET(operations) (((operations) < 60 ? 1 : 2) * SEMDUOLI_PAGE)
 /* an index of accession numbers, and the values that it takes */
 #define SEMDUOLI_INDEX 577
 #define SEMDUOLI_INDEX_VALUES 64
@@ -135,7 +138,7 @@ enum semduoli_refusal {
 #define SEMDUOLI_OPEN_ACKING 2  /* a write that awaits acks */
 #define SEMDUOLI_OPEN_READING 3 /* a read */
 
-/* what was judged of a history */
+/* what was judged of a history, also of one whose sheet is asked for */
 #define SEMDUOLI_ORDERED 0
 #define SEMDUOLI_OFFENDING 1
 
@@ -183,6 +186,14 @@ uint64_t semduoli_decode(size_t n, size_t t, size_t k, size_t size, const uint8_
  * them stays as lent. SEMDUOLI_OFFENDING: they have none; bits 16 to 23 are the line number of the earlier operation of an offending pair,
  * bits 24 to 31 that of the later, and lines stays as lent. */
 uint64_t semduoli_judge(const uint8_t *text, size_t text_length, uint8_t *lines, size_t lines_length);
+
+/* The season sheet of a history, as text from the start of out: pages of 60 lines of 72 columns, a newline behind each line. An operation has one
+ * line, in the order that semduoli_judge gives: its place in that order (3 columns), kind (1), start (10), end (10), time (20), writer (1), sequence
+ * (10) and caller (1), right-aligned, one space between. A page has 59 operations, and its 60th line has its number at the right; no operations have
+ * one page. SEMDUOLI_ORDERED: the sheet is laid, and the count says how many pages, of SEMDUOLI_PAGE bytes each; what is behind them stays as lent.
+ * SEMDUOLI_OFFENDING: as in semduoli_judge. Refusals, in this order: 18, 19, 10. A history that is refused or has no order needs no area, and out
+ * stays as lent. */
+uint64_t semduoli_sheet(const uint8_t *text, size_t text_length, uint8_t *out, size_t out_length);
 
 /* ---- the index of accession numbers: a value's number is its first eight bytes, high byte first; its place is counted from 1 by insertion. The host
  * keeps the index beside the values, as SEMDUOLI_INDEX bytes: a count, then for each value its number (8 bytes, high byte first) and its place (1),

@@ -38,6 +38,7 @@ mod raw {
             lines: *mut u8,
             lines_length: usize,
         ) -> u64;
+        pub fn semduoli_sheet(text: *const u8, text_length: usize, out: *mut u8, out_length: usize) -> u64;
         pub fn semduoli_index_fresh(index: *mut u8, index_length: usize) -> u64;
         pub fn semduoli_index_insert(
             value: *const u8,
@@ -180,6 +181,10 @@ pub fn decode(p: &Params, numbers: &[u8], blocks: &[u8], out: &mut [u8]) -> u64 
 
 pub fn judge(text: &[u8], lines: &mut [u8]) -> u64 {
     unsafe { raw::semduoli_judge(text.as_ptr(), text.len(), lines.as_mut_ptr(), lines.len()) }
+}
+
+pub fn sheet(text: &[u8], out: &mut [u8]) -> u64 {
+    unsafe { raw::semduoli_sheet(text.as_ptr(), text.len(), out.as_mut_ptr(), out.len()) }
 }
 
 pub fn index_fresh(index: &mut [u8]) -> u64 {

@@ -1,9 +1,10 @@
-//! Histories as text: sound, offending and damaged ones; short ones against all permutations too.
+//! Histories as text: sound, offending and damaged ones; short ones against all permutations too. And their sheets.
 
 use crate::{calls, pattern, same_answer, same_bytes, Difference, Seen};
 use register::history::{judge, parse, Judgement};
-use register::orders::{is_order, line, some_history, some_order};
+use register::orders::{is_order, line, some_history, some_order, some_overlapping};
 use register::random::Random;
+use register::sheet::{lay, Laid, PAGE};
 
 /// Up to 66 lines; one history in three is damaged somewhere.
 fn text(random: &mut Random) -> Vec<u8> {
@@ -76,5 +77,41 @@ pub fn history(seed: u64) -> Result<Seen, Difference> {
     same_answer(calls::judge(&text, &mut lines), answer).map_err(at)?;
     same_bytes("lines", &lines, &expected).map_err(at)?;
     by_trial(&text, answer, &lines).map_err(at)?;
+    Ok(Seen::of(answer))
+}
+
+/// The sheet of a history, in an area of any length: none, under a page, the pages, one byte less or some more.
+pub fn sheet(seed: u64) -> Result<Seen, Difference> {
+    let mut random = Random::new(seed);
+    let text = if random.chance(2, 3) {
+        let any = random.range(0, 66);
+        let length = random.pick(&[0, 1, 9, 10, 58, 59, 60, 64, 65, any, any, any]);
+        some_overlapping(&mut random, length).iter().map(line).collect::<String>().into_bytes()
+    } else {
+        text(&mut random)
+    };
+    let room = match random.below(8) {
+        0 => 0,
+        1 => random.below(2 * PAGE),
+        2 => PAGE - 1,
+        3 => PAGE,
+        4 => 2 * PAGE - 1,
+        5 => 2 * PAGE,
+        _ => 2 * PAGE + random.below(100),
+    };
+    let mut expected = pattern(room, seed);
+    let answer = match lay(&text) {
+        Err(refusal) => refusal.number() as u64,
+        Ok(Laid::NoOrder(a, b)) => 1 << 8 | (a as u64) << 16 | (b as u64) << 24,
+        Ok(Laid::Sheet(sheet)) if room < sheet.len() => 10,
+        Ok(Laid::Sheet(sheet)) => {
+            expected[..sheet.len()].copy_from_slice(&sheet);
+            ((sheet.len() / PAGE) as u64) << 16
+        }
+    };
+    let mut out = pattern(room, seed);
+    let at = |difference| format!("{:?}, {room} bytes: {difference}", String::from_utf8_lossy(&text));
+    same_answer(calls::sheet(&text, &mut out), answer).map_err(at)?;
+    same_bytes("out", &out, &expected).map_err(at)?;
     Ok(Seen::of(answer))
 }

@@ -84,6 +84,10 @@ pub const KINDS: &[Kind] = &[
         name: "history", usual: 20_000, case: histories::history,
         refusals: &[10, 18, 19], outcomes: &["with an order", "with an offending pair"],
     },
+    Kind {
+        name: "sheet", usual: 20_000, case: histories::sheet,
+        refusals: &[10, 18, 19], outcomes: &["sheets", "with an offending pair"],
+    },
     Kind { name: "index", usual: 10_000, refusals: &[10, 25, 26], outcomes: &["index calls"], case: accession::index },
     Kind {
         name: "asked", usual: 20_000, case: single::asked, refusals: &[7, 10],

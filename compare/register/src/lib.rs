@@ -19,6 +19,7 @@ pub mod params;
 pub mod random;
 pub mod server;
 pub mod sha256;
+pub mod sheet;
 pub mod variant;
 
 pub use params::{Params, Party, Refusal, Send};

@@ -62,6 +62,31 @@ pub fn some_history(random: &mut Random, length: usize) -> Vec<Record> {
         .collect()
 }
 
+/// A random history that has an order, since all its operations overlap: numbers of any length up to the largest, writes of
+/// different stamps, reads of these and of stamp zero.
+pub fn some_overlapping(random: &mut Random, length: usize) -> Vec<Record> {
+    let mut stamps = vec![Stamp::default()];
+    (0..length)
+        .map(|_| {
+            let end = if random.chance(1, 4) {
+                u32::MAX
+            } else {
+                10 + (random.word() as u32 >> random.range(1, 29))
+            };
+            let (start, caller) = (random.below(10) as u32, random.below(9) as u8);
+            let sequence = (random.word() as u32 >> random.below(32)).max(1);
+            let time = (random.word() >> random.below(64)).max(1);
+            let stamp = Stamp { time, writer: random.range(1, 8) as u8, sequence };
+            if random.chance(1, 2) && !stamps.contains(&stamp) {
+                stamps.push(stamp);
+                Record { write: true, start, end, stamp, caller }
+            } else {
+                Record { write: false, start, end, stamp: random.pick(&stamps), caller }
+            }
+        })
+        .collect()
+}
+
 /// A record as its line.
 pub fn line(r: &Record) -> String {
     let kind = if r.write { 'W' } else { 'R' };

@@ -1,4 +1,6 @@
-// Reads a history to its end and prints the answer.
+// Reads a history to its end and prints the answer, or its sheet.
+pub mod sheet;
+
 use console::input::read_whole;
 use console::output::Out;
 use console::output::flush;
@@ -47,19 +49,25 @@ fn print(verdict: Verdict, text: &mut [u8]) -> Out {
             let all = put_lines(order, text, lines, count);
             put(all, text, b"\n")
         }
-        Answer::Offending(a, b) => {
-            let no_order = put(start, text, b"no order ");
-            let earlier = put_decimal(no_order, text, a as u64);
-            let space = put(earlier, text, b" ");
-            let later = put_decimal(space, text, b as u64);
-            put(later, text, b"\n")
-        }
-        Answer::Refused(number) => {
-            let refused = put(start, text, b"refused ");
-            let all = put_decimal(refused, text, number as u64);
-            put(all, text, b"\n")
-        }
+        Answer::Offending(a, b) => put_pair(start, text, a, b),
+        Answer::Refused(number) => put_refusal(start, text, number),
     }
+}
+
+// Puts that an offending pair leaves no order.
+fn put_pair(out: Out, text: &mut [u8], a: usize, b: usize) -> Out {
+    let no_order = put(out, text, b"no order ");
+    let earlier = put_decimal(no_order, text, a as u64);
+    let space = put(earlier, text, b" ");
+    let later = put_decimal(space, text, b as u64);
+    put(later, text, b"\n")
+}
+
+// Puts a refusal by its number.
+fn put_refusal(out: Out, text: &mut [u8], number: u8) -> Out {
+    let refused = put(out, text, b"refused ");
+    let all = put_decimal(refused, text, number as u64);
+    put(all, text, b"\n")
 }
 
 // Puts the first count line numbers, each after a space.

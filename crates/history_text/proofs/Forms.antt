@@ -110,7 +110,7 @@ fields-are k fs e =
     let b = numbers-back (isWrite k) (map valueOf fs) (n .1) in
     (ap₂ (λ x l. x ∷ l) (kind-is k (p .0)) (n .0 ∙ ap (map decimal) (sym b)), subst (Within widths) (sym b) (n .1))
 
-are-fields : (a : Operation) → InWidth a → (isFormed (fieldsOf a) ≡ true) × (recordOf (fieldsOf a) ≡ a)
+pub are-fields : (a : Operation) → InWidth a → (isFormed (fieldsOf a) ≡ true) × (recordOf (fieldsOf a) ≡ a)
 unfolding isFormed recordOf fieldsOf
 are-fields a h =
     let k = is-kind a in

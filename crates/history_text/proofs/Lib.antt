@@ -8,4 +8,5 @@ pub mod Converse
 pub mod Forms
 pub mod Link
 pub mod Texts
+pub mod Readings
 pub mod Bounds

@@ -1,20 +1,15 @@
--- The returns of the functions that read lines, and the turns of the loop over a text. Assumes nothing.
+-- The returns of the functions that read lines, and a text read line by line. Assumes nothing.
 use mathlib.Core.Path.{_≡_, refl, sym, ap, _∙_}
 use mathlib.Core.List.{List, [], _∷_}
 use Prim.Native.Nat.{ℕ, zero, suc, _+_, _-_, _<_, _≤_}
 use native.Mathlib.Omega.{arith}
 use lib.Dec.{eqb, ltb}
-use lib.ListN.{length, getD, drop, length-drop, drop-of-length-le, take}
+use lib.ListN.{length, getD, drop, length-drop}
 use lib.Seq.{drop-cons, drop-drop, getD-drop}
 use borrow.Author.Tests.{lt-ltb, le-ltb, eq-eqb, ne-eqb}
 use Rattle.order.proofs.Picks.{pick-yes, pick-no}
-use Rattle.order.specs.Histories.{refused, judged}
 use Rattle.order.specs.declared.operation.Operation.{Operation}
-use Rattle.order.specs.declared.judge.Verdict.{Verdict}
-use Rattle.history_row.specs.Rows.{none, added, addedAll, verdictOf}
-use Rattle.history_row.specs.declared.History.{History}
-use Rattle.history_row.proofs.Laws.{verdict-row, verdict-large, verdict-small}
-use Rattle.history_text.specs.Lines.{Lines, Records, Malformed, recordThen, answerOf}
+use Rattle.history_text.specs.Lines.{Lines, Records, Malformed, recordThen}
 use Rattle.history_text.specs.ReadLines.{kindAt, intervalOf, stampOf, thenInterval, thenStamp, operationOf, thenLine, linesRead}
 use Rattle.history_text.specs.ReadNumbers.{fieldOf}
 use Rattle.history_text.specs.declared.number.Field.{Field}
@@ -128,21 +123,6 @@ module _ (s : List ℕ) (at : ℕ) where
 
 -- ---- the whole text
 
--- the answer for a history so far and the lines that are left
-unfoldable pub final : History → Lines → Verdict
-final h (Records ops) = verdictOf (addedAll h ops)
-final h Malformed = refused 18
-
-pub final-none : (l : Lines) → final none l ≡ answerOf l
-unfolding final answerOf
-final-none (Records ops) = verdict-row ops
-final-none Malformed = refl
-
-final-record : (h : History) (a : Operation) (l : Lines) → final h (recordThen a l) ≡ final (added h a) l
-unfolding final recordThen addedAll
-final-record h a (Records ops) = refl
-final-record h a Malformed = refl
-
 pub then-record : (x : Line) (bad : Lines) (f : Operation → ℕ → Lines) (a : Operation) (u : ℕ) → x ≡ L.Record a u → thenLine x bad f ≡ f a u
 unfolding thenLine
 then-record x bad f a u e = ap (λ k. thenLine k bad f) e
@@ -162,40 +142,7 @@ lines-at n at s h =
     ap (linesRead (suc n)) (drop-cons s at 0 h) ∙ lines-cons n (getD s at 0) (drop (suc at) s)
     ∙ ap (λ t. thenLine (operationOf t) Malformed (λ a used. recordThen a (linesRead n (drop used t)))) (sym (drop-cons s at 0 h))
 
--- a malformed line
-pub final-bad : (h : History) (n at : ℕ) (s : List ℕ) {r : Line} → at < length s → length s - at ≤ n → r ≡ operationOf (drop at s) → r ≡ L.Bad
-    → final h (linesRead n (drop at s)) ≡ refused 18
-unfolding final
-final-bad h zero at s l g e t = absurd (omega arith)
-final-bad h (suc n) at s l g e t = ap (final h) (lines-at n at s l ∙ then-none _ _ _ (sym e ∙ t))
-
--- one line more
-pub final-more : (h : History) (n at u : ℕ) (s : List ℕ) (a : Operation) {r : Line} {k : History} → at < length s → length s - at ≤ suc n
-    → r ≡ operationOf (drop at s) → r ≡ L.Record a u → k ≡ added h a → final k (linesRead n (drop (at + u) s)) ≡ final h (linesRead (suc n) (drop at s))
-final-more h n at u s a l g e t q =
-    ap (λ x. final x (linesRead n (drop (at + u) s))) q
-    ∙ ap (λ x. final (added h a) (linesRead n x)) (sym (drop-drop u at s))
-    ∙ sym (ap (final h) (lines-at n at s l ∙ then-record _ _ _ a u (sym e ∙ t)) ∙ final-record h a (linesRead n (drop u (drop at s))))
-
--- the end
 pub lines-none : (n : ℕ) → linesRead n [] ≡ Records []
 unfolding linesRead
 lines-none zero = refl
 lines-none (suc n) = refl
-
-pub final-end : (h : History) (n at : ℕ) (s : List ℕ) → length s ≤ at → final h (linesRead n (drop at s)) ≡ verdictOf h
-unfolding final addedAll
-final-end h n at s l = ap (λ t. final h (linesRead n t)) (drop-of-length-le s l) ∙ ap (final h) (lines-none n)
-
-pub final-large : (h : History) {v : Verdict} → 64 < h .count → v ≡ refused 18 → v ≡ verdictOf h
-final-large h l q = q ∙ sym (verdict-large h l)
-
-pub final-small : (h : History) {v : Verdict} → h .count ≤ 64 → v ≡ judged (take (h .count) (h .rows)) → v ≡ verdictOf h
-final-small h l q = q ∙ sym (verdict-small h l)
-
--- a turn of the loop: some number of lines is enough for what is left
-pub final-next : (h : History) (n at u : ℕ) (s : List ℕ) (a : Operation) {r : Line} {k : History} {v : Verdict} → at < length s → length s - at ≤ n
-    → 1 ≤ u → u ≤ length s - at → r ≡ operationOf (drop at s) → r ≡ L.Record a u → k ≡ added h a → final h (linesRead n (drop at s)) ≡ v
-    → (m : ℕ) × (length s - (at + u) ≤ m) × (final k (linesRead m (drop (at + u) s)) ≡ v)
-final-next h zero at u s a l g p b e t q i = absurd (omega arith)
-final-next h (suc n) at u s a l g p b e t q i = (n, omega arith, final-more h n at u s a l g e t q ∙ i)

@@ -16,7 +16,7 @@ use Rattle.history_text.specs.Printed.{join, fieldsOf, printed}
 use Rattle.history_text.specs.ReadLines.{operationOf, linesRead}
 use Rattle.history_text.specs.declared.line.Line.{Line}
 use Rattle.history_text.specs.declared.line.Line.the-variants as L
-use Rattle.history_text.proofs.Lines.{final, final-none, then-record, then-none, lines-at, lines-none}
+use Rattle.history_text.proofs.Lines.{then-record, then-none, lines-at, lines-none}
 use Rattle.history_text.proofs.Pieces.{pieces, join-split, join-more, join-one}
 use Rattle.history_text.proofs.Forms.{formed-printed, says-printed}
 use Rattle.history_text.proofs.ReadsBack.{line-reads-back}
@@ -102,8 +102,3 @@ read-says (suc n) (c ∷ t) h =
     ∙ ap (recordThen a) (read-says n rest k)
     ∙ sym (ap linesOf (s .1) ∙ says-printed a rest (s .0)))
     (λ e. lines-at n 0 text (omega arith) ∙ then-none _ _ _ e ∙ sym (malformed-says c t e))
-
-pub final-start : (h : History) (s : List ℕ) → h ≡ none → final h (linesRead (length s) (drop 0 s)) ≡ answerTo s
-unfolding answerTo
-final-start h s e =
-    ap (λ k. final k (linesRead (length s) s)) e ∙ final-none (linesRead (length s) s) ∙ ap answerOf (read-says (length s) s (omega arith))

@@ -3,3 +3,4 @@ pub mod Lines
 pub mod Printed
 pub mod ReadNumbers
 pub mod ReadLines
+pub mod Readings

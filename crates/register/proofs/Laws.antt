@@ -23,9 +23,12 @@ use Rattle.history_text.specs.Lines.{Lines, Records, Malformed, linesOf, answer
 use Rattle.order.specs.declared.operation.Operation.{Operation}
 use Rattle.order.specs.Histories.{any, malformed, unlisted, offended, later, earlier, rowOf, lineNumbers, blank, refused, offending, ordered, judged}
 use Rattle.order.specs.declared.judge.Verdict.{Verdict as Judged}
+use Rattle.history_sheet.specs.Laying.{outcome as laidOutcome, laying}
+use Rattle.history_sheet.specs.declared.Laid.{Laid}
 use Rattle.layout.specs.Clients.{clientSize, clientBytes, clientAt, clientIn}
 use Rattle.register.specs.Answers.{codeAnswer, testAnswer, clientAnswer, historyAnswer}
 use Rattle.register.specs.Calls.{wrote, digestCall, codeCall, lineCount, judgedCall, historyCall, freshCall, began, isRefusal, stateAfter, beganOf, readCall, writeCall}
+use Rattle.register.specs.Sheets.{sheetAnswer, sheetWrote, sheetCall}
 use Rattle.register.specs.Short.{readShort, valueShort}
 
 -- where an area is long enough, or short
@@ -145,6 +148,12 @@ judged-done text lines v e h x p n q o r =
     ap₂ wrote p (r ∙ ap (λ k. sets lines 0 (take k (v .lines))) q)
     ∙ ap (λ w. judgedCall w lines) e
     ∙ enough (length lines) 64 (wrote 10 lines) (judgedCall (answerTo text) lines) h
+
+-- ---- sheets
+
+pub sheet-done : (text out o : List ℕ) (a : Laid) (x : ℕ) → laidOutcome a o ≡ laying text out → x ≡ sheetAnswer a → wrote x o ≡ sheetCall text out
+unfolding sheetCall sheetWrote
+sheet-done text out o a x e p = ap (λ z. wrote z o) p ∙ ap sheetWrote e
 
 -- ---- a client
 

@@ -5,3 +5,4 @@ pub mod Handed
 pub mod Asked
 pub mod ServerCalls
 pub mod Accession
+pub mod Sheets

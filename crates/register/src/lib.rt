@@ -7,4 +7,5 @@ pub mod coding;
 pub mod histories;
 pub mod senders;
 pub mod servers;
+pub mod sheets;
 pub mod short;

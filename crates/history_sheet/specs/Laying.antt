@@ -1,0 +1,46 @@
+-- The whole outcome of laying a history out: the answer, and every byte of the lent area. Document 02, F-5: "A history without an order answers an offending
+-- pair and, like a refused one, needs no area and writes nothing." Assumes nothing: these are definitions.
+use Prim.Native.Nat.{ℕ, _*_}
+use mathlib.Core.List.{List, map}
+use lib.Dec.{ltb}
+use lib.ListN.{length}
+use lib.Seq.{sets}
+use Rattle.area.specs.Area.{pick}
+use Rattle.order.specs.Histories.{rowOf, judged}
+use Rattle.order.specs.declared.operation.Operation.{Operation}
+use Rattle.order.specs.declared.judge.Answer.{Answer}
+use Rattle.order.specs.declared.judge.Answer.the-variants as O
+use Rattle.history_text.specs.Lines.{Lines, Records, Malformed, linesOf}
+use Rattle.history_sheet.specs.Sheet.{pageSize, pagesOf, sheetOf}
+use Rattle.history_sheet.specs.declared.Laid.{Laid}
+use Rattle.history_sheet.specs.declared.Laid.the-variants as L
+
+pub record Outcome : Type 0 where
+  pub answer : Laid
+  pub out : List ℕ
+
+abbrev pub outcome : Laid → List ℕ → Outcome
+outcome x out = record { answer = x; out = out }
+
+-- the operations of a history "in the order found"
+unfoldable pub inOrder : List Operation → List Operation
+inOrder ops = map (λ e. e .operation) (rowOf ops)
+
+-- operations that stand in a row: their pages from the front of the area on, and what is behind them as lent; 10, "lent area short"
+unfoldable pub laidOut : List Operation → List ℕ → Outcome
+laidOut row out =
+    pick (ltb (length out) (pagesOf (length row) * pageSize)) (outcome (L.Refused 10) out)
+    (outcome (L.Pages (pagesOf (length row))) (sets out 0 (sheetOf row)))
+
+-- what is judged of the history comes first, and needs no area
+unfoldable pub layingBy : Answer → List Operation → List ℕ → Outcome
+layingBy (O.Ordered m) ops out = laidOut (inOrder ops) out
+layingBy (O.Offending a b) ops out = outcome (L.Offending a b) out
+layingBy (O.Refused x) ops out = outcome (L.Refused x) out
+
+unfoldable pub layingOf : Lines → List ℕ → Outcome
+layingOf (Records ops) out = layingBy (judged ops .answer) ops out
+layingOf Malformed out = outcome (L.Refused 18) out
+
+unfoldable pub laying : List ℕ → List ℕ → Outcome
+laying text out = layingOf (linesOf text) out

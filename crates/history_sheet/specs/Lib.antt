@@ -1,0 +1,4 @@
+pub mod Sheet
+pub mod Laying
+pub mod Stages
+pub mod Board

@@ -184,7 +184,8 @@ uint64_t semduoli_decode(size_t n, size_t t, size_t k, size_t size, const uint8_
  * ends at the point at which the other starts precedes it, any others are concurrent at equal points. SEMDUOLI_ORDERED: they have, and the
  * count says how many they are; lines, of SEMDUOLI_LINES bytes at least, has their line numbers in that order at its front, and what is behind
  * them stays as lent. SEMDUOLI_OFFENDING: they have none; bits 16 to 23 are the line number of the earlier operation of an offending pair,
- * bits 24 to 31 that of the later, and lines stays as lent. */
+ * bits 24 to 31 that of the later, the one that is preceded, and lines stays as lent. Of all offending pairs it is the one whose later
+ * operation has the smallest line number, and of those the one whose earlier operation has the smallest. */
 uint64_t semduoli_judge(const uint8_t *text, size_t text_length, uint8_t *lines, size_t lines_length);
 
 /* The season sheet of a history, as text from the start of out: pages of 60 lines of 72 columns, a newline behind each line. An operation has one

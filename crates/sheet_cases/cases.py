@@ -97,6 +97,9 @@ CASES = [
     ("lines_65", reads(65)),
     ("equal_start_end", [("R", 6, 6, 0, 0, 0, 0)]),
     ("unlisted", [("R", 1, 2, 7, 1, 1, 0)]),
+    # of several offending pairs the one whose later operation, the one preceded, has the smallest line
+    ("choices_differ", [("W", 10, 11, 5, 1, 1, 0), ("W", 8, 9, 2, 1, 2, 0), ("W", 1, 2, 3, 1, 3, 0), ("W", 20, 21, 1, 1, 4, 0)]),
+    ("later_in_first_line", [("R", 9, 10, 0, 0, 0, 0), ("W", 1, 2, 2, 1, 1, 0), ("R", 5, 6, 0, 0, 0, 0)]),
 ]
 # histories that are no text of such rows, with the answer
 DAMAGED = [

@@ -27,9 +27,14 @@ fn examples() {
     assert_eq!(answer("W 0 4294967295 2 1 1 0\nW 5 6 1 1 2 0\nR 7 8 1 1 2 0\n"), "order 2 3 1\n");
     // Reads of equal stamps go by end, then line.
     assert_eq!(answer("R 1 9 0 0 0 0\nR 2 5 0 0 0 0\nR 3 5 0 0 0 0\n"), "order 2 3 1\n");
-    // The pair with the smallest later line, then the smallest earlier one.
+    // The pair whose later operation has the smallest line number, then the smallest earlier one.
     let three = "W 5 6 1 1 1 0\nR 1 2 1 1 1 0\nR 2 3 1 1 1 0\nR 7 8 0 0 0 0\n";
     assert_eq!(answer(three), "no order 2 1\n");
+    assert_eq!(answer("R 9 10 0 0 0 0\nW 1 2 2 1 1 0\nR 5 6 0 0 0 0\n"), "no order 2 1\n");
+    assert_eq!(answer("W 1 5 1 1 1 3\nR 5 6 0 0 0 4\nR 5 6 0 0 0 3\n"), "no order 1 3\n");
+    // The smallest earlier line first would give 1 and 4.
+    let four = "W 10 11 5 1 1 0\nW 8 9 2 1 2 0\nW 1 2 3 1 3 0\nW 20 21 1 1 4 0\n";
+    assert_eq!(answer(four), "no order 3 2\n");
 }
 
 /// Request F-2: equal points of one known caller precede; else an end below the other's start.
@@ -141,6 +146,9 @@ fn no_ring_of_reads() {
 fn against_all_permutations() {
     let mut random = Random::new(5);
     let (mut orders, mut pairs, mut refused) = (0, 0, 0);
+    // Pairs that another order of choosing would not give, and pairs whose later operation has the
+    // smaller line number.
+    let (mut differ, mut upwards) = (0, 0);
     for round in 0..6000 {
         let length = if round % 20 == 0 { 7 } else { random.range(1, 5) };
         let mut records = some_history(&mut random, length);
@@ -163,13 +171,23 @@ fn against_all_permutations() {
                 orders += 1;
             }
             Ok(Judgement::NoOrder(a, b)) => {
-                assert!(offends(&records[a - 1], &records[b - 1]));
+                // Of all offending pairs, by the line of the later operation and then of the earlier.
+                let mut all = Vec::new();
+                for (i, x) in records.iter().enumerate() {
+                    let later = records.iter().enumerate().filter(|(_, y)| offends(x, y));
+                    all.extend(later.map(|(j, _)| (j + 1, i + 1)));
+                }
+                let earlier_first = all.iter().map(|&(j, i)| (i, j)).min();
+                assert_eq!(Some((b, a)), all.into_iter().min(), "round {round}: {text}");
+                differ += (earlier_first != Some((a, b))) as usize;
+                upwards += (b < a) as usize;
                 assert!(!some_order(&records), "round {round}: {text}");
                 pairs += 1;
             }
         }
     }
     assert!(orders > 1000 && pairs > 1000 && refused > 300, "{orders} {pairs} {refused}");
+    assert!(differ > 50 && upwards > 500, "{differ} {upwards}");
 }
 
 /// Damaged input: what parses is exactly what prints back to the same bytes.

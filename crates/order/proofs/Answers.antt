@@ -9,7 +9,7 @@ use lib.Seq.{sets}
 use borrow.Author.Tests.{le-ltb}
 use Rattle.area.proofs.Sets.{part-sets-same}
 use Rattle.order.specs.Histories.{any, offended, later, earlier, blank, offending, ordered, judged}
-use Rattle.order.specs.Orders.{Order, HasOrder, Accepted, Pair, Right}
+use Rattle.order.specs.Orders.{Order, HasOrder, Accepted, Earliest, Right}
 use Rattle.order.specs.declared.operation.Operation.{Operation}
 use Rattle.order.specs.declared.judge.Answer.{Answer}
 use Rattle.order.specs.declared.judge.Answer.the-variants.{Ordered, Offending, Refused}
@@ -19,7 +19,7 @@ use Rattle.order.proofs.Less.{true-false}
 use Rattle.order.proofs.Lists.{by-test}
 use Rattle.order.proofs.Accepts.{order-no-pair}
 use Rattle.order.proofs.Arranged.{theRow, size, row-is-order}
-use Rattle.order.proofs.Theorems.{none-offended, pair-offends}
+use Rattle.order.proofs.Theorems.{none-offended, pair-offends, pair-earliest}
 
 -- ---- the parts of an answer
 
@@ -78,11 +78,8 @@ module _ (ops : List Operation) (A : Accepted ops) where
       let e : take (length (theRow ops)) (sets blank 0 (theRow ops)) ≡ theRow ops = part-sets-same blank 0 (theRow ops) fits in
       subst (Order ops) (sym (ap (λ n. take n (sets blank 0 (theRow ops))) (sym s) ∙ e)) (row-is-order ops A (none-offended ops h))
 
-  pair-given : any (offended ops) ops ≡ true → Pair ops (earlier ops + 1) (later ops + 1)
-  pair-given h = let p = pair-offends ops h in record { earlier = p .0; later = p .1; offend = p .2 }
-
   no-order : any (offended ops) ops ≡ true → HasOrder ops → ⊥
-  no-order h H = let p = pair-offends ops h in true-false (p .2) (order-no-pair ops A H _ _ (p .0) (p .1))
+  no-order h H = let p = pair-offends ops h in true-false (p .offend) (order-no-pair ops A H _ _ (p .earlier) (p .later))
 
   right-order : any (offended ops) ops ≡ false → Right ops (ordered ops)
   unfolding ordered
@@ -103,7 +100,8 @@ module _ (ops : List Operation) (A : Accepted ops) where
         order = λ n e. absurd (not-both n (earlier ops + 1) (later ops + 1) (sym e));
         if-none = λ f. (earlier ops + 1, later ops + 1, refl);
         pair = λ a b e.
-            (no-order h, subst (Pair ops a) (same-second _ _ a b e) (subst (λ x. Pair ops x (later ops + 1)) (same-first _ _ a b e) (pair-given h)));
+            let E = subst (λ x. Earliest ops x (later ops + 1)) (same-first _ _ a b e) (pair-earliest ops h) in
+            (no-order h, subst (Earliest ops a) (same-second _ _ a b e) E);
       }
 
   pub judged-right : Right ops (judged ops)

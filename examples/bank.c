@@ -144,7 +144,7 @@ static void note(const struct party *c)
     strncat(history, line, sizeof history - strlen(history) - 1);
 }
 
-/* The stamp of a write: one above the time that the client sends (kind 6, the last frames of the step that sends 2n), its number, and the sequence. */
+/* The stamp of a write: one above the time in the frames of the step that sends it out, the client's number, and the sequence. */
 static void note_stamp(struct party *c)
 {
     const uint8_t *frame = c->unsent[c->unsent_count - 1].frame;
@@ -166,7 +166,7 @@ static int to_client(struct party *c, const struct parcel *q)
     if (SEMDUOLI_REFUSAL(answer))
         return 1;
     add_sent(c, answer, out, to);
-    if (SEMDUOLI_OUTCOME(answer) == SEMDUOLI_SENT && SEMDUOLI_COUNT(answer) == 2 * N)
+    if (SEMDUOLI_OUTCOME(answer) == SEMDUOLI_SENT && SEMDUOLI_COUNT(answer) == N)
         note_stamp(c);
     store(c);
     if (SEMDUOLI_OUTCOME(answer) != SEMDUOLI_SENT)
@@ -246,13 +246,15 @@ static void send_all(struct party *p)
     }
 }
 
-/* the false server's frame to server j: an echo of a time, of client 1's write number 1000 and more */
+/* The false server's frame to server j: an echo, of client 1's write number 1000 and more; time, digests and block are zeros. An echo has the bytes of the
+ * largest frame, a value, but for the stamp's writer and sequence. */
 static void send_false(uint8_t j, unsigned round)
 {
+    enum { ECHO = SEMDUOLI_FRAME(N, K, SIZE) - 5 };
     struct parcel q = {{SEMDUOLI_CLASS_SERVER, FALSE_SERVER},
                        {SEMDUOLI_CLASS_SERVER, j},
-                       {0, 15, 1, 7, 1, 0, 0, (uint8_t)(4 + round / 256), (uint8_t)round},
-                       17};
+                       {0, ECHO - 2, 1, 4, 1, 0, 0, (uint8_t)(4 + round / 256), (uint8_t)round},
+                       ECHO};
     arrive(&q);
 }
 

@@ -70,7 +70,7 @@ mod semduoli {
     pub const CLASS_SERVER: usize = 1;
 
     pub const DIGEST: usize = 32;
-    pub const SERVER: usize = 2353;
+    pub const SERVER: usize = 2128;
     pub const CLIENT: usize = 769;
     pub const AREA: usize = 97344;
     pub const ROWS: usize = 23040;
@@ -78,7 +78,7 @@ mod semduoli {
     pub const PAGE: usize = 4380;
     pub const INDEX: usize = 577;
     pub const STAMP: usize = 13;
-    pub const VERSION: u64 = 1;
+    pub const VERSION: u64 = 2;
 
     // What happened at a client.
     pub const WRITTEN: u64 = 1;
@@ -350,7 +350,7 @@ impl Run {
     }
 
     fn hand_to_client(&mut self, p: &Parcel) -> semduoli::Answer {
-        let (mut out, mut to) = self.areas(2 * self.g.n);
+        let (mut out, mut to) = self.areas(self.g.n);
         let (mut result, mut stamp) = (vec![0; self.g.size], [0; semduoli::STAMP]);
         let (me, c) = (p.to.1, &mut self.clients[p.to.1]);
         let answer = semduoli::client_deliver(
@@ -385,7 +385,7 @@ impl Run {
 
     // A client begins the write of a value, or a read where there is none.
     fn begin(&mut self, me: usize, value: &[u8]) {
-        let (mut out, mut to) = self.areas(2 * self.g.n);
+        let (mut out, mut to) = self.areas(self.g.n);
         let c = &mut self.clients[me];
         c.value = value.to_vec();
         let answer = if value.is_empty() {
@@ -451,8 +451,8 @@ fn main() {
     find_lots();
 
     let mut state = [0xff; semduoli::CLIENT];
-    let mut out = [0; 2 * 4 * (22 + 32 * 4 + 3)];
-    let mut to = [0; 16];
+    let mut out = [0; 4 * (22 + 32 * 4 + 3)];
+    let mut to = [0; 8];
     println!("fresh: {}", semduoli::client_fresh(&mut state).0);
     let answer = semduoli::begin_write(&g, 3, &mut state, value, &mut out, &mut to);
     println!("write: refusal {}, outcome {}, frames {}", answer.refusal(), answer.outcome(), answer.count());

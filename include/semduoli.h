@@ -47,8 +47,10 @@
 extern "C" {
 #endif
 
-/* The version of this header. It rises when a call or the meaning of an answer changes; semduoli_version answers that of the linked library. */
-#define SEMDUOLI_VERSION 1
+/* The version of this header. It rises when a call, the meaning of an answer or of a kept byte changes; semduoli_version answers that of the linked
+ * library. Version 2 carries a write's time with its blocks: records and frames of version 1 mean something else to it, so all parties of a register
+ * change together, and start afresh. */
+#define SEMDUOLI_VERSION 2
 
 /* ---- bounds */
 
@@ -60,7 +62,7 @@ extern "C" {
 
 #define SEMDUOLI_DIGEST 32
 /* the records of a server and of a client: state */
-#define SEMDUOLI_SERVER 2353
+#define SEMDUOLI_SERVER 2128
 #define SEMDUOLI_CLIENT 769
 /* what a server keeps of digests and blocks, area, and a client of the values that an open read has received, rows */
 #define SEMDUOLI_AREA 97344
@@ -72,13 +74,13 @@ extern "C" {
 /* the largest frame of a register, and of any */
 #define SEMDUOLI_FRAME(n, k, size) (22 + 32 * (n) + SEMDUOLI_BLOCK(k, size))
 #define SEMDUOLI_FRAME_MOST SEMDUOLI_FRAME(SEMDUOLI_SERVERS_MOST, 1, SEMDUOLI_SIZE_MOST)
-/* the areas out and to: n + 9 largest frames of a server's call, 2n of a client's, and two bytes for the receiver of each */
+/* the areas out and to: n + 9 largest frames of a server's call, n of a client's, and two bytes for the receiver of each */
 #define SEMDUOLI_SERVER_OUT(n, k, size) (((n) + 9) * SEMDUOLI_FRAME(n, k, size))
 #define SEMDUOLI_SERVER_TO(n) (2 * ((n) + 9))
-#define SEMDUOLI_CLIENT_OUT(n, k, size) (2 * (n) * SEMDUOLI_FRAME(n, k, size))
-#define SEMDUOLI_CLIENT_TO(n) (4 * (n))
-#define SEMDUOLI_OUT_MOST SEMDUOLI_CLIENT_OUT(SEMDUOLI_SERVERS_MOST, 1, SEMDUOLI_SIZE_MOST)
-#define SEMDUOLI_TO_MOST SEMDUOLI_CLIENT_TO(SEMDUOLI_SERVERS_MOST)
+#define SEMDUOLI_CLIENT_OUT(n, k, size) ((n) * SEMDUOLI_FRAME(n, k, size))
+#define SEMDUOLI_CLIENT_TO(n) (2 * (n))
+#define SEMDUOLI_OUT_MOST SEMDUOLI_SERVER_OUT(SEMDUOLI_SERVERS_MOST, 1, SEMDUOLI_SIZE_MOST)
+#define SEMDUOLI_TO_MOST SEMDUOLI_SERVER_TO(SEMDUOLI_SERVERS_MOST)
 /* a stamp: time (8), writer (1) and write sequence (4), high byte first */
 #define SEMDUOLI_STAMP 13
 /* line numbers of a history */
@@ -104,7 +106,7 @@ enum semduoli_refusal {
     SEMDUOLI_REFUSED_LENGTH = 3,      /* size out of bounds, or value not that long */
     SEMDUOLI_REFUSED_FRAMING = 4,     /* frame under 9 bytes, or length field wrong */
     SEMDUOLI_REFUSED_VERSION = 5,     /* frame's version not 1 */
-    SEMDUOLI_REFUSED_KIND = 6,        /* frame's kind not 1 to 12 */
+    SEMDUOLI_REFUSED_KIND = 6,        /* frame's kind not 1 to 5 or 9 to 12 */
     SEMDUOLI_REFUSED_OWNER = 7,       /* frame's client not 1 to 8, or sequence 0; a client that is asked for not 1 to 8 */
     SEMDUOLI_REFUSED_BODY = 8,        /* frame's body length wrong for its kind */
     SEMDUOLI_REFUSED_CONTENT = 9,     /* stamp parts mixed, writer above 8, or blocks not fit */
@@ -261,8 +263,8 @@ uint64_t semduoli_begin_write(size_t n, size_t t, size_t k, size_t size, size_t 
                               size_t value_length, uint8_t *out, size_t out_length, uint8_t *to, size_t to_length);
 
 /* Hands a frame to client me, with the value of its open write; where no write is open the value is not looked at and may have length 0.
- *   SEMDUOLI_SENT            nothing has ended; the count says how many frames are sent, 0 or 2n. With 2n a write goes out: its stamp is the time in its
- *                            kind 6 frames (byte 3 is 6, bytes 9 to 16 the time) plus 1, me, and its sequence
+ *   SEMDUOLI_SENT            nothing has ended; the count says how many frames are sent, 0 or n. With n a write goes out: its stamp is the time in its
+ *                            frames (byte 3 is 3, bytes 9 to 16 the time) plus 1, me, and its sequence
  *   SEMDUOLI_WRITTEN         the write has ended; nothing is sent
  *   SEMDUOLI_OUT_OF_STAMPS   the write has closed as out of stamps; nothing is sent, and the client writes no more
  *   SEMDUOLI_VALUE           the read has ended; its value is in the first size bytes of result, its stamp in the first SEMDUOLI_STAMP bytes of stamp,

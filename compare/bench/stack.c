@@ -18,12 +18,12 @@ static const struct set {
 } sets[2] = {{N, 3, K, SIZE}, {4, 1, 2, 64}};
 static struct set p; /* that is being measured */
 
-/* the rows of the table; rows 1 to 12 are a server's deliveries by the frame's kind, of which 2, 9 and 11 go to clients */
+/* the rows of the table; rows 1 to 12 are a server's deliveries by the frame's kind, of which 2, 9 and 11 go to clients and 6 to 8 are retired */
 enum { SERVER_FRESH = 0, CLIENT_FRESH = 13, BEGIN_READ, BEGIN_WRITE, CLIENT_DELIVER, TABLE };
 
 static const char *const names[TABLE] = {
     "server_fresh", "server_deliver, kind 1", NULL, "server_deliver, kind 3", "server_deliver, kind 4", "server_deliver, kind 5",
-    "server_deliver, kind 6", "server_deliver, kind 7", "server_deliver, kind 8", NULL, "server_deliver, kind 10", NULL,
+    NULL, NULL, NULL, NULL, "server_deliver, kind 10", NULL,
     "server_deliver, kind 12", "client_fresh", "begin_read", "begin_write", "client_deliver"};
 static size_t deepest[TABLE];
 

@@ -1,6 +1,6 @@
 # Writes the scripts of this folder for the hall program, NAME.in, with what must be answered, NAME.out: single calls at a client and at a server, each
 # expected answer worked out here from the specification. Run it in this folder.
-from frames import (ECHO, READY, SEND, SERVERS, ack, block, complete, entry, frame, get_stamp, read, stamp, the_time, value)
+from frames import (ECHO, READY, RETIRED, SEND, SERVERS, Code, ack, block, complete, entry, frame, get_stamp, read, stamp, time, value)
 
 VALUE, OTHER, THIRD = bytes([1, 2, 3]), bytes([10, 11, 12]), bytes([1, 2, 4])
 LAST = 2**64 - 1
@@ -28,8 +28,18 @@ class Script:
                 file.write(''.join(line + '\n' for line in content))
 
 
-def to_all(f):
-    return [(f's {j}', f(j)) for j in SERVERS]
+def to_all(f, servers=SERVERS):
+    return [(f's {j}', f(j)) for j in servers]
+
+
+def retired(client):
+    """Frames of the retired kinds: with the body that they had, with none, with one of kinds 3 to 5, of no client and of sequence 0."""
+    for kind in RETIRED:
+        for body in (time(5), b'', time(5) + entry(VALUE, 1)):
+            yield frame(kind, client, 1, body)
+        for c, q in ((0, 1), (9, 1), (client, 0)):
+            yield frame(kind, c, q, time(5))
+        yield frame(kind, 9, 0, b'\0')
 
 
 def opened(name):
@@ -82,6 +92,9 @@ def turned_down(s):
     of(frame(9, 2, 1, version=2), 5)
     for kind in (0, 13):
         of(frame(kind, 2, 1), 6)
+    for f in retired(2):
+        of(f, 6)
+    of(frame(6, 2, 1, time(5), version=2), 5)
     of(frame(9, 0, 1), 7)
     of(frame(9, 9, 1), 7)
     of(frame(9, 2, 0), 7)
@@ -105,7 +118,7 @@ def writes(s):
         s.step(f'C 4 s {j} {stamp(4, q, t).hex()}', sent)
 
     def spread(q, t):
-        return to_all(lambda j: block(SEND, 4, q, VALUE, j)) + to_all(lambda j: the_time(SEND, 4, q, t))
+        return to_all(lambda j: block(SEND, 4, q, t, VALUE, j))
 
     s.step('C 4 write 010203', to_all(lambda j: get_stamp(4, 1)))
     stamped(1, 1, 5)
@@ -170,67 +183,171 @@ def reads(s):
     ends(3, 3, 5)
 
 
-# ---- server 2
+# ---- servers
 
-def at_server():
-    s = opened('server')
+class Server:
+    """Calls on one server of a script."""
+    def __init__(self, script, me):
+        self.script, self.me = script, me
 
-    def of(sender, f, result):
-        line = f'S 2 {sender} {f.hex()}'
-        s.refused(line, result) if isinstance(result, int) else s.step(line, result)
+    def got(self, sender, f, result):
+        """The frame comes from a sender: it is refused by a number, or makes the server send."""
+        line = f'S {self.me} {sender} {f.hex()}'
+        self.script.refused(line, result) if isinstance(result, int) else self.script.step(line, result)
 
+
+def refusals(s):
+    """Frames to a fresh server: 4 to 9, 11."""
     asked = get_stamp(1, 5)
-    for f, number in ((asked[:8], 4), (asked + b'\0', 4), (frame(1, 1, 5, version=2), 5), (frame(0, 1, 5), 6), (frame(13, 1, 5), 6),
-                      (frame(1, 0, 5), 7), (frame(1, 9, 5), 7), (frame(1, 1, 0), 7), (frame(1, 1, 5, b'\0'), 8),
-                      (frame(3, 1, 1, entry(OTHER, 2) + b'\0'), 8)):
-        of('c 1', f, number)
-    of('s 1', value(1, 5, 0, 1, 0, VALUE, 1), 9)
-    of('s 1', asked, 11)
-    of('c 2', asked, 11)
+    for f, number in ((asked[:8], 4), (asked + b'\0', 4), (frame(1, 1, 5, version=2), 5), (frame(7, 1, 1, time(5), version=2), 5), (frame(0, 1, 5), 6),
+                      (frame(13, 1, 5), 6), (frame(1, 0, 5), 7), (frame(1, 9, 5), 7), (frame(1, 1, 0), 7), (frame(1, 1, 5, b'\0'), 8),
+                      (frame(3, 1, 1, time(5) + entry(OTHER, 2) + b'\0'), 8), (frame(3, 1, 1, time(5) + entry(OTHER, 2)[:-1]), 8),
+                      (frame(3, 1, 1, entry(OTHER, 2)), 8)):
+        s.got('c 1', f, number)
+    for sender in ('c 1', 's 1'):
+        for f in retired(1):
+            s.got(sender, f, 6)
+    s.got('s 1', value(1, 5, 0, 1, 0, VALUE, 1), 9)
+    s.got('s 1', asked, 11)
+    s.got('c 2', asked, 11)
     for f in (stamp(1, 5, 0), ack(1, 5), value(1, 5, 0, 0, 0, VALUE, 1)):
-        of('s 1', f, 11)
-    of('c 1', block(ECHO, 1, 1, OTHER, 1), 11)
-    of('s 0', block(ECHO, 1, 1, OTHER, 1), 11)
-    of('s 5', the_time(READY, 1, 1, 5), 11)
+        s.got('s 1', f, 11)
+    s.got('c 1', block(ECHO, 1, 1, 5, OTHER, 1), 11)
+    s.got('s 0', block(ECHO, 1, 1, 5, OTHER, 1), 11)
+    s.got('s 5', block(READY, 1, 1, 5, OTHER, 4), 11)
+    s.got('s 2', block(SEND, 1, 1, 5, OTHER, 2), 11)
 
+
+def accepted(s):
+    """Client 1's first write, with listeners, and what comes after it."""
     # a get-stamp, and reads by clients 8, 3, 5 and 4, which listen from then on
-    of('c 1', asked, [('c 1', stamp(1, 5, 0))])
+    s.got('c 1', get_stamp(1, 5), [('c 1', stamp(1, 5, 0))])
     for c in (8, 3, 5, 4):
-        of(f'c {c}', read(c, 1), [(f'c {c}', value(c, 1, 0, 0, 0, VALUE, 2))])
-    of('c 3', read(3, 1), 12)
+        s.got(f'c {c}', read(c, 1), [(f'c {c}', value(c, 1, 0, 0, 0, VALUE, 2))])
+    s.got('c 3', read(3, 1), 12)
 
-    # the blocks of client 1's write 1
-    of('c 1', block(SEND, 1, 2, OTHER, 2), 13)
-    of('c 1', block(SEND, 1, 1, OTHER, 1), 14)
-    of('c 1', block(SEND, 1, 1, OTHER, 2), to_all(lambda j: block(ECHO, 1, 1, OTHER, 2)))
-    of('c 1', block(SEND, 1, 1, OTHER, 2), 12)
-    of('s 1', block(ECHO, 1, 1, OTHER, 2), 14)
-    of('s 1', block(ECHO, 1, 1, OTHER, 1), [])
-    of('s 1', block(ECHO, 1, 1, OTHER, 1), 12)
-    of('s 3', block(ECHO, 1, 1, OTHER, 3), [])
-    of('s 4', block(ECHO, 1, 1, OTHER, 4), to_all(lambda j: block(READY, 1, 1, OTHER, 2)))
-    for j in (1, 3, 4):
-        of(f's {j}', block(READY, 1, 1, OTHER, j), [])
-    of('s 4', block(READY, 1, 1, OTHER, 4), 12)
+    # the write is sent, echoed and made ready
+    s.got('c 1', block(SEND, 1, 2, 5, OTHER, 2), 13)
+    s.got('c 1', block(SEND, 1, 1, 5, OTHER, 1), 14)
+    s.got('c 1', block(SEND, 1, 1, 5, OTHER, 2), to_all(lambda j: block(ECHO, 1, 1, 5, OTHER, 2)))
+    s.got('c 1', block(SEND, 1, 1, 5, OTHER, 2), 12)
+    s.got('s 1', block(ECHO, 1, 1, 5, OTHER, 2), 14)
+    s.got('s 1', block(ECHO, 1, 1, 5, OTHER, 1), [])
+    s.got('s 1', block(ECHO, 1, 1, 5, OTHER, 1), 12)
+    s.got('s 3', block(ECHO, 1, 1, 5, OTHER, 3), [])
+    s.got('s 4', block(ECHO, 1, 1, 5, OTHER, 4), to_all(lambda j: block(READY, 1, 1, 5, OTHER, 2)))
 
-    # its time, and acceptance: values by rising client number, and the ack
-    of('c 1', the_time(SEND, 1, 1, 5), to_all(lambda j: the_time(ECHO, 1, 1, 5)))
-    of('c 1', the_time(SEND, 1, 1, 5), 12)
-    for j, t in ((1, 5), (3, 6), (2, 5)):
-        of(f's {j}', the_time(ECHO, 1, 1, t), [])
-    of('s 4', the_time(ECHO, 1, 1, 5), to_all(lambda j: the_time(READY, 1, 1, 5)))
-    for j in (2, 3):
-        of(f's {j}', the_time(READY, 1, 1, 5), [])
-    of('s 1', the_time(READY, 1, 1, 5), [(f'c {c}', value(c, 1, 6, 1, 1, OTHER, 2)) for c in (3, 4, 5, 8)] + [('c 1', ack(1, 1))])
-    of('s 4', the_time(READY, 1, 1, 5), 12)
+    # acceptance: values by rising client number, and the ack
+    for j in (1, 3):
+        s.got(f's {j}', block(READY, 1, 1, 5, OTHER, j), [])
+    s.got('s 1', block(READY, 1, 1, 5, OTHER, 1), 12)
+    s.got('s 4', block(READY, 1, 1, 5, OTHER, 4), [(f'c {c}', value(c, 1, 6, 1, 1, OTHER, 2)) for c in (3, 4, 5, 8)] + [('c 1', ack(1, 1))])
+    s.got('s 2', block(READY, 1, 1, 5, OTHER, 2), 12)
 
     # afterwards: a read is completed, the stamp is the new one, and write 2 is open
-    of('c 3', complete(3, 1), [])
-    of('c 3', complete(3, 1), 12)
-    of('c 1', get_stamp(1, 6), [('c 1', stamp(1, 6, 6))])
-    of('c 3', read(3, 2), [('c 3', value(3, 2, 6, 1, 1, OTHER, 2))])
-    of('c 1', the_time(SEND, 1, 2, 9), to_all(lambda j: the_time(ECHO, 1, 2, 9)))
-    s.write()
+    s.got('c 3', complete(3, 1), [])
+    s.got('c 3', complete(3, 1), 12)
+    s.got('c 1', get_stamp(1, 6), [('c 1', stamp(1, 6, 6))])
+    s.got('c 3', read(3, 2), [('c 3', value(3, 2, 6, 1, 1, OTHER, 2))])
+    s.got('c 1', block(SEND, 1, 2, 9, OTHER, 2), to_all(lambda j: block(ECHO, 1, 2, 9, OTHER, 2)))
+
+
+def at_server():
+    script = opened('server')
+    refusals(Server(script, 2))
+    accepted(Server(script, 2))
+    script.write()
+
+
+# ---- groups
+
+def other_times(s):
+    """Client 1: equal lists with other times are no group, neither of echoes nor of readies; nor is a kind 3's time looked at."""
+    s.got('c 1', block(SEND, 1, 1, 9, OTHER, 2), to_all(lambda j: block(ECHO, 1, 1, 9, OTHER, 2)))
+    for j in SERVERS:
+        s.got(f's {j}', block(ECHO, 1, 1, j, OTHER, j), [])
+    for j in (1, 2):
+        s.got(f's {j}', block(READY, 1, 1, j, OTHER, j), [])
+    s.got('s 3', block(READY, 1, 1, 1, OTHER, 3), to_all(lambda j: block(READY, 1, 1, 1, OTHER, 2)))
+    s.got('s 2', block(READY, 1, 1, 1, OTHER, 2), 12)
+    s.got('s 4', block(READY, 1, 1, 1, OTHER, 4), [('c 1', ack(1, 1))])
+    s.got('c 1', get_stamp(1, 1), [('c 1', stamp(1, 1, 2))])
+
+
+def other_lists(s):
+    """Client 2: equal times with other lists are no group."""
+    for j, v in ((1, OTHER), (2, THIRD), (3, OTHER), (4, THIRD)):
+        s.got(f's {j}', block(ECHO, 2, 1, 5, v, j), [])
+    for j, v in ((1, OTHER), (2, THIRD)):
+        s.got(f's {j}', block(READY, 2, 1, 5, v, j), [])
+    s.got('s 3', block(READY, 2, 1, 5, THIRD, 3), to_all(lambda j: block(READY, 2, 1, 5, THIRD, 2)))
+    s.got('s 4', block(READY, 2, 1, 5, THIRD, 4), [('c 2', ack(2, 1))])
+    s.got('c 8', read(8, 1), [('c 8', value(8, 1, 6, 2, 1, THIRD, 2))])
+    s.got('c 8', complete(8, 1), [])
+
+
+def two_groups(s):
+    """Client 3: echoes and readies of the same servers in different groups all count. The ready goes out once for the write, and the group of the readies is
+    complete, not that of the own ready; a kind 3 is echoed also then."""
+    for j in (1, 3):
+        s.got(f's {j}', block(ECHO, 3, 1, 7, OTHER, j), [])
+        s.got(f's {j}', block(READY, 3, 1, 8, THIRD, j), [] if j == 1 else to_all(lambda i: block(READY, 3, 1, 8, THIRD, 2)))
+    s.got('s 4', block(ECHO, 3, 1, 7, OTHER, 4), [])
+    s.got('c 3', block(SEND, 3, 1, 7, OTHER, 2), to_all(lambda j: block(ECHO, 3, 1, 7, OTHER, 2)))
+    s.got('s 4', block(READY, 3, 1, 8, THIRD, 4), [('c 3', ack(3, 1))])
+    s.got('c 8', get_stamp(8, 1), [('c 8', stamp(8, 1, 9))])
+    # the other way round, in its next write: three echoes of one group send the ready, three readies of the other are accepted
+    for j in (1, 3):
+        s.got(f's {j}', block(ECHO, 3, 2, 9, OTHER, j), [])
+    s.got('s 4', block(ECHO, 3, 2, 9, OTHER, 4), to_all(lambda j: block(READY, 3, 2, 9, OTHER, 2)))
+    for j in (1, 3):
+        s.got(f's {j}', block(READY, 3, 2, 9, THIRD, j), [])
+    s.got('s 4', block(READY, 3, 2, 9, THIRD, 4), [('c 3', ack(3, 2))])
+    s.got('c 8', read(8, 2), [('c 8', value(8, 2, 10, 3, 2, THIRD, 2))])
+    s.got('c 8', complete(8, 2), [])
+
+
+def last_time(s):
+    """Client 4: a completed time of 2^64 - 1 is never accepted. Frames of that sequence count as before, and only that client waits; 2^64 - 2 is accepted."""
+    for j in (1, 3, 4):
+        s.got(f's {j}', block(READY, 4, 1, LAST, OTHER, j), to_all(lambda i: block(READY, 4, 1, LAST, OTHER, 2)) if j == 3 else [])
+    s.got('s 1', block(READY, 4, 1, LAST, OTHER, 1), 12)
+    s.got('s 2', block(READY, 4, 1, LAST, OTHER, 2), [])
+    for j in SERVERS:
+        s.got(f's {j}', block(ECHO, 4, 1, 5, THIRD, j), [])
+        s.got(f's {j}', block(ECHO, 4, 1, 5, THIRD, j), 12)
+    s.got('c 4', block(SEND, 4, 1, 5, THIRD, 2), to_all(lambda j: block(ECHO, 4, 1, 5, THIRD, 2)))
+    s.got('c 4', block(SEND, 4, 1, 5, THIRD, 2), 12)
+    s.got('c 4', block(SEND, 4, 2, 5, THIRD, 2), 13)
+    s.got('c 8', get_stamp(8, 2), [('c 8', stamp(8, 2, 10))])
+    for j in (1, 3):
+        s.got(f's {j}', block(READY, 5, 1, LAST - 1, OTHER, j), to_all(lambda i: block(READY, 5, 1, LAST - 1, OTHER, 2)) if j == 3 else [])
+    s.got('s 4', block(READY, 5, 1, LAST - 1, OTHER, 4), [('c 5', ack(5, 1))])
+    s.got('c 8', get_stamp(8, 3), [('c 8', stamp(8, 3, LAST))])
+
+
+def groups():
+    script = opened('groups')
+    for part in (other_times, other_lists, two_groups, last_time):
+        part(Server(script, 2))
+    script.write()
+
+
+def thresholds(name, n, t, k, v):
+    """Where k is above t + 1, readies of one group: the own at q = k, completion at k + t, which is more than 2t + 1."""
+    script, code = Script(name), Code(n, k)
+    assert k > t + 1
+    script.say(f'hall {n} {t} {k} {len(v)} {v.hex()}', 'ready')
+    s = Server(script, n)
+    for j in range(1, k + t + 1):
+        sent = to_all(lambda i: block(READY, 1, 1, 4, v, n, code), code.servers) if j == k else [('c 1', ack(1, 1))] if j == k + t else []
+        s.got(f's {j}', block(READY, 1, 1, 4, v, j, code), sent)
+    s.got('c 1', get_stamp(1, 1), [('c 1', stamp(1, 1, 5))])
+    # of echoes n - t, at another server
+    s = Server(script, 1)
+    for j in range(1, n - t + 1):
+        s.got(f's {j}', block(ECHO, 1, 1, 4, v, j, code), to_all(lambda i: block(READY, 1, 1, 4, v, 1, code), code.servers) if j == n - t else [])
+    script.write()
 
 
 bounds()
@@ -239,3 +356,6 @@ for part in (busy, turned_down, writes, closes, reads):
     part(client)
 client.write()
 at_server()
+groups()
+thresholds('k3', 5, 1, 3, VALUE)
+thresholds('k8', 10, 1, 8, bytes(range(20)))

@@ -1,11 +1,9 @@
-# Blocks and frames as the specification has them, for n = 4, k = 2 and values of three bytes, with a field arithmetic of its own: what the scripts of this
-# folder and the cases of crates/server_cases are worked out with. Nothing here is taken from the Rattle code.
+# Blocks and frames as the specification has them, with a field arithmetic of its own: what the scripts of this folder and the cases of
+# crates/server_cases are worked out with. Nothing here is taken from the Rattle code.
 import hashlib
 
-SERVERS = (1, 2, 3, 4)
 
-
-# ---- blocks of values of three bytes for n = 4, k = 2
+# ---- blocks
 
 def product(a, b):
     p = 0
@@ -17,16 +15,31 @@ def product(a, b):
     return p
 
 
-def blocks(value):
-    padded = value + bytes(1)
-    return [bytes(padded[2 * r] ^ product(padded[2 * r + 1], j) for r in range(2)) for j in SERVERS]
+class Code:
+    """The blocks of values for n servers, any k of which rebuild a value."""
+    def __init__(self, n, k):
+        self.n, self.k, self.servers = n, k, range(1, n + 1)
+
+    def blocks(self, value):
+        width = -(-len(value) // self.k)
+        padded = value + bytes(self.k * width - len(value))
+
+        def byte(r, j):
+            result = 0
+            for coefficient in reversed(padded[r * self.k:(r + 1) * self.k]):
+                result = product(result, j) ^ coefficient
+            return result
+
+        return [bytes(byte(r, j) for r in range(width)) for j in self.servers]
+
+    def entry(self, value, j):
+        """The digest list of a value, and server j's block."""
+        return b''.join(hashlib.sha256(b).digest() for b in self.blocks(value)) + self.blocks(value)[j - 1]
 
 
-def entry(value, j):
-    """The digest list of a value, and server j's block."""
-    return b''.join(hashlib.sha256(b).digest() for b in blocks(value)) + blocks(value)[j - 1]
-
-
+# what is used where nothing else is said: values of three bytes for n = 4, k = 2
+SMALL = Code(4, 2)
+SERVERS, blocks, entry = SMALL.servers, SMALL.blocks, SMALL.entry
 assert [b.hex() for b in blocks(bytes([1, 2, 3]))] == ['0303', '0503', '0703', '0903']
 
 
@@ -46,8 +59,7 @@ def time(t):
 
 def get_stamp(c, q): return frame(1, c, q)
 def stamp(c, q, t): return frame(2, c, q, time(t))
-def block(stage, c, q, value, j): return frame(3 + stage, c, q, entry(value, j))
-def the_time(stage, c, q, t): return frame(6 + stage, c, q, time(t))
+def block(stage, c, q, t, value, j, code=SMALL): return frame(3 + stage, c, q, time(t) + code.entry(value, j))
 def ack(c, q): return frame(9, c, q)
 def read(c, q): return frame(10, c, q)
 def complete(c, q): return frame(12, c, q)
@@ -59,3 +71,4 @@ def value(c, q, t, writer, sequence, v, j):
 
 assert get_stamp(2, 5).hex() == '000701010200000005'
 SEND, ECHO, READY = 0, 1, 2
+RETIRED = (6, 7, 8)

@@ -5,7 +5,7 @@ import sys
 
 sys.dont_write_bytecode = True
 sys.path.insert(0, '../../compare/cases')
-from frames import (ECHO, READY, SEND, SERVERS, ack, block, blocks, entry, get_stamp, read, stamp, the_time, value)  # noqa: E402
+from frames import (ECHO, READY, SEND, SERVERS, ack, block, blocks, entry, get_stamp, read, stamp, value)  # noqa: E402
 
 ME, AREA, INITIAL, OUT, TO = 2, 97344, 2, 13 * 152, 26
 LENT = bytes([0x5a])
@@ -65,26 +65,20 @@ deliver(client(1), asked, [(client(1), stamp(1, 5, 0))], kind='whole')
 comment('Clients 8, 5 and 4 listen; client 1 writes; then client 3 listens')
 for c in (8, 5, 4):
     deliver(client(c), read(c, 1), [(client(c), value(c, 1, 0, 0, 0, FIRST, ME))])
-deliver(server(1), block(READY, 1, 1, SECOND, 1), [])
-deliver(server(3), block(READY, 1, 1, SECOND, 3), to_all(block(READY, 1, 1, SECOND, ME)))
-deliver(server(4), block(READY, 1, 1, SECOND, 4), [])
-deliver(server(1), the_time(READY, 1, 1, 5), [])
-deliver(server(3), the_time(READY, 1, 1, 5), to_all(the_time(READY, 1, 1, 5)))
-deliver(server(4), the_time(READY, 1, 1, 5), [(client(c), value(c, 1, 6, 1, 1, SECOND, ME)) for c in (4, 5, 8)] + [(client(1), ack(1, 1))])
+deliver(server(1), block(READY, 1, 1, 5, SECOND, 1), [])
+deliver(server(3), block(READY, 1, 1, 5, SECOND, 3), to_all(block(READY, 1, 1, 5, SECOND, ME)))
+deliver(server(4), block(READY, 1, 1, 5, SECOND, 4), [(client(c), value(c, 1, 6, 1, 1, SECOND, ME)) for c in (4, 5, 8)] + [(client(1), ack(1, 1))])
 deliver(client(3), read(3, 1), [(client(3), value(3, 1, 6, 1, 1, SECOND, ME))])
 
-# Request F-1. In a run the own ready goes out before a part can be complete, so the record is lent with that ready not sent. The stamp of client 2's
+# Request F-1. In a run the own ready goes out before a write can be complete, so the record is lent with that ready not sent. The stamp of client 2's
 # write, 5 2 1, is below the present one and above those noted for clients 4, 5 and 8, whose reads began before; client 3 has noted the present one.
 comment('All that one step can send, in order: readies, values by rising client number, the ack; and every byte of the two areas')
-deliver(client(2), the_time(SEND, 2, 1, 4), to_all(the_time(ECHO, 2, 1, 4)))
-deliver(server(1), the_time(READY, 2, 1, 4), [])
-deliver(server(3), the_time(READY, 2, 1, 4), to_all(the_time(READY, 2, 1, 4)))
-deliver(server(4), the_time(READY, 2, 1, 4), [])
-deliver(server(4), block(READY, 2, 1, THIRD, 4), [])
-deliver(server(1), block(READY, 2, 1, THIRD, 1), to_all(block(READY, 2, 1, THIRD, ME)))
+deliver(client(2), block(SEND, 2, 1, 4, THIRD, ME), to_all(block(ECHO, 2, 1, 4, THIRD, ME)))
+deliver(server(4), block(READY, 2, 1, 4, THIRD, 4), [])
+deliver(server(1), block(READY, 2, 1, 4, THIRD, 1), to_all(block(READY, 2, 1, 4, THIRD, ME)))
 lines.append('unready 2')
 answers.append('unready 2')
-deliver(server(3), block(READY, 2, 1, THIRD, 3), to_all(block(READY, 2, 1, THIRD, ME))
+deliver(server(3), block(READY, 2, 1, 4, THIRD, 3), to_all(block(READY, 2, 1, 4, THIRD, ME))
         + [(client(c), value(c, 1, 5, 2, 1, THIRD, ME)) for c in (4, 5, 8)]
         + [(client(2), ack(2, 1))], kind='whole')
 

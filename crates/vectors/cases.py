@@ -175,7 +175,11 @@ for n, t, k, length, room, numbers, these in (
 
 def body_length(n, k, length, kind):
     entry = 32 * n + block_length(k, length)
-    return {2: 8, 3: entry, 4: entry, 5: entry, 6: 8, 7: 8, 8: 8, 11: 13 + entry}.get(kind, 0)
+    return {2: 8, 3: 8 + entry, 4: 8 + entry, 5: 8 + entry, 11: 13 + entry}.get(kind, 0)
+
+
+# request F-4: "Kinds 6, 7 and 8 are retired and get 6"
+retired = (6, 7, 8)
 
 
 def opened(n, t, k, length, frame):
@@ -187,7 +191,7 @@ def opened(n, t, k, length, frame):
     version, kind, client, sequence = frame[2], frame[3], frame[4], int.from_bytes(frame[5:9], 'big')
     if version != 1:
         return '05'
-    if not 1 <= kind <= 12:
+    if not 1 <= kind <= 12 or kind in retired:
         return '06'
     if not 1 <= client <= 8 or sequence == 0:
         return '07'
@@ -237,7 +241,7 @@ for size in range(13):
         opening(*small, (size - 2).to_bytes(2, 'big') + (good[2:] + bytes(3))[:size - 2])
 
 comment('Every kind with the right body, and one byte shorter and longer; a length field one off; kinds 0, 13 and 255')
-for kind in range(1, 13):
+for kind in (1, 2, 3, 4, 5, 9, 10, 11, 12):
     right = body_length(4, 2, 3, kind)
     body = value_body(1, 1, 1) if kind == 11 else filled(right)
     assert len(body) == right
@@ -249,6 +253,19 @@ for change in (-1, 1, 2, 256):
     opening(*small, (7 + change).to_bytes(2, 'big') + good[2:], '04')
 for kind in (0, 13, 255):
     opening(*small, frame(kind, 2, 5), '06')
+
+comment('Kinds 3 to 5: any time before a list of 4 digests and a block of 2 bytes; not without a time')
+for kind in (3, 4, 5):
+    for time in (0, 1, 2**64 - 1):
+        opening(*small, frame(kind, 2, 5, time.to_bytes(8, 'big') + filled(130)), f'00{kind:02x}0200000005')
+    opening(*small, frame(kind, 2, 5, filled(130)), '08')
+
+comment('Retired kinds, with a time, with nothing, with a list and a block, and with both')
+for kind in retired:
+    for body in (filled(8), b'', filled(130), filled(138)):
+        opening(*small, frame(kind, 2, 5, body), '06')
+    opening(*small, frame(kind, 0, 0, filled(9)), '06')
+    opening(*small, frame(kind, 2, 5, filled(8), 2), '05')
 
 comment('The order of the numbers, and stamps in values')
 opening(*small, frame(0, 0, 0, bytes(1), 2), '05')

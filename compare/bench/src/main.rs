@@ -1,11 +1,13 @@
 //! bench [--quick] [TEXT]: the proved static library beside plain Rust, in the tables of docs/PERFORMANCE.md. Each row is measured in runs of
 //! many short rounds; in a round every side works for a fraction of a millisecond, one after the other, the first and the last in
 //! turns. A run's ratio is that of the sides' median times. The rule, fixed before measuring: a row keeps its bound if the median of its
-//! runs' ratios is at most the bound. With TEXT only rows whose name has it.
+//! runs' ratios is at most the bound. With TEXT only rows whose name has it. `bench --turns EARLIER LATER [--quick]` is what bench/whole runs: whole
+//! operations of two such programs, each linked with a library of its own.
 
 mod rows;
 mod side;
 mod system;
+mod turns;
 
 use register::Params;
 use rows::{
@@ -101,55 +103,68 @@ macro_rules! sides {
 fn main() {
     let arguments: Vec<String> = std::env::args().skip(1).collect();
     let (options, texts): (Vec<&String>, Vec<&String>) = arguments.iter().partition(|a| a.starts_with("--"));
-    if options.iter().any(|a| *a != "--quick") || texts.len() > 1 {
-        eprintln!("bench [--quick] [TEXT]");
-        std::process::exit(2);
-    }
-    let plan = Plan {
-        only: texts.first().map_or_else(String::new, |text| text.to_string()),
-        runs: if options.is_empty() { 11 } else { 3 },
+    let has = |option: &str| options.iter().any(|a| *a == option);
+    let plan = |only: &str, length| Plan {
+        only: only.to_string(),
+        runs: if has("--quick") { 3 } else { 11 },
         rounds: 41,
-        length: Duration::from_micros(150),
+        length: Duration::from_micros(length),
     };
+    let known = options.iter().all(|a| ["--quick", "--turns", "--work"].contains(&a.as_str()));
+    match texts[..] {
+        [] if known && has("--work") => turns::work(),
+        // Turns are longer: between them one program wakes the other.
+        [earlier, later] if known && has("--turns") => turns::compare(earlier, later, &plan("", 3000)),
+        [] if known && !has("--turns") => tables(&plan("", 150)),
+        [only] if known && !has("--turns") => tables(&plan(only, 150)),
+        _ => {
+            eprintln!("bench [--quick] [TEXT], or bench --turns EARLIER LATER [--quick]");
+            std::process::exit(2);
+        }
+    }
+}
+
+/// The proved library beside plain Rust.
+fn tables(plan: &Plan) {
     let p = Params::new;
-    table("Digests", sides!([32, 64, 256], digest, [Plain, Proved]), 1.0, &plan);
+    table("Digests", sides!([32, 64, 256], digest, [Plain, Proved]), 1.0, plan);
     let base = [p(4, 1, 2, 32), p(4, 1, 2, 256), p(10, 3, 4, 256), p(10, 1, 8, 256)];
-    table("Encoding", sides!(base, encode, [Plain, Proved]), 1.0, &plan);
-    table("Decoding", sides!(base, decode, [Plain, Proved]), 1.3, &plan);
+    table("Encoding", sides!(base, encode, [Plain, Proved]), 1.0, plan);
+    table("Decoding", sides!(base, decode, [Plain, Proved]), 1.3, plan);
     let by_basis = base.iter().map(|set| vec![decode_by_basis(*set), decode::<Proved>(*set)]).collect();
-    table("Decoding, against another algorithm in plain Rust", by_basis, 1.3, &plan);
+    table("Decoding, against another algorithm in plain Rust", by_basis, 1.3, plan);
     let mut index = sides!([()], insert, [Plain, Proved]);
     index.extend(sides!([()], fill, [Plain, Proved]));
     index.extend(sides!([true, false], search, [Plain, Proved]));
-    table("The index of accession numbers", index, 1.0, &plan);
+    table("The index of accession numbers", index, 1.0, plan);
     for set in [p(4, 1, 2, 64), p(10, 3, 4, 256)] {
         let steps = server_steps::<Plain>(set)
             .into_iter()
             .zip(server_steps::<Bytes>(set))
             .zip(server_steps::<Proved>(set));
         let title = format!("Steps of a server, n = {}", set.n);
-        table(&title, steps.map(|((a, b), c)| vec![a, b, c]).collect(), 1.3, &plan);
+        table(&title, steps.map(|((a, b), c)| vec![a, b, c]).collect(), 1.3, plan);
     }
     let whole = [p(4, 1, 2, 64), p(10, 3, 4, 64)];
-    table("A whole write", sides!(whole, whole_write, [Plain, Bytes, Proved]), 1.3, &plan);
-    table("A whole read", sides!(whole, whole_read, [Plain, Bytes, Proved]), 1.3, &plan);
+    table("A whole write", sides!(whole, whole_write, [Plain, Bytes, Proved]), 1.3, plan);
+    table("A whole read", sides!(whole, whole_read, [Plain, Bytes, Proved]), 1.3, plan);
     let by_n = [p(4, 1, 2, 64), p(6, 1, 2, 64), p(8, 1, 2, 64), p(10, 1, 2, 64)];
     let by_k = [p(10, 1, 1, 64), p(10, 1, 2, 64), p(10, 1, 4, 64), p(10, 1, 8, 64)];
     let by_l = [p(7, 2, 3, 1), p(7, 2, 3, 16), p(7, 2, 3, 64), p(7, 2, 3, 256)];
     for (what, sets) in [("n", by_n), ("k", by_k), ("L", by_l)] {
-        table(&format!("Encoding, by {what}"), sides!(sets, encode, [Plain, Proved]), 1.0, &plan);
-        table(&format!("Decoding, by {what}"), sides!(sets, decode, [Plain, Proved]), 1.3, &plan);
+        table(&format!("Encoding, by {what}"), sides!(sets, encode, [Plain, Proved]), 1.0, plan);
+        table(&format!("Decoding, by {what}"), sides!(sets, decode, [Plain, Proved]), 1.3, plan);
         table(
             &format!("A whole write, by {what}"),
             sides!(sets, whole_write, [Plain, Bytes, Proved]),
             1.3,
-            &plan,
+            plan,
         );
         table(
             &format!("A whole read, by {what}"),
             sides!(sets, whole_read, [Plain, Bytes, Proved]),
             1.3,
-            &plan,
+            plan,
         );
     }
 }

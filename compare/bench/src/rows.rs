@@ -4,7 +4,7 @@ use crate::side::{Handed, Plain, Side};
 use crate::system::{fresh, Host, System, CLIENT};
 use register::accession::{self, INDEX, VALUES};
 use register::blocks::{self, encoded};
-use register::flat::{complete_chunk, list_in, Server};
+use register::flat::{Outcome, Server};
 use register::frame::{build, Body};
 use register::random::Random;
 use register::{Params, Party};
@@ -153,7 +153,23 @@ pub fn whole_read<S: Side>(p: Params) -> Row {
     let mut system = System::<S>::new(p, &random.bytes(p.l));
     let value = random.bytes(p.l);
     system.write(&value, |_, _, _, _| ());
-    row(name("whole read", &p), move || assert_eq!(system.read(), &value[..]))
+    row(name("whole read", &p), move || assert_eq!(system.read(|_, _, _, _| ()), &value[..]))
+}
+
+/// How many frames are handed in for a whole write, or for a whole read, and their bytes.
+pub fn counted<S: Side>(p: Params, write: bool) -> (usize, usize) {
+    let mut system = System::<S>::new(p, &vec![0; p.l]);
+    let (mut frames, mut bytes) = (0, 0);
+    let count = |_: &System<S>, _, _, frame: &[u8]| {
+        frames += 1;
+        bytes += frame.len();
+    };
+    if write {
+        system.write(&vec![1; p.l], count);
+    } else {
+        system.read(count);
+    }
+    (frames, bytes)
 }
 
 /// Server 1 before a delivery, as plain Rust has it.
@@ -169,24 +185,14 @@ fn what(p: &Params, host: &Host<Server>, from: Party, frame: &[u8]) -> Option<&'
     let (mut out, mut to) = (vec![0; p.server_room()], vec![0; 2 * (p.n + 9)]);
     let (mut server, mut area) = (host.server, host.area.clone());
     let done = server.deliver(p, 1, &host.initial, &mut area, from, frame, &mut out, &mut to).ok()?;
-    let accepts = done.outcome == register::flat::Outcome::Accepted;
-    let chunk = complete_chunk(CLIENT);
-    let complete = list_in(p, &area, chunk) != list_in(p, &host.area, chunk);
     Some(match (frame[3], done.frames > 0) {
-        (5, _) if accepts => "kind 5, accepted",
-        (8, _) if accepts => "kind 8, accepted",
         (1, _) => "kind 1",
         (3, _) => "kind 3, echo sent",
         (4, false) => "kind 4, kept",
         (4, true) => "kind 4, ready sent",
-        (5, false) if complete => "kind 5, complete",
-        (5, false) => "kind 5, kept",
-        (5, true) => "kind 5, ready sent",
-        (6, _) => "kind 6, echo sent",
-        (7, false) => "kind 7, kept",
-        (7, true) => "kind 7, ready sent",
-        (8, false) => "kind 8, kept",
-        _ => "kind 8, ready sent",
+        _ if done.outcome == Outcome::Accepted => "kind 5, accepted",
+        (_, false) => "kind 5, kept",
+        (_, true) => "kind 5, ready sent",
     })
 }
 

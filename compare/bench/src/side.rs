@@ -1,8 +1,9 @@
 //! What is measured of an implementation, and the three that are: plain Rust with its records in memory, the same with its records
 //! as the bytes that a host lends, and the proved static library.
 
+use crate::system::{fresh, Host};
 use linked::calls;
-use register::flat::{Client, Done, Outcome, Server};
+use register::flat::{Client, Done, Outcome, Server, STATE_AREA};
 use register::layout::{client_in, put_client, put_scope, put_server, scope_in, CLIENT, SERVER, STAMP};
 use register::{accession, blocks, sha256, Params, Party, Refusal};
 
@@ -26,6 +27,18 @@ pub trait Side: 'static {
 
     fn server(record: &Server) -> Self::Server;
     fn client(record: &Client) -> Self::Client;
+
+    /// A fresh server with its areas.
+    fn host(p: &Params, own: usize, value: &[u8]) -> Host<Self::Server> {
+        let Host { server, area, initial } = fresh(p, own, value);
+        Host { server: Self::server(&server), area, initial }
+    }
+
+    /// A fresh client.
+    fn fresh_client() -> Self::Client {
+        Self::client(&Client::fresh())
+    }
+
     fn to_server(server: &mut Self::Server, handed: Handed, initial: &[u8], area: &mut [u8]) -> Told;
     fn to_client(
         client: &mut Self::Client,
@@ -182,6 +195,30 @@ fn bits(answer: u64) -> Told {
     (answer & 0xff == 0).then_some(((answer >> 16) as usize, answer & 0xff00 != 0))
 }
 
+/// The library's calls, on records of any length.
+fn library_server(state: &mut [u8], h: Handed, initial: &[u8], area: &mut [u8]) -> Told {
+    bits(calls::server_deliver(h.p, h.own, h.from, h.frame, area, initial, state, h.out, h.to))
+}
+
+fn library_client(state: &mut [u8], h: Handed, written: &[u8], rows: &mut [u8], value: &mut [u8]) -> Told {
+    let (from, frame, mut stamp) = (h.from, h.frame, [0; STAMP]);
+    bits(calls::client_deliver(h.p, h.own, from, written, frame, rows, value, &mut stamp, state, h.out, h.to))
+}
+
+fn library_begin(
+    state: &mut [u8],
+    p: &Params,
+    own: usize,
+    write: Option<&[u8]>,
+    out: &mut [u8],
+    to: &mut [u8],
+) -> Told {
+    bits(match write {
+        Some(value) => calls::begin_write(p, own, state, value, out, to),
+        None => calls::begin_read(p, own, state, out, to),
+    })
+}
+
 impl Side for Proved {
     const NAME: &'static str = "proved";
     type Server = [u8; SERVER];
@@ -196,7 +233,7 @@ impl Side for Proved {
     }
 
     fn to_server(state: &mut [u8; SERVER], h: Handed, initial: &[u8], area: &mut [u8]) -> Told {
-        bits(calls::server_deliver(h.p, h.own, h.from, h.frame, area, initial, state, h.out, h.to))
+        library_server(state, h, initial, area)
     }
 
     fn to_client(
@@ -206,10 +243,7 @@ impl Side for Proved {
         rows: &mut [u8],
         value: &mut [u8],
     ) -> Told {
-        let (from, frame, mut stamp) = (h.from, h.frame, [0; STAMP]);
-        bits(calls::client_deliver(
-            h.p, h.own, from, written, frame, rows, value, &mut stamp, state, h.out, h.to,
-        ))
+        library_client(state, h, written, rows, value)
     }
 
     fn begin(
@@ -220,10 +254,7 @@ impl Side for Proved {
         out: &mut [u8],
         to: &mut [u8],
     ) -> Told {
-        bits(match write {
-            Some(value) => calls::begin_write(p, own, state, value, out, to),
-            None => calls::begin_read(p, own, state, out, to),
-        })
+        library_begin(state, p, own, write, out, to)
     }
 
     fn insert(value: &[u8], index: &mut [u8]) -> u8 {
@@ -244,5 +275,62 @@ impl Side for Proved {
 
     fn decode(p: &Params, numbers: &[u8], parts: &[u8], out: &mut [u8]) {
         assert_eq!(calls::decode(p, numbers, parts, out), 0);
+    }
+}
+
+/// Room for a record of any layout.
+const RECORD: usize = 4096;
+
+/// The linked library of any state of the repository: it makes its records itself.
+pub struct Library;
+
+impl Side for Library {
+    const NAME: &'static str = "library";
+    type Server = [u8; RECORD];
+    type Client = [u8; RECORD];
+
+    fn server(_: &Server) -> [u8; RECORD] {
+        unreachable!("its records are its own")
+    }
+
+    fn client(_: &Client) -> [u8; RECORD] {
+        unreachable!("its records are its own")
+    }
+
+    fn host(p: &Params, own: usize, value: &[u8]) -> Host<[u8; RECORD]> {
+        let (mut area, mut initial, mut server) = (vec![0; STATE_AREA], vec![0; p.block()], [0; RECORD]);
+        assert_eq!(calls::server_fresh(p, own, value, &mut area, &mut initial, &mut server), 0);
+        Host { server, area, initial }
+    }
+
+    fn fresh_client() -> [u8; RECORD] {
+        let mut client = [0; RECORD];
+        assert_eq!(calls::client_fresh(&mut client), 0);
+        client
+    }
+
+    fn to_server(state: &mut [u8; RECORD], h: Handed, initial: &[u8], area: &mut [u8]) -> Told {
+        library_server(state, h, initial, area)
+    }
+
+    fn to_client(
+        state: &mut [u8; RECORD],
+        h: Handed,
+        written: &[u8],
+        rows: &mut [u8],
+        value: &mut [u8],
+    ) -> Told {
+        library_client(state, h, written, rows, value)
+    }
+
+    fn begin(
+        state: &mut [u8; RECORD],
+        p: &Params,
+        own: usize,
+        write: Option<&[u8]>,
+        out: &mut [u8],
+        to: &mut [u8],
+    ) -> Told {
+        library_begin(state, p, own, write, out, to)
     }
 }

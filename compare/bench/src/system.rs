@@ -1,7 +1,7 @@
 //! All servers of a register and one client, of one side, with every frame delivered in the order sent.
 
 use crate::side::{Handed, Side};
-use register::flat::{Client, Server, ROWS_AREA, STATE_AREA};
+use register::flat::{Server, ROWS_AREA, STATE_AREA};
 use register::{Params, Party};
 
 pub struct Host<S> {
@@ -42,18 +42,16 @@ pub fn fresh(p: &Params, own: usize, value: &[u8]) -> Host<Server> {
 
 impl<S: Side> System<S> {
     pub fn new(p: Params, initial_value: &[u8]) -> System<S> {
-        let host = |j| {
-            let Host { server, area, initial } = fresh(&p, j, initial_value);
-            Host { server: S::server(&server), area, initial }
-        };
+        // Enough for a call of any party, by the rules of any state of the library.
+        let frames = 2 * p.n + 9;
         System {
             p,
-            hosts: (1..=p.n).map(host).collect(),
-            client: S::client(&Client::fresh()),
+            hosts: (1..=p.n).map(|j| S::host(&p, j, initial_value)).collect(),
+            client: S::fresh_client(),
             rows: vec![0; ROWS_AREA],
             value: vec![0; p.l],
-            out: vec![0; p.server_room().max(p.client_room())],
-            to: vec![0; 4 * p.n + 18],
+            out: vec![0; frames * p.largest()],
+            to: vec![0; 2 * frames],
             sent: Mail::default(),
             read: Mail::default(),
         }
@@ -115,8 +113,8 @@ impl<S: Side> System<S> {
         self.operate(Some(value), look);
     }
 
-    pub fn read(&mut self) -> &[u8] {
-        self.operate(None, |_, _, _, _| ());
+    pub fn read(&mut self, look: impl FnMut(&System<S>, Party, Party, &[u8])) -> &[u8] {
+        self.operate(None, look);
         &self.value
     }
 }

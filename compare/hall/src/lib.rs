@@ -4,7 +4,7 @@ pub mod accession;
 
 use register::client::{Client, Outcome};
 use register::server::Server;
-use register::{Params, Party, Refusal, Send};
+use register::{Params, Party, Refusal, Send, Variant};
 use std::io::{self, BufRead, Write};
 
 /// The parties of one register. Place j − 1 is server j's, or client j's.
@@ -97,11 +97,13 @@ fn print_client(out: &mut dyn Write, step: Result<register::client::Step, Refusa
 }
 
 impl Hall {
-    fn open(p: Params, initial: &[u8]) -> Result<Hall, Refusal> {
+    fn open(p: Params, initial: &[u8], variant: Variant) -> Result<Hall, Refusal> {
         p.check_parties()?;
-        let servers: Result<Vec<Server>, Refusal> = (1..=p.n).map(|j| Server::fresh(p, j, initial)).collect();
-        let clients: Result<Vec<Client>, Refusal> = (1..=8).map(|i| Client::fresh(p, i)).collect();
-        Ok(Hall { p, servers: servers?, clients: clients?, values: vec![Vec::new(); 8] })
+        let server = |j| Server::fresh(p, j, initial).map(|server| server.with_variant(variant));
+        let client = |i| Client::fresh(p, i).map(|client| client.with_variant(variant));
+        let servers = (1..=p.n).map(server).collect::<Result<Vec<Server>, Refusal>>()?;
+        let clients = (1..=8).map(client).collect::<Result<Vec<Client>, Refusal>>()?;
+        Ok(Hall { p, servers, clients, values: vec![Vec::new(); 8] })
     }
 
     /// A call on a party, or nothing if the line has another form.
@@ -158,15 +160,20 @@ impl Hall {
 }
 
 /// Opens a hall by its first line, or nothing if the line has another form.
-fn first(fields: &[&[u8]]) -> Option<Result<Hall, Refusal>> {
+fn first(fields: &[&[u8]], variant: Variant) -> Option<Result<Hall, Refusal>> {
     let [b"hall", n, t, k, l, initial] = fields else { return None };
     let p = Params::new(number(n)?, number(t)?, number(k)?, number(l)?);
-    Some(Hall::open(p, &hex(initial)?))
+    Some(Hall::open(p, &hex(initial)?, variant))
 }
 
 /// Answers every line of the input at once. Until a hall is open only its first line has a
 /// right form; afterwards it has not.
 pub fn run(input: &mut dyn BufRead, out: &mut dyn Write) -> io::Result<()> {
+    run_variant(input, out, Variant::Right)
+}
+
+/// The same with parties that may be wrong by a hair.
+pub fn run_variant(input: &mut dyn BufRead, out: &mut dyn Write, variant: Variant) -> io::Result<()> {
     let mut hall: Option<Hall> = None;
     let mut line = Vec::new();
     loop {
@@ -183,7 +190,7 @@ pub fn run(input: &mut dyn BufRead, out: &mut dyn Write) -> io::Result<()> {
                 Some(result) => result?,
                 None => writeln!(out, "what?")?,
             },
-            None => match first(&fields) {
+            None => match first(&fields, variant) {
                 Some(Ok(open)) => {
                     hall = Some(open);
                     writeln!(out, "ready")?;

@@ -1,5 +1,6 @@
 //! Whole runs of the hall program, byte for byte, and lines of other forms.
 
+use register::Variant;
 use std::path::Path;
 
 fn answer(input: &[u8]) -> Vec<u8> {
@@ -8,28 +9,14 @@ fn answer(input: &[u8]) -> Vec<u8> {
     out
 }
 
-/// The kept runs have value lines without the stamp: these are compared up to there.
-fn without_stamps(answers: &[u8]) -> Vec<u8> {
-    let mut kept = Vec::new();
-    for line in answers.split_inclusive(|&c| c == b'\n') {
-        if line.starts_with(b"value ") {
-            kept.extend(line.trim_ascii_end().split(|&c| c == b' ').take(2).collect::<Vec<_>>().join(&b' '));
-            kept.push(b'\n');
-        } else {
-            kept.extend(line);
-        }
-    }
-    kept
-}
-
-/// Answers every script of a folder, holds what was answered, as seen by `kept`, against what is expected, and says how many scripts there are.
-fn scripts(folder: &str, kept: fn(&[u8]) -> Vec<u8>) -> usize {
+/// Answers every script of a folder, holds what was answered against what is expected, and names the scripts.
+fn scripts(folder: &str) -> Vec<String> {
     let folder = Path::new(env!("CARGO_MANIFEST_DIR")).join(folder);
-    let mut count = 0;
+    let mut names = Vec::new();
     for entry in std::fs::read_dir(folder).unwrap() {
         let path = entry.unwrap().path();
         if path.extension().is_some_and(|e| e == "in") {
-            let given = kept(&answer(&std::fs::read(&path).unwrap()));
+            let given = answer(&std::fs::read(&path).unwrap());
             let expected = std::fs::read(path.with_extension("out")).unwrap();
             if given != expected {
                 let lines = |bytes: &[u8]| String::from_utf8_lossy(bytes).into_owned();
@@ -39,20 +26,45 @@ fn scripts(folder: &str, kept: fn(&[u8]) -> Vec<u8>) -> usize {
                 }
                 panic!("{}: one answer is longer", path.display());
             }
-            count += 1;
+            names.push(path.file_stem().unwrap().to_str().unwrap().to_string());
         }
     }
-    count
+    names
 }
 
 #[test]
 fn traces() {
-    assert_eq!(scripts("../traces", without_stamps), 16);
+    let names = scripts("../traces");
+    assert_eq!(names.len(), 16);
+    for laid_out in ["late-send", "half-done", "two-groups", "echo-again"] {
+        assert!(names.iter().any(|name| name == laid_out), "no {laid_out}");
+    }
 }
 
 #[test]
 fn cases() {
-    assert_eq!(scripts("../cases", <[u8]>::to_vec), 3);
+    assert_eq!(scripts("../cases").len(), 6);
+}
+
+/// What a script shows: parties that are wrong in this do not answer it as it asks.
+#[test]
+fn wrong_variants_differ() {
+    for (variant, script) in [
+        (Variant::LateSendSilent, "traces/late-send"),
+        (Variant::ListAlone, "cases/groups"),
+        (Variant::TimeAlone, "cases/groups"),
+        (Variant::TimeAlone, "traces/two-groups"),
+        (Variant::SentTime, "cases/groups"),
+        (Variant::FewReadies, "cases/k3"),
+        (Variant::FewReadies, "cases/k8"),
+        (Variant::FewEchoes, "cases/k8"),
+    ] {
+        let path = Path::new(env!("CARGO_MANIFEST_DIR")).join("..").join(script);
+        let input = std::fs::read(path.with_extension("in")).unwrap();
+        let mut given = Vec::new();
+        hall::run_variant(&mut &input[..], &mut given, variant).unwrap();
+        assert!(given != std::fs::read(path.with_extension("out")).unwrap(), "{variant:?} answers {script}");
+    }
 }
 
 #[test]

@@ -1,10 +1,12 @@
 //! Random calls of any kind: any parameters, own numbers, senders, frames and lent sizes, mostly one thing wrong.
 
+use crate::blocks::encoded;
 use crate::client::KEPT;
-use crate::flat::{Client, Operation, Reader, Server, CHUNK, ROWS_AREA, SEATS, STATE_AREA};
+use crate::flat::{self, Client, Operation, Reader, Server, Slot, CHUNK, ROWS_AREA, SEATS, STATE_AREA};
 use crate::frame::{build, Body, Stage, Stamp};
 use crate::params::{Params, Party, CLIENTS, DIGEST};
 use crate::random::Random;
+use crate::server::digest_list;
 use crate::sha256::digest;
 
 fn some_params(random: &mut Random) -> Params {
@@ -49,8 +51,7 @@ fn some_frame(p: &Params, client: usize, random: &mut Random) -> Vec<u8> {
     let body = match random.below(9) {
         0 => Body::GetStamp,
         1 => Body::Stamp { time },
-        2 => Body::Block { stage, digests: &digests, block: &block },
-        3 => Body::Time { stage, time },
+        2 | 3 => Body::Block { stage, time, digests: &digests, block: &block },
         4 => Body::Ack,
         5 => Body::Read,
         6 => Body::ReadComplete,
@@ -109,17 +110,12 @@ fn some_stamp(random: &mut Random) -> Stamp {
 fn scramble_server(server: &mut Server, random: &mut Random) {
     server.stamp = some_stamp(random);
     for slot in &mut server.slots {
-        let (blocks, times) = (&mut slot.blocks, &mut slot.times);
-        for flag in
-            [&mut blocks.sent, &mut blocks.ready, &mut blocks.complete, &mut times.sent, &mut times.ready]
-        {
+        for flag in [&mut slot.sent, &mut slot.ready, &mut slot.complete] {
             *flag = random.chance(1, 2);
         }
-        (blocks.echoes, blocks.readies) = (some_flags(random), some_flags(random));
-        times.delivered = random.chance(1, 2);
-        times.time = random.pick(&[0, 1, 2, u64::MAX]);
-        (times.echoes, times.readies) = (some_flags(random), some_flags(random));
-        (times.echo_times, times.ready_times) = (some_times(random), some_times(random));
+        slot.time = random.pick(&[0, 1, 2, u64::MAX]);
+        (slot.echoes, slot.readies) = (some_flags(random), some_flags(random));
+        (slot.echo_times, slot.ready_times) = (some_times(random), some_times(random));
     }
     for reader in &mut server.readers {
         *reader = Reader {
@@ -153,6 +149,34 @@ fn some_rows(length: usize, random: &mut Random) -> Vec<u8> {
     rows
 }
 
+/// Lays echoes and readies of a value's blocks in a client's slot and chunks, at the places of most servers, some of another value's
+/// or of another time, and gives an echo or a ready of that value and time with its sender.
+fn lay_group(
+    p: &Params,
+    client: usize,
+    slot: &mut Slot,
+    area: &mut [u8],
+    random: &mut Random,
+) -> (Party, Vec<u8>) {
+    let values: [Vec<Vec<u8>>; 2] = std::array::from_fn(|_| encoded(p, &random.bytes(p.l)));
+    let lists = [digest_list(&values[0]), digest_list(&values[1])];
+    let time = random.pick(&[0, 1, 2, u64::MAX - 1, u64::MAX]);
+    slot.complete = random.chance(1, 4);
+    for j in 1..=p.n {
+        for chunk in [flat::echo_chunk(client, j), flat::ready_chunk(client, j)] {
+            let v = random.chance(1, 8) as usize;
+            flat::store(area, chunk, &lists[v], &values[v][j - 1]);
+        }
+        (slot.echoes[j], slot.readies[j]) = (random.chance(3, 4), random.chance(3, 4));
+        let mut kept = || if random.chance(7, 8) { time } else { time ^ 1 };
+        (slot.echo_times[j], slot.ready_times[j]) = (kept(), kept());
+    }
+    let (j, stage) = (random.range(1, p.n), random.pick(&[Stage::Echo, Stage::Ready]));
+    (slot.echoes[j], slot.readies[j]) = (stage == Stage::Ready, stage == Stage::Echo);
+    let body = Body::Block { stage, time, digests: &lists[0], block: &values[0][j - 1] };
+    (Party::Server(j), build(client as u8, random.pick(&[1, 1, 1, 2]), body))
+}
+
 /// A frame handed to a server, with everything lent.
 #[derive(Clone, Debug, PartialEq, Eq)]
 pub struct ServerCall {
@@ -183,11 +207,15 @@ pub fn server_call(random: &mut Random) -> ServerCall {
     let client = random.range(1, CLIENTS);
     server.readers[client].newest = random.below(2) as u32;
     server.slots[client].open = random.pick(&[1, 1, 2]);
+    let (from, frame) = if bounds.is_none() && random.chance(1, 3) {
+        lay_group(&p, client, &mut server.slots[client], &mut area, random)
+    } else {
+        (some_party(client, random), some_frame(&p, client, random))
+    };
     initial.truncate(some_size(sane.block(), random));
     area.resize(some_size(STATE_AREA, random), 9);
     let out = vec![4; some_size(sane.server_room(), random)];
     let to = vec![5; some_size(2 * (sane.n + 9), random)];
-    let (from, frame) = (some_party(client, random), some_frame(&p, client, random));
     let short = initial.len() < sane.block()
         || area.len() < STATE_AREA
         || out.len() < sane.server_room()
@@ -239,7 +267,7 @@ pub fn client_call(random: &mut Random) -> ClientCall {
     let written = vec![1; length];
     let rows = some_rows(some_size(ROWS_AREA, random), random);
     let out = vec![3; some_size(sane.client_room(), random)];
-    let to = vec![4; some_size(4 * sane.n, random)];
+    let to = vec![4; some_size(2 * sane.n, random)];
     let value = vec![5; some_size(sane.l, random)];
     let act = random.pick(&[ClientAct::Read, ClientAct::Write, ClientAct::Deliver, ClientAct::Deliver]);
     let (from, frame) = (some_party(3, random), some_frame(&p, 3, random));

@@ -181,14 +181,12 @@ impl Client {
         self.operation = Operation::Acks(BTreeSet::new());
         let blocks = encoded(&p, value);
         let digests = digest_list(&blocks);
-        let mut sends: Vec<Send> = (1..=p.n)
-            .map(|j| {
-                let body = Body::Block { stage: Stage::Send, digests: &digests, block: &blocks[j - 1] };
-                Send { to: Party::Server(j), frame: build(self.own as u8, self.writes, body) }
-            })
-            .collect();
-        sends.extend(self.to_all(self.writes, Body::Time { stage: Stage::Send, time: largest }));
-        Ok(Step { sends, outcome: Outcome::Going })
+        let send = |j: usize| {
+            let (time, block) = (largest, &blocks[j - 1][..]);
+            let body = Body::Block { stage: Stage::Send, time, digests: &digests, block };
+            Send { to: Party::Server(j), frame: build(self.own as u8, self.writes, body) }
+        };
+        Ok(Step { sends: (1..=p.n).map(send).collect(), outcome: Outcome::Going })
     }
 
     fn ack(&mut self, server: usize, frame: &Frame) -> Result<Step, Refusal> {

@@ -21,8 +21,7 @@ pub enum Stage {
 pub enum Body<'a> {
     GetStamp,
     Stamp { time: u64 },
-    Block { stage: Stage, digests: &'a [u8], block: &'a [u8] },
-    Time { stage: Stage, time: u64 },
+    Block { stage: Stage, time: u64, digests: &'a [u8], block: &'a [u8] },
     Ack,
     Read,
     Value { stamp: Stamp, digests: &'a [u8], block: &'a [u8] },
@@ -44,7 +43,6 @@ impl Body<'_> {
             Body::GetStamp => 1,
             Body::Stamp { .. } => 2,
             Body::Block { stage, .. } => 3 + *stage as u8,
-            Body::Time { stage, .. } => 6 + *stage as u8,
             Body::Ack => 9,
             Body::Read => 10,
             Body::Value { .. } => 11,
@@ -53,10 +51,15 @@ impl Body<'_> {
     }
 }
 
+/// Kinds 6, 7 and 8 are retired.
+fn is_kind(kind: u8) -> bool {
+    matches!(kind, 1..=5 | 9..=12)
+}
+
 fn body_length(p: &Params, kind: u8) -> usize {
     match kind {
-        2 | 6 | 7 | 8 => 8,
-        3..=5 => p.list() + p.block(),
+        2 => 8,
+        3..=5 => 8 + p.list() + p.block(),
         11 => 13 + p.list() + p.block(),
         _ => 0,
     }
@@ -64,8 +67,8 @@ fn body_length(p: &Params, kind: u8) -> usize {
 
 fn stage(kind: u8) -> Stage {
     match kind {
-        3 | 6 => Stage::Send,
-        4 | 7 => Stage::Echo,
+        3 => Stage::Send,
+        4 => Stage::Echo,
         _ => Stage::Ready,
     }
 }
@@ -87,7 +90,7 @@ pub fn open<'a>(p: &Params, bytes: &'a [u8]) -> Result<Frame<'a>, Refusal> {
         return Err(Refusal::Version);
     }
     let kind = bytes[3];
-    if !(1..=12).contains(&kind) {
+    if !is_kind(kind) {
         return Err(Refusal::Kind);
     }
     let client = bytes[4];
@@ -104,10 +107,9 @@ pub fn open<'a>(p: &Params, bytes: &'a [u8]) -> Result<Frame<'a>, Refusal> {
         1 => Body::GetStamp,
         2 => Body::Stamp { time: time(body) },
         3..=5 => {
-            let (digests, block) = body.split_at(p.list());
-            Body::Block { stage: stage(kind), digests, block }
+            let (digests, block) = body[8..].split_at(p.list());
+            Body::Block { stage: stage(kind), time: time(body), digests, block }
         }
-        6..=8 => Body::Time { stage: stage(kind), time: time(body) },
         9 => Body::Ack,
         10 => Body::Read,
         11 => {
@@ -143,8 +145,8 @@ pub fn write(frame: &Frame, area: &mut [u8]) -> usize {
     let rest = put(rest, &frame.sequence.to_be_bytes());
     let rest = match frame.body {
         Body::GetStamp | Body::Ack | Body::Read | Body::ReadComplete => rest,
-        Body::Stamp { time } | Body::Time { time, .. } => put(rest, &time.to_be_bytes()),
-        Body::Block { digests, block, .. } => put(put(rest, digests), block),
+        Body::Stamp { time } => put(rest, &time.to_be_bytes()),
+        Body::Block { time, digests, block, .. } => put(put(put(rest, &time.to_be_bytes()), digests), block),
         Body::Value { stamp, digests, block } => {
             let rest = put(rest, &stamp.time.to_be_bytes());
             let rest = put(rest, &[stamp.writer]);
@@ -188,17 +190,45 @@ mod tests {
             Stamp { time: time.max(1), writer: random.range(1, 8) as u8, sequence }
         };
         let stage = random.pick(&[Stage::Send, Stage::Echo, Stage::Ready]);
-        let body = match random.below(8) {
+        let body = match random.below(7) {
             0 => Body::GetStamp,
             1 => Body::Stamp { time },
-            2 => Body::Block { stage, digests: &digests, block: &block },
-            3 => Body::Time { stage, time },
-            4 => Body::Ack,
-            5 => Body::Read,
-            6 => Body::Value { stamp, digests: &digests, block: &block },
+            2 => Body::Block { stage, time, digests: &digests, block: &block },
+            3 => Body::Ack,
+            4 => Body::Read,
+            5 => Body::Value { stamp, digests: &digests, block: &block },
             _ => Body::ReadComplete,
         };
         build(random.range(1, 8) as u8, (random.word() as u32).max(1), body)
+    }
+
+    /// Kinds 0, 6 to 8 and above 12 are 6, whatever client, sequence and body they have; the others are not.
+    #[test]
+    fn kinds_that_open() {
+        let p = Params::new(4, 1, 2, 3);
+        for kind in 0..=255u8 {
+            for (client, sequence, body) in [(2, 5, 0), (2, 5, 8), (0, 5, 0), (9, 5, 3), (2, 0, 138)] {
+                let mut bytes = vec![0, 7 + body, 1, kind, client, 0, 0, 0, sequence];
+                bytes.resize(9 + body as usize, 0);
+                let retired = kind == 0 || (6..=8).contains(&kind) || kind > 12;
+                assert_eq!(open(&p, &bytes) == Err(Refusal::Kind), retired, "kind {kind}, client {client}");
+            }
+        }
+    }
+
+    /// A frame of a write: the time stands before the digest list.
+    #[test]
+    fn block_frames() {
+        let p = Params::new(4, 1, 2, 3);
+        let (digests, block) = ([7; 128], [8, 9]);
+        for (stage, kind) in [(Stage::Send, 3), (Stage::Echo, 4), (Stage::Ready, 5)] {
+            let body = Body::Block { stage, time: 0x0102030405060708, digests: &digests, block: &block };
+            let mut bytes = vec![0, 145, 1, kind, 2, 0, 0, 0, 5, 1, 2, 3, 4, 5, 6, 7, 8];
+            bytes.extend(digests);
+            bytes.extend(block);
+            assert_eq!(build(2, 5, body), bytes);
+            assert_eq!(open(&p, &bytes), Ok(Frame { client: 2, sequence: 5, body }));
+        }
     }
 
     /// Frames read back to what was written, and what opens is written the same again.

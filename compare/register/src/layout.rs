@@ -1,9 +1,9 @@
 //! The records of `flat` as bytes of a fixed layout, as the static library's hosts lend them. Numbers are big-endian, a flag is one
 //! byte, a stamp is time (8), writer (1) and sequence (4).
 //!
-//! A server: its stamp, 9 slots, 9 readers. A slot: the open sequence (8); of blocks the flags sent, ready, complete, 11 of echoes
-//! and 11 of readies; of the time the flags sent, ready, delivered, the time (8), 11 flags of echoes and 11 of readies, and the times
-//! of both (11 of 8 each). A reader: the newest sequence (4), listening, the noted stamp.
+//! A server: its stamp, 9 slots, 9 readers. A slot: the open sequence (8); the flags sent, ready, complete; the time of the complete
+//! write (8); 11 flags of echoes and 11 of readies; the times of both (11 of 8 each). A reader: the newest sequence (4), listening, the
+//! noted stamp.
 //!
 //! A client: writes and reads (4 each), out of stamps, the open operation (0 none, 1 awaits stamps, 2 awaits acks, 3 read), 11 flags
 //! of servers counted, their 11 times, and 11 rows, each a count (8) and 4 stamps.
@@ -12,21 +12,23 @@
 //! client's reader at most: the client's scope.
 
 use crate::client::KEPT;
-use crate::flat::{BlockPart, Client, Operation, Reader, Server, Slot, TimePart, DESKS, SEATS};
+use crate::flat::{Client, Operation, Reader, Server, Slot, DESKS, SEATS};
 use crate::frame::Stamp;
 
-pub const SERVER: usize = 2353;
+pub const SERVER: usize = reader_at(DESKS);
 pub const CLIENT: usize = 769;
 pub const STAMP: usize = 13;
+const SLOT: usize = 8 + 3 + 8 + 2 * SEATS + 2 * 8 * SEATS;
+const READER: usize = 4 + 1 + STAMP;
 
-/// Where a client's slot begins in a server's record.
+/// Where a client's slot begins in a server's record: behind the stamp.
 const fn slot_at(client: usize) -> usize {
-    13 + 242 * client
+    STAMP + SLOT * client
 }
 
 /// Where a client's reader begins: behind all slots.
 const fn reader_at(client: usize) -> usize {
-    slot_at(DESKS) + 18 * client
+    slot_at(DESKS) + READER * client
 }
 
 /// What is still to be read.
@@ -66,23 +68,14 @@ impl Source<'_> {
     fn slot(&mut self) -> Slot {
         Slot {
             open: self.eight(),
-            blocks: BlockPart {
-                sent: self.flag(),
-                ready: self.flag(),
-                complete: self.flag(),
-                echoes: self.flags(),
-                readies: self.flags(),
-            },
-            times: TimePart {
-                sent: self.flag(),
-                ready: self.flag(),
-                delivered: self.flag(),
-                time: self.eight(),
-                echoes: self.flags(),
-                readies: self.flags(),
-                echo_times: self.times(),
-                ready_times: self.times(),
-            },
+            sent: self.flag(),
+            ready: self.flag(),
+            complete: self.flag(),
+            time: self.eight(),
+            echoes: self.flags(),
+            readies: self.flags(),
+            echo_times: self.times(),
+            ready_times: self.times(),
         }
     }
 
@@ -120,17 +113,13 @@ impl Target<'_> {
     }
 
     fn slot(&mut self, slot: &Slot) {
-        let Slot { open, blocks, times } = slot;
-        self.put(open.to_be_bytes());
-        self.put([blocks.sent as u8, blocks.ready as u8, blocks.complete as u8]);
-        self.flags(&blocks.echoes);
-        self.flags(&blocks.readies);
-        self.put([times.sent as u8, times.ready as u8, times.delivered as u8]);
-        self.put(times.time.to_be_bytes());
-        self.flags(&times.echoes);
-        self.flags(&times.readies);
-        self.times(&times.echo_times);
-        self.times(&times.ready_times);
+        self.put(slot.open.to_be_bytes());
+        self.put([slot.sent as u8, slot.ready as u8, slot.complete as u8]);
+        self.put(slot.time.to_be_bytes());
+        self.flags(&slot.echoes);
+        self.flags(&slot.readies);
+        self.times(&slot.echo_times);
+        self.times(&slot.ready_times);
     }
 
     fn reader(&mut self, reader: &Reader) {
@@ -236,6 +225,12 @@ mod tests {
     use super::*;
     use crate::random::Random;
 
+    /// The sizes that docs/PROTOCOL.md names.
+    #[test]
+    fn sizes() {
+        assert_eq!((SLOT, READER, SERVER), (217, 18, 2128));
+    }
+
     /// Bytes that a record wrote are read back to it and written again, and a record's bytes fill its size.
     #[test]
     fn written_and_read() {
@@ -269,9 +264,9 @@ mod tests {
             let (mut canonical, mut bytes) = (vec![0; SERVER], given.clone());
             put_server(&whole, &mut canonical);
             put_scope(&scope, client, &mut bytes);
-            let (slot, reader) = (13 + 242 * client, 2191 + 18 * client);
+            let (slot, reader) = (13 + 217 * client, 1966 + 18 * client);
             for i in 0..SERVER {
-                let own = i < 13 || (slot..slot + 242).contains(&i) || (reader..reader + 18).contains(&i);
+                let own = i < 13 || (slot..slot + 217).contains(&i) || (reader..reader + 18).contains(&i);
                 assert_eq!(bytes[i], if own { canonical[i] } else { given[i] }, "client {client}, byte {i}");
             }
         }

@@ -1,9 +1,7 @@
-//! A second, independent implementation of the register of document 01, written from the
-//! documents. `server` and `client` follow the text with ordinary data structures; `flat` does
-//! the same steps on fixed arrays and lent areas, without allocation.
-
-// Thresholds read as the documents have them: t + 1, 2t + 1.
-#![allow(clippy::int_plus_one)]
+//! A second, independent implementation of the register of document 01, with the requests of
+//! document 02 that have landed, written from the documents. `server` and `client` follow the
+//! text with ordinary data structures; `flat` does the same steps on fixed arrays and lent areas,
+//! without allocation.
 
 pub mod accession;
 pub mod any;

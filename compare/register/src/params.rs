@@ -63,7 +63,7 @@ impl Refusal {
             Refusal::ValueLength => "L out of bounds, or a value not L long",
             Refusal::FrameLength => "a frame under 9 bytes, or its length field wrong",
             Refusal::Version => "version not 1",
-            Refusal::Kind => "kind not 1 to 12",
+            Refusal::Kind => "kind not 1 to 5 or 9 to 12",
             Refusal::Operation => "client not 1 to 8, or sequence 0",
             Refusal::BodyLength => "body length wrong for the kind",
             Refusal::Parts => "stamp parts mixed, or blocks that cannot be decoded",
@@ -184,7 +184,7 @@ impl Params {
     }
 
     pub fn client_room(&self) -> usize {
-        2 * self.n * self.largest()
+        self.n * self.largest()
     }
 
     /// Every parameter set (n, t, k) with the given length.

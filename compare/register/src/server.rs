@@ -1,4 +1,5 @@
-//! The server, written for clarity: what document 01, "Steps", says, with ordinary collections.
+//! The server, written for clarity: what document 01, "Steps", and request F-4 say, with ordinary
+//! collections.
 
 use crate::blocks::{decode, encoded};
 use crate::frame::{build, open, Body, Frame, Stage, Stamp};
@@ -14,37 +15,49 @@ pub struct Dispersed {
     pub block: Vec<u8>,
 }
 
+/// What a frame of kinds 3, 4 and 5 says of a write: a time, and a digest list with a block.
+#[derive(Clone, Debug, PartialEq, Eq)]
+pub struct Proposal {
+    pub time: u64,
+    pub dispersed: Dispersed,
+}
+
+/// What frames of one group have in common.
+#[derive(Clone, Copy)]
+struct Group<'a> {
+    time: u64,
+    digests: &'a [u8],
+}
+
+impl Group<'_> {
+    fn has(&self, kept: &Proposal, variant: Variant) -> bool {
+        (kept.time == self.time || variant == Variant::ListAlone)
+            && (kept.dispersed.digests == self.digests || variant == Variant::TimeAlone)
+    }
+}
+
 /// What a server keeps of one client's open write.
 #[derive(Clone, Debug, PartialEq, Eq)]
 pub struct Slot {
     /// The open sequence; 2^32 when none is open.
     pub open: u64,
-    pub block_sent: bool,
-    pub echoes: BTreeMap<usize, Dispersed>,
-    pub readies: BTreeMap<usize, Dispersed>,
-    pub block_ready: bool,
-    pub complete: Option<Dispersed>,
-    pub time_sent: bool,
-    pub time_echoes: BTreeMap<usize, u64>,
-    pub time_readies: BTreeMap<usize, u64>,
-    pub time_ready: bool,
-    pub delivered: Option<u64>,
+    /// The time of the counted kind 3.
+    pub sent: Option<u64>,
+    pub echoes: BTreeMap<usize, Proposal>,
+    pub readies: BTreeMap<usize, Proposal>,
+    pub ready: bool,
+    pub complete: Option<Proposal>,
 }
 
 impl Slot {
     fn fresh(open: u64) -> Slot {
         Slot {
             open,
-            block_sent: false,
+            sent: None,
             echoes: BTreeMap::new(),
             readies: BTreeMap::new(),
-            block_ready: false,
+            ready: false,
             complete: None,
-            time_sent: false,
-            time_echoes: BTreeMap::new(),
-            time_readies: BTreeMap::new(),
-            time_ready: false,
-            delivered: None,
         }
     }
 }
@@ -127,13 +140,10 @@ impl Server {
         let (Party::Client(number) | Party::Server(number)) = from;
         match frame.body {
             Body::GetStamp => Ok(self.get_stamp(&frame)),
-            Body::Block { stage, digests, block } => {
+            Body::Block { stage, time, digests, block } => {
                 self.check_broadcast(&frame, stage, number)?;
-                self.block_step(&frame, stage, number, digests, block)
-            }
-            Body::Time { stage, time } => {
-                self.check_broadcast(&frame, stage, number)?;
-                Ok(self.time_step(&frame, stage, number, time))
+                let dispersed = Dispersed { digests: digests.to_vec(), block: block.to_vec() };
+                self.broadcast_step(&frame, stage, number, Proposal { time, dispersed })
             }
             Body::Read => self.read(&frame),
             Body::ReadComplete => self.read_complete(&frame),
@@ -146,13 +156,8 @@ impl Server {
         use Stage::*;
         let right = match (frame.body, from) {
             (Body::GetStamp | Body::Read | Body::ReadComplete, Party::Client(c))
-            | (Body::Block { stage: Send, .. } | Body::Time { stage: Send, .. }, Party::Client(c)) => {
-                c == frame.client as usize
-            }
-            (
-                Body::Block { stage: Echo | Ready, .. } | Body::Time { stage: Echo | Ready, .. },
-                Party::Server(j),
-            ) => 1 <= j && j <= self.p.n,
+            | (Body::Block { stage: Send, .. }, Party::Client(c)) => c == frame.client as usize,
+            (Body::Block { stage: Echo | Ready, .. }, Party::Server(j)) => 1 <= j && j <= self.p.n,
             _ => false,
         };
         if right {
@@ -166,7 +171,7 @@ impl Server {
         &mut self.slots[client as usize - 1]
     }
 
-    /// Refusals 12 and 13 of kinds 3 to 8.
+    /// Refusals 12 and 13 of kinds 3 to 5.
     fn check_broadcast(&mut self, frame: &Frame, stage: Stage, from: usize) -> Result<(), Refusal> {
         let variant = self.variant;
         let slot = self.slot(frame.client);
@@ -180,13 +185,10 @@ impl Server {
         if sequence > slot.open {
             return Err(Refusal::Early);
         }
-        let again = match (frame.body, stage) {
-            (Body::Block { .. }, Stage::Send) => slot.block_sent,
-            (Body::Block { .. }, Stage::Echo) => slot.echoes.contains_key(&from),
-            (Body::Block { .. }, Stage::Ready) => slot.readies.contains_key(&from),
-            (_, Stage::Send) => slot.time_sent,
-            (_, Stage::Echo) => slot.time_echoes.contains_key(&from),
-            (_, Stage::Ready) => slot.time_readies.contains_key(&from),
+        let again = match stage {
+            Stage::Send => slot.sent.is_some(),
+            Stage::Echo => slot.echoes.contains_key(&from),
+            Stage::Ready => slot.readies.contains_key(&from),
         };
         if again {
             return Err(Refusal::Old);
@@ -199,124 +201,95 @@ impl Server {
         (1..=self.p.n).map(|j| Send { to: Party::Server(j), frame: bytes.clone() }).collect()
     }
 
-    fn block_step(
+    fn broadcast_step(
         &mut self,
         frame: &Frame,
         stage: Stage,
         from: usize,
-        digests: &[u8],
-        block: &[u8],
+        said: Proposal,
     ) -> Result<Step, Refusal> {
+        let Dispersed { digests, block } = &said.dispersed;
         let place = if stage == Stage::Send { self.own } else { from };
         if digest(block) != digest_at(digests, place) {
             return Err(Refusal::Digest);
         }
         let silent = self.variant == Variant::LateSendSilent;
-        let kept = Dispersed { digests: digests.to_vec(), block: block.to_vec() };
         let slot = self.slot(frame.client);
         match stage {
             Stage::Send => {
-                slot.block_sent = true;
-                if silent && slot.block_ready {
+                slot.sent = Some(said.time);
+                if silent && slot.ready {
                     return Ok(Step::default());
                 }
-                let echo = Body::Block { stage: Stage::Echo, digests, block };
+                let echo = Body::Block { stage: Stage::Echo, time: said.time, digests, block };
                 return Ok(Step { sends: self.to_all(frame, echo), accepted: None });
             }
-            Stage::Echo => slot.echoes.insert(from, kept),
-            Stage::Ready => slot.readies.insert(from, kept),
+            Stage::Echo => slot.echoes.insert(from, said.clone()),
+            Stage::Ready => slot.readies.insert(from, said.clone()),
         };
-        Ok(self.compare_list(frame, digests))
+        Ok(self.compare_group(frame, Group { time: said.time, digests }))
     }
 
-    /// What a counted echo or ready with this digest list brings about.
-    fn compare_list(&mut self, frame: &Frame, digests: &[u8]) -> Step {
+    /// What a counted echo or ready of this group brings about.
+    fn compare_group(&mut self, frame: &Frame, group: Group) -> Step {
         let p = self.p;
+        let variant = self.variant;
+        let Group { time, digests } = group;
         let slot = &self.slots[frame.client as usize - 1];
-        let with_list = |kept: &BTreeMap<usize, Dispersed>| -> Vec<(usize, Vec<u8>)> {
-            let chosen = kept.iter().filter(|(_, d)| d.digests == digests);
-            chosen.map(|(&j, d)| (j, d.block.clone())).collect()
+        let of_group = |kept: &BTreeMap<usize, Proposal>| -> Vec<(usize, Vec<u8>)> {
+            let chosen = kept.iter().filter(|(_, said)| group.has(said, variant));
+            chosen.map(|(&j, said)| (j, said.dispersed.block.clone())).collect()
         };
-        let echoes = with_list(&slot.echoes);
-        let readies = with_list(&slot.readies);
-        let enough_echoes = match self.variant {
+        let echoes = of_group(&slot.echoes);
+        let readies = of_group(&slot.readies);
+        let enough_echoes = match variant {
             Variant::FewEchoes => p.n - 2 * p.t,
             _ => p.most(),
         };
         if echoes.len() < enough_echoes && readies.len() < p.q() {
             return Step::default();
         }
-        let group = if readies.len() >= p.q() { &readies } else { &echoes };
-        let lowest: Vec<(usize, &[u8])> = group.iter().take(p.k).map(|(j, block)| (*j, &block[..])).collect();
+        let chosen = if readies.len() >= p.q() { &readies } else { &echoes };
+        let lowest: Vec<(usize, &[u8])> =
+            chosen.iter().take(p.k).map(|(j, block)| (*j, &block[..])).collect();
         let mut value = vec![0; p.l];
         decode(&p, &lowest, &mut value).expect("k different senders");
         let blocks = encoded(&p, &value);
-        if digest_list(&blocks) != digests && self.variant != Variant::NoCompare {
+        if digest_list(&blocks) != digests && variant != Variant::NoCompare {
             return Step::default();
         }
         let mut block = blocks[self.own - 1].clone();
-        if self.variant == Variant::NoCompare {
-            // The block that goes with the list, if this server has it.
-            if let Some(d) = slot.echoes.get(&self.own).filter(|d| d.digests == digests) {
-                block = d.block.clone();
+        if variant == Variant::NoCompare {
+            // The block that goes with the group, if this server has it.
+            if let Some(said) = slot.echoes.get(&self.own).filter(|said| group.has(said, variant)) {
+                block = said.dispersed.block.clone();
             }
         }
         let own = Dispersed { digests: digests.to_vec(), block };
-        let complete = readies.len() >= p.q() + p.t;
+        let enough_readies = match variant {
+            Variant::FewReadies => p.q(),
+            _ => p.q() + p.t,
+        };
+        let complete = readies.len() >= enough_readies;
         let mut step = Step::default();
-        if !slot.block_ready {
-            let ready = Body::Block { stage: Stage::Ready, digests, block: &own.block };
+        if !slot.ready {
+            let ready = Body::Block { stage: Stage::Ready, time, digests, block: &own.block };
             step.sends = self.to_all(frame, ready);
         }
         let slot = self.slot(frame.client);
-        slot.block_ready = true;
+        slot.ready = true;
         if complete && slot.complete.is_none() {
-            slot.complete = Some(own);
+            let time = slot.sent.filter(|_| variant == Variant::SentTime).unwrap_or(time);
+            slot.complete = Some(Proposal { time, dispersed: own });
         }
         self.accept(frame, &mut step);
         step
     }
 
-    fn time_step(&mut self, frame: &Frame, stage: Stage, from: usize, time: u64) -> Step {
-        let p = self.p;
-        let variant = self.variant;
-        let slot = self.slot(frame.client);
-        match stage {
-            Stage::Send => {
-                slot.time_sent = true;
-                if variant == Variant::LateSendSilent && slot.time_ready {
-                    return Step::default();
-                }
-                let echo = Body::Time { stage: Stage::Echo, time };
-                return Step { sends: self.to_all(frame, echo), accepted: None };
-            }
-            Stage::Echo => slot.time_echoes.insert(from, time),
-            Stage::Ready => slot.time_readies.insert(from, time),
-        };
-        let equal = |kept: &BTreeMap<usize, u64>| kept.values().filter(|&&x| x == time).count();
-        let echoes = equal(&slot.time_echoes);
-        let readies = equal(&slot.time_readies);
-        let enough_echoes = match variant {
-            Variant::FewEchoes => p.n - 2 * p.t,
-            _ => p.most(),
-        };
-        let ready = !slot.time_ready && (echoes >= enough_echoes || readies >= p.t + 1);
-        slot.time_ready |= ready;
-        if readies >= 2 * p.t + 1 && slot.delivered.is_none() {
-            slot.delivered = Some(time);
-        }
-        let mut step = Step::default();
-        if ready {
-            step.sends = self.to_all(frame, Body::Time { stage: Stage::Ready, time });
-        }
-        self.accept(frame, &mut step);
-        step
-    }
-
-    /// Acceptance, if both parts are done and the time is below 2^64 − 1.
+    /// Acceptance, if the write is complete and its time is below 2^64 − 1.
     fn accept(&mut self, frame: &Frame, step: &mut Step) {
         let slot = &self.slots[frame.client as usize - 1];
-        let (Some(own), Some(time)) = (slot.complete.clone(), slot.delivered) else { return };
+        let Some(Proposal { time, dispersed: own }) = slot.complete.clone() else { return };
         let Some(time) = time.checked_add(1) else { return };
         let stamp = Stamp { time, writer: frame.client, sequence: frame.sequence };
         let replaced = stamp > self.stamp || self.variant == Variant::StampFalls;

@@ -3,7 +3,7 @@
 
 #[derive(Clone, Copy, Debug, PartialEq, Eq)]
 pub enum Variant {
-    /// Document 01's protocol.
+    /// The rules as they are.
     Right,
     /// Client: the (t + 1)th largest time in place of the largest.
     SmallerTime,
@@ -21,18 +21,26 @@ pub enum Variant {
     EarlyOpen,
     /// Server: ready without comparing the digests of the fresh encoding.
     NoCompare,
-    /// Server: ready at n − 2t equal echoes.
+    /// Server: ready at n − 2t echoes of a group.
     FewEchoes,
+    /// Server: complete at q readies of a group.
+    FewReadies,
+    /// Server: frames of equal digest lists are a group, whatever their times.
+    ListAlone,
+    /// Server: frames of equal times are a group, whatever their digest lists.
+    TimeAlone,
+    /// Server: a write is accepted with the time of the received kind 3, where one came.
+    SentTime,
     /// Server: a listener gets no value when its noted stamp is smaller.
     NoListeners,
     /// Server: an accepted write replaces a larger stamp.
     StampFalls,
-    /// Server: kinds 3 and 6 are not echoed after the own ready.
+    /// Server: kind 3 is not echoed after the own ready.
     LateSendSilent,
 }
 
 impl Variant {
-    pub const WRONG: [Variant; 12] = [
+    pub const WRONG: [Variant; 16] = [
         Variant::SmallerTime,
         Variant::StaleStamp,
         Variant::FewRows,
@@ -42,6 +50,10 @@ impl Variant {
         Variant::EarlyOpen,
         Variant::NoCompare,
         Variant::FewEchoes,
+        Variant::FewReadies,
+        Variant::ListAlone,
+        Variant::TimeAlone,
+        Variant::SentTime,
         Variant::NoListeners,
         Variant::StampFalls,
         Variant::LateSendSilent,

@@ -1,8 +1,8 @@
 //! Every input is answered: any parameters, own numbers, senders, frames and lent sizes. The number
 //! given is the lowest that applies, and a refusal leaves every lent byte.
 
-use register::any::{client_call, server_call, ClientAct};
-use register::flat::{Operation, ROWS_AREA};
+use register::any::{client_call, server_call, ClientAct, ServerCall};
+use register::flat::{Operation, Outcome, ROWS_AREA};
 use register::frame::{client_named, open};
 use register::layout::{put_scope, put_server, scope_in, server_in, SERVER};
 use register::random::Random;
@@ -12,6 +12,7 @@ use register::Refusal;
 fn servers() {
     let mut random = Random::new(7);
     let mut seen = [0; 20];
+    let (mut readies, mut accepted, mut completed) = (0, 0, 0);
     for round in 0..20_000 {
         let before = server_call(&mut random);
         let mut c = before.clone();
@@ -21,6 +22,12 @@ fn servers() {
         if number.is_some() {
             assert!(before == c, "round {round}");
         }
+        if let Ok(done) = answer {
+            let slot = |call: &ServerCall| call.server.slots[client_named(&call.frame)].complete;
+            readies += (done.frames >= c.p.n && c.out[3] == 5) as usize;
+            accepted += (done.outcome == Outcome::Accepted) as usize;
+            completed += (!slot(&before) && slot(&c)) as usize;
+        }
         let opening = || open(&c.p, &c.frame).err().map(Refusal::number);
         match c.bounds.or_else(opening).or(c.short.then_some(10)) {
             Some(lowest) => assert_eq!(number, Some(lowest), "round {round}"),
@@ -29,6 +36,8 @@ fn servers() {
         seen[number.unwrap_or(0) as usize] += 1;
     }
     assert!((0..=14).all(|n| seen[n] > 0), "{seen:?}");
+    // Groups are found: readies go out, writes are accepted, or complete with a time that is not.
+    assert!(readies > 500 && accepted > 500 && completed > 50, "{readies}, {accepted}, {completed}");
 }
 
 /// A server's step on the scope of the client that the frame names is the step on the whole record.
@@ -64,7 +73,7 @@ fn clients() {
         let writing = matches!(c.client.operation, Operation::Stamps | Operation::Acks);
         let open_operation = (c.client.operation != Operation::None).then_some(15);
         let wrong_length = (c.written.len() != c.sane.l).then_some(3);
-        let short = c.out.len() < c.sane.client_room() || c.to.len() < 4 * c.sane.n;
+        let short = c.out.len() < c.sane.client_room() || c.to.len() < 2 * c.sane.n;
         let short_begin = short.then_some(10);
         let (number, lowest, exact) = match c.act {
             ClientAct::Read => {

@@ -87,6 +87,18 @@ fn examples_of_the_table() {
     assert_eq!(to_server(owner, &with(|f| f[2] = 2)), Err(5));
     assert_eq!(to_server(owner, &with(|f| f[3] = 13)), Err(6));
     assert_eq!(to_server(owner, &with(|f| f[3] = 0)), Err(6));
+    // Retired kinds are 6 before 7 and 8, from anybody.
+    for kind in 6..=8 {
+        for change in [|_: &mut Vec<u8>| (), |f: &mut Vec<u8>| f[4] = 9, |f: &mut Vec<u8>| f[8] = 0] {
+            let frame = with(|f| {
+                f[3] = kind;
+                change(f);
+            });
+            for from in [owner, Party::Client(9), Party::Server(2)] {
+                assert_eq!(to_server(from, &frame), Err(6));
+            }
+        }
+    }
     assert_eq!(to_server(owner, &with(|f| f[4] = 0)), Err(7));
     assert_eq!(to_server(owner, &with(|f| f[4] = 9)), Err(7));
     assert_eq!(to_server(owner, &with(|f| f[8] = 0)), Err(7));
@@ -113,14 +125,15 @@ fn examples_of_the_table() {
     assert_eq!(to_server(Party::Server(2), &GET_STAMP), Err(11));
     let initial = blocks::encoded(&P, &INITIAL);
     let digests = digest_list(&initial);
-    let block =
-        |stage, j: usize| build(2, 1, Body::Block { stage, digests: &digests, block: &initial[j - 1] });
+    let block = |stage, j: usize| {
+        build(2, 1, Body::Block { stage, time: 4, digests: &digests, block: &initial[j - 1] })
+    };
     assert_eq!(to_server(owner, &block(Stage::Echo, 2)), Err(11));
     assert_eq!(to_server(Party::Server(5), &block(Stage::Echo, 2)), Err(11));
     assert_eq!(to_server(Party::Server(0), &block(Stage::Echo, 2)), Err(11));
     assert_eq!(to_server(Party::Server(2), &block(Stage::Send, 2)), Err(11));
     // 13 before 14, 14.
-    let later = build(2, 2, Body::Block { stage: Stage::Send, digests: &digests, block: &[9; 2] });
+    let later = build(2, 2, Body::Block { stage: Stage::Send, time: 4, digests: &digests, block: &[9; 2] });
     assert_eq!(to_server(owner, &later), Err(13));
     assert_eq!(to_server(owner, &block(Stage::Send, 1)), Ok(4));
     assert_eq!(to_server(owner, &block(Stage::Send, 2)), Err(14));
@@ -161,7 +174,9 @@ fn old_frames_at_a_server() {
     assert_eq!(deliver(Body::Read, 6), old);
     assert_eq!(deliver(Body::Read, 5), old);
     assert_eq!(deliver(Body::Read, 7), Ok(1));
-    let send = |time| Body::Time { stage: Stage::Send, time };
+    let initial = blocks::encoded(&P, &INITIAL);
+    let digests = digest_list(&initial);
+    let send = |time| Body::Block { stage: Stage::Send, time, digests: &digests, block: &initial[0] };
     assert_eq!(deliver(send(7), 2), Err(Refusal::Early));
     assert_eq!(deliver(send(7), 1), Ok(4));
     assert_eq!(deliver(send(8), 1), old);
@@ -197,12 +212,11 @@ fn a_clients_write() {
     let step = client.deliver(Party::Server(4), &frame, &[7, 8, 9], room).unwrap();
     let blocks = blocks::encoded(&P, &[7, 8, 9]);
     let digests = digest_list(&blocks);
+    assert_eq!(step.sends.len(), 4);
     for j in 1..=4 {
-        let block = Body::Block { stage: Stage::Send, digests: &digests, block: &blocks[j - 1] };
+        let block = Body::Block { stage: Stage::Send, time: 9, digests: &digests, block: &blocks[j - 1] };
         assert_eq!(step.sends[j - 1].to, Party::Server(j));
         assert_eq!(step.sends[j - 1].frame, build(3, 1, block));
-        assert_eq!(step.sends[j + 3].to, Party::Server(j));
-        assert_eq!(step.sends[j + 3].frame, build(3, 1, Body::Time { stage: Stage::Send, time: 9 }));
     }
     assert_eq!(deliver(&mut client, 3, stamp(4), 1), old);
     assert_eq!(deliver(&mut client, 3, Body::Ack, 1), Ok(Outcome::Going));
@@ -265,86 +279,209 @@ fn rows_keep_the_four_largest() {
     assert_eq!(value(3, 6), Err(Refusal::Old));
 }
 
-/// A delivered time of 2^64 − 1 is never accepted; one less is, with the largest stamp.
+/// A write as servers echo and confirm it: its blocks with their digest list.
+struct Spread {
+    blocks: Vec<Vec<u8>>,
+    digests: Vec<u8>,
+}
+
+fn spread(p: &Params, value: &[u8]) -> Spread {
+    let blocks = blocks::encoded(p, value);
+    Spread { digests: digest_list(&blocks), blocks }
+}
+
+impl Spread {
+    /// Server j's frame of client 2's write.
+    fn frame(&self, stage: Stage, j: usize, sequence: u32, time: u64) -> Vec<u8> {
+        let body = Body::Block { stage, time, digests: &self.digests, block: &self.blocks[j - 1] };
+        build(2, sequence, body)
+    }
+}
+
+/// A server in both styles, which agree on the frames sent.
+struct Both {
+    p: Params,
+    own: usize,
+    clear: Server,
+    flat: flat::Server,
+    area: Vec<u8>,
+    initial: Vec<u8>,
+}
+
+impl Both {
+    fn fresh(p: Params, own: usize) -> Both {
+        let value = vec![0; p.l];
+        let (mut area, mut initial) = (vec![0xaa; flat::STATE_AREA], vec![0xbb; p.block()]);
+        let flat = flat::Server::fresh(&p, own, &value, &mut initial, &mut area).unwrap();
+        Both { p, own, clear: Server::fresh(p, own, &value).unwrap(), flat, area, initial }
+    }
+
+    /// The frames that a frame makes the server send, or the refusal's number.
+    fn deliver(&mut self, from: Party, frame: &[u8]) -> Result<Vec<(Party, Vec<u8>)>, u8> {
+        let (room, p) = (self.p.server_room(), self.p);
+        let (mut out, mut to) = (vec![0; room], vec![0; 2 * (p.n + 9)]);
+        let (initial, area) = (&self.initial, &mut self.area);
+        let flat = self.flat.deliver(&p, self.own, initial, area, from, frame, &mut out, &mut to);
+        let clear = self.clear.deliver(from, frame, room).map_err(Refusal::number);
+        let sends = clear.map(|step| step.sends.into_iter().map(|s| (s.to, s.frame)).collect::<Vec<_>>());
+        assert_eq!(flat.map(|done| done.frames).map_err(Refusal::number), sends.clone().map(|s| s.len()));
+        let bytes: Vec<u8> = sends.iter().flatten().flat_map(|(_, frame)| frame.clone()).collect();
+        assert_eq!(out[..bytes.len()], bytes);
+        sends
+    }
+
+    /// How many frames server j's frame makes the server send.
+    fn from(&mut self, j: usize, frame: &[u8]) -> usize {
+        self.deliver(Party::Server(j), frame).unwrap().len()
+    }
+
+    /// The open sequence of client 2's slot, and the time if its write is complete.
+    fn slot(&self) -> (u64, Option<u64>) {
+        let (clear, flat) = (&self.clear.slots[1], &self.flat.slots[2]);
+        let complete = clear.complete.as_ref().map(|c| c.time);
+        assert_eq!((clear.open, complete), (flat.open, flat.complete.then_some(flat.time)));
+        (clear.open, complete)
+    }
+}
+
+/// A completed time of 2^64 − 1 is never accepted, and the server goes on counting; one less is, with the largest stamp.
 #[test]
 fn largest_times() {
     for (time, accepted) in [(u64::MAX - 1, true), (u64::MAX, false)] {
-        let mut server = Server::fresh(P, 1, &INITIAL).unwrap();
-        let blocks = blocks::encoded(&P, &[7, 8, 9]);
-        let digests = digest_list(&blocks);
-        let mut last = None;
-        for j in 2..=4 {
-            let body = Body::Block { stage: Stage::Ready, digests: &digests, block: &blocks[j - 1] };
-            let frames = [build(2, 1, body), build(2, 1, Body::Time { stage: Stage::Ready, time })];
-            for frame in frames {
-                last = server.deliver(Party::Server(j), &frame, P.server_room()).unwrap().accepted;
-            }
+        let mut server = Both::fresh(P, 1);
+        let write = spread(&P, &[7, 8, 9]);
+        for (j, sent) in [(2, 0), (3, 4), (4, accepted as usize)] {
+            assert_eq!(server.from(j, &write.frame(Stage::Ready, j, 1, time)), sent);
         }
-        assert_eq!(last.map(|a| a.stamp.time), accepted.then_some(u64::MAX));
-        assert_eq!(server.slots[1].open, if accepted { 2 } else { 1 });
+        assert_eq!(server.clear.stamp.time, if accepted { u64::MAX } else { 0 });
+        assert_eq!(server.slot(), if accepted { (2, None) } else { (1, Some(u64::MAX)) });
+        if accepted {
+            continue;
+        }
+        // Echoes, readies and the kind 3 of that sequence still count, of any group; completion stands.
+        let other = spread(&P, &[1, 1, 1]);
+        for j in 1..=4 {
+            assert_eq!(server.from(j, &other.frame(Stage::Echo, j, 1, 5)), 0);
+        }
+        assert_eq!(server.from(1, &other.frame(Stage::Ready, 1, 1, 5)), 0);
+        assert_eq!(server.deliver(Party::Client(2), &other.frame(Stage::Send, 1, 1, 5)).unwrap().len(), 4);
+        assert_eq!(server.deliver(Party::Client(2), &other.frame(Stage::Send, 1, 1, 5)), Err(12));
+        assert_eq!(server.deliver(Party::Server(1), &write.frame(Stage::Ready, 1, 1, time)), Err(12));
+        assert_eq!(server.deliver(Party::Client(2), &other.frame(Stage::Send, 1, 2, 5)), Err(13));
+        assert_eq!(server.slot(), (1, Some(u64::MAX)));
     }
+}
+
+/// A group is frames of equal time and digest list.
+#[test]
+fn groups() {
+    let (write, other) = (spread(&P, &[7, 8, 9]), spread(&P, &[7, 8, 1]));
+    for stage in [Stage::Echo, Stage::Ready] {
+        // Equal lists, other times.
+        let mut server = Both::fresh(P, 1);
+        for j in 1..=4 {
+            assert_eq!(server.from(j, &write.frame(stage, j, 1, j as u64)), 0);
+        }
+        // Equal times, other lists: two servers each, which makes a group of readies and none of echoes.
+        let mut server = Both::fresh(P, 1);
+        let sent: Vec<usize> = (1..=4)
+            .map(|j| server.from(j, &if j % 2 == 1 { &write } else { &other }.frame(stage, j, 1, 5)))
+            .collect();
+        assert_eq!(sent, if stage == Stage::Echo { [0, 0, 0, 0] } else { [0, 0, 4, 0] });
+        // Both equal: a ready at n - t echoes or q readies, acceptance at q + t readies.
+        let mut server = Both::fresh(P, 1);
+        let sent: Vec<usize> = (1..=3).map(|j| server.from(j, &write.frame(stage, j, 1, 5))).collect();
+        assert_eq!(sent, if stage == Stage::Echo { [0, 0, 4] } else { [0, 4, 1] });
+    }
+}
+
+/// An echo and a ready of one server in different groups both count.
+#[test]
+fn echo_and_ready_in_two_groups() {
+    let (write, other) = (spread(&P, &[7, 8, 9]), spread(&P, &[7, 8, 1]));
+    let mut server = Both::fresh(P, 1);
+    for j in 2..=3 {
+        assert_eq!(server.from(j, &other.frame(Stage::Ready, j, 1, 6)), if j == 3 { 4 } else { 0 });
+    }
+    // The echoes of the first group are kept beside: with all of them the comparison is made, but the ready is out.
+    for j in 2..=4 {
+        assert_eq!(server.from(j, &write.frame(Stage::Echo, j, 1, 5)), 0);
+    }
+    assert_eq!(server.slot(), (1, None));
+    assert_eq!(server.from(4, &other.frame(Stage::Ready, 4, 1, 6)), 1);
+    assert_eq!(server.clear.stamp, Stamp { time: 7, writer: 2, sequence: 1 });
+    // The other way round: echoes of one group send the ready, readies of the other complete it.
+    let mut server = Both::fresh(P, 1);
+    let sent: Vec<usize> = (2..=4).map(|j| server.from(j, &write.frame(Stage::Echo, j, 1, 5))).collect();
+    assert_eq!(sent, [0, 0, 4]);
+    let sent: Vec<usize> = (2..=4).map(|j| server.from(j, &other.frame(Stage::Ready, j, 1, 6))).collect();
+    assert_eq!(sent, [0, 0, 1]);
+    assert_eq!(server.clear.present.digests, other.digests);
+    assert_eq!(server.clear.stamp.time, 7);
+}
+
+/// The accepted time is the group's, not that of the kind 3 that came.
+#[test]
+fn time_of_the_group() {
+    let write = spread(&P, &[7, 8, 9]);
+    let mut server = Both::fresh(P, 1);
+    let echo = server.deliver(Party::Client(2), &write.frame(Stage::Send, 1, 1, 9)).unwrap();
+    assert_eq!(echo[0].1, write.frame(Stage::Echo, 1, 1, 9));
+    for j in 2..=4 {
+        server.from(j, &write.frame(Stage::Ready, j, 1, 5));
+    }
+    assert_eq!(server.clear.stamp, Stamp { time: 6, writer: 2, sequence: 1 });
+}
+
+/// Completion needs q + t readies of the group: more than 2t + 1 where k is large.
+#[test]
+fn completion_at_q_and_t() {
+    // n = 10, t = 1, k = 8: q = 8, so 9 readies, where 2t + 1 = 3.
+    let p = Params::new(10, 1, 8, 20);
+    let write = spread(&p, &[5; 20]);
+    let mut server = Both::fresh(p, 10);
+    let sent: Vec<usize> = (1..=9).map(|j| server.from(j, &write.frame(Stage::Ready, j, 1, 0))).collect();
+    assert_eq!(sent, [0, 0, 0, 0, 0, 0, 0, 10, 1]);
+    assert_eq!(server.slot(), (2, None));
 }
 
 /// After the last sequence was accepted none is open.
 #[test]
 fn last_sequence() {
-    let mut server = Server::fresh(P, 1, &INITIAL).unwrap();
-    server.slots[1].open = u32::MAX as u64;
-    let mut flat = lent(1);
-    flat.server.slots[2].open = u32::MAX as u64;
-    let blocks = blocks::encoded(&P, &[7, 8, 9]);
-    let digests = digest_list(&blocks);
+    let mut server = Both::fresh(P, 1);
+    (server.clear.slots[1].open, server.flat.slots[2].open) = (u32::MAX as u64, u32::MAX as u64);
+    let write = spread(&P, &[7, 8, 9]);
     for j in 2..=4 {
-        let body = Body::Block { stage: Stage::Ready, digests: &digests, block: &blocks[j - 1] };
-        let frames =
-            [build(2, u32::MAX, body), build(2, u32::MAX, Body::Time { stage: Stage::Ready, time: 0 })];
-        for frame in frames {
-            let one = server.deliver(Party::Server(j), &frame, P.server_room()).unwrap().sends.len();
-            let two = flat.deliver(P, 1, Party::Server(j), &frame, P.server_room());
-            assert_eq!(Ok(one), two);
-        }
+        server.from(j, &write.frame(Stage::Ready, j, u32::MAX, 0));
     }
-    assert_eq!(server.slots[1].open, flat::NONE_OPEN);
-    assert_eq!(flat.server.slots[2].open, flat::NONE_OPEN);
-    let frame = build(2, u32::MAX, Body::Time { stage: Stage::Ready, time: 0 });
-    assert_eq!(server.deliver(Party::Server(2), &frame, P.server_room()), Err(Refusal::Old));
-    assert_eq!(flat.deliver(P, 1, Party::Server(2), &frame, P.server_room()), Err(12));
+    assert_eq!(server.slot(), (flat::NONE_OPEN, None));
+    for stage in [Stage::Echo, Stage::Ready] {
+        let frame = write.frame(stage, 2, u32::MAX, 0);
+        assert_eq!(server.deliver(Party::Server(2), &frame), Err(12));
+    }
+    assert_eq!(server.deliver(Party::Client(2), &write.frame(Stage::Send, 1, u32::MAX, 0)), Err(12));
 }
 
-/// The order of the frames of one step: readies, values by rising client, the ack.
+/// The order of the frames of an acceptance: values by rising client, the ack.
 #[test]
 fn frames_of_an_acceptance() {
     // n = 7, t = 2, k = 3: completion needs q + t = 5 readies, the own ready goes at 3.
     let p = Params::new(7, 2, 3, 5);
-    let mut server = Server::fresh(p, 4, &[0; 5]).unwrap();
-    let room = p.server_room();
+    let mut server = Both::fresh(p, 4);
     for reader in [8, 1, 5] {
-        let frame = build(reader, 1, Body::Read);
-        server.deliver(Party::Client(reader as usize), &frame, room).unwrap();
+        server.deliver(Party::Client(reader as usize), &build(reader, 1, Body::Read)).unwrap();
     }
-    server.deliver(Party::Client(5), &build(5, 1, Body::ReadComplete), room).unwrap();
-    let blocks = blocks::encoded(&p, &[1, 2, 3, 4, 5]);
-    let digests = digest_list(&blocks);
-    let mut sent = Vec::new();
-    for j in 1..=5 {
-        let body = Body::Block { stage: Stage::Ready, digests: &digests, block: &blocks[j - 1] };
-        sent.push(server.deliver(Party::Server(j), &build(2, 1, body), room).unwrap().sends.len());
-    }
-    assert_eq!(sent, [0, 0, 7, 0, 0]);
-    let mut step = None;
-    for j in 1..=5 {
-        let body = Body::Time { stage: Stage::Ready, time: 0 };
-        step = Some(server.deliver(Party::Server(j), &build(2, 1, body), room).unwrap());
-    }
-    let step = step.unwrap();
+    server.deliver(Party::Client(5), &build(5, 1, Body::ReadComplete)).unwrap();
+    let write = spread(&p, &[1, 2, 3, 4, 5]);
+    let sent: Vec<usize> = (1..=4).map(|j| server.from(j, &write.frame(Stage::Ready, j, 1, 0))).collect();
+    assert_eq!(sent, [0, 0, 7, 0]);
     let stamp = Stamp { time: 1, writer: 2, sequence: 1 };
-    let value = Body::Value { stamp, digests: &digests, block: &blocks[3] };
-    let expected = [
+    let value = Body::Value { stamp, digests: &write.digests, block: &write.blocks[3] };
+    let expected = vec![
         (Party::Client(1), build(1, 1, value)),
         (Party::Client(8), build(8, 1, value)),
         (Party::Client(2), build(2, 1, Body::Ack)),
     ];
-    let sends: Vec<(Party, Vec<u8>)> = step.sends.into_iter().map(|s| (s.to, s.frame)).collect();
-    assert_eq!(sends, expected);
-    assert_eq!((server.stamp, server.slots[1].open), (stamp, 2));
+    assert_eq!(server.deliver(Party::Server(5), &write.frame(Stage::Ready, 5, 1, 0)), Ok(expected));
+    assert_eq!((server.clear.stamp, server.slot().0), (stamp, 2));
 }

@@ -224,29 +224,19 @@ impl Adversary {
         }
     }
 
-    /// Remembers the block and list of a write that was sent to a false server.
+    /// Remembers the time, list and block of a write that was sent to a false server.
     fn learn(&mut self, j: usize, frame: &Frame) {
-        if let Body::Block { stage: Stage::Send, digests, block } = frame.body {
+        if let Body::Block { stage: Stage::Send, time, digests, block } = frame.body {
+            let (client, sequence) = (frame.client, frame.sequence);
             let same = |k: &&mut Known| {
-                k.client == frame.client && k.sequence == frame.sequence && k.digests == digests
+                (k.client, k.sequence, k.time) == (client, sequence, time) && k.digests == digests
             };
             if let Some(known) = self.known.iter_mut().find(same) {
                 known.blocks.insert(j, block.to_vec());
                 return;
             }
-            self.known.push(Known {
-                client: frame.client,
-                sequence: frame.sequence,
-                digests: digests.to_vec(),
-                blocks: BTreeMap::from([(j, block.to_vec())]),
-                time: 0,
-            });
-        } else if let Body::Time { stage: Stage::Send, time } = frame.body {
-            for known in &mut self.known {
-                if known.client == frame.client && known.sequence == frame.sequence {
-                    known.time = time;
-                }
-            }
+            let blocks = BTreeMap::from([(j, block.to_vec())]);
+            self.known.push(Known { client, sequence, digests: digests.to_vec(), blocks, time });
         }
     }
 
@@ -456,7 +446,10 @@ impl Adversary {
         let blocks: Vec<Vec<Vec<u8>>> = (0..versions).map(|_| self.some_blocks(random)).collect();
         let lists: Vec<Vec<u8>> = blocks.iter().map(|b| digest_list(b)).collect();
         let times: Vec<u64> = (0..versions).map(|_| self.some_time(world, random)).collect();
+        // Two versions differ in value and time, in one of both, or not at all.
         let (one_value, one_time) = (random.chance(1, 3), random.chance(1, 3));
+        let parts =
+            |version| (if one_value { 0 } else { version }, times[if one_time { 0 } else { version }]);
         let reach = if random.chance(1, 3) { random.word() as u32 } else { u32::MAX };
         // Sometimes every server gets both versions, in turns.
         let rounds = if random.chance(1, 3) { versions } else { 1 };
@@ -466,21 +459,20 @@ impl Adversary {
                 continue;
             }
             let version = if versions == 2 { (split >> j & 1) as usize ^ round } else { 0 };
-            let v = if one_value { 0 } else { version };
-            let body = Body::Block { stage: Stage::Send, digests: &lists[v], block: &blocks[v][j - 1] };
-            let frame = build(client as u8, sequence, body);
-            self.put(world, Party::Client(client), Party::Server(j), frame);
-            let time = times[if one_time { 0 } else { version }];
-            let frame = build(client as u8, sequence, Body::Time { stage: Stage::Send, time });
+            let (v, time) = parts(version);
+            let (digests, block) = (&lists[v], &blocks[v][j - 1]);
+            let frame =
+                build(client as u8, sequence, Body::Block { stage: Stage::Send, time, digests, block });
             self.put(world, Party::Client(client), Party::Server(j), frame);
         }
-        for v in 0..versions {
+        for version in 0..versions {
+            let (v, time) = parts(version);
             self.known.push(Known {
                 client: client as u8,
                 sequence,
                 digests: lists[v].clone(),
                 blocks: (1..=self.p.n).map(|j| (j, blocks[v][j - 1].clone())).collect(),
-                time: times[v],
+                time,
             });
         }
     }
@@ -515,11 +507,9 @@ impl Adversary {
             for to in (1..=self.p.n).filter(|&to| receivers >> to & 1 == 1) {
                 for stage in [Stage::Echo, Stage::Ready] {
                     if let Some(block) = known.blocks.get(&j) {
-                        let body = Body::Block { stage, digests: &known.digests, block };
+                        let body = Body::Block { stage, time, digests: &known.digests, block };
                         frames.push((j, to, build(known.client, known.sequence, body)));
                     }
-                    let body = Body::Time { stage, time };
-                    frames.push((j, to, build(known.client, known.sequence, body)));
                 }
             }
         }

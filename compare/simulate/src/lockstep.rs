@@ -5,7 +5,7 @@ use crate::style::{Answer, Ended, Handed, OtherClient, OtherServer, Sending, Sty
 use register::client::{self, Client, Operation, Outcome};
 use register::flat::{self, CHUNK, ROWS_AREA, STATE_AREA};
 use register::frame::{open, Body, Stage};
-use register::server::{self, Dispersed, Server};
+use register::server::{self, Dispersed, Proposal, Server};
 use register::{Params, Party, Refusal, Send, Variant};
 
 /// What the unused bytes of lent areas hold.
@@ -113,7 +113,7 @@ impl ServerPair {
     fn expected_area(&self, mut area: Vec<u8>, from: Party, bytes: &[u8], step: &server::Step) -> Vec<u8> {
         let frame = open(&self.p, bytes).expect("a step's frame opens");
         let c = frame.client as usize;
-        if let (Body::Block { stage, digests, block }, Party::Server(j)) = (frame.body, from) {
+        if let (Body::Block { stage, digests, block, .. }, Party::Server(j)) = (frame.body, from) {
             let chunk = match stage {
                 Stage::Echo => flat::echo_chunk(c, j),
                 _ => flat::ready_chunk(c, j),
@@ -122,7 +122,7 @@ impl ServerPair {
         }
         let complete = match &step.accepted {
             Some(accepted) => Some(&accepted.own),
-            None => self.clear.slots[c - 1].complete.as_ref(),
+            None => self.clear.slots[c - 1].complete.as_ref().map(|complete| &complete.dispersed),
         };
         if let Some(Dispersed { digests, block }) = complete {
             flat::store(&mut area, flat::complete_chunk(c), digests, block);
@@ -145,25 +145,21 @@ impl ServerPair {
         }
         for c in 1..=8 {
             let (x, y) = (&a.slots[c - 1], &b.slots[c]);
-            let flags = x.open == y.open
-                && x.block_sent == y.blocks.sent
-                && x.block_ready == y.blocks.ready
-                && x.complete.is_some() == y.blocks.complete
-                && x.time_sent == y.times.sent
-                && x.time_ready == y.times.ready
-                && x.delivered == y.times.delivered.then_some(y.times.time);
+            let at = |time, chunk| {
+                let digests = flat::list_in(p, &lent.area, chunk).to_vec();
+                let block = flat::block_in(p, &lent.area, chunk).to_vec();
+                Proposal { time, dispersed: Dispersed { digests, block } }
+            };
+            let flags = x.open == y.open && x.sent.is_some() == y.sent && x.ready == y.ready;
+            let complete = y.complete.then(|| at(y.time, flat::complete_chunk(c)));
             let kept = (1..=p.n).all(|j| {
-                let at = |chunk| Dispersed {
-                    digests: flat::list_in(p, &lent.area, chunk).to_vec(),
-                    block: flat::block_in(p, &lent.area, chunk).to_vec(),
-                };
-                x.echoes.get(&j) == y.blocks.echoes[j].then(|| at(flat::echo_chunk(c, j))).as_ref()
-                    && x.readies.get(&j) == y.blocks.readies[j].then(|| at(flat::ready_chunk(c, j))).as_ref()
-                    && x.time_echoes.get(&j).copied() == y.times.echoes[j].then_some(y.times.echo_times[j])
-                    && x.time_readies.get(&j).copied() == y.times.readies[j].then_some(y.times.ready_times[j])
+                let echo = y.echoes[j].then(|| at(y.echo_times[j], flat::echo_chunk(c, j)));
+                let ready = y.readies[j].then(|| at(y.ready_times[j], flat::ready_chunk(c, j)));
+                x.echoes.get(&j) == echo.as_ref() && x.readies.get(&j) == ready.as_ref()
             });
             let (r, s) = (&a.readers[c - 1], &b.readers[c]);
-            if !flags || !kept || r.newest != s.newest || r.listening != s.listening.then_some(s.noted) {
+            let reader = r.newest == s.newest && r.listening == s.listening.then_some(s.noted);
+            if !flags || x.complete != complete || !kept || !reader {
                 return Err(format!("slot or reader of client {c}"));
             }
         }
@@ -302,7 +298,7 @@ impl ClientPair {
     }
 
     fn areas(&self, room: usize) -> (Vec<u8>, Vec<u8>) {
-        (pattern(room, self.own), pattern(4 * self.p.n + self.own % 2, self.own + 1))
+        (pattern(room, self.own), pattern(2 * self.p.n + self.own % 2, self.own + 1))
     }
 
     pub fn deliver(

@@ -66,7 +66,7 @@ enum Pick {
 struct Phase {
     /// Frames to or from these.
     held: Vec<Party>,
-    /// Frames of kinds 3 to 8 to these.
+    /// Frames of kinds 3 to 5 to these.
     lagging: Vec<Party>,
     /// Frames to clients from these.
     slow: Vec<Party>,
@@ -87,8 +87,9 @@ impl Phase {
     fn noisy(p: &Params, random: &mut Random) -> Phase {
         let most = if random.chance(1, 5) { p.n } else { p.t };
         let held = if random.chance(3, 5) { some_servers(p, most, random) } else { Vec::new() };
-        let kind =
-            random.chance(1, 5).then(|| (random.range(1, 12) as u8, Party::Server(random.range(1, p.n))));
+        let kind = random
+            .chance(1, 5)
+            .then(|| (random.pick(&[1, 3, 4, 5, 10, 12]), Party::Server(random.range(1, p.n))));
         Phase {
             held,
             lagging: Vec::new(),
@@ -132,7 +133,7 @@ impl Phase {
         across
             || self.held.contains(&sent.from)
             || self.held.contains(&sent.to)
-            || ((3..=8).contains(&sent.frame[3]) && self.lagging.contains(&sent.to))
+            || ((3..=5).contains(&sent.frame[3]) && self.lagging.contains(&sent.to))
             || (matches!(sent.to, Party::Client(_)) && self.slow.contains(&sent.from))
             || self.kind == Some((sent.frame[3], sent.to))
             || matches!(sent.to, Party::Client(c) if self.starved == Some(c))

@@ -18,9 +18,9 @@ fn all(seeds: std::ops::Range<u64>, style: Option<Style>) -> Summary {
 
 #[test]
 fn row_holds() {
-    let total = all(1..401, None);
+    let total = all(1..701, None);
     // The runs reach what they are meant to reach.
-    assert!(total.reads > 800 && total.writes > 800 && total.foreign > 80, "{total:?}");
+    assert!(total.reads > 2000 && total.writes > 2000 && total.foreign > 200, "{total:?}");
     for number in (3..=15).chain([17]) {
         assert!(total.refusals[number] > 0, "no refusal {number}: {total:?}");
     }
@@ -53,6 +53,10 @@ fn still_open(violation: &Violation) -> bool {
     matches!(violation, Violation::StillOpen(_))
 }
 
+fn agreement(violation: &Violation) -> bool {
+    matches!(violation, Violation::Agreement(_))
+}
+
 fn bytes(violation: &Violation) -> bool {
     matches!(violation, Violation::Bytes(_))
 }
@@ -79,12 +83,12 @@ fn finds_a_value_counted_twice() {
 
 #[test]
 fn finds_an_ack_counted_twice() {
-    must_find(Variant::AckTwice, 1, in_time);
+    must_find(Variant::AckTwice, 400, in_time);
 }
 
 #[test]
 fn finds_a_block_against_its_digest() {
-    must_find(Variant::NoDigest, 600, bytes);
+    must_find(Variant::NoDigest, 200, bytes);
 }
 
 #[test]
@@ -94,12 +98,35 @@ fn finds_early_opening() {
 
 #[test]
 fn finds_missing_comparison() {
-    must_find(Variant::NoCompare, 4800, bytes);
+    must_find(Variant::NoCompare, 5900, bytes);
 }
 
 #[test]
 fn finds_few_echoes() {
-    must_find(Variant::FewEchoes, 1900, |v| matches!(v, Violation::Agreement(_)));
+    must_find(Variant::FewEchoes, 1, agreement);
+}
+
+#[test]
+fn finds_few_readies() {
+    must_find(Variant::FewReadies, 900, still_open);
+}
+
+/// A group without the time: one write gets several stamps.
+#[test]
+fn finds_groups_by_list_alone() {
+    must_find(Variant::ListAlone, 1, agreement);
+}
+
+/// A group without the list: one write gets several lists, or operations hang.
+#[test]
+fn finds_groups_by_time_alone() {
+    must_find(Variant::TimeAlone, 400, agreement);
+    must_find(Variant::TimeAlone, 600, still_open);
+}
+
+#[test]
+fn finds_the_time_of_the_send() {
+    must_find(Variant::SentTime, 1, agreement);
 }
 
 #[test]
@@ -114,7 +141,7 @@ fn finds_falling_stamps() {
 
 #[test]
 fn finds_silence_after_ready() {
-    must_find(Variant::LateSendSilent, 1, still_open);
+    must_find(Variant::LateSendSilent, 600, still_open);
 }
 
 /// A wrong variant beside the right flat style: the comparison finds every one.

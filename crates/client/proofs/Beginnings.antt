@@ -1,14 +1,13 @@
 -- The beginning of an operation: what its tests tell, what it sends, and its whole outcome. Assumes nothing.
-use Prim.Native.Nat.{ℕ, _+_, _*_, _≤_, _<_}
+use Prim.Native.Nat.{ℕ, _+_, _≤_, _<_}
 use native.Mathlib.Omega.{arith}
-use native.Mathlib.Nat.{mul-le-mul-left, mul-le-mul-right}
 use mathlib.Core.Bool.{Bool, false}
 use mathlib.Core.Path.{_≡_, refl, ap, sym, _∙_}
 use mathlib.Core.List.{List, []}
 use lib.ListN.{length, replicate}
 use lib.Seq.{sets}
-use lib.Dec.{leb, ltb}
-use borrow.Author.Tests.{ltb-false, leb-false}
+use lib.Dec.{leb}
+use borrow.Author.Tests.{leb-false}
 use Rattle.area.specs.Area.{pick}
 use Rattle.blocks.specs.declared.Params.{Params}
 use Rattle.frame.specs.declared.Place.{Place}
@@ -17,7 +16,7 @@ use Rattle.frame.specs.declared.Verdict.{Verdict}
 use Rattle.frame.specs.declared.Refusal.the-variants as R
 use Rattle.frame.specs.declared.Verdict.the-variants as J
 use Rattle.frame.specs.Refusals.{andThen}
-use Rattle.frame.specs.Params.{Bounded, outRoom, toRoom, largestFrame, paramsTest}
+use Rattle.frame.specs.Params.{Bounded, largestFrame, paramsTest}
 use Rattle.frame.specs.Stamps.{lastSequence, lastClient}
 use Rattle.frame.specs.Messages.{getStamp, askRead, message, toAll}
 use Rattle.frame.specs.Outbox.{frames, receivers, Outbox, outbox, firstPlace, sent, Room}
@@ -32,21 +31,15 @@ use Rattle.client_rules.specs.Tests.{sendRoom}
 use Rattle.client_rules.specs.Steps.{Effect, quiet}
 use Rattle.client_rules.specs.Beginning.{Begun, lengthTest, openRead, openWrite, beginBy, beginAnswer, begunOf}
 use Rattle.client.specs.Stages.{closedBy, Opening}
+use Rattle.client.proofs.SendRooms.{room-of-send, room-smaller}
 
 -- ---- what the tests tell where nothing spoke against it
 
 room-first : (g : Params) (out to : ℕ) → sendRoom g out to ≡ J.Fine → Room firstPlace (g .n) 9 out to
-unfolding sendRoom outRoom toRoom largestFrame
+unfolding largestFrame
 room-first g out to e =
-    let a = fine-not (ltb out (outRoom g (2 * g .n))) R.Room _ e in
-    let b = fine-not (ltb to (toRoom (2 * g .n))) R.Room _ (a .1) in
-    let o : 2 * g .n * largestFrame g ≤ out = ltb-false _ _ (a .0) in
-    let t : 2 * (2 * g .n) ≤ to = ltb-false _ _ (b .0) in
-    let n : g .n ≤ 2 * g .n = omega arith in
     let l : 9 ≤ largestFrame g = omega arith in
-    let x : g .n * 9 ≤ g .n * largestFrame g = mul-le-mul-left (g .n) l in
-    let y : g .n * largestFrame g ≤ 2 * g .n * largestFrame g = mul-le-mul-right (largestFrame g) n in
-    record { out-room = omega arith; to-room = omega arith }
+    room-smaller firstPlace (g .n) (largestFrame g) 9 out to l (room-of-send g out to e)
 
 -- 15 and 16, b saying whether an operation is open
 abbrev usable : Bool → ℕ → Verdict

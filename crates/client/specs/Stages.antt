@@ -1,5 +1,5 @@
 -- What inner functions of the code ask and promise. The entry points' promises (Delivery.antt, Beginning.antt) do not speak of these. These are definitions.
-use Prim.Native.Nat.{ℕ, _*_, _≤_, _<_}
+use Prim.Native.Nat.{ℕ, _≤_, _<_}
 use mathlib.Core.Bool.{Bool, not}
 use mathlib.Core.Option.{Option, none, some}
 use mathlib.Core.List.{List}
@@ -44,12 +44,12 @@ pub record Opening (g : Params) (last out to : ℕ) : Type 0 where
 
 -- ---- a frame that opened, the lent areas being long enough
 
--- what the stages ask: the rows area is whole, the value and 2n largest frames have room
+-- what the stages ask: the rows area is whole, the value and n largest frames have room
 pub record Lent (g : Params) (area result out to : ℕ) : Type 0 where
   pub bounded : Bounded g
   pub whole : rowsBytes ≤ area
   pub value-room : g .size ≤ result
-  pub room : Room firstPlace (2 * g .n) (largestFrame g) out to
+  pub room : Room firstPlace (g .n) (largestFrame g) out to
 
 -- the outcome of a step
 unfoldable pub stepped : Effect → List ℕ → List ℕ → List ℕ → Outcome

@@ -1,4 +1,4 @@
-// A client's tests, rows and counts, and the entry points that begin a read or a write.
+// A client's tests, rows, counts and record, and the entry points that begin a read or a write.
 use blocks::Params;
 use frame::Header;
 use frame::Party;
@@ -7,6 +7,7 @@ pub mod begin;
 pub mod counts;
 pub mod fresh;
 pub mod phases;
+pub mod record;
 pub mod rows;
 pub mod tests;
 

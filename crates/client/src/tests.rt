@@ -25,10 +25,10 @@ pub fn send_room(g: Params, out: usize, to: usize) -> Verdict
     requires { ⌜ Bounded g ⌝ }
     ensures { λ r. ⌜ r ≡ sendRoom g out to ⌝ }
 {
-    if out < out_room(g, 2 * g.n) {
+    if out < out_room(g, g.n) {
         return Verdict::Bad(Refusal::Room);
     }
-    if to < to_room(2 * g.n) {
+    if to < to_room(g.n) {
         return Verdict::Bad(Refusal::Room);
     }
     Verdict::Fine

@@ -11,14 +11,14 @@ use frame::Party;
 use frame::refusals::number_of;
 ghost use Prim.Native.Nat.{_≤_};
 
-// The lengths that document 01 asks for: rows, result, eight largest frames of 152 bytes, and their receivers.
+// The lengths that document 01 asks for: rows, result, four largest frames of 152 bytes, and their receivers.
 const ROWS: usize = 23040;
 
 const RESULT: usize = 3;
 
-const OUT: usize = 1216;
+const OUT: usize = 608;
 
-const TO: usize = 16;
+const TO: usize = 8;
 
 // What lent areas hold before.
 const LENT: u8 = 0xa5;
@@ -53,7 +53,7 @@ fn print(name: &[u8], a: Answer) {
 
 // Client 1 begins a read, the out and to areas being so long.
 fn read(name: &[u8], s: Client, out: usize, to: usize) -> Client
-    requires { ⌜ (out ≤ 1216) × (to ≤ 16) ⌝ }
+    requires { ⌜ (out ≤ 608) × (to ≤ 8) ⌝ }
 {
     let mut o = [LENT; OUT];
     let mut t = [LENT; TO];
@@ -65,7 +65,7 @@ fn read(name: &[u8], s: Client, out: usize, to: usize) -> Client
 
 // Client 1 begins a write.
 fn write(name: &[u8], s: Client, out: usize, to: usize) -> Client
-    requires { ⌜ (out ≤ 1216) × (to ≤ 16) ⌝ }
+    requires { ⌜ (out ≤ 608) × (to ≤ 8) ⌝ }
 {
     let v = VALUE;
     let mut o = [LENT; OUT];
@@ -78,7 +78,7 @@ fn write(name: &[u8], s: Client, out: usize, to: usize) -> Client
 
 // Client 1, whose write awaits stamps, gets one from server 1.
 fn stamp(name: &[u8], s: Client, rows: usize, result: usize, out: usize, to: usize)
-    requires { ⌜ (rows ≤ 23040) × (result ≤ 3) × (out ≤ 1216) × (to ≤ 16) ⌝ }
+    requires { ⌜ (rows ≤ 23040) × (result ≤ 3) × (out ≤ 608) × (to ≤ 8) ⌝ }
 {
     let v = VALUE;
     let f = STAMP;

@@ -1,5 +1,5 @@
 -- From the tests and the step to the outcome of a delivery. Assumes nothing.
-use Prim.Native.Nat.{ℕ, _+_, _*_, _≤_}
+use Prim.Native.Nat.{ℕ, _+_, _≤_}
 use native.Mathlib.Omega.{arith}
 use mathlib.Core.Path.{_≡_, refl, ap, sym, _∙_}
 use mathlib.Core.Bool.{Bool, true, false, not, _&&_}
@@ -19,13 +19,13 @@ use Rattle.frame.specs.declared.Refusal.the-variants as R
 use Rattle.frame.specs.declared.Verdict.{Verdict}
 use Rattle.frame.specs.declared.Verdict.the-variants as J
 use Rattle.frame.specs.Refusals.{andThen}
-use Rattle.frame.specs.Params.{Bounded, entryLength, largestFrame, outRoom, toRoom, paramsTest}
+use Rattle.frame.specs.Params.{Bounded, entryLength, paramsTest}
 use Rattle.frame.specs.Stamps.{lastClient}
 use Rattle.frame.specs.Messages.{Body, Message, message, numberIn, fromServer, Judged, bad, judgedBy, after}
 use Rattle.frame.specs.Messages.{stampIs, ack, valueIs}
 use Rattle.frame.specs.Frames.{stampIn, entryIn, bodyIn, messageIn, opened, lengthOf, bodyLength}
 use Rattle.frame.specs.Chunks.{rowsBytes}
-use Rattle.frame.specs.Outbox.{frames, receivers, Room, firstPlace}
+use Rattle.frame.specs.Outbox.{frames, receivers}
 use Rattle.frame.proofs.Verdicts.{fine-not, fine-both}
 use Rattle.frame.proofs.Within.{admitted-of}
 use Rattle.frame.proofs.Opening.{opens-facts}
@@ -33,10 +33,11 @@ use Rattle.area.specs.Numbers.{be8}
 use Rattle.client_rules.specs.declared.Client.{Client}
 use Rattle.client_rules.specs.declared.Answer.the-variants as Y
 use Rattle.client_rules.specs.State.{writing}
-use Rattle.client_rules.specs.Tests.{sendRoom, roomTest, valueTest, answers, orderTest, messageTest, judgeOpened, judge}
+use Rattle.client_rules.specs.Tests.{roomTest, valueTest, answers, orderTest, messageTest, judgeOpened, judge}
 use Rattle.client_rules.specs.Steps.{onBody, effect, onStamp, onAck, onValue}
 use Rattle.client_rules.specs.Delivery.{Outcome, outcome, answerOf, resultOf, outcomeOf, effectBy, delivered, delivery}
 use Rattle.client.specs.Stages.{Lent, stepped, answered}
+use Rattle.client.proofs.SendRooms.{room-of-send}
 use Rattle.client_deliver.specs.Needs.{Admitted, reasonIn}
 
 -- ---- what the tests leave
@@ -56,15 +57,6 @@ not-both false e q h = let z : false ≡ true = h in go e z
 
 whole-of : (p : Bool) (v size : ℕ) → pick (p && not (eqb v size)) (J.Bad R.Length) J.Fine ≡ J.Fine → p ≡ true → v ≡ size
 whole-of p v size e h = eqb-true v size (not-both p (eqb v size) (fine-not (p && not (eqb v size)) R.Length J.Fine e .0) h)
-
-room-of-send : (g : Params) (out to : ℕ) → sendRoom g out to ≡ J.Fine → Room firstPlace (2 * g .n) (largestFrame g) out to
-unfolding sendRoom outRoom toRoom
-room-of-send g out to e =
-    let a = fine-not (ltb out (outRoom g (2 * g .n))) R.Room _ e in
-    let b = fine-not (ltb to (toRoom (2 * g .n))) R.Room _ (a .1) in
-    let o : 2 * g .n * largestFrame g ≤ out = ltb-false _ _ (a .0) in
-    let t : 2 * (2 * g .n) ≤ to = ltb-false _ _ (b .0) in
-    record { out-room = omega arith; to-room = omega arith }
 
 lent-of : (g : Params) (area result out to : ℕ) → Bounded g → roomTest g area result out to ≡ J.Fine → Lent g area result out to
 unfolding roomTest
@@ -193,10 +185,7 @@ module _ (g : Params) (me : ℕ) (s : Client) (a v : List ℕ) (from : Party) (f
       (neither (eqb (h .kind) 3) _ _ refl
       (neither (eqb (h .kind) 4) _ _ refl
       (neither (eqb (h .kind) 5) _ _ refl
-      (neither (eqb (h .kind) 6) _ _ refl
-      (neither (eqb (h .kind) 7) _ _ refl
-      (neither (eqb (h .kind) 8) _ _ refl
-      (neither (eqb (h .kind) 10) _ _ refl refl))))))))
+      (neither (eqb (h .kind) 10) _ _ refl refl)))))
 
   and-false : (x y z : Bool) → y ≡ false → (x && (y && z)) ≡ false
   and-false true y z e = ap (λ w. w && z) e

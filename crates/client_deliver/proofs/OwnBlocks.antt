@@ -2,21 +2,23 @@
 use Prim.Native.Nat.{ℕ, _+_, _*_, _≤_, _<_}
 use native.Mathlib.Omega.{arith}
 use native.Mathlib.Numerals.{add-one}
-use native.Mathlib.Nat.{mul-le-mul-left, mul-le-mul-right}
 use mathlib.Core.Path.{_≡_, ap, sym, _∙_}
 use mathlib.Core.List.{List, [], _∷_, _++_}
 use lib.ListN.{length, take}
 use lib.Seq.{sets}
 use lib.ListN.{length-append}
 use Rattle.sha256.specs.Hash.{digestOf}
+use Rattle.area.specs.Numbers.{bytes8}
+use Rattle.area.proofs.Numbers.{length-bytes8}
 use Rattle.blocks.specs.declared.Params.{Params}
 use Rattle.blocks.specs.Code.{blockLength, blockOf}
 use Rattle.blocks.proofs.Stripes.{length-blockOf}
 use Rattle.frame.specs.declared.Place.{Place}
+use Rattle.frame.specs.declared.WriteTime.{WriteTime}
 use Rattle.frame.specs.declared.Party.the-variants as P
 use Rattle.frame.specs.Params.{Bounded, width, entryLength, largestFrame}
-use Rattle.frame.specs.Messages.{entry, Message, message, Sending, sending, toFrom, toAll, blockIs, send}
-use Rattle.frame.specs.Frames.{kindOf, entryBytes, bodyBytes, build}
+use Rattle.frame.specs.Messages.{entry, offer, Message, message, Sending, sending, toFrom, toAll, blockIs, send}
+use Rattle.frame.specs.Frames.{kindOf, entryBytes, offerBytes, bodyBytes, build}
 use Rattle.group_rules.specs.Coded.{digestsOf, entryOf}
 use Rattle.frame.specs.Outbox.{Outbox, outbox, sent, Room}
 use Rattle.group.proofs.DigestLaws.{block-front}
@@ -25,23 +27,26 @@ use Rattle.frame.proofs.RoundTrip.{length-frame}
 use Rattle.frame.proofs.Sizes.{small}
 use Rattle.group.proofs.Digests.{length-digests}
 use Rattle.group.proofs.Lists.{take-front}
+use Rattle.client.proofs.SendRooms.{room-smaller}
 use Rattle.client_deliver.proofs.Rooms.{room-left, each-small}
 
 -- kind 3 to server j
-abbrev pub own : Params → List ℕ → ℕ → ℕ → ℕ → Message
-own g v me q j = message me q (blockIs send (entryOf digestOf g v j))
+abbrev pub own : Params → List ℕ → WriteTime → ℕ → Message
+own g v w j = message (w .client) (w .sequence) (blockIs send (offer (w .time) (entryOf digestOf g v j)))
 
 module _ (g : Params) (v : List ℕ) (whole : length v ≡ g .size) where
   pub length-own-block : (j : ℕ) → length (blockOf (g .k) v j) ≡ width g
   unfolding width
   length-own-block j = length-blockOf (g .k) v j ∙ ap (λ l. blockLength l (g .k)) whole
 
-  pub length-own : (me q j : ℕ) → length (build (own g v me q j)) ≡ 9 + entryLength g
-  unfolding build kindOf bodyBytes entryBytes entryOf
-  length-own me q j =
+  pub length-own : (w : WriteTime) (j : ℕ) → length (build (own g v w j)) ≡ 17 + entryLength g
+  unfolding build kindOf bodyBytes offerBytes entryBytes entryOf
+  length-own w j =
       omega (
         arith,
-        length-frame 3 me q (digestsOf digestOf g v ++ blockOf (g .k) v j),
+        length-frame 3 (w .client) (w .sequence) (bytes8 (w .time) ++ (digestsOf digestOf g v ++ blockOf (g .k) v j)),
+        length-append (bytes8 (w .time)) (digestsOf digestOf g v ++ blockOf (g .k) v j),
+        length-bytes8 (w .time),
         length-append (digestsOf digestOf g v) (blockOf (g .k) v j),
         length-digests g v,
         length-own-block j,
@@ -56,10 +61,11 @@ module _ (g : Params) (v : List ℕ) (whole : length v ≡ g .size) where
       block-front z a (g .k) j b v (e ∙ ap (λ l. blockLength l (g .k)) (sym whole)) n s
 
   -- one block went out
-  pub own-sent : (d b : List ℕ) (me q j : ℕ) (x y : Outbox) → d ≡ digestsOf digestOf g v → b ≡ blockOf (g .k) v j
-      → y ≡ sent x (sending (P.Server j) (message me q (blockIs send (entry d b))) ∷ []) → y ≡ sent x (sending (P.Server j) (own g v me q j) ∷ [])
+  pub own-sent : (d b : List ℕ) (w : WriteTime) (j : ℕ) (x y : Outbox) → d ≡ digestsOf digestOf g v → b ≡ blockOf (g .k) v j
+      → y ≡ sent x (sending (P.Server j) (message (w .client) (w .sequence) (blockIs send (offer (w .time) (entry d b)))) ∷ [])
+      → y ≡ sent x (sending (P.Server j) (own g v w j) ∷ [])
   unfolding entryOf
-  own-sent d b me q j x y e f s = s ∙ (λ i. sent x (sending (P.Server j) (message me q (blockIs send (entry (e i) (f i)))) ∷ []))
+  own-sent d b w j x y e f s = s ∙ (λ i. sent x (sending (P.Server j) (message (w .client) (w .sequence) (blockIs send (offer (w .time) (entry (e i) (f i))))) ∷ []))
 
 -- ---- one after the other
 
@@ -83,36 +89,21 @@ turn-last g f j x y a b e = let c : j ≡ g .n = omega arith in e ∙ ap (λ k. 
 
 -- ---- rooms
 
-pub turn-room : (g : Params) (v : List ℕ) → length v ≡ g .size → (me q j : ℕ) (p r : Place) (o t o₀ t₀ : List ℕ) → j < g .n
-    → outbox o t r ≡ sent (outbox o₀ t₀ p) (toFrom (own g v me q) 1 j) → Room p (g .n) (9 + entryLength g) (length o₀) (length t₀)
-    → Room r 1 (9 + entryLength g) (length o) (length t)
-turn-room g v w me q j p r o t o₀ t₀ h e R =
-    let l : (i : ℕ) → length (build (own g v me q i)) ≤ 9 + entryLength g = λ i. omega (arith, length-own g v w me q i) in
-    let E = each-small (own g v me q) (9 + entryLength g) l 1 j in
+pub turn-room : (g : Params) (v : List ℕ) → length v ≡ g .size → (w : WriteTime) (j : ℕ) (p r : Place) (o t o₀ t₀ : List ℕ) → j < g .n
+    → outbox o t r ≡ sent (outbox o₀ t₀ p) (toFrom (own g v w) 1 j) → Room p (g .n) (17 + entryLength g) (length o₀) (length t₀)
+    → Room r 1 (17 + entryLength g) (length o) (length t)
+turn-room g v e w j p r o t o₀ t₀ h s R =
+    let l : (i : ℕ) → length (build (own g v w i)) ≤ 17 + entryLength g = λ i. omega (arith, length-own g v e w i) in
+    let E = each-small (own g v w) (17 + entryLength g) l 1 j in
     let n : j + 1 ≤ g .n = omega arith in
-    let s : 9 + entryLength g ≤ 9 + entryLength g = omega arith in
-    room-left p r o t o₀ t₀ (toFrom (own g v me q) 1 j) j 1 (g .n) (9 + entryLength g) (9 + entryLength g) e (E .0) (E .1) n s R
+    let k : 17 + entryLength g ≤ 17 + entryLength g = omega arith in
+    room-left p r o t o₀ t₀ (toFrom (own g v w) 1 j) j 1 (g .n) (17 + entryLength g) (17 + entryLength g) s (E .0) (E .1) n k R
 
--- the frames of the time have room behind those of the blocks
-pub time-room : (g : Params) (v : List ℕ) → length v ≡ g .size → (me q : ℕ) (p r : Place) (o t o₀ t₀ : List ℕ)
-    → outbox o t r ≡ sent (outbox o₀ t₀ p) (toAll g (own g v me q)) → Room p (2 * g .n) (largestFrame g) (length o₀) (length t₀)
-    → Room r (g .n) 17 (length o) (length t)
-unfolding toAll largestFrame
-time-room g v w me q p r o t o₀ t₀ e R =
-    let l : (i : ℕ) → length (build (own g v me q i)) ≤ largestFrame g = λ i. omega (arith, length-own g v w me q i) in
-    let E = each-small (own g v me q) (largestFrame g) l 1 (g .n) in
-    let n : g .n + g .n ≤ 2 * g .n = omega arith in
-    let s : 17 ≤ largestFrame g = omega arith in
-    room-left p r o t o₀ t₀ (toFrom (own g v me q) 1 (g .n)) (g .n) (g .n) (2 * g .n) (largestFrame g) 17 e (E .0) (E .1) n s R
-
-pub block-room : (g : Params) (p : Place) (out to : ℕ) → Room p (2 * g .n) (largestFrame g) out to → Room p (g .n) (9 + entryLength g) out to
+pub block-room : (g : Params) (p : Place) (out to : ℕ) → Room p (g .n) (largestFrame g) out to → Room p (g .n) (17 + entryLength g) out to
 unfolding largestFrame
 block-room g p out to R =
-    let l : 9 + entryLength g ≤ largestFrame g = omega arith in
-    let n : g .n ≤ 2 * g .n = omega arith in
-    let x : g .n * (9 + entryLength g) ≤ g .n * largestFrame g = mul-le-mul-left (g .n) l in
-    let y : g .n * largestFrame g ≤ 2 * g .n * largestFrame g = mul-le-mul-right (largestFrame g) n in
-    record { out-room = omega (arith, R .out-room); to-room = omega (arith, R .to-room) }
+    let l : 17 + entryLength g ≤ largestFrame g = omega arith in
+    room-smaller p (g .n) (largestFrame g) (17 + entryLength g) out to l R
 
 -- ---- all of it
 
@@ -123,6 +114,3 @@ list-front g v z a B h s =
     let l = length-digests g v in
     let n : 32 * g .n ≤ length z = omega (arith, B .servers-high) in
     ap (take (32 * g .n)) s ∙ take-front z (digestsOf digestOf g v) (32 * g .n) l n
-
-pub both-sent : (x y z : Outbox) (xs ys : List Sending) → y ≡ sent x xs → z ≡ sent y ys → z ≡ sent x (xs ++ ys)
-both-sent x y z xs ys e f = f ∙ ap (λ w. sent w ys) e ∙ sent-append x xs ys

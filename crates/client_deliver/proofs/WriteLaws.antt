@@ -3,7 +3,7 @@ use Prim.Native.Nat.{ℕ, _+_, _≤_, _<_}
 use native.Mathlib.Nat.{zero-add}
 use mathlib.Core.Path.{_≡_, refl, ap, sym, _∙_}
 use mathlib.Core.Bool.{Bool, true, false, not}
-use mathlib.Core.List.{List, _++_}
+use mathlib.Core.List.{List}
 use lib.ListN.{length, getD, set, replicate}
 use lib.Seq.{sets}
 use lib.Dec.{ltb}
@@ -12,7 +12,7 @@ use Rattle.sha256.specs.Hash.{digestOf}
 use Rattle.blocks.specs.declared.Params.{Params}
 use Rattle.frame.specs.declared.Place.{Place}
 use Rattle.frame.specs.Stamps.{lastTime}
-use Rattle.frame.specs.Messages.{message, toAll, timeIs, send}
+use Rattle.frame.specs.Messages.{toAll}
 use Rattle.frame.specs.Outbox.{frames, receivers, Outbox, outbox, firstPlace, sent}
 use Rattle.client_rules.specs.declared.Client.{Client}
 use Rattle.client_rules.specs.declared.Phase.{Phase}
@@ -47,12 +47,12 @@ module _ (g : Params) (me : ℕ) (s : Client) (v a l out to : List ℕ) where
       c ∙ ap (λ b. stepped (sendBelow digestOf g me b s a v top) l out to) (sym d)
 
   pub write-sent : (T : ℕ) (y : Client) (q : Place) (o t : List ℕ) → T ≡ top → T < lastTime → y ≡ inPhase s F.Acking (replicate 11 false) (s .times)
-      → outbox o t q ≡ sent (outbox out to firstPlace) (toAll g (own g v me (s .writes)) ++ toAll g (λ j. message me (s .writes) (timeIs send T)))
+      → outbox o t q ≡ sent (outbox out to firstPlace) (toAll g (own g v (record { client = me; sequence = s .writes; time = T })))
       → outcome (record { answer = Y.Sent (q .count); client = y }) a l o t ≡ stepped (gatherBy digestOf g me true s a v) l out to
   unfolding stepped gatherBy sendBelow eventAnswer resultOf sent
   write-sent T y q o t e h p w =
       let d : ltb T lastTime ≡ true = lt-ltb T lastTime h in
-      let xs = toAll g (own g v me (s .writes)) ++ toAll g (λ j. message me (s .writes) (timeIs send T)) in
+      let xs = toAll g (own g v (record { client = me; sequence = s .writes; time = T })) in
       let n : q .count ≡ length xs = ap (λ (z : Outbox). z .place .count) w ∙ zero-add (length xs) in
       let u : o ≡ sets out 0 (frames xs) = ap (λ (z : Outbox). z .out) w in
       let r : t ≡ sets to 0 (receivers xs) = ap (λ (z : Outbox). z .to) w in

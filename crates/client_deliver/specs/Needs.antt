@@ -1,5 +1,5 @@
 -- What inner functions of the code ask. The entry point's promise does not speak of these. These are definitions.
-use Prim.Native.Nat.{ℕ, _+_, _*_}
+use Prim.Native.Nat.{ℕ, _+_}
 use mathlib.Core.Bool.{true}
 use mathlib.Core.Path.{_≡_}
 use mathlib.Core.List.{List}
@@ -26,11 +26,11 @@ pub record Dispersing (g : Params) (v d ps ls : List ℕ) : Type 0 where
   pub list-is : d ≡ digestsOf digestOf g v
   pub tables : Tables ps ls
 
--- a stamp of a write: where a write is open its value is whole, and 2n largest frames have room
+-- a stamp of a write: where a write is open its value is whole, and n largest frames have room
 pub record Stamping (g : Params) (s : Client) (value out to : ℕ) : Type 0 where
   pub bounded : Bounded g
   pub whole : writing (s .phase) ≡ true → value ≡ g .size
-  pub room : Room firstPlace (2 * g .n) (largestFrame g) out to
+  pub room : Room firstPlace (g .n) (largestFrame g) out to
 
 -- a frame of a kind that opened, all that is lent being long enough
 pub record Admitted (g : Params) (s : Client) (kind value frame area result out to : ℕ) : Type 0 where

@@ -1,7 +1,6 @@
 // What frames do to a client: the entry point `deliver`.
 pub mod dispersal;
 pub mod reading;
-pub mod record;
 pub mod tests;
 pub mod writing;
 

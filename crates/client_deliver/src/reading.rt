@@ -1,8 +1,8 @@
 // Values of an open read: kind 11.
-use crate::record::with_row;
 use crate::tests::entry_test;
 use client::Call;
 use client::Spot;
+use client::record::with_row;
 use client::rows::place_for;
 use client::rows::row_with;
 use client_rules::Answer;

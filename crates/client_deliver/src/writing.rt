@@ -1,8 +1,6 @@
 // Stamps and acks of an open write: kinds 2 and 9.
-use crate::dispersal::Write;
+use crate::dispersal::Dispersal;
 use crate::dispersal::disperse;
-use crate::record::in_phase;
-use crate::record::shut;
 use crate::tests::reply_test;
 use blocks::Params;
 use client::Call;
@@ -10,16 +8,19 @@ use client::counts::is_quorate;
 use client::counts::largest_time;
 use client::phases::is_acking;
 use client::phases::is_asking;
+use client::record::in_phase;
+use client::record::shut;
 use client_rules::Answer;
 use client_rules::Answered;
 use client_rules::Client;
 use client_rules::Phase;
 use frame::Verdict;
+use frame::WriteTime;
 use frame::parties::number_in;
 ghost use mathlib.Core.Path.{_≡_};
 ghost use mathlib.Core.Bool.{true};
 ghost use mathlib.Core.List.{List};
-ghost use Prim.Native.Nat.{ℕ, _*_, _≤_};
+ghost use Prim.Native.Nat.{ℕ, _≤_};
 ghost use lib.ListN.{length};
 ghost use Rattle.area.specs.Numbers.{be8};
 ghost use Rattle.sha256.specs.Hash.{digestOf};
@@ -37,7 +38,7 @@ const LAST_TIME: u64 = 18446744073709551615;
 
 // "At n - t first stamps, take the largest time": it goes out with the blocks, or the write closes as out of stamps.
 fn gather(s: Client, g: Params, me: u8, value: &[u8], out: &mut [u8], to: &mut [u8]) -> Answered
-    requires { ⌜ Bounded g × (length (now value) ≡ g .size) × Room firstPlace (2 * g .n) (largestFrame g) (length (now out)) (length (now to)) ⌝ }
+    requires { ⌜ Bounded g × (length (now value) ≡ g .size) × Room firstPlace (g .n) (largestFrame g) (length (now out)) (length (now to)) ⌝ }
     ensures { λ r. ⌜ ((a l : List ℕ) → outcome r a l (now (out .exit)) (now (to .exit))
         ≡ stepped (gatherBy digestOf g me true s a (now (value .entry))) l (now (out .entry)) (now (to .entry))) ⌝ }
 {
@@ -50,12 +51,13 @@ fn gather(s: Client, g: Params, me: u8, value: &[u8], out: &mut [u8], to: &mut [
             client,
         };
     }
-    let w = Write {
-        params: g,
-        me,
+    let write = WriteTime {
+        client: me,
         sequence: s.writes,
+        time,
     };
-    let p = disperse(value, w, time, out, to);
+    let d = Dispersal { params: g, write };
+    let p = disperse(value, d, out, to);
     let heard = [false; 11];
     let client = in_phase(s, Phase::Acking, heard, times);
     Answered {

@@ -7,7 +7,7 @@ use mathlib.Core.Bool.{Bool, true, false}
 use mathlib.Core.Path.{_≡_, refl, ap, sym, _∙_, subst}
 use mathlib.Core.Logic.{_⊎_, inl, inr, ⊎-elim}
 use mathlib.Core.Option.{Option, none, some}
-use mathlib.Core.List.{List, [], List·Memᴰ, List·Memᴰ·not-nil, List·Memᴰ·append-cases}
+use mathlib.Core.List.{List, [], List·Memᴰ, List·Memᴰ·not-nil}
 use lib.ListN.{length, getD, set, replicate, length-set, length-replicate, getD-replicate}
 use lib.Seq.{getD-set-same, getD-set-other}
 use lib.Dec.{eqb}
@@ -23,8 +23,7 @@ use Rattle.frame.specs.declared.Verdict.{Verdict}
 use Rattle.frame.specs.declared.Party.the-variants as A
 use Rattle.frame.specs.declared.Verdict.the-variants as J
 use Rattle.frame.specs.Chunks.{rowsBytes}
-use Rattle.group_rules.specs.Coded.{entryOf}
-use Rattle.frame.specs.Messages.{Entry, send, Body, getStamp, ack, askRead, readComplete, stampIs, blockIs, timeIs, valueIs, Message, message, Sending, sending, toAll, Sized, FormedBody}
+use Rattle.frame.specs.Messages.{Entry, Offer, offer, send, Body, getStamp, ack, askRead, readComplete, stampIs, blockIs, valueIs, Message, message, Sending, sending, toAll, Sized, FormedBody}
 use Rattle.frame.proofs.Sizes.{Small}
 use Rattle.frame.proofs.Verdicts.{fine-both}
 use Rattle.client_rules.specs.declared.Phase.{Phase}
@@ -151,8 +150,8 @@ module _ (H : List ℕ → List ℕ) (g : Params) (M : Small g) (few : g .n ≤ 
       pub t-kept : (j T : ℕ) → Among (g .n) j → s′ .phase ≡ F.Asking → timeOf s′ j ≡ some T → (s′ .writes ≡ s .writes) × KnowsT j T
       pub a-kept : (j : ℕ) → Among (g .n) j → s′ .phase ≡ F.Acking → heardOf s′ j ≡ true → (s′ .writes ≡ s .writes) × KnowsA j
       pub v-kept : (j : ℕ) (k : Kept) → Among (g .n) j → s′ .phase ≡ F.Reading → List·Memᴰ k (rowView g s′ a′ j) → (s′ .reads ≡ s .reads) × KnowsV j k
-      pub t-sent : (b : Party) (d q T : ℕ) → List·Memᴰ (sending b (message d q (timeIs send T))) l
-          → (q ≡ s .writes) × AtLeast (g .n) (g .n - g .t) (λ j. (T′ : ℕ) × (T′ ≤ T) × KnowsT j T′)
+      pub t-sent : (b : Party) (d q : ℕ) (o : Offer) → List·Memᴰ (sending b (message d q (blockIs send o))) l
+          → (q ≡ s .writes) × AtLeast (g .n) (g .n - g .t) (λ j. (T′ : ℕ) × (T′ ≤ o .time) × KnowsT j T′)
       pub g-sent : (b : Party) (d q : ℕ) → List·Memᴰ (sending b (message d q getStamp)) l → q ≤ s′ .writes
       pub r-sent : (b : Party) (d q : ℕ) → List·Memᴰ (sending b (message d q askRead)) l → q ≤ s′ .reads
       pub write-why : ev ≡ C.written → AtLeast (g .n) (g .n - g .t) KnowsA
@@ -171,7 +170,7 @@ module _ (H : List ℕ → List ℕ) (g : Params) (M : Small g) (few : g .n ≤ 
       t-kept = λ j T i p e. (ew, ft j T i p e);
       a-kept = λ j i p e. (ew, fa j i p e);
       v-kept = λ j k i p e. (er, fv j k i p e);
-      t-sent = λ b d q T u. absurd (List·Memᴰ·not-nil u);
+      t-sent = λ b d q o u. absurd (List·Memᴰ·not-nil u);
       g-sent = λ b d q u. absurd (List·Memᴰ·not-nil u);
       r-sent = λ b d q u. absurd (List·Memᴰ·not-nil u);
       write-why = λ e. impossible (cc);
@@ -227,8 +226,8 @@ module _ (H : List ℕ → List ℕ) (g : Params) (M : Small g) (few : g .n ≤ 
         );
       }
 
-      time-same : (T₁ T₂ : ℕ) → timeIs send T₁ ≡ timeIs send T₂ → T₁ ≡ T₂
-      time-same T₁ T₂ e = cc
+      time-same : (o : Offer) (U : ℕ) (e : Entry) → blockIs send o ≡ blockIs send (offer U e) → o .time ≡ U
+      time-same o U e z = cc
 
       -- the time that is sent is the largest of them, so at least each
       send-facts : ClientShape (inPhase s F.Acking (replicate 11 false) (timesNow j T)) a → C.quorate g (heardNow j) ≡ true
@@ -240,18 +239,11 @@ module _ (H : List ℕ → List ℕ) (g : Params) (M : Small g) (few : g .n ≤ 
         t-kept = λ i T′ is q z. impossible (cc);
         a-kept = λ i is q z. impossible (cc (no-flag 11 i, z));
         v-kept = λ i k is q z. impossible (cc);
-        t-sent = λ b d q T₁ u. ⊎-elim
-            (λ y. impossible (cc (body-all (λ j. message me (s .writes) (blockIs send (entryOf H g v j))) b _ y .1)))
-            (λ y. (body-all _ b _ y .2, quorum e _ (λ i is. le-largest (λ m. getD (timesNow j T) m 0) (g .n) i is) T₁ (time-same T₁ _ (body-all _ b _ y .1))))
-            (List·Memᴰ·append-cases (toAll g (λ j. message me (s .writes) (blockIs send (entryOf H g v j)))) u);
-        g-sent = λ b d q u. ⊎-elim
-            (λ y. impossible (cc (body-all (λ j. message me (s .writes) (blockIs send (entryOf H g v j))) b _ y .1)))
-            (λ y. impossible (cc (body-all _ b _ y .1)))
-            (List·Memᴰ·append-cases (toAll g (λ j. message me (s .writes) (blockIs send (entryOf H g v j)))) u);
-        r-sent = λ b d q u. ⊎-elim
-            (λ y. impossible (cc (body-all (λ j. message me (s .writes) (blockIs send (entryOf H g v j))) b _ y .1)))
-            (λ y. impossible (cc (body-all _ b _ y .1)))
-            (List·Memᴰ·append-cases (toAll g (λ j. message me (s .writes) (blockIs send (entryOf H g v j)))) u);
+        t-sent = λ b d q o u.
+            let w = body-all _ b _ u in
+            (w .2, quorum e _ (λ i is. le-largest (λ m. getD (timesNow j T) m 0) (g .n) i is) (o .time) (time-same o _ _ (w .1)));
+        g-sent = λ b d q u. impossible (cc (body-all _ b _ u .1));
+        r-sent = λ b d q u. impossible (cc (body-all _ b _ u .1));
         write-why = λ z. impossible (cc);
         read-why = λ v z. impossible (cc);
       }
@@ -264,7 +256,7 @@ module _ (H : List ℕ → List ℕ) (g : Params) (M : Small g) (few : g .n ≤ 
         t-kept = λ i T′ is q z. impossible (cc);
         a-kept = λ i is q z. impossible (cc);
         v-kept = λ i k is q z. impossible (cc);
-        t-sent = λ b d q T u. absurd (List·Memᴰ·not-nil u);
+        t-sent = λ b d q o u. absurd (List·Memᴰ·not-nil u);
         g-sent = λ b d q u. absurd (List·Memᴰ·not-nil u);
         r-sent = λ b d q u. absurd (List·Memᴰ·not-nil u);
         write-why = λ z. impossible (cc);
@@ -292,7 +284,7 @@ module _ (H : List ℕ → List ℕ) (g : Params) (M : Small g) (few : g .n ≤ 
         t-kept = λ i T′ is q z. impossible (cc);
         a-kept = λ i is q z. impossible (cc);
         v-kept = λ i k is q z. impossible (cc);
-        t-sent = λ b d q T u. absurd (List·Memᴰ·not-nil u);
+        t-sent = λ b d q o u. absurd (List·Memᴰ·not-nil u);
         g-sent = λ b d q u. absurd (List·Memᴰ·not-nil u);
         r-sent = λ b d q u. absurd (List·Memᴰ·not-nil u);
         write-why = λ z. record {
@@ -324,7 +316,7 @@ module _ (H : List ℕ → List ℕ) (g : Params) (M : Small g) (few : g .n ≤ 
         t-kept = λ i T′ is q z. impossible (cc);
         a-kept = λ i is q z. impossible (cc);
         v-kept = λ i k is q z. impossible (cc);
-        t-sent = λ b d q T u. impossible (cc (body-all _ b _ u .1));
+        t-sent = λ b d q o u. impossible (cc (body-all _ b _ u .1));
         g-sent = λ b d q u. impossible (cc (body-all _ b _ u .1));
         r-sent = λ b d q u. impossible (cc (body-all _ b _ u .1));
         write-why = λ z. impossible (cc);
@@ -456,7 +448,7 @@ module _ (H : List ℕ → List ℕ) (g : Params) (M : Small g) (few : g .n ≤ 
         t-kept = λ i T′ is q z. impossible (cc);
         a-kept = λ i is q z. impossible (cc);
         v-kept = λ i k is q z. absurd (no-rows g _ a i k refl z);
-        t-sent = λ b d q T u. impossible (cc (body-all s a Nought _ b _ u .1));
+        t-sent = λ b d q o u. impossible (cc (body-all s a Nought _ b _ u .1));
         g-sent = λ b d q u. impossible (cc (body-all s a Nought _ b _ u .1));
         r-sent = λ b d q u. let w = body-all s a Nought (λ j. message me (s .reads + 1) askRead) b _ u .2 in omega (arith, w);
         write-why = λ z. impossible (cc);
@@ -480,7 +472,7 @@ module _ (H : List ℕ → List ℕ) (g : Params) (M : Small g) (few : g .n ≤ 
         t-kept = λ i T′ is q z. absurd (no-time i T′ z);
         a-kept = λ i is q z. impossible (cc);
         v-kept = λ i k is q z. impossible (cc);
-        t-sent = λ b d q T u. impossible (cc (body-all s a Nought _ b _ u .1));
+        t-sent = λ b d q o u. impossible (cc (body-all s a Nought _ b _ u .1));
         g-sent = λ b d q u. let w = body-all s a Nought (λ j. message me (s .writes + 1) getStamp) b _ u .2 in omega (arith, w);
         r-sent = λ b d q u. impossible (cc (body-all s a Nought _ b _ u .1));
         write-why = λ z. impossible (cc);

@@ -1,4 +1,4 @@
--- "At n - t first stamps" blocks and time go out, "At n - t acks [the write] has ended": not at fewer. Assumes nothing.
+-- "At n - t first stamps" blocks go out with the time, "At n - t acks [the write] has ended": not at fewer. Assumes nothing.
 use Prim.Native.Nat.{ℕ, _-_, _≤_}
 use native.Mathlib.Omega.{arith}
 use mathlib.Core.Bool.{Bool, true, false}

@@ -3,7 +3,7 @@ use Prim.Native.Nat.{ℕ, _≤_, _<_}
 use mathlib.Core.Bool.{Bool, true, false}
 use mathlib.Core.Path.{_≡_, refl}
 use mathlib.Core.Option.{Option, none, some}
-use mathlib.Core.List.{List, [], _++_}
+use mathlib.Core.List.{List, []}
 use lib.ListN.{length, getD, set, replicate}
 use lib.Dec.{ltb}
 use borrow.Author.Tests.{ltb-true, ltb-false}
@@ -13,7 +13,7 @@ use Rattle.frame.specs.declared.Party.{Party}
 use Rattle.frame.specs.declared.Refusal.{Refusal}
 use Rattle.frame.specs.Stamps.{lastTime}
 use Rattle.frame.specs.Chunks.{storeEntry, placeAt}
-use Rattle.frame.specs.Messages.{Entry, send, Body, getStamp, ack, askRead, readComplete, stampIs, blockIs, timeIs, valueIs, Message, message, Sending, toAll, numberIn, Judged, bad, good}
+use Rattle.frame.specs.Messages.{Entry, offer, send, Body, getStamp, ack, askRead, readComplete, stampIs, blockIs, valueIs, Message, message, Sending, toAll, numberIn, Judged, bad, good}
 use Rattle.frame.proofs.Chunks.{length-store}
 use Rattle.group_rules.specs.Coded.{entryOf}
 use Rattle.client_rules.specs.declared.Client.{Client}
@@ -36,9 +36,9 @@ module _ (H : List ℕ → List ℕ) (g : Params) (me : ℕ) (s : Client) (a v :
   abbrev pub largestNow : ℕ → ℕ
   largestNow T = largest (λ i. getD (set (s .times) j T) i 0) (g .n)
 
-  -- the value's blocks, then the time M, to all
+  -- the value's blocks, with the time M, to all
   abbrev pub dispersed : ℕ → List Sending
-  dispersed M = toAll g (λ i. message me (s .writes) (blockIs send (entryOf H g v i))) ++ toAll g (λ i. message me (s .writes) (timeIs send M))
+  dispersed M = toAll g (λ i. message me (s .writes) (blockIs send (offer M (entryOf H g v i))))
 
   -- server j's value (x, e) is kept at a place of its row, or dropped
   pub data Keeps (x : Stamp) (e : Entry) : Client → List ℕ → Type 0 where
@@ -105,8 +105,7 @@ module _ (H : List ℕ → List ℕ) (g : Params) (me : ℕ) (s : Client) (a v :
   shape askRead = idle askRead
   shape readComplete = idle readComplete
   shape (stampIs T) = on-stamp T
-  shape (blockIs z e) = idle (blockIs z e)
-  shape (timeIs z T) = idle (timeIs z T)
+  shape (blockIs z o) = idle (blockIs z o)
   shape (valueIs x e) = on-value x e
 
   -- ---- what every step keeps

@@ -3,7 +3,7 @@
 use Prim.Native.Nat.{ℕ, _+_}
 use mathlib.Core.Bool.{Bool, true, false}
 use mathlib.Core.Option.{Option, none, some}
-use mathlib.Core.List.{List, [], _++_}
+use mathlib.Core.List.{List, []}
 use lib.ListN.{getD, set, replicate}
 use lib.Dec.{leb, ltb}
 use Rattle.quorum.specs.Quorum.{count}
@@ -11,7 +11,7 @@ use Rattle.blocks.specs.declared.Params.{Params}
 use Rattle.frame.specs.declared.Stamp.{Stamp}
 use Rattle.frame.specs.declared.Party.{Party}
 use Rattle.frame.specs.Stamps.{lastTime}
-use Rattle.frame.specs.Messages.{Entry, send, Body, getStamp, ack, askRead, readComplete, stampIs, blockIs, timeIs, valueIs, Message, message, Sending, toAll, numberIn}
+use Rattle.frame.specs.Messages.{Entry, offer, send, Body, getStamp, ack, askRead, readComplete, stampIs, blockIs, valueIs, Message, message, Sending, toAll, numberIn}
 use Rattle.frame.specs.Chunks.{storeEntry, placeAt}
 use Rattle.group_rules.specs.Coded.{entryOf}
 use Rattle.client_rules.specs.declared.Client.{Client}
@@ -41,12 +41,12 @@ quorate g h = leb (g .n) (count (λ j. getD h j false) (g .n) + g .t)
 module _ (H : List ℕ → List ℕ) (g : Params) (me : ℕ) where
   -- ---- Write, client
 
-  -- M is the largest time. "kind 3 to all, then kind 6 to all. If it is 2^64 - 1, the step instead closes the write as out of stamps and sends nothing."
+  -- M is the largest time: kind 3 with it to all (request F-4). "If it is 2^64 - 1, the step instead closes the write as out of stamps and sends nothing."
   unfoldable pub sendBelow : Bool → Client → List ℕ → List ℕ → ℕ → Effect
   sendBelow true s a v M = record {
     client = inPhase s F.Acking (replicate 11 false) (s .times);
     area = a;
-    sends = toAll g (λ j. message me (s .writes) (blockIs send (entryOf H g v j))) ++ toAll g (λ j. message me (s .writes) (timeIs send M));
+    sends = toAll g (λ j. message me (s .writes) (blockIs send (offer M (entryOf H g v j))));
     event = nothing;
   }
   sendBelow false s a v M = record { client = shut s; area = a; sends = []; event = outOfStamps }
@@ -99,8 +99,7 @@ module _ (H : List ℕ → List ℕ) (g : Params) (me : ℕ) where
   onBody s a v j askRead = quiet s a
   onBody s a v j readComplete = quiet s a
   onBody s a v j (stampIs T) = onStamp s a v j T
-  onBody s a v j (blockIs z e) = quiet s a
-  onBody s a v j (timeIs z T) = quiet s a
+  onBody s a v j (blockIs z o) = quiet s a
   onBody s a v j (valueIs x e) = onValue s a j x e
 
   unfoldable pub effect : Client → List ℕ → List ℕ → Party → Message → Effect

@@ -16,7 +16,7 @@ use Rattle.frame.specs.declared.Opened.the-variants as O
 use Rattle.frame.specs.Refusals.{andThen}
 use Rattle.frame.specs.Params.{clientFrames, outRoom, toRoom, paramsTest}
 use Rattle.frame.specs.Stamps.{lastClient}
-use Rattle.frame.specs.Messages.{Entry, Body, getStamp, ack, askRead, readComplete, stampIs, blockIs, timeIs, valueIs, Message, numberIn, fromServer, Judged, bad, judgedBy, after}
+use Rattle.frame.specs.Messages.{Entry, Body, getStamp, ack, askRead, readComplete, stampIs, blockIs, valueIs, Message, numberIn, fromServer, Judged, bad, judgedBy, after}
 use Rattle.frame.specs.Frames.{opened, messageIn}
 use Rattle.frame.specs.Chunks.{rowsBytes}
 use Rattle.group_rules.specs.Coded.{fits}
@@ -24,7 +24,7 @@ use Rattle.client_rules.specs.declared.Client.{Client}
 use Rattle.client_rules.specs.State.{asking, acking, reading, writing, rowOf, heardOf}
 use Rattle.client_rules.specs.Rows.{used, hasStamp}
 
--- 10, of the lengths of the out and to areas: "frames out need .. 2n (client)"
+-- 10, of the lengths of the out and to areas: "The client's largest need is now n frames" (request F-4)
 unfoldable pub sendRoom : Params → ℕ → ℕ → Verdict
 sendRoom g out to =
     pick (ltb out (outRoom g (clientFrames g))) (J.Bad R.Room)
@@ -49,8 +49,7 @@ answers ack = true
 answers askRead = false
 answers readComplete = false
 answers (stampIs T) = true
-answers (blockIs z e) = false
-answers (timeIs z T) = false
+answers (blockIs z o) = false
 answers (valueIs x e) = true
 
 -- 12: "old, repeated or not awaited"
@@ -70,8 +69,7 @@ module _ (H : List ℕ → List ℕ) (g : Params) (me : ℕ) where
   orderTest s j q askRead = J.Fine
   orderTest s j q readComplete = J.Fine
   orderTest s j q (stampIs T) = awaited (asking (s .phase) && (eqb q (s .writes) && not (heardOf s j)))
-  orderTest s j q (blockIs z e) = J.Fine
-  orderTest s j q (timeIs z T) = J.Fine
+  orderTest s j q (blockIs z o) = J.Fine
   orderTest s j q (valueIs x e) =
       andThen (awaited (reading (s .phase) && (eqb q (s .reads) && not (hasStamp (rowOf s j .stamps) (used (rowOf s j)) x))))
       (fitTest H e j)

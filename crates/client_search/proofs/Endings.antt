@@ -1,7 +1,6 @@
 -- The end of a read: the decoding's needs, what the search tells, and the whole outcome. Assumes nothing.
-use Prim.Native.Nat.{ℕ, _+_, _*_, _≤_}
+use Prim.Native.Nat.{ℕ, _+_, _≤_}
 use native.Mathlib.Omega.{arith}
-use native.Mathlib.Nat.{mul-le-mul-left, mul-le-mul-right}
 use mathlib.Core.Bool.{Bool, true, false}
 use mathlib.Core.Path.{_≡_, refl, ap, sym, _∙_}
 use mathlib.Core.Option.{Option, some}
@@ -31,6 +30,7 @@ use Rattle.client_rules.specs.declared.Phase.the-variants as F
 use Rattle.client_rules.specs.Rows.{Kept, atStamp, rowView, rowsFrom, agreed, firstBy, firstAgreed, foundOf, foundBy, search}
 use Rattle.client_rules.specs.Steps.{completeBy, settle}
 use Rattle.client.specs.Stages.{Lent, stepped}
+use Rattle.client.proofs.SendRooms.{room-smaller}
 use Rattle.client_rules.specs.Delivery.{Outcome, eventAnswer, resultOf}
 use Rattle.client_search.specs.declared.Hits.{Hits}
 use Rattle.client_search.specs.declared.Stop.{Stop}
@@ -92,13 +92,8 @@ module _ (g : Params) (rows : List Row) (a : List ℕ) (result out to : ℕ) (le
   ask-room : Room firstPlace (g .n) 9 out to
   unfolding largestFrame
   ask-room =
-      let o = lent .room .out-room in
-      let t = lent .room .to-room in
-      let n : g .n ≤ 2 * g .n = omega arith in
       let l : 9 ≤ largestFrame g = omega arith in
-      let x : g .n * 9 ≤ g .n * largestFrame g = mul-le-mul-left (g .n) l in
-      let y : g .n * largestFrame g ≤ 2 * g .n * largestFrame g = mul-le-mul-right (largestFrame g) n in
-      record { out-room = omega arith; to-room = omega arith }
+      room-smaller firstPlace (g .n) (largestFrame g) 9 out to l (lent .room)
 
   pub finishing : (s : Stop) (j i : ℕ) → s ≡ At j i
       → (standing g rows a s ≡ firstAgreed g (view g rows a) (rowsFrom (view g rows a) 1 (g .n))) × Inside s

@@ -17,27 +17,28 @@ use Rattle.frame.specs.declared.Header.{Header}
 use Rattle.frame.specs.declared.Opened.{Opened}
 use Rattle.frame.specs.declared.Opened.the-variants as O
 use Rattle.frame.specs.Params.{width, listed, entryLength}
-use Rattle.frame.specs.Messages.{Entry, Stage, send, echo, ready, Body, getStamp, ack, askRead, readComplete, stampIs, blockIs, timeIs, valueIs, Message, message, Sized, FormedBody, Formed}
-use Rattle.frame.specs.Frames.{version, versionAt, kindAt, clientAt, sequenceAt, bodyAt, writerAt, writeAt, valueAt, kindOf, bodyLength, lengthOf, entryBytes, stampBytes, bodyBytes, headerBytes, frameOf, build, headerIn, stampIn, opened, entryIn, bodyIn, messageIn}
+use Rattle.frame.specs.Messages.{Entry, Stage, send, echo, ready, Body, getStamp, ack, askRead, readComplete, stampIs, blockIs, valueIs, Message, message, Sized, FormedBody, Formed}
+use Rattle.frame.specs.Frames.{version, versionAt, kindAt, clientAt, sequenceAt, bodyAt, offerAt, writerAt, writeAt, valueAt, kindOf, retired, bodyLength, lengthOf, entryBytes, offerBytes, stampBytes, bodyBytes, headerBytes, frameOf, build, headerIn, stampIn, opened, entryIn, offerIn, bodyIn, messageIn}
+use Rattle.frame.proofs.Verdicts.{never}
 use Rattle.frame.proofs.Opening.{StampFine, Opens, opens-facts}
 
--- what holds at 1 to 12 holds of every kind
-kinds {ℓ} : (P : ℕ → Type ℓ) → P 1 → P 2 → P 3 → P 4 → P 5 → P 6 → P 7 → P 8 → P 9 → P 10 → P 11 → P 12
-    → (k : ℕ) → 1 ≤ k → k ≤ 12 → P k
-kinds P a b c d e f g h i j k l zero p q = absurd (omega arith)
-kinds P a b c d e f g h i j k l (suc zero) p q = a
-kinds P a b c d e f g h i j k l (suc (suc zero)) p q = b
-kinds P a b c d e f g h i j k l (suc (suc (suc zero))) p q = c
-kinds P a b c d e f g h i j k l (suc (suc (suc (suc zero)))) p q = d
-kinds P a b c d e f g h i j k l (suc (suc (suc (suc (suc zero))))) p q = e
-kinds P a b c d e f g h i j k l (suc (suc (suc (suc (suc (suc zero)))))) p q = f
-kinds P a b c d e f g h i j k l (suc (suc (suc (suc (suc (suc (suc zero))))))) p q = g
-kinds P a b c d e f g h i j k l (suc (suc (suc (suc (suc (suc (suc (suc zero)))))))) p q = h
-kinds P a b c d e f g h i j k l (suc (suc (suc (suc (suc (suc (suc (suc (suc zero))))))))) p q = i
-kinds P a b c d e f g h i j k l (suc (suc (suc (suc (suc (suc (suc (suc (suc (suc zero)))))))))) p q = j
-kinds P a b c d e f g h i j k l (suc (suc (suc (suc (suc (suc (suc (suc (suc (suc (suc zero))))))))))) p q = k
-kinds P a b c d e f g h i j k l (suc (suc (suc (suc (suc (suc (suc (suc (suc (suc (suc (suc zero)))))))))))) p q = l
-kinds P a b c d e f g h i j k l (suc (suc (suc (suc (suc (suc (suc (suc (suc (suc (suc (suc (suc m))))))))))))) p q = absurd (omega arith)
+-- what holds of the kinds in use holds of every kind that is not retired
+kinds {ℓ} : (P : ℕ → Type ℓ) → P 1 → P 2 → P 3 → P 4 → P 5 → P 9 → P 10 → P 11 → P 12 → (k : ℕ) → 1 ≤ k → k ≤ 12 → retired k ≡ false → P k
+unfolding retired
+kinds P a b c d e f g h i zero p q r = absurd (omega arith)
+kinds P a b c d e f g h i (suc zero) p q r = a
+kinds P a b c d e f g h i (suc (suc zero)) p q r = b
+kinds P a b c d e f g h i (suc (suc (suc zero))) p q r = c
+kinds P a b c d e f g h i (suc (suc (suc (suc zero)))) p q r = d
+kinds P a b c d e f g h i (suc (suc (suc (suc (suc zero))))) p q r = e
+kinds P a b c d e f g h i (suc (suc (suc (suc (suc (suc zero)))))) p q r = never (cc)
+kinds P a b c d e f g h i (suc (suc (suc (suc (suc (suc (suc zero))))))) p q r = never (cc)
+kinds P a b c d e f g h i (suc (suc (suc (suc (suc (suc (suc (suc zero)))))))) p q r = never (cc)
+kinds P a b c d e f g h i (suc (suc (suc (suc (suc (suc (suc (suc (suc zero))))))))) p q r = f
+kinds P a b c d e f g h i (suc (suc (suc (suc (suc (suc (suc (suc (suc (suc zero)))))))))) p q r = g
+kinds P a b c d e f g h i (suc (suc (suc (suc (suc (suc (suc (suc (suc (suc (suc zero))))))))))) p q r = h
+kinds P a b c d e f g h i (suc (suc (suc (suc (suc (suc (suc (suc (suc (suc (suc (suc zero)))))))))))) p q r = i
+kinds P a b c d e f g h i (suc (suc (suc (suc (suc (suc (suc (suc (suc (suc (suc (suc (suc m))))))))))))) p q r = absurd (omega arith)
 
 -- ---- the body
 
@@ -67,30 +68,35 @@ stamp-left f p h =
     let d : getD f writerAt 0 ∷ part f writeAt 4 ≡ part f writerAt 5 = ap (λ l. l ++ part f writeAt 4) b ∙ part-part f writerAt 1 4 in
     rw (a, c, d) (part-part f bodyAt 8 5)
 
+-- w bytes, then an entry
+lead-left : (g : Params) (f : List ℕ) (w : ℕ) (lead : List ℕ) → lead ≡ part f bodyAt w → length f ≡ bodyAt + (w + entryLength g)
+    → lead ++ entryBytes (entryIn g f (bodyAt + w)) ≡ drop bodyAt f
+lead-left g f w lead l e =
+    let z : length f ≡ bodyAt + w + entryLength g = omega (arith, e) in
+    rw (l, entry-left g f (bodyAt + w) z, ← rest f (bodyAt + w) (entryLength g) z)
+    (part-part f bodyAt w (entryLength g) ∙ rest f bodyAt (w + entryLength g) e)
+
+offer-left : (g : Params) (f : List ℕ) → Bytes f → length f ≡ bodyAt + (8 + entryLength g) → offerBytes (offerIn g f) ≡ drop bodyAt f
+unfolding offerBytes
+offer-left g f p e = lead-left g f 8 (bytes8 (be8 f bodyAt)) (bytes8-be8 f bodyAt p (omega (arith, e))) e
+
 value-left : (g : Params) (f : List ℕ) → Bytes f → length f ≡ bodyAt + (13 + entryLength g)
     → stampBytes (stampIn f) ++ entryBytes (entryIn g f valueAt) ≡ drop bodyAt f
-value-left g f p e =
-    let h : valueAt ≤ length f = omega (arith, e) in
-    let z : length f ≡ valueAt + entryLength g = omega (arith, e) in
-    rw (stamp-left f p h, entry-left g f valueAt z, ← rest f valueAt (entryLength g) z)
-    (part-part f bodyAt 13 (entryLength g) ∙ rest f bodyAt (13 + entryLength g) e)
+value-left g f p e = let h : valueAt ≤ length f = omega (arith, e) in lead-left g f 13 (stampBytes (stampIn f)) (stamp-left f p h) e
 
 -- what is said of a frame's body writes it again, and has the kind
 pub record Said (g : Params) (f : List ℕ) (kind : ℕ) : Type 0 where
   pub kind-is : kindOf (bodyIn g kind f) ≡ kind
   pub bytes-are : bodyBytes (bodyIn g kind f) ≡ drop bodyAt f
 
-said : (g : Params) (f : List ℕ) → Bytes f → (kind : ℕ) → 1 ≤ kind → kind ≤ 12 → length f ≡ bodyAt + bodyLength g kind → Said g f kind
+said : (g : Params) (f : List ℕ) → Bytes f → (kind : ℕ) → 1 ≤ kind → kind ≤ 12 → retired kind ≡ false → length f ≡ bodyAt + bodyLength g kind → Said g f kind
 unfolding bodyIn bodyLength lengthOf kindOf bodyBytes pick
 said g f p = kinds (λ kind. length f ≡ bodyAt + bodyLength g kind → Said g f kind)
     (λ e. record { kind-is = refl; bytes-are = none-left f e })
     (λ e. record { kind-is = refl; bytes-are = time-left f p e })
-    (λ e. record { kind-is = refl; bytes-are = entry-left g f bodyAt e })
-    (λ e. record { kind-is = refl; bytes-are = entry-left g f bodyAt e })
-    (λ e. record { kind-is = refl; bytes-are = entry-left g f bodyAt e })
-    (λ e. record { kind-is = refl; bytes-are = time-left f p e })
-    (λ e. record { kind-is = refl; bytes-are = time-left f p e })
-    (λ e. record { kind-is = refl; bytes-are = time-left f p e })
+    (λ e. record { kind-is = refl; bytes-are = offer-left g f p e })
+    (λ e. record { kind-is = refl; bytes-are = offer-left g f p e })
+    (λ e. record { kind-is = refl; bytes-are = offer-left g f p e })
     (λ e. record { kind-is = refl; bytes-are = none-left f e })
     (λ e. record { kind-is = refl; bytes-are = none-left f e })
     (λ e. record { kind-is = refl; bytes-are = value-left g f p e })
@@ -122,7 +128,7 @@ pub build-opened : (g : Params) (f : List ℕ) (h : Header) → Bytes f → open
 unfolding build messageIn frameOf
 build-opened g f h p q =
     let o = opens-facts g f h q in
-    let s = said g f p (h .kind) (o .kind-low) (o .kind-high) (o .length-is) in
+    let s = said g f p (h .kind) (o .kind-low) (o .kind-high) (o .kind-used) (o .length-is) in
     let l : 7 + length (drop bodyAt f) ≡ be2 f 0 = omega (arith, length-drop bodyAt f, o .long, o .length-field) in
     rw (s .kind-is, s .bytes-are, l) (rw (← o .header) (whole f p (o .long) (o .version-is)))
 
@@ -145,19 +151,16 @@ value-formed g f p e s = (
   s .parts,
 )
 
-body-formed : (g : Params) (f : List ℕ) → Bytes f → (kind : ℕ) → 1 ≤ kind → kind ≤ 12 → length f ≡ bodyAt + bodyLength g kind
+body-formed : (g : Params) (f : List ℕ) → Bytes f → (kind : ℕ) → 1 ≤ kind → kind ≤ 12 → retired kind ≡ false → length f ≡ bodyAt + bodyLength g kind
     → (kind ≡ 11 → StampFine (stampIn f)) → FormedBody g (bodyIn g kind f)
 unfolding bodyIn bodyLength lengthOf pick
 body-formed g f p =
     kinds (λ kind. length f ≡ bodyAt + bodyLength g kind → (kind ≡ 11 → StampFine (stampIn f)) → FormedBody g (bodyIn g kind f))
     (λ e s. tt)
     (λ e s. be8-range f bodyAt p)
-    (λ e s. entry-sized g f bodyAt e)
-    (λ e s. entry-sized g f bodyAt e)
-    (λ e s. entry-sized g f bodyAt e)
-    (λ e s. be8-range f bodyAt p)
-    (λ e s. be8-range f bodyAt p)
-    (λ e s. be8-range f bodyAt p)
+    (λ e s. (entry-sized g f offerAt (omega (arith, e)), be8-range f bodyAt p))
+    (λ e s. (entry-sized g f offerAt (omega (arith, e)), be8-range f bodyAt p))
+    (λ e s. (entry-sized g f offerAt (omega (arith, e)), be8-range f bodyAt p))
     (λ e s. tt)
     (λ e s. tt)
     (λ e s. value-formed g f p e (s refl))
@@ -177,5 +180,5 @@ formed-opened g f h p q =
       client-high = o .client-high;
       sequence-low = o .sequence-low;
       sequence-high = rw (← o .header) (sequence-range f p);
-      body = body-formed g f p (h .kind) (o .kind-low) (o .kind-high) (o .length-is) (o .stamp);
+      body = body-formed g f p (h .kind) (o .kind-low) (o .kind-high) (o .kind-used) (o .length-is) (o .stamp);
     }

@@ -19,7 +19,7 @@ use Rattle.frame.specs.declared.Opened.{Opened}
 use Rattle.frame.specs.declared.Opened.the-variants as O
 use Rattle.frame.specs.Refusals.{andThen}
 use Rattle.frame.specs.Stamps.{partsAgree}
-use Rattle.frame.specs.Frames.{version, versionAt, kindAt, bodyAt, bodyLength, headerIn, stampIn, framingTest, headerTest, bodyTest, stampTest, contentTest, frameTest, opened}
+use Rattle.frame.specs.Frames.{version, versionAt, kindAt, bodyAt, retired, bodyLength, headerIn, stampIn, framingTest, headerTest, bodyTest, stampTest, contentTest, frameTest, opened}
 use Rattle.frame.proofs.Verdicts.{fine-not, fine-is, fine-both, fine-opened}
 
 -- the stamp of a value: all parts zero or none, and the writer at most 8
@@ -35,6 +35,7 @@ pub record Opens (g : Params) (f : List ℕ) (h : Header) : Type 0 where
   pub header : headerIn f ≡ h
   pub kind-low : 1 ≤ h .kind
   pub kind-high : h .kind ≤ 12
+  pub kind-used : retired (h .kind) ≡ false
   pub client-low : 1 ≤ h .client
   pub client-high : h .client ≤ 8
   pub sequence-low : 1 ≤ h .sequence
@@ -56,6 +57,7 @@ pub record HeaderFine (v : ℕ) (h : Header) : Type 0 where
   pub version-is : v ≡ version
   pub kind-low : 1 ≤ h .kind
   pub kind-high : h .kind ≤ 12
+  pub kind-used : retired (h .kind) ≡ false
   pub client-low : 1 ≤ h .client
   pub client-high : h .client ≤ 8
   pub sequence-low : 1 ≤ h .sequence
@@ -66,13 +68,15 @@ header-facts v h e =
     let a = fine-is (eqb v version) R.Version _ e in
     let b = fine-not (ltb (h .kind) 1) R.Kind _ (a .1) in
     let c = fine-not (ltb 12 (h .kind)) R.Kind _ (b .1) in
-    let d = fine-not (ltb (h .client) 1) R.Owner _ (c .1) in
+    let u = fine-not (retired (h .kind)) R.Kind _ (c .1) in
+    let d = fine-not (ltb (h .client) 1) R.Owner _ (u .1) in
     let k = fine-not (ltb 8 (h .client)) R.Owner _ (d .1) in
     let s = fine-not (eqb (h .sequence) 0) R.Owner _ (k .1) in
     record {
       version-is = eqb-true _ _ (a .0);
       kind-low = ltb-false _ _ (b .0);
       kind-high = ltb-false _ _ (c .0);
+      kind-used = u .0;
       client-low = ltb-false _ _ (d .0);
       client-high = ltb-false _ _ (k .0);
       sequence-low = omega (arith, eqb-false (h .sequence) 0 (s .0));
@@ -111,6 +115,7 @@ opens-facts g f h e =
       header = o .1;
       kind-low = n .kind-low;
       kind-high = n .kind-high;
+      kind-used = n .kind-used;
       client-low = n .client-low;
       client-high = n .client-high;
       sequence-low = n .sequence-low;
@@ -122,7 +127,7 @@ header-fine : (v : ℕ) (h : Header) → HeaderFine v h → headerTest v h ≡ J
 unfolding headerTest pick
 header-fine v h n =
     let s : h .sequence ≡ 0 → ⊥ = λ q. omega (arith, n .sequence-low, q) in
-    rw (eq-eqb _ _ (n .version-is), le-ltb _ _ (n .kind-low), le-ltb _ _ (n .kind-high), le-ltb _ _ (n .client-low), le-ltb _ _ (n .client-high), ne-eqb _ _ s)
+    rw (eq-eqb _ _ (n .version-is), le-ltb _ _ (n .kind-low), le-ltb _ _ (n .kind-high), n .kind-used, le-ltb _ _ (n .client-low), le-ltb _ _ (n .client-high), ne-eqb _ _ s)
 
 stamp-fine : (s : Stamp) → StampFine s → stampTest s ≡ J.Fine
 unfolding stampTest pick
@@ -145,6 +150,7 @@ opens g f h o =
       version-is = o .version-is;
       kind-low = o .kind-low;
       kind-high = o .kind-high;
+      kind-used = o .kind-used;
       client-low = o .client-low;
       client-high = o .client-high;
       sequence-low = o .sequence-low;

@@ -8,10 +8,10 @@ use lib.ListN.{length, length-append}
 use Rattle.area.proofs.Numbers.{length-bytes8}
 use Rattle.blocks.specs.declared.Params.{Params}
 use Rattle.frame.specs.Params.{entryLength, largestFrame}
-use Rattle.frame.specs.Messages.{Stage, send, echo, ready, Body, getStamp, ack, askRead, readComplete, stampIs, blockIs, timeIs, valueIs, Message, Sending, FormedBody}
+use Rattle.frame.specs.Messages.{Stage, send, echo, ready, Body, getStamp, ack, askRead, readComplete, stampIs, blockIs, valueIs, Message, Sending, FormedBody}
 use Rattle.frame.specs.Frames.{bodyAt, kindOf, entryBytes, stampBytes, bodyBytes, frameOf, build}
 use Rattle.frame.specs.Outbox.{frames}
-use Rattle.frame.proofs.RoundTrip.{length-frame, length-entry, length-stamp}
+use Rattle.frame.proofs.RoundTrip.{length-frame, length-entry, length-offer, length-stamp}
 
 pub body-room : (g : Params) (b : Body) → FormedBody g b → length (bodyBytes b) ≤ 13 + entryLength g
 unfolding bodyBytes
@@ -20,8 +20,7 @@ body-room g ack f = omega arith
 body-room g askRead f = omega arith
 body-room g readComplete f = omega arith
 body-room g (stampIs T) f = omega (arith, length-bytes8 T)
-body-room g (timeIs z T) f = omega (arith, length-bytes8 T)
-body-room g (blockIs z e) f = omega (arith, length-entry g e f)
+body-room g (blockIs z o) f = omega (arith, length-offer g o (f .0))
 body-room g (valueIs s e) f = omega (arith, length-append (stampBytes s) (entryBytes e), length-stamp s, length-entry g e (f .0))
 
 pub build-room : (g : Params) (m : Message) → FormedBody g (m .body) → length (build m) ≤ largestFrame g

@@ -15,8 +15,8 @@ use Rattle.frame.specs.declared.Header.{Header}
 use Rattle.frame.specs.declared.Opened.{Opened}
 use Rattle.frame.specs.declared.Opened.the-variants as O
 use Rattle.frame.specs.Params.{width, listed, entryLength, Bounded}
-use Rattle.frame.specs.Messages.{Entry, Stage, send, echo, ready, Body, getStamp, ack, askRead, readComplete, stampIs, blockIs, timeIs, valueIs, Message, message, Sized, FormedBody, Formed}
-use Rattle.frame.specs.Frames.{version, versionAt, bodyAt, valueAt, kindOf, bodyLength, lengthOf, entryBytes, stampBytes, bodyBytes, headerBytes, frameOf, build, headerIn, stampIn, opened, entryIn, bodyIn, messageIn, headerFor}
+use Rattle.frame.specs.Messages.{Entry, Offer, Stage, send, echo, ready, Body, getStamp, ack, askRead, readComplete, stampIs, blockIs, valueIs, Message, message, Sized, FormedBody, Formed}
+use Rattle.frame.specs.Frames.{version, versionAt, bodyAt, offerAt, valueAt, kindOf, retired, bodyLength, lengthOf, entryBytes, offerBytes, stampBytes, bodyBytes, headerBytes, frameOf, build, headerIn, stampIn, opened, entryIn, offerIn, bodyIn, messageIn, headerFor}
 use Rattle.frame.proofs.Sizes.{Small, small}
 use Rattle.frame.proofs.Opening.{StampFine, Opens, opens}
 
@@ -58,17 +58,25 @@ pub length-entry : (g : Params) (e : Entry) → Sized g e → length (entryBytes
 unfolding entryBytes
 length-entry g e Q = length-append (e .digests) (e .block) ∙ cc (Q .list-is, Q .block-is)
 
+pub length-offer : (g : Params) (o : Offer) → Sized g (o .entry) → length (offerBytes o) ≡ 8 + entryLength g
+unfolding offerBytes
+length-offer g o Q = length-append (bytes8 (o .time)) (entryBytes (o .entry)) ∙ cc (length-bytes8 (o .time), length-entry g (o .entry) Q)
+
 pub length-stamp : (s : Stamp) → length (stampBytes s) ≡ 13
 unfolding stampBytes bytes8 bytes4 bytes2
 length-stamp s = refl
 
-time-back : (kind c q T : ℕ) → T < 18446744073709551616 → be8 (frameOf kind c q (bytes8 T)) bodyAt ≡ T
+time-back : (kind c q T : ℕ) (l : List ℕ) → T < 18446744073709551616 → be8 (frameOf kind c q (bytes8 T ++ l)) bodyAt ≡ T
 unfolding be8 be4 be2 bytes8 bytes4 bytes2 frameOf headerBytes
-time-back kind c q T h = be8-bytes8 T [] h
+time-back kind c q T l h = be8-bytes8 T [] h
 
-block-back : (g : Params) (kind c q : ℕ) (e : Entry) → Sized g e → entryIn g (frameOf kind c q (entryBytes e)) bodyAt ≡ e
-unfolding bytes4 bytes2 frameOf headerBytes
-block-back g kind c q e Q = entry-back g e Q (headerBytes (7 + length (entryBytes e)) kind c q) bodyAt refl
+offer-back : (g : Params) (kind c q : ℕ) (o : Offer) → FormedBody g (blockIs send o) → offerIn g (frameOf kind c q (offerBytes o)) ≡ o
+unfolding bytes8 bytes4 bytes2 frameOf headerBytes offerBytes
+offer-back g kind c q o f =
+    let e = o .entry in
+    let a = time-back kind c q (o .time) (entryBytes e) (f .1) in
+    let b = entry-back g e (f .0) (headerBytes (7 + length (offerBytes o)) kind c q ++ bytes8 (o .time)) offerAt refl in
+    λ i. record { time = a i; entry = b i }
 
 stamp-back : (kind c q : ℕ) (s : Stamp) (l : List ℕ) → s .time < 18446744073709551616 → s .sequence < 4294967296
     → stampIn (frameOf kind c q (stampBytes s ++ l)) ≡ s
@@ -92,42 +100,33 @@ length-body g ack f = refl
 length-body g askRead f = refl
 length-body g readComplete f = refl
 length-body g (stampIs T) f = length-bytes8 T
-length-body g (timeIs send T) f = length-bytes8 T
-length-body g (timeIs echo T) f = length-bytes8 T
-length-body g (timeIs ready T) f = length-bytes8 T
-length-body g (blockIs send e) f = length-entry g e f
-length-body g (blockIs echo e) f = length-entry g e f
-length-body g (blockIs ready e) f = length-entry g e f
+length-body g (blockIs send o) f = length-offer g o (f .0)
+length-body g (blockIs echo o) f = length-offer g o (f .0)
+length-body g (blockIs ready o) f = length-offer g o (f .0)
 length-body g (valueIs s e) f = length-append (stampBytes s) (entryBytes e) ∙ cc (length-stamp s, length-entry g e (f .0))
 
-pub kind-range : (b : Body) → (1 ≤ kindOf b) × (kindOf b ≤ 12)
-unfolding kindOf
-kind-range getStamp = (omega arith, omega arith)
-kind-range ack = (omega arith, omega arith)
-kind-range askRead = (omega arith, omega arith)
-kind-range readComplete = (omega arith, omega arith)
-kind-range (stampIs T) = (omega arith, omega arith)
-kind-range (timeIs send T) = (omega arith, omega arith)
-kind-range (timeIs echo T) = (omega arith, omega arith)
-kind-range (timeIs ready T) = (omega arith, omega arith)
-kind-range (blockIs send e) = (omega arith, omega arith)
-kind-range (blockIs echo e) = (omega arith, omega arith)
-kind-range (blockIs ready e) = (omega arith, omega arith)
-kind-range (valueIs s e) = (omega arith, omega arith)
+pub kind-range : (b : Body) → (1 ≤ kindOf b) × (kindOf b ≤ 12) × (retired (kindOf b) ≡ false)
+unfolding kindOf retired
+kind-range getStamp = (omega arith, omega arith, refl)
+kind-range ack = (omega arith, omega arith, refl)
+kind-range askRead = (omega arith, omega arith, refl)
+kind-range readComplete = (omega arith, omega arith, refl)
+kind-range (stampIs T) = (omega arith, omega arith, refl)
+kind-range (blockIs send o) = (omega arith, omega arith, refl)
+kind-range (blockIs echo o) = (omega arith, omega arith, refl)
+kind-range (blockIs ready o) = (omega arith, omega arith, refl)
+kind-range (valueIs s e) = (omega arith, omega arith, refl)
 
 body-back : (g : Params) (c q : ℕ) (b : Body) → FormedBody g b → bodyIn g (kindOf b) (frameOf (kindOf b) c q (bodyBytes b)) ≡ b
-unfolding bodyBytes bodyIn kindOf pick
+unfolding bodyBytes bodyIn kindOf pick bytes8 bytes4 bytes2
 body-back g c q getStamp f = refl
 body-back g c q ack f = refl
 body-back g c q askRead f = refl
 body-back g c q readComplete f = refl
-body-back g c q (stampIs T) f = ap stampIs (time-back 2 c q T f)
-body-back g c q (timeIs send T) f = ap (timeIs send) (time-back 6 c q T f)
-body-back g c q (timeIs echo T) f = ap (timeIs echo) (time-back 7 c q T f)
-body-back g c q (timeIs ready T) f = ap (timeIs ready) (time-back 8 c q T f)
-body-back g c q (blockIs send e) f = ap (blockIs send) (block-back g 3 c q e f)
-body-back g c q (blockIs echo e) f = ap (blockIs echo) (block-back g 4 c q e f)
-body-back g c q (blockIs ready e) f = ap (blockIs ready) (block-back g 5 c q e f)
+body-back g c q (stampIs T) f = ap stampIs (time-back 2 c q T [] f)
+body-back g c q (blockIs send o) f = ap (blockIs send) (offer-back g 3 c q o f)
+body-back g c q (blockIs echo o) f = ap (blockIs echo) (offer-back g 4 c q o f)
+body-back g c q (blockIs ready o) f = ap (blockIs ready) (offer-back g 5 c q o f)
 body-back g c q (valueIs s e) f =
     let a = stamp-back 11 c q s (entryBytes e) (f .1) (f .3) in
     let b = value-back g 11 c q s e (f .0) in
@@ -141,12 +140,9 @@ stamp-said g c q ack f k = absurd (omega arith)
 stamp-said g c q askRead f k = absurd (omega arith)
 stamp-said g c q readComplete f k = absurd (omega arith)
 stamp-said g c q (stampIs T) f k = absurd (omega arith)
-stamp-said g c q (timeIs send T) f k = absurd (omega arith)
-stamp-said g c q (timeIs echo T) f k = absurd (omega arith)
-stamp-said g c q (timeIs ready T) f k = absurd (omega arith)
-stamp-said g c q (blockIs send e) f k = absurd (omega arith)
-stamp-said g c q (blockIs echo e) f k = absurd (omega arith)
-stamp-said g c q (blockIs ready e) f k = absurd (omega arith)
+stamp-said g c q (blockIs send o) f k = absurd (omega arith)
+stamp-said g c q (blockIs echo o) f k = absurd (omega arith)
+stamp-said g c q (blockIs ready o) f k = absurd (omega arith)
 stamp-said g c q (valueIs s e) f k =
     rw (stamp-back 11 c q s (entryBytes e) (f .1) (f .3)) (record { parts = f .4; writer = f .2 })
 
@@ -157,8 +153,7 @@ body-high g M ack f = omega arith
 body-high g M askRead f = omega arith
 body-high g M readComplete f = omega arith
 body-high g M (stampIs T) f = omega (arith, length-bytes8 T)
-body-high g M (timeIs z T) f = omega (arith, length-bytes8 T)
-body-high g M (blockIs z e) f = omega (arith, length-entry g e f, M .list-room, M .block-room)
+body-high g M (blockIs z o) f = omega (arith, length-offer g o (f .0), M .list-room, M .block-room)
 body-high g M (valueIs s e) f =
     omega (arith, length-append (stampBytes s) (entryBytes e), length-stamp s, length-entry g e (f .0), M .list-room, M .block-room)
 
@@ -186,6 +181,7 @@ opened-build g B m F =
         header = header-back k (m .client) (m .sequence) (bodyBytes b) (F .sequence-high);
         kind-low = kind-range b .0;
         kind-high = kind-range b .1;
+        kind-used = kind-range b .2;
         client-low = F .client-low;
         client-high = F .client-high;
         sequence-low = F .sequence-low;

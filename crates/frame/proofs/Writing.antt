@@ -19,8 +19,8 @@ use Rattle.frame.specs.declared.Broadcast.{Broadcast}
 use Rattle.frame.specs.declared.Ask.{Ask}
 use Rattle.frame.specs.declared.Ask.the-variants as A
 use Rattle.frame.specs.Params.{width, listed}
-use Rattle.frame.specs.Messages.{Entry, entry, Stage, send, echo, ready, Body, ack, stampIs, blockIs, timeIs, valueIs, Message, message, sending, toAll}
-use Rattle.frame.specs.Frames.{kindOf, bodyBytes, entryBytes, stampBytes, headerBytes, frameOf, build, entryIn}
+use Rattle.frame.specs.Messages.{entry, Offer, offer, Stage, send, echo, ready, Body, ack, stampIs, blockIs, valueIs, Message, message, sending, toAll}
+use Rattle.frame.specs.Frames.{kindOf, bodyBytes, entryBytes, offerBytes, stampBytes, headerBytes, frameOf, build, entryIn}
 use Rattle.frame.specs.Outbox.{partyBytes, Outbox, outbox, sent, wrote, wroteTo, Room, stageOf, askOf}
 use Rattle.frame.specs.Chunks.{storeEntry}
 use Rattle.frame.proofs.RoundTrip.{length-frame}
@@ -134,17 +134,15 @@ stored-from g a a₁ p f i w e q =
 
 -- ---- frames of messages
 
-kind-block : (z : Stage) (e e′ : Entry) → kindOf (blockIs z e) ≡ kindOf (blockIs z e′)
-unfolding kindOf
-kind-block send e e′ = refl
-kind-block echo e e′ = refl
-kind-block ready e e′ = refl
+-- the kind of a broadcast's step, whatever is offered
+abbrev pub blockKind : Stage → ℕ
+blockKind z = kindOf (blockIs z (offer 0 (entry [] [])))
 
-kind-time : (z : Stage) (T T′ : ℕ) → kindOf (timeIs z T) ≡ kindOf (timeIs z T′)
+kind-block : (z : Stage) (o : Offer) → kindOf (blockIs z o) ≡ blockKind z
 unfolding kindOf
-kind-time send T T′ = refl
-kind-time echo T T′ = refl
-kind-time ready T T′ = refl
+kind-block send o = refl
+kind-block echo o = refl
+kind-block ready o = refl
 
 bytes-ask : (a : Ask) → [] ≡ bodyBytes (askOf a)
 unfolding bodyBytes
@@ -160,17 +158,14 @@ pub ack-frame : (c q : ℕ) → frameOf 9 c q [] ≡ build (message c q ack)
 unfolding build kindOf bodyBytes
 ack-frame c q = refl
 
-pub time-frame : (k c q T : ℕ) (z : Stage) (t : List ℕ) → k ≡ kindOf (timeIs z 0) → t ≡ bytes8 T → frameOf k c q (t ++ []) ≡ build (message c q (timeIs z T))
-unfolding build bodyBytes
-time-frame k c q T z t e u = rw (e, u, append-nil, kind-time z T 0)
-
 pub stamp-frame : (c q T : ℕ) (t : List ℕ) → t ≡ bytes8 T → frameOf 2 c q (t ++ []) ≡ build (message c q (stampIs T))
 unfolding build kindOf bodyBytes
 stamp-frame c q T t u = rw (u, append-nil)
 
-pub block-frame : (k c q : ℕ) (z : Stage) (d b : List ℕ) → k ≡ kindOf (blockIs z (entry [] [])) → frameOf k c q (d ++ b) ≡ build (message c q (blockIs z (entry d b)))
-unfolding build bodyBytes entryBytes
-block-frame k c q z d b e = rw (e, kind-block z (entry d b) (entry [] []))
+pub block-frame : (k c q T : ℕ) (z : Stage) (t d b : List ℕ) → k ≡ blockKind z → t ≡ bytes8 T
+    → frameOf k c q (t ++ (d ++ b)) ≡ build (message c q (blockIs z (offer T (entry d b))))
+unfolding build bodyBytes offerBytes entryBytes
+block-frame k c q T z t d b e u = rw (e, u, kind-block z (offer T (entry d b)))
 
 pub value-frame : (c q : ℕ) (s : Stamp) (t d b : List ℕ) → t ≡ stampBytes s → frameOf 11 c q (t ++ (d ++ b)) ≡ build (message c q (valueIs s (entry d b)))
 unfolding build kindOf bodyBytes entryBytes
@@ -181,11 +176,8 @@ value-frame c q s t d b e = rw e
 pub kind-of-ask : (a a′ : Ask) → a ≡ a′ → kindOf (askOf a′) ≡ kindOf (askOf a)
 kind-of-ask a a′ e = rw e
 
-pub kind-of-block : (z z′ : Broadcast) (e : Entry) → z ≡ z′ → kindOf (blockIs (stageOf z′) e) ≡ kindOf (blockIs (stageOf z) e)
-kind-of-block z z′ e p = rw p
-
-pub kind-of-time : (z z′ : Broadcast) (T : ℕ) → z ≡ z′ → kindOf (timeIs (stageOf z′) T) ≡ kindOf (timeIs (stageOf z) T)
-kind-of-time z z′ T p = rw p
+pub kind-of-block : (z z′ : Broadcast) → z ≡ z′ → blockKind (stageOf z′) ≡ blockKind (stageOf z)
+kind-of-block z z′ p = rw p
 
 -- ---- sent
 

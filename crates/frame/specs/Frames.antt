@@ -19,7 +19,7 @@ use Rattle.frame.specs.declared.Opened.the-variants as O
 use Rattle.frame.specs.Refusals.{andThen}
 use Rattle.frame.specs.Params.{width, listed, entryLength, boundsTest}
 use Rattle.frame.specs.Stamps.{partsAgree}
-use Rattle.frame.specs.Messages.{Entry, entry, Stage, send, echo, ready, Body, getStamp, ack, askRead, readComplete, stampIs, blockIs, timeIs, valueIs, Message, message}
+use Rattle.frame.specs.Messages.{Entry, entry, Offer, offer, Stage, send, echo, ready, Body, getStamp, ack, askRead, readComplete, stampIs, blockIs, valueIs, Message, message}
 
 -- ---- layout
 
@@ -43,6 +43,10 @@ sequenceAt = 5
 abbrev pub bodyAt : ℕ
 bodyAt = 9
 
+-- the place of an offer's entry, behind its time
+abbrev pub offerAt : ℕ
+offerAt = 17
+
 -- the places of a value's writer, write sequence and entry
 abbrev pub writerAt : ℕ
 writerAt = 17
@@ -57,27 +61,27 @@ valueAt = 22
 unfoldable pub kindOf : Body → ℕ
 kindOf getStamp = 1
 kindOf (stampIs T) = 2
-kindOf (blockIs send e) = 3
-kindOf (blockIs echo e) = 4
-kindOf (blockIs ready e) = 5
-kindOf (timeIs send T) = 6
-kindOf (timeIs echo T) = 7
-kindOf (timeIs ready T) = 8
+kindOf (blockIs send o) = 3
+kindOf (blockIs echo o) = 4
+kindOf (blockIs ready o) = 5
 kindOf ack = 9
 kindOf askRead = 10
 kindOf (valueIs s e) = 11
 kindOf readComplete = 12
+
+-- request F-4: "Kinds 6, 7 and 8 are retired and get 6"
+unfoldable pub retired : ℕ → Bool
+retired kind = leb 6 kind && leb kind 8
 
 -- the length of the body of a kind, from the table by rising kind; entry is the length of a digest list and a block
 unfoldable pub lengthOf : ℕ → ℕ → ℕ
 lengthOf kind entry =
     pick (leb kind 1) 0
     (pick (leb kind 2) 8
-    (pick (leb kind 5) entry
-    (pick (leb kind 8) 8
+    (pick (leb kind 5) (8 + entry)
     (pick (leb kind 10) 0
     (pick (leb kind 11) (13 + entry)
-    0)))))
+    0))))
 
 unfoldable pub bodyLength : Params → ℕ → ℕ
 bodyLength g kind = lengthOf kind (entryLength g)
@@ -86,6 +90,9 @@ bodyLength g kind = lengthOf kind (entryLength g)
 
 unfoldable pub entryBytes : Entry → List ℕ
 entryBytes e = e .digests ++ e .block
+
+unfoldable pub offerBytes : Offer → List ℕ
+offerBytes o = bytes8 (o .time) ++ entryBytes (o .entry)
 
 unfoldable pub stampBytes : Stamp → List ℕ
 stampBytes s = bytes8 (s .time) ++ (s .writer ∷ bytes4 (s .sequence))
@@ -96,8 +103,7 @@ bodyBytes ack = []
 bodyBytes askRead = []
 bodyBytes readComplete = []
 bodyBytes (stampIs T) = bytes8 T
-bodyBytes (blockIs z e) = entryBytes e
-bodyBytes (timeIs z T) = bytes8 T
+bodyBytes (blockIs z o) = offerBytes o
 bodyBytes (valueIs s e) = stampBytes s ++ entryBytes e
 
 -- the bytes before the body, of which length follow
@@ -126,10 +132,11 @@ headerTest v h =
     pick (eqb v version)
     (pick (ltb (h .kind) 1) (J.Bad R.Kind)
     (pick (ltb 12 (h .kind)) (J.Bad R.Kind)
+    (pick (retired (h .kind)) (J.Bad R.Kind)
     (pick (ltb (h .client) 1) (J.Bad R.Owner)
     (pick (ltb 8 (h .client)) (J.Bad R.Owner)
     (pick (eqb (h .sequence) 0) (J.Bad R.Owner)
-    J.Fine)))))
+    J.Fine))))))
     (J.Bad R.Version)
 
 -- 8, of a frame of length bytes
@@ -174,20 +181,21 @@ openedUnder g f = openedBy (andThen (boundsTest g) (frameTest g f)) (headerIn f)
 abbrev pub entryIn : Params → List ℕ → ℕ → Entry
 entryIn g f i = entry (part f i (listed g)) (part f (i + listed g) (width g))
 
+-- the offer of a frame of kind 3, 4 or 5
+abbrev pub offerIn : Params → List ℕ → Offer
+offerIn g f = offer (be8 f bodyAt) (entryIn g f offerAt)
+
 unfoldable pub bodyIn : Params → ℕ → List ℕ → Body
 bodyIn g kind f =
     pick (eqb kind 1) getStamp
     (pick (eqb kind 2) (stampIs (be8 f bodyAt))
-    (pick (eqb kind 3) (blockIs send (entryIn g f bodyAt))
-    (pick (eqb kind 4) (blockIs echo (entryIn g f bodyAt))
-    (pick (eqb kind 5) (blockIs ready (entryIn g f bodyAt))
-    (pick (eqb kind 6) (timeIs send (be8 f bodyAt))
-    (pick (eqb kind 7) (timeIs echo (be8 f bodyAt))
-    (pick (eqb kind 8) (timeIs ready (be8 f bodyAt))
+    (pick (eqb kind 3) (blockIs send (offerIn g f))
+    (pick (eqb kind 4) (blockIs echo (offerIn g f))
+    (pick (eqb kind 5) (blockIs ready (offerIn g f))
     (pick (eqb kind 9) ack
     (pick (eqb kind 10) askRead
     (pick (eqb kind 11) (valueIs (stampIn f) (entryIn g f valueAt))
-    readComplete))))))))))
+    readComplete)))))))
 
 unfoldable pub messageIn : Params → Header → List ℕ → Message
 messageIn g h f = message (h .client) (h .sequence) (bodyIn g (h .kind) f)

@@ -25,20 +25,27 @@ pub record Entry : Type 0 where
 abbrev pub entry : List ℕ → List ℕ → Entry
 entry d b = record { digests = d; block = b }
 
+-- what a write is about: the time it goes by, and its digest list and block
+pub record Offer : Type 0 where
+  pub time : ℕ
+  pub entry : Entry
+
+abbrev pub offer : ℕ → Entry → Offer
+offer T e = record { time = T; entry = e }
+
 -- the three steps of a broadcast
 pub data Stage : Type 0 where
   send echo ready : Stage
 
--- the twelve kinds of document 01's table, "Frames", with what their bodies hold
+-- the kinds of document 01's table, "Frames", with what their bodies hold; request F-4: "kinds 3, 4 and 5 carry the time
+-- (8 bytes) before the digest list", "Kinds 6, 7 and 8 are retired"
 pub data Body : Type 0 where
   -- 1, 9, 10, 12
   getStamp ack askRead readComplete : Body
   -- 2: time
   stampIs : ℕ → Body
-  -- 3, 4, 5: digest list, block
-  blockIs : Stage → Entry → Body
-  -- 6, 7, 8: time
-  timeIs : Stage → ℕ → Body
+  -- 3, 4, 5: time; digest list, block
+  blockIs : Stage → Offer → Body
   -- 11: time, writer and write sequence; digest list, block
   valueIs : Stamp → Entry → Body
 
@@ -58,8 +65,7 @@ Carries ack b = ⊥
 Carries askRead b = ⊥
 Carries readComplete b = ⊥
 Carries (stampIs T) b = ⊥
-Carries (blockIs z e) b = Path (List ℕ) (e .block) b
-Carries (timeIs z T) b = ⊥
+Carries (blockIs z o) b = Path (List ℕ) (o .entry .block) b
 Carries (valueIs s e) b = Path (List ℕ) (e .block) b
 
 -- ---- what can be said in a frame
@@ -75,8 +81,7 @@ FormedBody g ack = Unit {0}
 FormedBody g askRead = Unit {0}
 FormedBody g readComplete = Unit {0}
 FormedBody g (stampIs T) = T < 18446744073709551616
-FormedBody g (blockIs z e) = Sized g e
-FormedBody g (timeIs z T) = T < 18446744073709551616
+FormedBody g (blockIs z o) = Sized g (o .entry) × (o .time < 18446744073709551616)
 FormedBody g (valueIs s e) =
     Sized g e × (s .time < 18446744073709551616) × (s .writer ≤ 8) × (s .sequence < 4294967296) × (partsAgree (s .time) (s .writer) (s .sequence) ≡ true)
 

@@ -35,12 +35,12 @@ quota g = max (g .k) (g .t + 1)
 unfoldable pub largestFrame : Params → ℕ
 largestFrame g = 22 + entryLength g
 
--- 10: "frames out need n + 9 largest frames (server), 2n (client)"; and two bytes for the receiver of each
+-- 10: "frames out need n + 9 largest frames (server)"; request F-4: "The client's largest need is now n frames." Two bytes for the receiver of each.
 abbrev pub serverFrames : Params → ℕ
 serverFrames g = g .n + 9
 
 abbrev pub clientFrames : Params → ℕ
-clientFrames g = 2 * g .n
+clientFrames g = g .n
 
 -- the bytes that m frames may take in the out area, and their receivers in the to area
 unfoldable pub outRoom : Params → ℕ → ℕ

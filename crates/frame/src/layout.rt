@@ -14,6 +14,9 @@ pub const SEQUENCE_AT: usize = 5;
 
 pub const BODY_AT: usize = 9;
 
+// The entry of a frame of a write, behind its time.
+pub const OFFER_AT: usize = 17;
+
 // The parts of a value's body behind its time.
 pub const WRITER_AT: usize = 17;
 

@@ -69,6 +69,13 @@ pub struct Place {
     pub count: usize,
 }
 
+// A write of a client, and the time that its frames carry.
+pub struct WriteTime {
+    pub client: u8,
+    pub sequence: u32,
+    pub time: u64,
+}
+
 // The three steps of a broadcast.
 pub enum Broadcast {
     Send,

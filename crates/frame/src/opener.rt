@@ -21,7 +21,7 @@ ghost use mathlib.Core.Path.{_≡_};
 ghost use Prim.Native.Nat.{_+_, _≤_, _<_};
 ghost use lib.ListN.{length, getD};
 ghost use Rattle.frame.specs.Params.{Bounded};
-ghost use Rattle.frame.specs.Frames.{lengthOf, bodyLength, framingTest, headerIn, headerTest, bodyTest, stampIn, stampTest, contentTest, opened, openedUnder};
+ghost use Rattle.frame.specs.Frames.{retired, lengthOf, bodyLength, framingTest, headerIn, headerTest, bodyTest, stampIn, stampTest, contentTest, opened, openedUnder};
 
 // 4: under 9 bytes, or length field wrong.
 pub fn framing_test(f: &[u8]) -> Verdict
@@ -49,7 +49,17 @@ pub fn header_in(f: &[u8]) -> Header
     }
 }
 
-// 5 to 7: version not 1, kind not 1 to 12, client not 1 to 8 or sequence 0.
+// Kinds 6, 7 and 8.
+fn is_retired(kind: u8) -> bool
+    ensures { λ r. ⌜ r ≡ retired kind ⌝ }
+{
+    if kind < 6 {
+        return false;
+    }
+    kind <= 8
+}
+
+// 5 to 7: version not 1, kind not 1 to 12 or retired, client not 1 to 8 or sequence 0.
 pub fn header_test(version: u8, h: Header) -> Verdict
     ensures { λ r. ⌜ r ≡ headerTest version h ⌝ }
 {
@@ -60,6 +70,9 @@ pub fn header_test(version: u8, h: Header) -> Verdict
         return Verdict::Bad(Refusal::Kind);
     }
     if 12 < h.kind {
+        return Verdict::Bad(Refusal::Kind);
+    }
+    if is_retired(h.kind) {
         return Verdict::Bad(Refusal::Kind);
     }
     if h.client < 1 {
@@ -86,10 +99,7 @@ fn length_of(kind: u8, entry: usize) -> usize
         return 8;
     }
     if kind <= 5 {
-        return entry;
-    }
-    if kind <= 8 {
-        return 8;
+        return 8 + entry;
     }
     if kind <= 10 {
         return 0;

@@ -4,6 +4,7 @@ use crate::Broadcast;
 use crate::Party;
 use crate::Place;
 use crate::Stamp;
+use crate::WriteTime;
 use crate::layout::BODY_AT;
 use crate::layout::VERSION;
 use blocks::Params;
@@ -14,7 +15,7 @@ ghost use lib.ListN.{length};
 ghost use lib.Seq.{sets};
 ghost use Rattle.area.specs.Numbers.{bytes8};
 ghost use Rattle.frame.specs.Params.{Bounded, entryLength};
-ghost use Rattle.frame.specs.Messages.{entry, message, sending, toAll, Sized, getStamp, ack, stampIs, blockIs, timeIs, valueIs, send};
+ghost use Rattle.frame.specs.Messages.{entry, offer, message, sending, toAll, Sized, getStamp, ack, stampIs, blockIs, valueIs, send};
 ghost use Rattle.frame.specs.Frames.{kindOf, stampBytes, headerBytes, frameOf};
 ghost use Rattle.frame.specs.Outbox.{partyBytes, outbox, sent, wrote, wroteTo, Room, stageOf, askOf};
 
@@ -155,22 +156,12 @@ pub fn deposit_all(
 }
 
 fn block_kind(z: Broadcast) -> u8
-    ensures { λ r. ⌜ r ≡ kindOf (blockIs (stageOf z) (entry [] [])) ⌝ }
+    ensures { λ r. ⌜ r ≡ kindOf (blockIs (stageOf z) (offer 0 (entry [] []))) ⌝ }
 {
     match z {
         Broadcast::Send => 3,
         Broadcast::Echo => 4,
         Broadcast::Ready => 5,
-    }
-}
-
-fn time_kind(z: Broadcast) -> u8
-    ensures { λ r. ⌜ r ≡ kindOf (timeIs (stageOf z) 0) ⌝ }
-{
-    match z {
-        Broadcast::Send => 6,
-        Broadcast::Echo => 7,
-        Broadcast::Ready => 8,
     }
 }
 
@@ -215,64 +206,32 @@ pub fn ask_all(
     )
 }
 
-// Sends a step of the time's broadcast to all servers.
-pub fn time_all(
-    out: &mut [u8],
-    to: &mut [u8],
-    p: Place,
-    g: Params,
-    z: Broadcast,
-    client: u8,
-    sequence: u32,
-    time: u64,
-) -> Place
-    requires { ⌜ Bounded g × Room p (g .n) 17 (length (now out)) (length (now to)) ⌝ }
-    ensures { λ r. ⌜ outbox (now (out .exit)) (now (to .exit)) r ≡ sent (outbox (now (out .entry)) (now (to .entry)) p) (toAll g (λ j. message client sequence (timeIs (stageOf z) time))) ⌝ }
-{
-    let kind = time_kind(z);
-    let t = time_bytes(time);
-    let no_list = [0u8; 0];
-    let no_block = [0u8; 0];
-    deposit_all(
-        out,
-        to,
-        p,
-        g.n,
-        kind,
-        client,
-        sequence,
-        &t,
-        &no_list,
-        &no_block,
-    )
-}
-
-// Sends a step of the blocks' broadcast, the same digest list and block, to all servers.
+// Sends a step of a write's broadcast, the same time, digest list and block, to all servers.
 pub fn block_all(
     out: &mut [u8],
     to: &mut [u8],
     p: Place,
     g: Params,
     z: Broadcast,
-    client: u8,
-    sequence: u32,
+    w: WriteTime,
     digests: &[u8],
     block: &[u8],
 ) -> Place
-    requires { ⌜ Bounded g × Room p (g .n) (9 + (length (now digests) + length (now block))) (length (now out)) (length (now to)) ⌝ }
-    ensures { λ r. ⌜ outbox (now (out .exit)) (now (to .exit)) r ≡ sent (outbox (now (out .entry)) (now (to .entry)) p) (toAll g (λ j. message client sequence (blockIs (stageOf z) (entry (now (digests .entry)) (now (block .entry)))))) ⌝ }
+    requires { ⌜ Bounded g × Room p (g .n) (17 + (length (now digests) + length (now block))) (length (now out)) (length (now to)) ⌝ }
+    ensures { λ r. ⌜ outbox (now (out .exit)) (now (to .exit)) r ≡ sent (outbox (now (out .entry)) (now (to .entry)) p)
+        (toAll g (λ j. message (w .client) (w .sequence) (blockIs (stageOf z) (offer (w .time) (entry (now (digests .entry)) (now (block .entry))))))) ⌝ }
 {
     let kind = block_kind(z);
-    let no_lead = [0u8; 0];
+    let t = time_bytes(w.time);
     deposit_all(
         out,
         to,
         p,
         g.n,
         kind,
-        client,
-        sequence,
-        &no_lead,
+        w.client,
+        w.sequence,
+        &t,
         digests,
         block,
     )
@@ -284,24 +243,24 @@ pub fn send_block(
     to: &mut [u8],
     p: Place,
     j: u8,
-    client: u8,
-    sequence: u32,
+    w: WriteTime,
     digests: &[u8],
     block: &[u8],
 ) -> Place
-    requires { ⌜ Room p 1 (9 + (length (now digests) + length (now block))) (length (now out)) (length (now to)) ⌝ }
-    ensures { λ r. ⌜ outbox (now (out .exit)) (now (to .exit)) r ≡ sent (outbox (now (out .entry)) (now (to .entry)) p) (sending (Party.Server j) (message client sequence (blockIs send (entry (now (digests .entry)) (now (block .entry))))) ∷ []) ⌝ }
+    requires { ⌜ Room p 1 (17 + (length (now digests) + length (now block))) (length (now out)) (length (now to)) ⌝ }
+    ensures { λ r. ⌜ outbox (now (out .exit)) (now (to .exit)) r ≡ sent (outbox (now (out .entry)) (now (to .entry)) p)
+        (sending (Party.Server j) (message (w .client) (w .sequence) (blockIs send (offer (w .time) (entry (now (digests .entry)) (now (block .entry)))))) ∷ []) ⌝ }
 {
-    let no_lead = [0u8; 0];
+    let t = time_bytes(w.time);
     deposit(
         out,
         to,
         p,
         Party::Server(j),
         3,
-        client,
-        sequence,
-        &no_lead,
+        w.client,
+        w.sequence,
+        &t,
         digests,
         block,
     )

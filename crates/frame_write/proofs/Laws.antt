@@ -75,9 +75,8 @@ length-high kind e h =
     both-low (leb kind 1) _ _ 589 (omega arith)
     (both-low (leb kind 2) _ _ 589 (omega arith)
     (both-low (leb kind 5) _ _ 589 (omega arith)
-    (both-low (leb kind 8) _ _ 589 (omega arith)
     (both-low (leb kind 10) _ _ 589 (omega arith)
-    (both-low (leb kind 11) _ _ 589 (omega arith) (omega arith))))))
+    (both-low (leb kind 11) _ _ 589 (omega arith) (omega arith)))))
 
 -- ---- room
 

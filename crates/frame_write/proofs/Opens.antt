@@ -29,6 +29,7 @@ written-opens g h body s e =
       header = header-back (h .kind) (h .client) (h .sequence) body s;
       kind-low = k .kind-low;
       kind-high = k .kind-high;
+      kind-used = k .kind-used;
       client-low = k .client-low;
       client-high = k .client-high;
       sequence-low = k .sequence-low;

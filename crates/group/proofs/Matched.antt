@@ -9,7 +9,7 @@ use native.Mathlib.Omega.{arith}
 use native.Mathlib.Decide.{decLe}
 use native.Mathlib.Numerals.{add-one}
 use lib.ListN.{length, getD, take, List·getD-eq-default}
-use lib.Dec.{leb}
+use lib.Dec.{leb, eqb}
 use borrow.Author.Tests.{le-leb}
 use Rattle.area.specs.Area.{pick, same, table}
 use Rattle.area.proofs.Fills.{getD-table, length-table}
@@ -20,7 +20,7 @@ use Rattle.blocks.specs.Code.{valueOf}
 use Rattle.frame.specs.Messages.{Entry}
 use Rattle.frame.specs.Chunks.{chunkAt, entryAt}
 use Rattle.group_rules.specs.Coded.{Piece, hasList, pieceOf, pieces, numbers, joinedBytes, decoded}
-use Rattle.group.specs.Entries.{kept, marked, entries, sentList, passing, flags, placesFrom, Within}
+use Rattle.group.specs.Entries.{kept, marked, timed, entries, sentList, passing, flags, placesFrom, Within}
 use Rattle.group.specs.Choice.{chosen, lowest, blockIn, blocksIn, valueFrom}
 use Rattle.group.proofs.Choosing.{lowest-agree}
 
@@ -57,6 +57,11 @@ marked-flags p n m j l h =
 -- the flagged are as many as pass
 pub count-flags : (p : ℕ → Bool) (n : ℕ) → n ≤ 10 → count (marked (flags p n)) n ≡ count p n
 count-flags p n m = count-agree (marked (flags p n)) p n (marked-flags p n m)
+
+-- the flag of server j that sent a time
+pub marked-timed : (on : List Bool) (ts : List ℕ) (T j : ℕ) → j ≤ 10 → marked (timed on ts T) j ≡ getD on j false && eqb (getD ts j 0) T
+unfolding marked timed
+marked-timed on ts T j h = let k : j < 11 = omega arith in getD-table 11 (λ i. getD on i false && eqb (getD ts i 0) T) j false k
 
 -- ---- the loops over the flags
 

@@ -5,7 +5,7 @@ use mathlib.Core.Bool.{Bool, true, false, _&&_}
 use mathlib.Core.Option.{Option, none, some}
 use mathlib.Core.List.{List}
 use lib.ListN.{length, getD}
-use lib.Dec.{leb}
+use lib.Dec.{leb, eqb}
 use Rattle.area.specs.Area.{table}
 use Rattle.blocks.specs.declared.Params.{Params}
 use Rattle.frame.specs.Messages.{Entry}
@@ -20,6 +20,10 @@ kept false p = none
 -- whether server j is flagged
 unfoldable pub marked : List Bool → ℕ → Bool
 marked on j = getD on j false
+
+-- the flags of the servers that sent the time T; server j's is at place j of ts
+unfoldable pub timed : List Bool → List ℕ → ℕ → List Bool
+timed on ts T = table 11 (λ j. marked on j && eqb (getD ts j 0) T)
 
 -- what server j sent
 unfoldable pub entries : Params → List Bool → List ℕ → List ℕ → ℕ → Option Entry

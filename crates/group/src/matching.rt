@@ -1,17 +1,17 @@
-// Which servers sent a digest list, and how many.
+// Which servers sent a time, which a digest list, and how many.
 use blocks::Params;
 use frame::entries::digests_at;
 ghost use mathlib.Core.Path.{_≡_};
 ghost use mathlib.Core.Bool.{_&&_};
 ghost use Prim.Native.Nat.{_+_, _≤_};
 ghost use lib.ListN.{length};
-ghost use lib.Dec.{leb};
+ghost use lib.Dec.{leb, eqb};
 ghost use Rattle.area.specs.Area.{same};
 ghost use Rattle.quorum.specs.Quorum.{bit, count};
 ghost use Rattle.frame.specs.Params.{Bounded};
 ghost use Rattle.frame.specs.Messages.{Entry};
 ghost use Rattle.frame.specs.Chunks.{chunkAt, entryAt};
-ghost use Rattle.group.specs.Entries.{marked, sentList, flags, placesFrom};
+ghost use Rattle.group.specs.Entries.{marked, timed, sentList, flags, placesFrom};
 ghost use Rattle.group.specs.Needs.{Comparing};
 
 // 1 for true, 0 for false.
@@ -33,6 +33,29 @@ pub fn tally(on: [bool; 11], n: usize) -> usize
     let mut j = 0;
     while j < n {
         r = one(on[j + 1]) + r;
+        j += 1;
+    }
+    r
+}
+
+// Whether the flag is set and the time beside it is this one.
+fn is_timed(mark: bool, kept: u64, time: u64) -> bool
+    ensures { λ r. ⌜ r ≡ (mark && eqb kept time) ⌝ }
+{
+    if mark {
+        return kept == time;
+    }
+    false
+}
+
+// The flags of the servers that sent this time; server j's is at place j of times.
+pub fn at_time(on: [bool; 11], times: [u64; 11], time: u64) -> [bool; 11]
+    ensures { λ r. ⌜ r ≡ timed on times time ⌝ }
+{
+    let mut r = [false; 11];
+    let mut j = 0;
+    while j < 11 {
+        r[j] = is_timed(on[j], times[j], time);
         j += 1;
     }
     r

@@ -49,12 +49,12 @@ use Rattle.runs.proofs.Promises.{other-put, runs-go-on}
 use Rattle.runs.proofs.Theorem.{theorem-sha256, sha256-size}
 use Rattle.layout.specs.Clients.{clientSize, clientBytes, clientIn}
 use Rattle.layout.specs.Servers.{serverSize, serverBytes, serverIn, slotBytes, readerBytes, scopeSets}
-use Rattle.register.specs.Answers.{serverAnswer, clientAnswer, testAnswer}
-use Rattle.register.specs.Calls.{Wrote, wrote, freshCall, Began, began, beganOf, isRefusal, stateAfter, readCall, writeCall}
+use Rattle.answers.specs.Answers.{testAnswer, isRefusal, clientAnswer, openAnswer, isTurnedDown, serverAnswer}
+use Rattle.answers.specs.Short.{readShort, valueShort, frameShort, stampShort}
+use Rattle.register.specs.Calls.{Wrote, wrote, freshCall, Began, began, beganOf, stateAfter, readCall, writeCall}
 use Rattle.register.specs.Handed.{senderOf, stampSize, stampAfter, ClientGot, clientGot, clientGotOf, clientCall}
-use Rattle.register.specs.ServerCalls.{isTurnedDown, Made, made, madeOf, freshAfter, scopeAfter, makeCall, ServerGot, serverGot, serverGotOf, serverCall}
-use Rattle.register.specs.Short.{readShort, valueShort, frameShort, stampShort}
-use Rattle.register.specs.Asked.{openAnswer, openOf, clientOpenCall}
+use Rattle.register.specs.ServerCalls.{Made, made, madeOf, freshAfter, scopeAfter, makeCall, ServerGot, serverGot, serverGotOf, serverCall}
+use Rattle.register.specs.Asked.{openOf, clientOpenCall}
 use Rattle.register.proofs.Laws.{enough}
 use Rattle.register.proofs.Handed.{client-whole, client-stamp-short}
 use Rattle.register.proofs.RecordBack.{record-back, make-back, fresh-server}
@@ -74,10 +74,7 @@ LongState n l = n ≤ length l
 
 scope-long : (l : List ℕ) (c : ℕ) (x : Stamp) (y : Slot) (z : Reader) → serverSize ≤ length l → serverSize ≤ length (scopeSets l c x y z)
 unfolding scopeSets
-scope-long l c x y z h =
-    let a = sets l 0 (stampBytes x) in
-    let b = sets a (13 + c * 242) (slotBytes y) in
-    long-sets serverSize b (2191 + c * 18) (readerBytes z) (long-sets serverSize a (13 + c * 242) (slotBytes y) (long-sets serverSize l 0 (stampBytes x) h))
+scope-long l c x y z h = long-sets serverSize _ _ (readerBytes z) (long-sets serverSize _ _ (slotBytes y) (long-sets serverSize l 0 (stampBytes x) h))
 
 module _ (g : Params) (me : ℕ) (from : Party) (f area initial state out to : List ℕ) where
   server-long : serverSize ≤ length state → serverSize ≤ length (serverCall g me from f area initial state out to .state)

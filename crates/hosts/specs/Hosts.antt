@@ -18,7 +18,7 @@ use Rattle.runs.specs.Admissible.{Admissible}
 use Rattle.runs.specs.Demand.{Demand3}
 use Rattle.layout.specs.Clients.{clientSize, clientIn}
 use Rattle.layout.specs.Servers.{serverSize, serverIn}
-use Rattle.register.specs.Answers.{serverAnswer, clientAnswer}
+use Rattle.answers.specs.Answers.{clientAnswer, serverAnswer}
 use Rattle.register.specs.Calls.{freshCall, readCall, writeCall}
 use Rattle.register.specs.Handed.{senderOf, stampSize, stampAfter, clientCall}
 use Rattle.register.specs.ServerCalls.{makeCall, serverCall}

@@ -16,7 +16,6 @@ use Rattle.client_rules.specs.declared.Row.{Row}
 use Rattle.client_rules.specs.declared.Client.{Client}
 use Rattle.client_rules.specs.State.{noStamp, noRow}
 use Rattle.server_rules.specs.declared.BlockPart.{BlockPart}
-use Rattle.server_rules.specs.declared.TimePart.{TimePart}
 use Rattle.server_rules.specs.declared.Slot.{Slot}
 use Rattle.server_rules.specs.declared.Reader.{Reader}
 use Rattle.server_rules.specs.declared.Server.{Server}
@@ -25,7 +24,7 @@ use Rattle.server_rules.specs.WellFormed.{Array}
 use Rattle.server_rules.proofs.Within.{getD-every}
 use Rattle.layout.specs.Fields.{flagByte, rowBytes, flagsBytes, numbersBytes}
 use Rattle.layout.specs.Clients.{phaseByte, stampsBytes, keptBytes, rowsBytes, headBytes, clientBytes}
-use Rattle.layout.specs.Servers.{marksBytes, votesBytes, blocksBytes, timesBytes, slotBytes, slotsBytes, readerBytes, readersBytes, serverBytes}
+use Rattle.layout.specs.Servers.{marksBytes, votesBytes, blocksBytes, slotBytes, slotsBytes, readerBytes, readersBytes, serverBytes}
 use Rattle.layout.specs.Typed.{TypedStamp, TypedRow, TypedClient, TypedReader, TypedServer}
 
 -- ---- what the layouts are made of
@@ -103,17 +102,11 @@ votes-bytes e r = Bytes-append (flagsBytes e) (flagsBytes r) (flags-bytes e) (fl
 blocks-bytes : (b : BlockPart) → Bytes (blocksBytes b)
 unfolding blocksBytes
 blocks-bytes b =
-    Bytes-append (marksBytes (b .sent) (b .ready) (b .complete)) (votesBytes (b .echoes) (b .readies)) (marks-bytes (b .sent) (b .ready) (b .complete))
-    (votes-bytes (b .echoes) (b .readies))
-
-times-bytes : (b : TimePart) → Bytes (timesBytes b)
-unfolding timesBytes
-times-bytes b =
     let u = bytes8 (b .time) in
     let y = votesBytes (b .echoes) (b .readies) in
     let e = numbersBytes (b .echoed) in
     let r = numbersBytes (b .readied) in
-    Bytes-append (marksBytes (b .sent) (b .ready) (b .delivered)) (u ++ (y ++ (e ++ r))) (marks-bytes (b .sent) (b .ready) (b .delivered))
+    Bytes-append (marksBytes (b .sent) (b .ready) (b .complete)) (u ++ (y ++ (e ++ r))) (marks-bytes (b .sent) (b .ready) (b .complete))
     (Bytes-append u (y ++ (e ++ r)) (Bytes-bytes8 (b .time))
     (Bytes-append y (e ++ r) (votes-bytes (b .echoes) (b .readies))
     (Bytes-append e r (numbers-bytes (b .echoed)) (numbers-bytes (b .readied)))))
@@ -121,9 +114,7 @@ times-bytes b =
 -- a slot's are, whatever its numbers
 pub slot-bytes : (x : Slot) → Bytes (slotBytes x)
 unfolding slotBytes
-slot-bytes x =
-    Bytes-append (bytes8 (x .sequence)) (blocksBytes (x .blocks) ++ timesBytes (x .times)) (Bytes-bytes8 (x .sequence))
-    (Bytes-append (blocksBytes (x .blocks)) (timesBytes (x .times)) (blocks-bytes (x .blocks)) (times-bytes (x .times)))
+slot-bytes x = Bytes-append (bytes8 (x .sequence)) (blocksBytes (x .blocks)) (Bytes-bytes8 (x .sequence)) (blocks-bytes (x .blocks))
 
 pub reader-bytes : (x : Reader) → TypedReader x → Bytes (readerBytes x)
 unfolding readerBytes

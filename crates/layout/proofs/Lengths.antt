@@ -15,14 +15,13 @@ use Rattle.client_rules.specs.declared.Row.{Row}
 use Rattle.client_rules.specs.declared.Client.{Client}
 use Rattle.client_rules.specs.State.{noStamp, noRow}
 use Rattle.server_rules.specs.declared.BlockPart.{BlockPart}
-use Rattle.server_rules.specs.declared.TimePart.{TimePart}
 use Rattle.server_rules.specs.declared.Slot.{Slot}
 use Rattle.server_rules.specs.declared.Reader.{Reader}
 use Rattle.server_rules.specs.declared.Server.{Server}
 use Rattle.server_rules.specs.State.{noSlot, noReader}
 use Rattle.layout.specs.Fields.{flagByte, rowBytes, flagsBytes, numbersBytes}
 use Rattle.layout.specs.Clients.{clientSize, phaseByte, stampsBytes, keptBytes, rowsBytes, headBytes, clientBytes}
-use Rattle.layout.specs.Servers.{serverSize, marksBytes, votesBytes, blocksBytes, timesBytes, slotBytes, slotsBytes, readerBytes, readersBytes, serverBytes}
+use Rattle.layout.specs.Servers.{serverSize, blocksSize, slotSize, slotsSize, readerSize, readersSize, marksBytes, votesBytes, blocksBytes, slotBytes, slotsBytes, readerBytes, readersBytes, serverBytes}
 
 -- two parts, the one after the other
 pub both : (a b : List ℕ) (v w : ℕ) → length a ≡ v → length b ≡ w → length (a ++ b) ≡ v + w
@@ -73,46 +72,38 @@ pub length-votes : (e r : List Bool) → length (votesBytes e r) ≡ 22
 unfolding votesBytes
 length-votes e r = both (flagsBytes e) (flagsBytes r) 11 11 (length-flags e) (length-flags r)
 
-pub length-blocks : (b : BlockPart) → length (blocksBytes b) ≡ 25
+length-blocks : (b : BlockPart) → length (blocksBytes b) ≡ blocksSize
 unfolding blocksBytes
 length-blocks b =
-    both (marksBytes (b .sent) (b .ready) (b .complete)) (votesBytes (b .echoes) (b .readies)) 3 22
-    (length-marks (b .sent) (b .ready) (b .complete)) (length-votes (b .echoes) (b .readies))
-
-length-times : (b : TimePart) → length (timesBytes b) ≡ 209
-unfolding timesBytes
-length-times b =
-    let m = marksBytes (b .sent) (b .ready) (b .delivered) in
+    let m = marksBytes (b .sent) (b .ready) (b .complete) in
     let v = votesBytes (b .echoes) (b .readies) in
     let x = numbersBytes (b .echoed) in
     let y = numbersBytes (b .readied) in
     let f = both x y 88 88 (length-numbers (b .echoed)) (length-numbers (b .readied)) in
     let g = both v (x ++ y) 22 176 (length-votes (b .echoes) (b .readies)) f in
     let h = both (bytes8 (b .time)) (v ++ (x ++ y)) 8 198 (length-bytes8 (b .time)) g in
-    both m (bytes8 (b .time) ++ (v ++ (x ++ y))) 3 206 (length-marks (b .sent) (b .ready) (b .delivered)) h
+    both m (bytes8 (b .time) ++ (v ++ (x ++ y))) 3 206 (length-marks (b .sent) (b .ready) (b .complete)) h
 
-pub length-slot : (x : Slot) → length (slotBytes x) ≡ 242
+pub length-slot : (x : Slot) → length (slotBytes x) ≡ slotSize
 unfolding slotBytes
-length-slot x =
-    both (bytes8 (x .sequence)) (blocksBytes (x .blocks) ++ timesBytes (x .times)) 8 234 (length-bytes8 (x .sequence))
-    (both (blocksBytes (x .blocks)) (timesBytes (x .times)) 25 209 (length-blocks (x .blocks)) (length-times (x .times)))
+length-slot x = both (bytes8 (x .sequence)) (blocksBytes (x .blocks)) 8 blocksSize (length-bytes8 (x .sequence)) (length-blocks (x .blocks))
 
-pub length-slots : (xs : List Slot) → length (slotsBytes xs) ≡ 2178
+pub length-slots : (xs : List Slot) → length (slotsBytes xs) ≡ slotsSize
 unfolding slotsBytes rowBytes
-length-slots xs = length-joined (λ j. slotBytes (getD xs j noSlot)) 242 0 9 (λ j. length-slot (getD xs j noSlot))
+length-slots xs = length-joined (λ j. slotBytes (getD xs j noSlot)) slotSize 0 9 (λ j. length-slot (getD xs j noSlot))
 
-pub length-reader : (x : Reader) → length (readerBytes x) ≡ 18
+pub length-reader : (x : Reader) → length (readerBytes x) ≡ readerSize
 unfolding readerBytes
 length-reader x =
     both (bytes4 (x .sequence)) (flagByte (x .listening) ∷ stampBytes (x .noted)) 4 14 (length-bytes4 (x .sequence))
     (both (flagByte (x .listening) ∷ []) (stampBytes (x .noted)) 1 13 refl (length-stamp (x .noted)))
 
-length-readers : (xs : List Reader) → length (readersBytes xs) ≡ 162
+length-readers : (xs : List Reader) → length (readersBytes xs) ≡ readersSize
 unfolding readersBytes rowBytes
-length-readers xs = length-joined (λ j. readerBytes (getD xs j noReader)) 18 0 9 (λ j. length-reader (getD xs j noReader))
+length-readers xs = length-joined (λ j. readerBytes (getD xs j noReader)) readerSize 0 9 (λ j. length-reader (getD xs j noReader))
 
 pub length-server : (s : Server) → length (serverBytes s) ≡ serverSize
 unfolding serverBytes
 length-server s =
-    both (stampBytes (s .stamp)) (slotsBytes (s .slots) ++ readersBytes (s .readers)) 13 2340 (length-stamp (s .stamp))
-    (both (slotsBytes (s .slots)) (readersBytes (s .readers)) 2178 162 (length-slots (s .slots)) (length-readers (s .readers)))
+    both (stampBytes (s .stamp)) (slotsBytes (s .slots) ++ readersBytes (s .readers)) 13 (slotsSize + readersSize) (length-stamp (s .stamp))
+    (both (slotsBytes (s .slots)) (readersBytes (s .readers)) slotsSize readersSize (length-slots (s .slots)) (length-readers (s .readers)))

@@ -14,15 +14,14 @@ use Rattle.client_rules.specs.declared.Phase.{Phase}
 use Rattle.client_rules.specs.declared.Row.{Row}
 use Rattle.client_rules.specs.declared.Client.{Client}
 use Rattle.server_rules.specs.declared.BlockPart.{BlockPart}
-use Rattle.server_rules.specs.declared.TimePart.{TimePart}
 use Rattle.server_rules.specs.declared.Slot.{Slot}
 use Rattle.server_rules.specs.declared.Reader.{Reader}
 use Rattle.server_rules.specs.declared.Server.{Server}
 use Rattle.layout.specs.Fields.{flagByte, flagsBytes, numbersBytes}
 use Rattle.layout.specs.Clients.{phaseByte, stampsBytes, keptBytes, rowsBytes, headBytes, clientBytes}
-use Rattle.layout.specs.Servers.{marksBytes, votesBytes, blocksBytes, timesBytes, slotBytes, slotsBytes, readerBytes, readersBytes, serverBytes}
+use Rattle.layout.specs.Servers.{slotsSize, readersPlace, marksBytes, votesBytes, blocksBytes, slotBytes, slotsBytes, readerBytes, readersBytes, serverBytes}
 use Rattle.layout.proofs.Places.{onto}
-use Rattle.layout.proofs.Lengths.{length-flags, length-numbers, length-head, length-marks, length-votes, length-blocks, length-slots}
+use Rattle.layout.proofs.Lengths.{length-flags, length-numbers, length-head, length-marks, length-votes, length-slots}
 
 module _ (d l m : List ℕ) (i : ℕ) where
   pub kept-put : (r : Row) → l ≡ sets d i (bytes8 (r .count)) → m ≡ sets l (i + 8) (stampsBytes (r .stamps)) → m ≡ sets d i (keptBytes r)
@@ -33,12 +32,9 @@ module _ (d l m : List ℕ) (i : ℕ) where
   unfolding votesBytes
   votes-put e r p q = onto d l m i 11 (i + 11) (flagsBytes e) (flagsBytes r) (length-flags e) refl p q
 
-  pub blocks-put : (b : BlockPart) → l ≡ sets d i (marksBytes (b .sent) (b .ready) (b .complete))
-      → m ≡ sets l (i + 3) (votesBytes (b .echoes) (b .readies)) → m ≡ sets d i (blocksBytes b)
-  unfolding blocksBytes
-  blocks-put b p q =
-      onto d l m i 3 (i + 3) (marksBytes (b .sent) (b .ready) (b .complete)) (votesBytes (b .echoes) (b .readies))
-      (length-marks (b .sent) (b .ready) (b .complete)) refl p q
+  pub slot-put : (x : Slot) → l ≡ sets d i (bytes8 (x .sequence)) → m ≡ sets l (i + 8) (blocksBytes (x .blocks)) → m ≡ sets d i (slotBytes x)
+  unfolding slotBytes
+  slot-put x p q = onto d l m i 8 (i + 8) (bytes8 (x .sequence)) (blocksBytes (x .blocks)) (length-bytes8 (x .sequence)) refl p q
 
   module _ (n : List ℕ) where
     pub stamp-put : (s : Stamp) → l ≡ sets d i (bytes8 (s .time)) → m ≡ sets l (i + 8) (s .writer ∷ []) → n ≡ sets m (i + 9) (bytes4 (s .sequence))
@@ -66,18 +62,11 @@ module _ (d l m : List ℕ) (i : ℕ) where
         onto d l n i 4 (i + 4) (bytes4 (s .sequence)) (x ∷ stampBytes (s .noted)) (length-bytes4 (s .sequence)) refl p u in
         rw e at v
 
-    pub slot-put : (x : Slot) → l ≡ sets d i (bytes8 (x .sequence)) → m ≡ sets l (i + 8) (blocksBytes (x .blocks))
-        → n ≡ sets m (i + 33) (timesBytes (x .times)) → n ≡ sets d i (slotBytes x)
-    unfolding slotBytes
-    slot-put x p q r =
-        let u = onto l m n (i + 8) 25 (i + 33) (blocksBytes (x .blocks)) (timesBytes (x .times)) (length-blocks (x .blocks)) (omega arith) q r in
-        onto d l n i 8 (i + 8) (bytes8 (x .sequence)) (blocksBytes (x .blocks) ++ timesBytes (x .times)) (length-bytes8 (x .sequence)) refl p u
-
     pub server-put : (s : Server) → l ≡ sets d i (stampBytes (s .stamp)) → m ≡ sets l (i + 13) (slotsBytes (s .slots))
-        → n ≡ sets m (i + 2191) (readersBytes (s .readers)) → n ≡ sets d i (serverBytes s)
+        → n ≡ sets m (i + readersPlace) (readersBytes (s .readers)) → n ≡ sets d i (serverBytes s)
     unfolding serverBytes
     server-put s p q r =
-        let u = onto l m n (i + 13) 2178 (i + 2191) (slotsBytes (s .slots)) (readersBytes (s .readers)) (length-slots (s .slots)) (omega arith) q r in
+        let u = onto l m n (i + 13) slotsSize (i + readersPlace) (slotsBytes (s .slots)) (readersBytes (s .readers)) (length-slots (s .slots)) (omega arith) q r in
         onto d l n i 13 (i + 13) (stampBytes (s .stamp)) (slotsBytes (s .slots) ++ readersBytes (s .readers)) (length-stamp (s .stamp)) refl p u
 
     module _ (o : List ℕ) where
@@ -98,16 +87,16 @@ module _ (d l m : List ℕ) (i : ℕ) where
           onto d l o i 10 (i + 10) (headBytes (s .writes) (s .reads) (s .closed) (s .phase)) (flagsBytes (s .heard) ++ (numbersBytes (s .times) ++ rowsBytes (s .rows)))
           (length-head (s .writes) (s .reads) (s .closed) (s .phase)) refl p₁ v
 
-      pub times-put : (k : List ℕ) (b : TimePart) → l ≡ sets d i (marksBytes (b .sent) (b .ready) (b .delivered)) → m ≡ sets l (i + 3) (bytes8 (b .time))
+      pub blocks-put : (k : List ℕ) (b : BlockPart) → l ≡ sets d i (marksBytes (b .sent) (b .ready) (b .complete)) → m ≡ sets l (i + 3) (bytes8 (b .time))
           → n ≡ sets m (i + 11) (votesBytes (b .echoes) (b .readies)) → o ≡ sets n (i + 33) (numbersBytes (b .echoed))
-          → k ≡ sets o (i + 121) (numbersBytes (b .readied)) → k ≡ sets d i (timesBytes b)
-      unfolding timesBytes
-      times-put k b p₁ p₂ p₃ p₄ p₅ =
+          → k ≡ sets o (i + 121) (numbersBytes (b .readied)) → k ≡ sets d i (blocksBytes b)
+      unfolding blocksBytes
+      blocks-put k b p₁ p₂ p₃ p₄ p₅ =
           let x = votesBytes (b .echoes) (b .readies) in
           let y = numbersBytes (b .echoed) in
           let z = numbersBytes (b .readied) in
           let u = onto n o k (i + 33) 88 (i + 121) y z (length-numbers (b .echoed)) (omega arith) p₄ p₅ in
           let v = onto m n k (i + 11) 22 (i + 33) x (y ++ z) (length-votes (b .echoes) (b .readies)) (omega arith) p₃ u in
           let w = onto l m k (i + 3) 8 (i + 11) (bytes8 (b .time)) (x ++ (y ++ z)) (length-bytes8 (b .time)) (omega arith) p₂ v in
-          onto d l k i 3 (i + 3) (marksBytes (b .sent) (b .ready) (b .delivered)) (bytes8 (b .time) ++ (x ++ (y ++ z)))
-          (length-marks (b .sent) (b .ready) (b .delivered)) refl p₁ w
+          onto d l k i 3 (i + 3) (marksBytes (b .sent) (b .ready) (b .complete)) (bytes8 (b .time) ++ (x ++ (y ++ z)))
+          (length-marks (b .sent) (b .ready) (b .complete)) refl p₁ w

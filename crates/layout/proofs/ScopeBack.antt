@@ -16,7 +16,7 @@ use Rattle.frame.proofs.RoundTrip.{length-stamp}
 use Rattle.server_rules.specs.declared.Slot.{Slot}
 use Rattle.server_rules.specs.declared.Reader.{Reader}
 use Rattle.layout.specs.Fields.{flagIn, flagAt, stampAt, rowAt, flagsAt, numbersAt}
-use Rattle.layout.specs.Servers.{serverSize, blocksAt, timesAt, slotBytes, slotAt, slotsAt, readerBytes, readerAt, readersAt, serverAt, serverIn, scopeSets}
+use Rattle.layout.specs.Servers.{serverSize, blocksSize, slotSize, slotsSize, readerSize, readersSize, slotsPlace, readersPlace, blocksAt, slotBytes, slotAt, slotsAt, readerBytes, readerAt, readersAt, serverAt, serverIn, scopeSets}
 use Rattle.layout.specs.Typed.{TypedStamp, TypedSlot, TypedReader}
 use Rattle.layout.proofs.Lengths.{length-slot, length-reader}
 use Rattle.layout.proofs.Reading.{stored, stamp-at, row-entry}
@@ -148,21 +148,9 @@ numbers-spans : Spans numbersAt 88
 unfolding numbersAt
 numbers-spans = record { reads = (row-spans be8 11 8 long-spans) .reads }
 
-blocks-spans : Spans blocksAt 25
+blocks-spans : Spans blocksAt blocksSize
 unfolding blocksAt
 blocks-spans = record {
-  reads = λ l m i e.
-      let a = within flag-spans e i (omega arith) (omega arith) in
-      let b = within flag-spans e (i + 1) (omega arith) (omega arith) in
-      let c = within flag-spans e (i + 2) (omega arith) (omega arith) in
-      let f = within flags-spans e (i + 3) (omega arith) (omega arith) in
-      let g = within flags-spans e (i + 14) (omega arith) (omega arith) in
-      λ k. record { sent = a k; ready = b k; complete = c k; echoes = f k; readies = g k };
-}
-
-times-spans : Spans timesAt 209
-unfolding timesAt
-times-spans = record {
   reads = λ l m i e.
       let a = within flag-spans e i (omega arith) (omega arith) in
       let b = within flag-spans e (i + 1) (omega arith) (omega arith) in
@@ -172,22 +160,21 @@ times-spans = record {
       let g = within flags-spans e (i + 22) (omega arith) (omega arith) in
       let x = within numbers-spans e (i + 33) (omega arith) (omega arith) in
       let y = within numbers-spans e (i + 121) (omega arith) (omega arith) in
-      λ k. record { sent = a k; ready = b k; delivered = c k; time = d k; echoes = f k; readies = g k; echoed = x k; readied = y k };
+      λ k. record { sent = a k; ready = b k; complete = c k; time = d k; echoes = f k; readies = g k; echoed = x k; readied = y k };
 }
 
 -- a slot hangs on its own bytes
-pub slot-spans : Spans slotAt 242
+pub slot-spans : Spans slotAt slotSize
 unfolding slotAt
 slot-spans = record {
   reads = λ l m i e.
       let a = within long-spans e i (omega arith) (omega arith) in
       let b = within blocks-spans e (i + 8) (omega arith) (omega arith) in
-      let c = within times-spans e (i + 33) (omega arith) (omega arith) in
-      λ k. record { sequence = a k; blocks = b k; times = c k };
+      λ k. record { sequence = a k; blocks = b k };
 }
 
 -- and so does a reader
-pub reader-spans : Spans readerAt 18
+pub reader-spans : Spans readerAt readerSize
 unfolding readerAt
 reader-spans = record {
   reads = λ l m i e.
@@ -197,31 +184,31 @@ reader-spans = record {
       λ k. record { sequence = a k; listening = b k; noted = c k };
 }
 
-slots-spans : Spans slotsAt 2178
+slots-spans : Spans slotsAt slotsSize
 unfolding slotsAt
-slots-spans = record { reads = (row-spans slotAt 9 242 slot-spans) .reads }
+slots-spans = record { reads = (row-spans slotAt 9 slotSize slot-spans) .reads }
 
-readers-spans : Spans readersAt 162
+readers-spans : Spans readersAt readersSize
 unfolding readersAt
-readers-spans = record { reads = (row-spans readerAt 9 18 reader-spans) .reads }
+readers-spans = record { reads = (row-spans readerAt 9 readerSize reader-spans) .reads }
 
 -- ---- the record after a step
 
 -- slot c stored among the slots at i
-pub slots-set : (l : List ℕ) (i c : ℕ) (y : Slot) → TypedSlot y → c ≤ 8 → i + 2178 ≤ length l
-    → slotsAt (sets l (i + c * 242) (slotBytes y)) i ≡ set (slotsAt l i) c y
+pub slots-set : (l : List ℕ) (i c : ℕ) (y : Slot) → TypedSlot y → c ≤ 8 → i + slotsSize ≤ length l
+    → slotsAt (sets l (i + c * slotSize) (slotBytes y)) i ≡ set (slotsAt l i) c y
 unfolding slotsAt
 slots-set l i c y t h k =
-    let u : i + c * 242 + length (slotBytes y) ≤ length l = omega (arith, length-slot y) in
-    row-set slotAt 9 242 slot-spans l i c (slotBytes y) y (omega arith) (length-slot y) (slot-at _ _ y t (stored l (i + c * 242) (slotBytes y) u))
+    let u : i + c * slotSize + length (slotBytes y) ≤ length l = omega (arith, length-slot y) in
+    row-set slotAt 9 slotSize slot-spans l i c (slotBytes y) y (omega arith) (length-slot y) (slot-at _ _ y t (stored l (i + c * slotSize) (slotBytes y) u))
 
 -- reader c stored among the readers at i
-pub readers-set : (l : List ℕ) (i c : ℕ) (z : Reader) → TypedReader z → c ≤ 8 → i + 162 ≤ length l
-    → readersAt (sets l (i + c * 18) (readerBytes z)) i ≡ set (readersAt l i) c z
+pub readers-set : (l : List ℕ) (i c : ℕ) (z : Reader) → TypedReader z → c ≤ 8 → i + readersSize ≤ length l
+    → readersAt (sets l (i + c * readerSize) (readerBytes z)) i ≡ set (readersAt l i) c z
 unfolding readersAt
 readers-set l i c z t h k =
-    let u : i + c * 18 + length (readerBytes z) ≤ length l = omega (arith, length-reader z) in
-    row-set readerAt 9 18 reader-spans l i c (readerBytes z) z (omega arith) (length-reader z) (reader-at _ _ z t (stored l (i + c * 18) (readerBytes z) u))
+    let u : i + c * readerSize + length (readerBytes z) ≤ length l = omega (arith, length-reader z) in
+    row-set readerAt 9 readerSize reader-spans l i c (readerBytes z) z (omega arith) (length-reader z) (reader-at _ _ z t (stored l (i + c * readerSize) (readerBytes z) u))
 
 module _ (l : List ℕ) (c : ℕ) (x : Stamp) (y : Slot) (z : Reader) (h : serverSize ≤ length l) (few : c ≤ 8) where
   -- what was written reads back, and the rest reads as before
@@ -230,22 +217,22 @@ module _ (l : List ℕ) (c : ℕ) (x : Stamp) (y : Slot) (z : Reader) (h : serve
   unfolding serverIn serverAt scopeSets
   scope-back tx ty tz =
       let l₁ = sets l 0 (stampBytes x) in
-      let l₂ = sets l₁ (13 + c * 242) (slotBytes y) in
-      let l₃ = sets l₂ (2191 + c * 18) (readerBytes z) in
+      let l₂ = sets l₁ (slotsPlace + c * slotSize) (slotBytes y) in
+      let l₃ = sets l₂ (readersPlace + c * readerSize) (readerBytes z) in
       let n₁ : serverSize ≤ length l₁ = rw length-sets h in
       let n₂ : serverSize ≤ length l₂ = rw length-sets n₁ in
       let u : 0 + length (stampBytes x) ≤ length l = omega (arith, length-stamp x) in
       let a =
-      stamp-spans .reads l₃ l₂ 0 (before l₂ (2191 + c * 18) (readerBytes z) 0 13 (omega arith))
-      ∙ stamp-spans .reads l₂ l₁ 0 (before l₁ (13 + c * 242) (slotBytes y) 0 13 (omega arith))
+      stamp-spans .reads l₃ l₂ 0 (before l₂ (readersPlace + c * readerSize) (readerBytes z) 0 13 (omega arith))
+      ∙ stamp-spans .reads l₂ l₁ 0 (before l₁ (slotsPlace + c * slotSize) (slotBytes y) 0 13 (omega arith))
       ∙ stamp-at l₁ 0 x tx (stored l 0 (stampBytes x) u) in
       let b =
-      slots-spans .reads l₃ l₂ 13 (before l₂ (2191 + c * 18) (readerBytes z) 13 2178 (omega arith))
-      ∙ slots-set l₁ 13 c y ty few (omega arith)
-      ∙ ap (λ s. set s c y) (slots-spans .reads l₁ l 13 (behind l 0 (stampBytes x) 13 2178 (omega (arith, length-stamp x)))) in
+      slots-spans .reads l₃ l₂ slotsPlace (before l₂ (readersPlace + c * readerSize) (readerBytes z) slotsPlace slotsSize (omega arith))
+      ∙ slots-set l₁ slotsPlace c y ty few (omega arith)
+      ∙ ap (λ s. set s c y) (slots-spans .reads l₁ l slotsPlace (behind l 0 (stampBytes x) slotsPlace slotsSize (omega (arith, length-stamp x)))) in
       let d =
-      readers-set l₂ 2191 c z tz few (omega arith)
+      readers-set l₂ readersPlace c z tz few (omega arith)
       ∙ ap (λ s. set s c z)
-      (readers-spans .reads l₂ l₁ 2191 (behind l₁ (13 + c * 242) (slotBytes y) 2191 162 (omega (arith, length-slot y)))
-      ∙ readers-spans .reads l₁ l 2191 (behind l 0 (stampBytes x) 2191 162 (omega (arith, length-stamp x)))) in
+      (readers-spans .reads l₂ l₁ readersPlace (behind l₁ (slotsPlace + c * slotSize) (slotBytes y) readersPlace readersSize (omega (arith, length-slot y)))
+      ∙ readers-spans .reads l₁ l readersPlace (behind l 0 (stampBytes x) readersPlace readersSize (omega (arith, length-stamp x)))) in
       λ k. record { stamp = a k; slots = b k; readers = d k }

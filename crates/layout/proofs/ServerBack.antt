@@ -11,16 +11,15 @@ use Rattle.area.proofs.Numbers.{length-bytes4, length-bytes8}
 use Rattle.frame.specs.Frames.{stampBytes}
 use Rattle.frame.proofs.RoundTrip.{length-stamp}
 use Rattle.server_rules.specs.declared.BlockPart.{BlockPart}
-use Rattle.server_rules.specs.declared.TimePart.{TimePart}
 use Rattle.server_rules.specs.declared.Slot.{Slot}
 use Rattle.server_rules.specs.declared.Reader.{Reader}
 use Rattle.server_rules.specs.declared.Server.{Server}
 use Rattle.server_rules.specs.State.{noSlot, noReader}
 use Rattle.layout.specs.Fields.{flagByte, flagAt, flagsBytes, flagsAt, numbersBytes}
-use Rattle.layout.specs.Servers.{serverSize, marksBytes, votesBytes, blocksBytes, blocksAt, timesBytes, timesAt, slotBytes, slotAt, slotsBytes, slotsAt, readerBytes, readerAt, readersBytes, readersAt, serverBytes, serverAt, serverIn}
-use Rattle.layout.specs.Typed.{TypedBlocks, TypedTimes, TypedSlot, TypedReader, TypedServer}
+use Rattle.layout.specs.Servers.{serverSize, slotSize, slotsSize, readerSize, slotsPlace, readersPlace, marksBytes, votesBytes, blocksBytes, blocksAt, slotBytes, slotAt, slotsBytes, slotsAt, readerBytes, readerAt, readersBytes, readersAt, serverBytes, serverAt, serverIn}
+use Rattle.layout.specs.Typed.{TypedBlocks, TypedSlot, TypedReader, TypedServer}
 use Rattle.server_rules.specs.WellFormed.{Array}
-use Rattle.layout.proofs.Lengths.{length-flags, length-numbers, length-marks, length-votes, length-blocks, length-slot, length-slots, length-reader, length-server}
+use Rattle.layout.proofs.Lengths.{length-flags, length-numbers, length-marks, length-votes, length-slot, length-slots, length-reader, length-server}
 use Rattle.layout.proofs.Reading.{Stands, front, back, alone, stored, flag-at, word-at, long-at, stamp-at, row-at, flags-at, numbers-at}
 
 record Marks (l : List ℕ) (i : ℕ) (a b c : Bool) : Type 0 where
@@ -54,25 +53,15 @@ blocks-at : (l : List ℕ) (i : ℕ) (b : BlockPart) → TypedBlocks b → Stand
 unfolding blocksAt blocksBytes
 blocks-at l i b t p =
     let x = marksBytes (b .sent) (b .ready) (b .complete) in
-    let y = votesBytes (b .echoes) (b .readies) in
-    let m = marks-at l i (b .sent) (b .ready) (b .complete) (front x y p) in
-    let q = back x y 3 (i + 3) (length-marks (b .sent) (b .ready) (b .complete)) refl p in
-    let v = votes-at l (i + 3) (i + 14) (b .echoes) (b .readies) (t .echoes) (t .readies) (omega arith) q in
-    λ k. record { sent = m .first k; ready = m .second k; complete = m .third k; echoes = v .echoes k; readies = v .readies k }
-
-times-at : (l : List ℕ) (i : ℕ) (b : TimePart) → TypedTimes b → Stands l i (timesBytes b) → timesAt l i ≡ b
-unfolding timesAt timesBytes
-times-at l i b t p =
-    let x = marksBytes (b .sent) (b .ready) (b .delivered) in
     let u = bytes8 (b .time) in
     let y = votesBytes (b .echoes) (b .readies) in
     let e = numbersBytes (b .echoed) in
     let r = numbersBytes (b .readied) in
-    let p₁ = back x (u ++ (y ++ (e ++ r))) 3 (i + 3) (length-marks (b .sent) (b .ready) (b .delivered)) refl p in
+    let p₁ = back x (u ++ (y ++ (e ++ r))) 3 (i + 3) (length-marks (b .sent) (b .ready) (b .complete)) refl p in
     let p₂ = back u (y ++ (e ++ r)) 8 (i + 11) (length-bytes8 (b .time)) (omega arith) p₁ in
     let p₃ = back y (e ++ r) 22 (i + 33) (length-votes (b .echoes) (b .readies)) (omega arith) p₂ in
     let p₄ = back e r 88 (i + 121) (length-numbers (b .echoed)) (omega arith) p₃ in
-    let m = marks-at l i (b .sent) (b .ready) (b .delivered) (front x (u ++ (y ++ (e ++ r))) p) in
+    let m = marks-at l i (b .sent) (b .ready) (b .complete) (front x (u ++ (y ++ (e ++ r))) p) in
     let a = long-at l (i + 3) (b .time) (t .time) (front u (y ++ (e ++ r)) p₁) in
     let v = votes-at l (i + 11) (i + 22) (b .echoes) (b .readies) (t .echoes) (t .readies) (omega arith) (front y (e ++ r) p₂) in
     let f = numbers-at l (i + 33) (b .echoed) (t .echoed) (front e r p₃) in
@@ -80,7 +69,7 @@ times-at l i b t p =
     λ k. record {
       sent = m .first k;
       ready = m .second k;
-      delivered = m .third k;
+      complete = m .third k;
       time = a k;
       echoes = v .echoes k;
       readies = v .readies k;
@@ -94,13 +83,9 @@ unfolding slotAt slotBytes
 slot-at l i x t p =
     let u = bytes8 (x .sequence) in
     let y = blocksBytes (x .blocks) in
-    let z = timesBytes (x .times) in
-    let p₁ = back u (y ++ z) 8 (i + 8) (length-bytes8 (x .sequence)) refl p in
-    let p₂ = back y z 25 (i + 33) (length-blocks (x .blocks)) (omega arith) p₁ in
-    let a = long-at l i (x .sequence) (t .sequence) (front u (y ++ z) p) in
-    let b = blocks-at l (i + 8) (x .blocks) (t .blocks) (front y z p₁) in
-    let c = times-at l (i + 33) (x .times) (t .times) p₂ in
-    λ k. record { sequence = a k; blocks = b k; times = c k }
+    let a = long-at l i (x .sequence) (t .sequence) (front u y p) in
+    let b = blocks-at l (i + 8) (x .blocks) (t .blocks) (back u y 8 (i + 8) (length-bytes8 (x .sequence)) refl p) in
+    λ k. record { sequence = a k; blocks = b k }
 
 -- and so does a reader
 pub reader-at : (l : List ℕ) (i : ℕ) (x : Reader) → TypedReader x → Stands l i (readerBytes x) → readerAt l i ≡ x
@@ -117,11 +102,11 @@ reader-at l i x t p =
 
 slots-at : (l : List ℕ) (i : ℕ) (xs : List Slot) → Array 9 TypedSlot xs → Stands l i (slotsBytes xs) → slotsAt l i ≡ xs
 unfolding slotsBytes slotsAt
-slots-at l i xs t p = row-at slotBytes slotAt 9 242 noSlot TypedSlot length-slot slot-at l i xs t p
+slots-at l i xs t p = row-at slotBytes slotAt 9 slotSize noSlot TypedSlot length-slot slot-at l i xs t p
 
 readers-at : (l : List ℕ) (i : ℕ) (xs : List Reader) → Array 9 TypedReader xs → Stands l i (readersBytes xs) → readersAt l i ≡ xs
 unfolding readersBytes readersAt
-readers-at l i xs t p = row-at readerBytes readerAt 9 18 noReader TypedReader length-reader reader-at l i xs t p
+readers-at l i xs t p = row-at readerBytes readerAt 9 readerSize noReader TypedReader length-reader reader-at l i xs t p
 
 pub server-at : (l : List ℕ) (i : ℕ) (s : Server) → TypedServer s → Stands l i (serverBytes s) → serverAt l i ≡ s
 unfolding serverAt serverBytes
@@ -129,11 +114,11 @@ server-at l i s t p =
     let u = stampBytes (s .stamp) in
     let y = slotsBytes (s .slots) in
     let z = readersBytes (s .readers) in
-    let p₁ = back u (y ++ z) 13 (i + 13) (length-stamp (s .stamp)) refl p in
-    let p₂ = back y z 2178 (i + 2191) (length-slots (s .slots)) (omega arith) p₁ in
+    let p₁ = back u (y ++ z) 13 (i + slotsPlace) (length-stamp (s .stamp)) refl p in
+    let p₂ = back y z slotsSize (i + readersPlace) (length-slots (s .slots)) (omega arith) p₁ in
     let a = stamp-at l i (s .stamp) (t .stamp) (front u (y ++ z) p) in
-    let b = slots-at l (i + 13) (s .slots) (t .slots) (front y z p₁) in
-    let c = readers-at l (i + 2191) (s .readers) (t .readers) p₂ in
+    let b = slots-at l (i + slotsPlace) (s .slots) (t .slots) (front y z p₁) in
+    let c = readers-at l (i + readersPlace) (s .readers) (t .readers) p₂ in
     λ k. record { stamp = a k; slots = b k; readers = c k }
 
 -- the record that its bytes say is the record

@@ -25,8 +25,8 @@ use Rattle.server_rules.specs.declared.Server.{Server}
 use Rattle.server_rules.specs.Tests.{senderRight, messageTest, roomTest, judgeOpened, judge}
 use Rattle.server_rules.specs.Delivery.{effectBy, delivered, outcomeOf, delivery}
 use Rattle.layout.specs.Fields.{stampAt, rowAt, flagAt, flagsAt, numbersAt}
-use Rattle.layout.specs.Servers.{blocksAt, timesAt, slotAt, slotsAt, readerAt, readersAt, serverAt, serverIn}
-use Rattle.layout.specs.Typed.{Word, Long, TypedStamp, widths, TypedBlocks, TypedTimes, TypedSlot, TypedReader, TypedServer}
+use Rattle.layout.specs.Servers.{slotSize, readerSize, slotsPlace, readersPlace, blocksAt, slotAt, slotsAt, readerAt, readersAt, serverAt, serverIn}
+use Rattle.layout.specs.Typed.{Word, Long, TypedStamp, widths, TypedBlocks, TypedSlot, TypedReader, TypedServer}
 use Rattle.server_rules.specs.WellFormed.{Every, Array}
 use Rattle.server_rules.proofs.Shapes.{shape-of}
 use Rattle.server_rules.proofs.Within.{either, TimeIn, Grants, step-within}
@@ -60,9 +60,9 @@ module _ (l : List ℕ) (p : Bytes l) where
   unfolding numbersAt
   numbers-in i = array-row Long be8 11 8 l (λ k. be8-range l k p) i
 
-  times-in : (i : ℕ) → TypedTimes (timesAt l i)
-  unfolding timesAt
-  times-in i = record {
+  blocks-in : (i : ℕ) → TypedBlocks (blocksAt l i)
+  unfolding blocksAt
+  blocks-in i = record {
     time = be8-range l (i + 3) p;
     echoes = length-flags-at l (i + 11);
     readies = length-flags-at l (i + 22);
@@ -70,13 +70,9 @@ module _ (l : List ℕ) (p : Bytes l) where
     readied = numbers-in (i + 121);
   }
 
-  blocks-in : (i : ℕ) → TypedBlocks (blocksAt l i)
-  unfolding blocksAt
-  blocks-in i = record { echoes = length-flags-at l (i + 3); readies = length-flags-at l (i + 14) }
-
   slot-in : (i : ℕ) → TypedSlot (slotAt l i)
   unfolding slotAt
-  slot-in i = record { sequence = be8-range l i p; blocks = blocks-in (i + 8); times = times-in (i + 33) }
+  slot-in i = record { sequence = be8-range l i p; blocks = blocks-in (i + 8) }
 
   reader-in : (i : ℕ) → TypedReader (readerAt l i)
   unfolding readerAt
@@ -87,8 +83,8 @@ module _ (l : List ℕ) (p : Bytes l) where
   unfolding serverIn serverAt slotsAt readersAt
   typed-in = record {
     stamp = stamp-in 0;
-    slots = array-row TypedSlot slotAt 9 242 l slot-in 13;
-    readers = array-row TypedReader readerAt 9 18 l reader-in 2191;
+    slots = array-row TypedSlot slotAt 9 slotSize l slot-in slotsPlace;
+    readers = array-row TypedReader readerAt 9 readerSize l reader-in readersPlace;
   }
 
 -- ---- any frame
@@ -99,16 +95,13 @@ body-in g kind f p =
     let h = be8-range f bodyAt p in
     either (TimeIn widths) (eqb kind 1) _ _ tt
     (either (TimeIn widths) (eqb kind 2) _ _ tt
-    (either (TimeIn widths) (eqb kind 3) _ _ tt
-    (either (TimeIn widths) (eqb kind 4) _ _ tt
-    (either (TimeIn widths) (eqb kind 5) _ _ tt
-    (either (TimeIn widths) (eqb kind 6) _ _ h
-    (either (TimeIn widths) (eqb kind 7) _ _ h
-    (either (TimeIn widths) (eqb kind 8) _ _ h
+    (either (TimeIn widths) (eqb kind 3) _ _ h
+    (either (TimeIn widths) (eqb kind 4) _ _ h
+    (either (TimeIn widths) (eqb kind 5) _ _ h
     (either (TimeIn widths) (eqb kind 9) _ _ tt
     (either (TimeIn widths) (eqb kind 10) _ _ tt
     (either (TimeIn widths) (eqb kind 11) _ _ tt
-    tt))))))))))
+    tt)))))))
 
 module _ (H : List ℕ → List ℕ) (g : Params) (me : ℕ) (s : Server) (t : TypedServer s) (a initial : List ℕ) (from : Party) where
   -- what a step asks of the widths, for an operation whose number a frame can hold

@@ -1,5 +1,5 @@
--- A server's record as bytes: its stamp (13), 9 slots of 242 and 9 readers of 18. A slot is its sequence (8), what was counted of its blocks (25) and of its
--- time (209). These are definitions.
+-- A server's record as bytes: its stamp (13), 9 slots of 217 and 9 readers of 18. A slot is its sequence (8) and what was counted of its write (209): three
+-- flags, the completed time (8), the flags of echoes and of readies (11 each) and their times (88 each). These are definitions.
 use Prim.Native.Nat.{ℕ, _+_, _*_}
 use mathlib.Core.Bool.{Bool}
 use mathlib.Core.List.{List, [], _∷_, _++_}
@@ -8,15 +8,40 @@ use Rattle.area.specs.Numbers.{be4, be8, bytes4, bytes8}
 use Rattle.frame.specs.declared.Stamp.{Stamp}
 use Rattle.frame.specs.Frames.{stampBytes}
 use Rattle.server_rules.specs.declared.BlockPart.{BlockPart}
-use Rattle.server_rules.specs.declared.TimePart.{TimePart}
 use Rattle.server_rules.specs.declared.Slot.{Slot}
 use Rattle.server_rules.specs.declared.Reader.{Reader}
 use Rattle.server_rules.specs.declared.Server.{Server}
 use Rattle.server_rules.specs.State.{noSlot, noReader}
 use Rattle.layout.specs.Fields.{flagByte, flagAt, stampAt, rowBytes, rowAt, flagsBytes, flagsAt, numbersBytes, numbersAt}
 
+-- ---- sizes and places
+
 abbrev pub serverSize : ℕ
-serverSize = 2353
+serverSize = 2128
+
+-- of what was counted, of a slot and of all slots
+abbrev pub blocksSize : ℕ
+blocksSize = 209
+
+abbrev pub slotSize : ℕ
+slotSize = 217
+
+abbrev pub slotsSize : ℕ
+slotsSize = 1953
+
+-- of a reader and of all readers
+abbrev pub readerSize : ℕ
+readerSize = 18
+
+abbrev pub readersSize : ℕ
+readersSize = 162
+
+-- where the slots and the readers begin
+abbrev pub slotsPlace : ℕ
+slotsPlace = 13
+
+abbrev pub readersPlace : ℕ
+readersPlace = 1966
 
 -- ---- slots
 
@@ -28,27 +53,15 @@ unfoldable pub votesBytes : List Bool → List Bool → List ℕ
 votesBytes e r = flagsBytes e ++ flagsBytes r
 
 unfoldable pub blocksBytes : BlockPart → List ℕ
-blocksBytes b = marksBytes (b .sent) (b .ready) (b .complete) ++ votesBytes (b .echoes) (b .readies)
+blocksBytes b =
+    marksBytes (b .sent) (b .ready) (b .complete)
+    ++ (bytes8 (b .time) ++ (votesBytes (b .echoes) (b .readies) ++ (numbersBytes (b .echoed) ++ numbersBytes (b .readied))))
 
 unfoldable pub blocksAt : List ℕ → ℕ → BlockPart
 blocksAt l i = record {
   sent = flagAt l i;
   ready = flagAt l (i + 1);
   complete = flagAt l (i + 2);
-  echoes = flagsAt l (i + 3);
-  readies = flagsAt l (i + 14);
-}
-
-unfoldable pub timesBytes : TimePart → List ℕ
-timesBytes b =
-    marksBytes (b .sent) (b .ready) (b .delivered)
-    ++ (bytes8 (b .time) ++ (votesBytes (b .echoes) (b .readies) ++ (numbersBytes (b .echoed) ++ numbersBytes (b .readied))))
-
-unfoldable pub timesAt : List ℕ → ℕ → TimePart
-timesAt l i = record {
-  sent = flagAt l i;
-  ready = flagAt l (i + 1);
-  delivered = flagAt l (i + 2);
   time = be8 l (i + 3);
   echoes = flagsAt l (i + 11);
   readies = flagsAt l (i + 22);
@@ -57,16 +70,16 @@ timesAt l i = record {
 }
 
 unfoldable pub slotBytes : Slot → List ℕ
-slotBytes x = bytes8 (x .sequence) ++ (blocksBytes (x .blocks) ++ timesBytes (x .times))
+slotBytes x = bytes8 (x .sequence) ++ blocksBytes (x .blocks)
 
 unfoldable pub slotAt : List ℕ → ℕ → Slot
-slotAt l i = record { sequence = be8 l i; blocks = blocksAt l (i + 8); times = timesAt l (i + 33) }
+slotAt l i = record { sequence = be8 l i; blocks = blocksAt l (i + 8) }
 
 unfoldable pub slotsBytes : List Slot → List ℕ
 slotsBytes xs = rowBytes slotBytes 9 noSlot xs
 
 unfoldable pub slotsAt : List ℕ → ℕ → List Slot
-slotsAt l i = rowAt slotAt 9 242 l i
+slotsAt l i = rowAt slotAt 9 slotSize l i
 
 -- ---- readers
 
@@ -80,7 +93,7 @@ unfoldable pub readersBytes : List Reader → List ℕ
 readersBytes xs = rowBytes readerBytes 9 noReader xs
 
 unfoldable pub readersAt : List ℕ → ℕ → List Reader
-readersAt l i = rowAt readerAt 9 18 l i
+readersAt l i = rowAt readerAt 9 readerSize l i
 
 -- ---- the record
 
@@ -88,7 +101,7 @@ unfoldable pub serverBytes : Server → List ℕ
 serverBytes s = stampBytes (s .stamp) ++ (slotsBytes (s .slots) ++ readersBytes (s .readers))
 
 unfoldable pub serverAt : List ℕ → ℕ → Server
-serverAt l i = record { stamp = stampAt l i; slots = slotsAt l (i + 13); readers = readersAt l (i + 2191) }
+serverAt l i = record { stamp = stampAt l i; slots = slotsAt l (i + slotsPlace); readers = readersAt l (i + readersPlace) }
 
 -- the record that bytes say
 unfoldable pub serverIn : List ℕ → Server
@@ -98,4 +111,4 @@ serverIn l = serverAt l 0
 
 -- the record's bytes after a step for client c: the stamp, its slot and its reader are written, the other clients' bytes stay
 unfoldable pub scopeSets : List ℕ → ℕ → Stamp → Slot → Reader → List ℕ
-scopeSets l c x y z = sets (sets (sets l 0 (stampBytes x)) (13 + c * 242) (slotBytes y)) (2191 + c * 18) (readerBytes z)
+scopeSets l c x y z = sets (sets (sets l 0 (stampBytes x)) (slotsPlace + c * slotSize) (slotBytes y)) (readersPlace + c * readerSize) (readerBytes z)

@@ -7,11 +7,10 @@ use Rattle.client_rules.specs.declared.Row.{Row}
 use Rattle.client_rules.specs.declared.Client.{Client}
 use Rattle.client_rules.specs.WellFormed as C
 use Rattle.server_rules.specs.declared.BlockPart.{BlockPart}
-use Rattle.server_rules.specs.declared.TimePart.{TimePart}
 use Rattle.server_rules.specs.declared.Slot.{Slot}
 use Rattle.server_rules.specs.declared.Reader.{Reader}
 use Rattle.server_rules.specs.declared.Server.{Server}
-use Rattle.server_rules.specs.WellFormed.{Array, Bounds, BlocksWithin, TimesWithin, SlotWithin, Within}
+use Rattle.server_rules.specs.WellFormed.{Array, Bounds, BlocksWithin, SlotWithin, Within}
 
 -- numbers of 32 and of 64 bits
 abbrev pub Word : ℕ → Type 0
@@ -50,9 +49,6 @@ widths = record { flags = λ l. length l ≡ 11; time = Long; sequence = Long; s
 
 abbrev pub TypedBlocks : BlockPart → Type 0
 TypedBlocks = BlocksWithin widths
-
-abbrev pub TypedTimes : TimePart → Type 0
-TypedTimes = TimesWithin widths
 
 abbrev pub TypedSlot : Slot → Type 0
 TypedSlot = SlotWithin widths

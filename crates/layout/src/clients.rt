@@ -18,6 +18,8 @@ ghost use lib.ListN.{length};
 ghost use lib.Seq.{sets};
 ghost use Rattle.layout.specs.Clients.{clientSize, phaseByte, phaseIn, stampsBytes, stampsAt, keptBytes, keptAt, rowsBytes, rowsAt, headBytes, clientBytes, clientAt};
 
+pub const CLIENT_SIZE: usize = 769;
+
 // ---- the phase
 
 fn phase_byte(p: Phase) -> u8

@@ -13,13 +13,25 @@ use server_rules::Reader;
 use server_rules::Scope;
 use server_rules::Server;
 use server_rules::Slot;
-use server_rules::TimePart;
 ghost use mathlib.Core.Path.{_≡_};
 ghost use Prim.Native.Nat.{_+_, _≤_};
 ghost use lib.ListN.{length};
 ghost use lib.Seq.{sets};
 ghost use Rattle.server_rules.specs.Scopes.{scopeOf};
-ghost use Rattle.layout.specs.Servers.{serverSize, marksBytes, votesBytes, blocksBytes, blocksAt, timesBytes, timesAt, slotBytes, slotAt, slotsBytes, readerBytes, readerAt, readersBytes, readersAt, serverBytes, serverIn, scopeSets};
+ghost use Rattle.layout.specs.Servers.{serverSize, blocksSize, slotSize, slotsSize, readerSize, readersSize, marksBytes, votesBytes, blocksBytes, blocksAt, slotBytes, slotAt, slotsBytes, readerBytes, readerAt, readersBytes, readersAt, serverBytes, serverIn, scopeSets};
+
+// ---- sizes and places
+
+pub const SERVER_SIZE: usize = 2128;
+
+const SLOT_SIZE: usize = 217;
+
+const READER_SIZE: usize = 18;
+
+// The slots and the readers in the record.
+const SLOTS_AT: usize = 13;
+
+pub const READERS_AT: usize = 1966;
 
 // ---- the parts of a slot
 
@@ -41,64 +53,36 @@ fn put_votes(echoes: [bool; 11], readies: [bool; 11], out: &mut [u8], at: usize)
 }
 
 fn put_blocks(b: BlockPart, out: &mut [u8], at: usize)
-    requires { ⌜ at + 25 ≤ length (now out) ⌝ }
+    requires { ⌜ at + blocksSize ≤ length (now out) ⌝ }
     ensures { λ _. ⌜ now (out .exit) ≡ sets (now (out .entry)) at (blocksBytes b) ⌝ }
-{
-    let echoes = b.echoes;
-    let readies = b.readies;
-    put_marks(b.sent, b.ready, b.complete, out, at);
-    put_votes(echoes, readies, out, at + 3);
-}
-
-fn blocks_at(bytes: &[u8], at: usize) -> BlockPart
-    requires { ⌜ at + 25 ≤ length (now bytes) ⌝ }
-    ensures { λ r. ⌜ r ≡ blocksAt (now (bytes .entry)) at ⌝ }
-{
-    let sent = flag_in(bytes[at]);
-    let ready = flag_in(bytes[at + 1]);
-    let complete = flag_in(bytes[at + 2]);
-    let echoes = flags_at(bytes, at + 3);
-    let readies = flags_at(bytes, at + 14);
-    BlockPart {
-        sent,
-        ready,
-        complete,
-        echoes,
-        readies,
-    }
-}
-
-fn put_times(b: TimePart, out: &mut [u8], at: usize)
-    requires { ⌜ at + 209 ≤ length (now out) ⌝ }
-    ensures { λ _. ⌜ now (out .exit) ≡ sets (now (out .entry)) at (timesBytes b) ⌝ }
 {
     let echoes = b.echoes;
     let readies = b.readies;
     let echoed = b.echoed;
     let readied = b.readied;
-    put_marks(b.sent, b.ready, b.delivered, out, at);
+    put_marks(b.sent, b.ready, b.complete, out, at);
     area::write8(out, at + 3, b.time);
     put_votes(echoes, readies, out, at + 11);
     put_numbers(echoed, out, at + 33);
     put_numbers(readied, out, at + 121);
 }
 
-fn times_at(bytes: &[u8], at: usize) -> TimePart
-    requires { ⌜ at + 209 ≤ length (now bytes) ⌝ }
-    ensures { λ r. ⌜ r ≡ timesAt (now (bytes .entry)) at ⌝ }
+fn blocks_at(bytes: &[u8], at: usize) -> BlockPart
+    requires { ⌜ at + blocksSize ≤ length (now bytes) ⌝ }
+    ensures { λ r. ⌜ r ≡ blocksAt (now (bytes .entry)) at ⌝ }
 {
     let sent = flag_in(bytes[at]);
     let ready = flag_in(bytes[at + 1]);
-    let delivered = flag_in(bytes[at + 2]);
+    let complete = flag_in(bytes[at + 2]);
     let time = area::read8(bytes, at + 3);
     let echoes = flags_at(bytes, at + 11);
     let readies = flags_at(bytes, at + 22);
     let echoed = numbers_at(bytes, at + 33);
     let readied = numbers_at(bytes, at + 121);
-    TimePart {
+    BlockPart {
         sent,
         ready,
-        delivered,
+        complete,
         time,
         echoes,
         readies,
@@ -110,37 +94,30 @@ fn times_at(bytes: &[u8], at: usize) -> TimePart
 // ---- slots
 
 fn put_slot(x: Slot, out: &mut [u8], at: usize)
-    requires { ⌜ at + 242 ≤ length (now out) ⌝ }
+    requires { ⌜ at + slotSize ≤ length (now out) ⌝ }
     ensures { λ _. ⌜ now (out .exit) ≡ sets (now (out .entry)) at (slotBytes x) ⌝ }
 {
     let blocks = x.blocks;
-    let times = x.times;
     area::write8(out, at, x.sequence);
     put_blocks(blocks, out, at + 8);
-    put_times(times, out, at + 33);
 }
 
 fn slot_at(bytes: &[u8], at: usize) -> Slot
-    requires { ⌜ at + 242 ≤ length (now bytes) ⌝ }
+    requires { ⌜ at + slotSize ≤ length (now bytes) ⌝ }
     ensures { λ r. ⌜ r ≡ slotAt (now (bytes .entry)) at ⌝ }
 {
     let sequence = area::read8(bytes, at);
     let blocks = blocks_at(bytes, at + 8);
-    let times = times_at(bytes, at + 33);
-    Slot {
-        sequence,
-        blocks,
-        times,
-    }
+    Slot { sequence, blocks }
 }
 
 fn put_slots(x: [Slot; 9], out: &mut [u8], at: usize)
-    requires { ⌜ at + 2178 ≤ length (now out) ⌝ }
+    requires { ⌜ at + slotsSize ≤ length (now out) ⌝ }
     ensures { λ _. ⌜ now (out .exit) ≡ sets (now (out .entry)) at (slotsBytes x) ⌝ }
 {
     let mut j = 0;
     while j < 9 {
-        put_slot(x[j], out, at + j * 242);
+        put_slot(x[j], out, at + j * SLOT_SIZE);
         j += 1;
     }
 }
@@ -148,7 +125,7 @@ fn put_slots(x: [Slot; 9], out: &mut [u8], at: usize)
 // ---- readers
 
 fn put_reader(x: Reader, out: &mut [u8], at: usize)
-    requires { ⌜ at + 18 ≤ length (now out) ⌝ }
+    requires { ⌜ at + readerSize ≤ length (now out) ⌝ }
     ensures { λ _. ⌜ now (out .exit) ≡ sets (now (out .entry)) at (readerBytes x) ⌝ }
 {
     let noted = x.noted;
@@ -158,7 +135,7 @@ fn put_reader(x: Reader, out: &mut [u8], at: usize)
 }
 
 fn reader_at(bytes: &[u8], at: usize) -> Reader
-    requires { ⌜ at + 18 ≤ length (now bytes) ⌝ }
+    requires { ⌜ at + readerSize ≤ length (now bytes) ⌝ }
     ensures { λ r. ⌜ r ≡ readerAt (now (bytes .entry)) at ⌝ }
 {
     let sequence = area::read4(bytes, at);
@@ -172,25 +149,25 @@ fn reader_at(bytes: &[u8], at: usize) -> Reader
 }
 
 fn put_readers(x: [Reader; 9], out: &mut [u8], at: usize)
-    requires { ⌜ at + 162 ≤ length (now out) ⌝ }
+    requires { ⌜ at + readersSize ≤ length (now out) ⌝ }
     ensures { λ _. ⌜ now (out .exit) ≡ sets (now (out .entry)) at (readersBytes x) ⌝ }
 {
     let mut j = 0;
     while j < 9 {
-        put_reader(x[j], out, at + j * 18);
+        put_reader(x[j], out, at + j * READER_SIZE);
         j += 1;
     }
 }
 
 pub fn readers_at(bytes: &[u8], at: usize) -> [Reader; 9]
-    requires { ⌜ at + 162 ≤ length (now bytes) ⌝ }
+    requires { ⌜ at + readersSize ≤ length (now bytes) ⌝ }
     ensures { λ r. ⌜ r ≡ readersAt (now (bytes .entry)) at ⌝ }
 {
     let first = reader_at(bytes, at);
     let mut x = [first; 9];
     let mut j = 0;
     while j < 9 {
-        x[j] = reader_at(bytes, at + j * 18);
+        x[j] = reader_at(bytes, at + j * READER_SIZE);
         j += 1;
     }
     x
@@ -207,8 +184,8 @@ pub fn put_server(s: Server, out: &mut [u8], at: usize)
     let slots = s.slots;
     let readers = s.readers;
     put_stamp(stamp, out, at);
-    put_slots(slots, out, at + 13);
-    put_readers(readers, out, at + 2191);
+    put_slots(slots, out, at + SLOTS_AT);
+    put_readers(readers, out, at + READERS_AT);
 }
 
 // ---- one client's scope in the record
@@ -219,8 +196,8 @@ pub fn scope_at(bytes: &[u8], c: usize) -> Scope
     ensures { λ r. ⌜ r ≡ scopeOf (serverIn (now (bytes .entry))) c ⌝ }
 {
     let stamp = stamp_at(bytes, 0);
-    let slot = slot_at(bytes, 13 + c * 242);
-    let reader = reader_at(bytes, 2191 + c * 18);
+    let slot = slot_at(bytes, SLOTS_AT + c * SLOT_SIZE);
+    let reader = reader_at(bytes, READERS_AT + c * READER_SIZE);
     Scope {
         stamp,
         slot,
@@ -237,6 +214,6 @@ pub fn put_scope(x: Scope, c: usize, out: &mut [u8])
     let slot = x.slot;
     let reader = x.reader;
     put_stamp(stamp, out, 0);
-    put_slot(slot, out, 13 + c * 242);
-    put_reader(reader, out, 2191 + c * 18);
+    put_slot(slot, out, SLOTS_AT + c * SLOT_SIZE);
+    put_reader(reader, out, READERS_AT + c * READER_SIZE);
 }

@@ -11,7 +11,6 @@ use Rattle.frame.specs.declared.Stamp.{Stamp}
 use Rattle.frame.specs.Stamps.{lastClient}
 use Rattle.frame.specs.Frames.{stampBytes}
 use Rattle.client_rules.specs.declared.Client.{Client}
-use Rattle.client_rules.specs.declared.Phase.{Phase}
 use Rattle.server_rules.specs.declared.Scope.{Scope}
 use Rattle.server_rules.specs.State.{slotOf}
 use Rattle.server_rules.specs.Scopes.{scopeOf}
@@ -20,12 +19,9 @@ use Rattle.layout.specs.Clients.{clientSize, clientAt, clientIn}
 use Rattle.layout.specs.Servers.{serverSize, serverAt, serverIn}
 use Rattle.register.specs.Calls.{Wrote, wrote}
 use Rattle.register.specs.Handed.{stampSize}
-use Rattle.register.specs.Asked.{openAnswer, openOf, clientOpenCall, serverStampCall, serverOpenCall}
+use Rattle.answers.specs.Answers.{openAnswer}
+use Rattle.register.specs.Asked.{openOf, clientOpenCall, serverStampCall, serverOpenCall}
 use Rattle.register.proofs.Laws.{enough, short}
-
--- the phase p is the case f
-pub answer-case : (p f : Phase) (w r x : ℕ) → p ≡ f → x ≡ openAnswer f w r → x ≡ openAnswer p w r
-answer-case p f w r x e h = h ∙ sym (ap (λ y. openAnswer y w r) e)
 
 module _ (state : List ℕ) where
   pub open-short : length state < clientSize → 10 ≡ clientOpenCall state

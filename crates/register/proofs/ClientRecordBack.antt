@@ -29,10 +29,10 @@ use Rattle.layout.specs.Clients.{clientSize, clientBytes, clientIn}
 use Rattle.layout.specs.Typed.{TypedClient}
 use Rattle.layout.proofs.ClientBack.{client-stored}
 use Rattle.layout.proofs.TypedCalls.{typed-client-in, typed-client-fresh, typed-read, typed-write, typed-client-delivery}
-use Rattle.register.specs.Answers.{testAnswer}
-use Rattle.register.specs.Calls.{wrote, freshCall, Began, began, isRefusal, stateAfter, beganOf, readCall, writeCall}
+use Rattle.answers.specs.Answers.{testAnswer, isRefusal}
+use Rattle.answers.specs.Short.{readShort, valueShort, frameShort, stampShort}
+use Rattle.register.specs.Calls.{wrote, freshCall, Began, began, stateAfter, beganOf, readCall, writeCall}
 use Rattle.register.specs.Handed.{stampSize, stampAfter, clientGot, clientGotOf, clientCall}
-use Rattle.register.specs.Short.{readShort, valueShort, frameShort, stampShort}
 use Rattle.register.proofs.Laws.{enough, short, ends}
 use Rattle.register.proofs.Handed.{client-whole}
 

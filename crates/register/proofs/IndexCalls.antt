@@ -10,7 +10,8 @@ use Rattle.accession_index.specs.declared.Insertion.{Insertion}
 use Rattle.accession_index.specs.declared.Found.{Found}
 use Rattle.accession_bytes.specs.Layout.{indexSize, indexIn, stored, insertionIn}
 use Rattle.register.specs.Calls.{wrote}
-use Rattle.register.specs.Accession.{insertionAnswer, searchAnswer, wroteOf, indexInsertCall, indexSearchCall}
+use Rattle.answers.specs.Answers.{insertionAnswer, searchAnswer}
+use Rattle.register.specs.Accession.{wroteOf, indexInsertCall, indexSearchCall}
 
 pub index-inserted : (value l o : List ℕ) (a : Insertion) (x : ℕ) → indexSize ≤ length l → stored a o ≡ insertionIn l value → x ≡ insertionAnswer a
     → wrote x o ≡ indexInsertCall value l

@@ -26,10 +26,10 @@ use Rattle.order.specs.declared.judge.Verdict.{Verdict as Judged}
 use Rattle.history_sheet.specs.Laying.{outcome as laidOutcome, laying}
 use Rattle.history_sheet.specs.declared.Laid.{Laid}
 use Rattle.layout.specs.Clients.{clientSize, clientBytes, clientAt, clientIn}
-use Rattle.register.specs.Answers.{codeAnswer, testAnswer, clientAnswer, historyAnswer}
-use Rattle.register.specs.Calls.{wrote, digestCall, codeCall, lineCount, judgedCall, historyCall, freshCall, began, isRefusal, stateAfter, beganOf, readCall, writeCall}
-use Rattle.register.specs.Sheets.{sheetAnswer, sheetWrote, sheetCall}
-use Rattle.register.specs.Short.{readShort, valueShort}
+use Rattle.answers.specs.Answers.{codeAnswer, testAnswer, isRefusal, clientAnswer, lineCount, historyAnswer, sheetAnswer}
+use Rattle.answers.specs.Short.{readShort, valueShort}
+use Rattle.register.specs.Calls.{wrote, digestCall, codeCall, judgedCall, historyCall, freshCall, began, stateAfter, beganOf, readCall, writeCall}
+use Rattle.register.specs.Sheets.{sheetWrote, sheetCall}
 
 -- where an area is long enough, or short
 module _ {A : Type 0} (n m : ℕ) (x y : A) where

@@ -34,11 +34,11 @@ use Rattle.server_deliver.specs.Handed.{admitted}
 use Rattle.server_deliver.proofs.Openings.{refused-delivery}
 use Rattle.layout.specs.Clients.{clientSize, clientIn}
 use Rattle.layout.specs.Servers.{serverSize, serverIn}
-use Rattle.register.specs.Answers.{testAnswer, clientAnswer, serverAnswer}
-use Rattle.register.specs.Calls.{began, isRefusal, stateAfter, beganOf, readCall, writeCall}
+use Rattle.answers.specs.Answers.{testAnswer, isRefusal, clientAnswer, isTurnedDown, serverAnswer}
+use Rattle.answers.specs.Short.{readShort, valueShort, frameShort, stampShort}
+use Rattle.register.specs.Calls.{began, stateAfter, beganOf, readCall, writeCall}
 use Rattle.register.specs.Handed.{stampAfter, clientGot, clientGotOf, clientCall}
-use Rattle.register.specs.Short.{readShort, valueShort, frameShort, stampShort}
-use Rattle.register.specs.ServerCalls.{isTurnedDown, freshAfter, scopeAfter, made, madeOf, makeCall, serverGot, serverGotOf, serverCall}
+use Rattle.register.specs.ServerCalls.{freshAfter, scopeAfter, made, madeOf, makeCall, serverGot, serverGotOf, serverCall}
 
 -- ---- 1 is answered
 

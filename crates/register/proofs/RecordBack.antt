@@ -37,9 +37,9 @@ use Rattle.layout.proofs.ServerBack.{server-stored}
 use Rattle.layout.proofs.ScopeBack.{scope-back}
 use Rattle.layout.proofs.TypedSteps.{typed-in, typed-delivery}
 use Rattle.server_rules.proofs.Within.{server-within, slot-within, reader-within}
-use Rattle.register.specs.Answers.{testAnswer, serverAnswer}
-use Rattle.register.specs.Short.{valueShort, frameShort}
-use Rattle.register.specs.ServerCalls.{isTurnedDown, freshAfter, scopeAfter, Made, made, madeOf, makeCall, serverGot, serverGotOf, serverCall}
+use Rattle.answers.specs.Answers.{testAnswer, isTurnedDown, serverAnswer}
+use Rattle.answers.specs.Short.{valueShort, frameShort}
+use Rattle.register.specs.ServerCalls.{freshAfter, scopeAfter, Made, made, madeOf, makeCall, serverGot, serverGotOf, serverCall}
 use Rattle.register.proofs.Laws.{enough, short, ends}
 
 -- ---- what the reply says of a delivery

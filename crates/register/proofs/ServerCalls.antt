@@ -29,14 +29,14 @@ use Rattle.server_rules.specs.Scopes.{scopeOf, withScope}
 use Rattle.server.specs.Stages.{Holds}
 use Rattle.server.specs.declared.Call.{Call}
 use Rattle.server_rules.specs.Delivery.{Outcome, Constructed, delivery, construction}
-use Rattle.layout.specs.Servers.{serverSize, slotsAt, readersAt, serverAt, serverIn}
+use Rattle.layout.specs.Servers.{serverSize, readersPlace, slotsAt, readersAt, serverAt, serverIn}
 use Rattle.layout.specs.Fields.{rowAt}
 use Rattle.server_deliver.specs.Handed.{refusalIn, admitted, Stepping}
 use Rattle.server_deliver.proofs.Openings.{handed, client-named, refused-delivery, taken-delivery}
-use Rattle.register.specs.Answers.{testAnswer, serverAnswer}
+use Rattle.answers.specs.Answers.{testAnswer, isTurnedDown, serverAnswer}
+use Rattle.answers.specs.Short.{valueShort, frameShort}
 use Rattle.register.specs.Calls.{Wrote, wrote}
-use Rattle.register.specs.Short.{valueShort, frameShort}
-use Rattle.register.specs.ServerCalls.{isTurnedDown, freshAfter, scopeAfter, made, madeOf, makeCall, serverGot, serverGotOf, serverCall}
+use Rattle.register.specs.ServerCalls.{freshAfter, scopeAfter, made, madeOf, makeCall, serverGot, serverGotOf, serverCall}
 use Rattle.register.proofs.Laws.{enough, short}
 
 -- the record is kept as it was, or written
@@ -122,7 +122,7 @@ module _ (g : Params) (me : ℕ) (from : Party) (f area initial state out to : L
     -- 11 to 14, and the step
     pub server-done : (d : Header) (s : Scope) (rs : List Reader) (r : Taken) (x : ℕ) (ar st o u : List ℕ) → q ≡ O.Frame d
         → s ≡ scopeOf (serverIn state) (d .client)
-        → rs ≡ readersAt state 2191
+        → rs ≡ readersAt state readersPlace
         → Stepping s rs (record { params = g; me = me; from = w; header = d }) area initial f out to r ar o u
         → wrote x st ≡ wrote (serverAnswer (r .reply)) (scopeAfter (r .reply) (r .scope) (d .client) state)
         → serverGot x ar st o u ≡ serverCall g me from f area initial state out to

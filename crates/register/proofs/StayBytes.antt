@@ -19,14 +19,15 @@ use Rattle.server_rules.specs.State.{slotOf, readerOf}
 use Rattle.server_rules.specs.Delivery as S
 use Rattle.server_rules.proofs.Within.{either, reader-within}
 use Rattle.layout.specs.Clients.{clientSize, clientBytes, clientIn}
-use Rattle.layout.specs.Servers.{serverSize, serverBytes, serverIn, slotBytes, readerBytes, scopeSets}
+use Rattle.layout.specs.Servers.{serverSize, slotSize, readerSize, slotsPlace, readersPlace, serverBytes, serverIn, slotBytes, readerBytes, scopeSets}
 use Rattle.layout.specs.Typed.{TypedClient, TypedServer}
 use Rattle.layout.proofs.TypedCalls.{typed-client-in, typed-client-fresh, typed-read, typed-write, typed-client-delivery}
 use Rattle.layout.proofs.TypedSteps.{typed-in, typed-delivery}
 use Rattle.layout.proofs.AreBytes.{stamp-bytes, client-bytes, slot-bytes, reader-bytes, server-bytes}
-use Rattle.register.specs.Calls.{Wrote, wrote, freshCall, Began, began, isRefusal, stateAfter, beganOf, readCall, writeCall}
+use Rattle.answers.specs.Answers.{isRefusal, isTurnedDown}
+use Rattle.register.specs.Calls.{Wrote, wrote, freshCall, Began, began, stateAfter, beganOf, readCall, writeCall}
 use Rattle.register.specs.Handed.{stampSize, ClientGot, clientGot, clientGotOf, clientCall}
-use Rattle.register.specs.ServerCalls.{isTurnedDown, freshAfter, scopeAfter, Made, made, madeOf, makeCall, ServerGot, serverGot, serverGotOf, serverCall}
+use Rattle.register.specs.ServerCalls.{freshAfter, scopeAfter, Made, made, madeOf, makeCall, ServerGot, serverGot, serverGotOf, serverCall}
 use Rattle.register.proofs.RecordBack.{few, fresh-server, typed-fresh}
 
 -- ---- stores
@@ -100,8 +101,8 @@ module _ (g : Params) (me : ℕ) (from : Party) (f area initial state out to : L
   scope-bytes false e =
       let t = typed-delivery digestOf g me (serverIn state) (typed-in state p) area initial from f out to q in
       let r = reader-within _ t named (few digestOf g me (serverIn state) area initial from f out to e) in
-      bytes-sets _ (2191 + named * 18) (readerBytes (readerOf (handed .server) named))
-      (bytes-sets _ (13 + named * 242) (slotBytes (slotOf (handed .server) named))
+      bytes-sets _ (readersPlace + named * readerSize) (readerBytes (readerOf (handed .server) named))
+      (bytes-sets _ (slotsPlace + named * slotSize) (slotBytes (slotOf (handed .server) named))
       (bytes-sets state 0 (stampBytes (handed .server .stamp)) p (stamp-bytes (handed .server .stamp) (t .stamp)))
       (slot-bytes (slotOf (handed .server) named)))
       (reader-bytes (readerOf (handed .server) named) r)

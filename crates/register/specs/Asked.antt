@@ -1,6 +1,6 @@
 -- What a host may ask of a record: which operation is open at a client, which stamp a server holds, and which write of a client it works on. Nothing but the
 -- stamp area is written. These are definitions.
-use Prim.Native.Nat.{ℕ, _+_, _*_, _%_}
+use Prim.Native.Nat.{ℕ, _*_, _%_}
 use mathlib.Core.List.{List}
 use lib.ListN.{length}
 use lib.Seq.{sets}
@@ -9,24 +9,16 @@ use Rattle.area.specs.Area.{pick}
 use Rattle.frame.specs.Stamps.{lastClient}
 use Rattle.frame.specs.Frames.{stampBytes}
 use Rattle.client_rules.specs.declared.Client.{Client}
-use Rattle.client_rules.specs.declared.Phase.{Phase}
-use Rattle.client_rules.specs.declared.Phase.the-variants as F
 use Rattle.server_rules.specs.State.{slotOf}
 use Rattle.layout.specs.Clients.{clientSize, clientIn}
 use Rattle.layout.specs.Servers.{serverSize, serverIn}
+use Rattle.answers.specs.Answers.{openAnswer}
 use Rattle.register.specs.Calls.{Wrote, wrote}
 use Rattle.register.specs.Handed.{stampSize}
 
 -- the version of include/semduoli.h that these calls are those of
 abbrev pub headerVersion : ℕ
-headerVersion = 1
-
--- 0, nothing is open; 1, a write that awaits stamps; 2, a write that awaits acks; 3, a read. The bytes above say its number: w of a write, r of a read
-unfoldable pub openAnswer : Phase → ℕ → ℕ → ℕ
-openAnswer F.Idle w r = 0
-openAnswer F.Asking w r = 256 + 65536 * w
-openAnswer F.Acking w r = 512 + 65536 * w
-openAnswer F.Reading w r = 768 + 65536 * r
+headerVersion = 2
 
 unfoldable pub openOf : Client → ℕ
 openOf s = openAnswer (s .phase) (s .writes) (s .reads)

@@ -1,7 +1,6 @@
 -- The whole outcome of each exported call: the answer, and every byte of the areas that the host lends. A record comes and goes as its bytes (crate layout).
 -- These are definitions.
 use Prim.Native.Nat.{ℕ}
-use mathlib.Core.Bool.{Bool, true, false}
 use mathlib.Core.List.{List}
 use lib.ListN.{length, take}
 use lib.Seq.{sets}
@@ -12,17 +11,14 @@ use Rattle.blocks.specs.Calls.{Outcome, encoding, decoding}
 use Rattle.sha256.specs.Hash.{digestOf}
 use Rattle.frame.specs.Stamps.{lastClient}
 use Rattle.client_rules.specs.declared.Answer.{Answer}
-use Rattle.client_rules.specs.declared.Answer.the-variants as Y
 use Rattle.client_rules.specs.declared.Client.{Client}
 use Rattle.client_rules.specs.State.{freshClient}
 use Rattle.client_rules.specs.Beginning.{Begun, readBeginning, writeBeginning}
 use Rattle.history_text.specs.Lines.{answerTo}
-use Rattle.order.specs.declared.judge.Answer.the-variants as O
-use Rattle.order.specs.declared.judge.Answer.{Answer as Judgement}
 use Rattle.order.specs.declared.judge.Verdict.{Verdict as Judged}
 use Rattle.layout.specs.Clients.{clientSize, clientBytes, clientIn}
-use Rattle.register.specs.Answers.{codeAnswer, testAnswer, clientAnswer, historyAnswer}
-use Rattle.register.specs.Short.{readShort, valueShort}
+use Rattle.answers.specs.Answers.{codeAnswer, testAnswer, isRefusal, clientAnswer, lineCount, historyAnswer}
+use Rattle.answers.specs.Short.{readShort, valueShort}
 
 abbrev pub params : ℕ → ℕ → ℕ → ℕ → Params
 params n t k L = record { n = n; t = t; k = k; size = L }
@@ -49,12 +45,6 @@ encodeCall g value out = codeCall (encoding g value out)
 unfoldable pub decodeCall : Params → List ℕ → List ℕ → List ℕ → Wrote
 decodeCall g numbers blocks out = codeCall (decoding g numbers blocks out)
 
--- how many line numbers an answer gives
-unfoldable pub lineCount : Judgement → ℕ
-lineCount (O.Ordered m) = m
-lineCount (O.Offending a b) = 0
-lineCount (O.Refused x) = 0
-
 -- the line numbers of an order go to the front of the lent area; what is behind them stays as lent
 unfoldable pub judgedCall : Judged → List ℕ → Wrote
 judgedCall v lines = wrote (historyAnswer (v .answer)) (sets lines 0 (take (lineCount (v .answer)) (v .lines)))
@@ -76,13 +66,6 @@ pub record Began : Type 0 where
 
 abbrev pub began : ℕ → List ℕ → List ℕ → List ℕ → Began
 began x state out to = record { answer = x; state = state; out = out; to = to }
-
-unfoldable pub isRefusal : Answer → Bool
-isRefusal (Y.Sent m) = false
-isRefusal Y.Written = false
-isRefusal Y.OutOfStamps = false
-isRefusal (Y.Value x) = false
-isRefusal (Y.Refused r) = true
 
 -- the record's bytes after a call: "state and all lent bytes remain unchanged" where it was turned down
 unfoldable pub stateAfter : Answer → Client → List ℕ → List ℕ

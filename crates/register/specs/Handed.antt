@@ -15,9 +15,9 @@ use Rattle.client_rules.specs.declared.Answer.{Answer}
 use Rattle.client_rules.specs.declared.Answer.the-variants as Y
 use Rattle.client_rules.specs.Delivery.{Outcome, delivery}
 use Rattle.layout.specs.Clients.{clientSize, clientIn}
-use Rattle.register.specs.Answers.{testAnswer, clientAnswer}
+use Rattle.answers.specs.Answers.{testAnswer, clientAnswer}
+use Rattle.answers.specs.Short.{frameShort, stampShort}
 use Rattle.register.specs.Calls.{stateAfter}
-use Rattle.register.specs.Short.{frameShort, stampShort}
 
 -- the sender as the host names it: class 0 is a client, class 1 a server. Client 255 is nobody: 11 turns its frames down.
 abbrev pub nobody : Party

@@ -1,5 +1,3 @@
-pub mod Answers
-pub mod Short
 pub mod Calls
 pub mod Handed
 pub mod Asked

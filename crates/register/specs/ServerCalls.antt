@@ -1,6 +1,5 @@
 -- The whole outcome of a host's calls of a server: the answer, and every byte of the areas that the host lends. These are definitions.
 use Prim.Native.Nat.{ℕ}
-use mathlib.Core.Bool.{Bool, true, false}
 use mathlib.Core.List.{List}
 use lib.ListN.{length, getD}
 use lib.Seq.{sets}
@@ -11,18 +10,13 @@ use Rattle.blocks.specs.declared.Params.{Params}
 use Rattle.frame.specs.declared.Party.{Party}
 use Rattle.frame.specs.Frames.{clientAt}
 use Rattle.server_rules.specs.declared.Reply.{Reply}
-use Rattle.server_rules.specs.declared.Reply.the-variants as S
 use Rattle.server_rules.specs.declared.Scope.{Scope}
 use Rattle.server_rules.specs.declared.Server.{Server}
 use Rattle.server_rules.specs.Scopes.{scopeOf}
 use Rattle.server_rules.specs.Delivery.{Outcome, Constructed, delivery, construction}
 use Rattle.layout.specs.Servers.{serverSize, serverBytes, serverIn, scopeSets}
-use Rattle.register.specs.Answers.{testAnswer, serverAnswer}
-use Rattle.register.specs.Short.{valueShort, frameShort}
-
-unfoldable pub isTurnedDown : Reply → Bool
-isTurnedDown (S.Step m) = false
-isTurnedDown (S.Refused r) = true
+use Rattle.answers.specs.Answers.{testAnswer, isTurnedDown, serverAnswer}
+use Rattle.answers.specs.Short.{valueShort, frameShort}
 
 -- a fresh record's bytes; "state and all lent bytes remain unchanged" where the call was turned down
 unfoldable pub freshAfter : Reply → Server → List ℕ → List ℕ

@@ -1,28 +1,9 @@
 // The index of accession numbers, which the host keeps as bytes.
-use accession_index::Found;
-use accession_index::Insertion;
-use accession_index::number_of;
+use answers::index::insertion_answer;
+use answers::index::search_answer;
 ghost use mathlib.Core.Path.{_≡_};
-ghost use Rattle.register.specs.Accession.{insertionAnswer, searchAnswer, indexFreshCall, indexInsertCall, indexSearchCall};
+ghost use Rattle.register.specs.Accession.{indexFreshCall, indexInsertCall, indexSearchCall};
 ghost use Rattle.register.specs.Calls.{wrote};
-
-fn insertion_answer(a: Insertion) -> u64
-    ensures { λ r. ⌜ r ≡ insertionAnswer a ⌝ }
-{
-    match a {
-        Insertion::Place(p) => 65536 * (p as u64),
-        Insertion::Refused(r) => number_of(r),
-    }
-}
-
-fn search_answer(f: Found) -> u64
-    ensures { λ r. ⌜ r ≡ searchAnswer f ⌝ }
-{
-    match f {
-        Found::Place(p) => 65536 * (p as u64),
-        Found::Nothing => 0,
-    }
-}
 
 // Makes an index empty.
 #[no_mangle]

@@ -1,30 +1,21 @@
 // What a host may ask of a record.
-use client_rules::Phase;
+use answers::calls::open_answer;
+use layout::clients::CLIENT_SIZE;
 use layout::clients::client_at;
 use layout::fields::put_stamp;
 use layout::fields::stamp_at;
+use layout::servers::SERVER_SIZE;
 use layout::servers::scope_at;
 ghost use mathlib.Core.Path.{_≡_};
 ghost use Rattle.register.specs.Calls.{wrote};
-ghost use Rattle.register.specs.Asked.{headerVersion, openAnswer, clientOpenCall, serverStampCall, serverOpenCall};
+ghost use Rattle.register.specs.Asked.{headerVersion, clientOpenCall, serverStampCall, serverOpenCall};
 
 // The version of include/semduoli.h.
 #[no_mangle]
 pub extern "C" fn semduoli_version() -> u64
     ensures { λ r. ⌜ r ≡ headerVersion ⌝ }
 {
-    1
-}
-
-fn open_answer(p: Phase, writes: u32, reads: u32) -> u64
-    ensures { λ r. ⌜ r ≡ openAnswer p writes reads ⌝ }
-{
-    match p {
-        Phase::Idle => 0,
-        Phase::Asking => 256 + 65536 * writes as u64,
-        Phase::Acking => 512 + 65536 * writes as u64,
-        Phase::Reading => 768 + 65536 * reads as u64,
-    }
+    2
 }
 
 // Which operation is open at a client.
@@ -32,7 +23,7 @@ fn open_answer(p: Phase, writes: u32, reads: u32) -> u64
 pub extern "C" fn semduoli_client_open(state: &[u8]) -> u64
     ensures { λ r. ⌜ r ≡ clientOpenCall (now (state .entry)) ⌝ }
 {
-    if state.len() < 769 {
+    if state.len() < CLIENT_SIZE {
         return 10;
     }
     let s = client_at(state, 0);
@@ -45,7 +36,7 @@ pub extern "C" fn semduoli_client_open(state: &[u8]) -> u64
 pub extern "C" fn semduoli_server_stamp(state: &[u8], stamp: &mut [u8]) -> u64
     ensures { λ r. ⌜ wrote r (now (stamp .exit)) ≡ serverStampCall (now (state .entry)) (now (stamp .entry)) ⌝ }
 {
-    if state.len() < 2353 {
+    if state.len() < SERVER_SIZE {
         return 10;
     }
     if stamp.len() < 13 {
@@ -67,7 +58,7 @@ pub extern "C" fn semduoli_server_open(client: usize, state: &[u8]) -> u64
     if 8 < client {
         return 7;
     }
-    if state.len() < 2353 {
+    if state.len() < SERVER_SIZE {
         return 10;
     }
     let x = scope_at(state, client);

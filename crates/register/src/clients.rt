@@ -1,15 +1,17 @@
 // A client, whose record the host keeps as bytes.
-use crate::answers::client_answer;
-use crate::answers::test_answer;
 use crate::senders::sender_of;
-use crate::short::frame_short;
-use crate::short::read_short;
-use crate::short::stamp_short;
-use crate::short::value_short;
+use answers::calls::client_answer;
+use answers::calls::is_refusal;
+use answers::calls::test_answer;
+use answers::short::frame_short;
+use answers::short::read_short;
+use answers::short::stamp_short;
+use answers::short::value_short;
 use blocks::Params;
 use client::fresh::fresh_client;
 use client_rules::Answer;
 use client_rules::Client;
+use layout::clients::CLIENT_SIZE;
 use layout::clients::client_at;
 use layout::clients::put_client;
 use layout::fields::put_stamp;
@@ -17,8 +19,8 @@ ghost use mathlib.Core.Path.{_≡_};
 ghost use Prim.Native.Nat.{_≤_};
 ghost use lib.ListN.{length};
 ghost use Rattle.layout.specs.Clients.{clientSize};
-ghost use Rattle.register.specs.Answers.{clientAnswer};
-ghost use Rattle.register.specs.Calls.{params, wrote, freshCall, began, isRefusal, stateAfter, readCall, writeCall};
+ghost use Rattle.answers.specs.Answers.{clientAnswer};
+ghost use Rattle.register.specs.Calls.{params, wrote, freshCall, began, stateAfter, readCall, writeCall};
 ghost use Rattle.register.specs.Handed.{senderOf, stampSize, stampAfter, clientGot, clientCall};
 
 // Writes a fresh client's record.
@@ -26,7 +28,7 @@ ghost use Rattle.register.specs.Handed.{senderOf, stampSize, stampAfter,
 pub extern "C" fn semduoli_client_fresh(state: &mut [u8]) -> u64
     ensures { λ r. ⌜ wrote r (now (state .exit)) ≡ freshCall (now (state .entry)) ⌝ }
 {
-    if state.len() < 769 {
+    if state.len() < CLIENT_SIZE {
         return 10;
     }
     let s = fresh_client();
@@ -35,18 +37,6 @@ pub extern "C" fn semduoli_client_fresh(state: &mut [u8]) -> u64
 }
 
 // ---- the record after a call
-
-fn is_refusal(a: Answer) -> bool
-    ensures { λ r. ⌜ r ≡ isRefusal a ⌝ }
-{
-    match a {
-        Answer::Sent(m) => false,
-        Answer::Written => false,
-        Answer::OutOfStamps => false,
-        Answer::Value(x) => false,
-        Answer::Refused(r) => true,
-    }
-}
 
 // Writes the record, unless the call was turned down.
 fn keep(a: Answer, s: Client, state: &mut [u8], n: usize) -> u64
@@ -81,7 +71,7 @@ pub extern "C" fn semduoli_begin_read(
     }
     let own = me as u8;
     let g = Params { n, t, k, size };
-    if state.len() < 769 {
+    if state.len() < CLIENT_SIZE {
         let short = read_short(g, own);
         return test_answer(short);
     }
@@ -112,7 +102,7 @@ pub extern "C" fn semduoli_begin_write(
     }
     let own = me as u8;
     let g = Params { n, t, k, size };
-    if state.len() < 769 {
+    if state.len() < CLIENT_SIZE {
         let short = value_short(g, own, 8, value.len());
         return test_answer(short);
     }
@@ -165,7 +155,7 @@ pub extern "C" fn semduoli_client_deliver(
     }
     let own = me as u8;
     let g = Params { n, t, k, size };
-    if state.len() < 769 {
+    if state.len() < CLIENT_SIZE {
         let short = frame_short(g, own, 8, f);
         return test_answer(short);
     }

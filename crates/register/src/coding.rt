@@ -1,5 +1,5 @@
 // Digests and the block code.
-use crate::answers::code_answer;
+use answers::calls::code_answer;
 use blocks::Params;
 ghost use mathlib.Core.Path.{_≡_};
 ghost use Rattle.register.specs.Calls.{params, wrote, digestCall, encodeCall, decodeCall};

@@ -1,20 +1,9 @@
 // Histories as text.
-use crate::answers::history_answer;
+use answers::histories::history_answer;
+use answers::histories::line_count;
 use history_text::text::judge_text;
-use order::judge::Answer;
 ghost use mathlib.Core.Path.{_≡_};
-ghost use Rattle.register.specs.Calls.{wrote, lineCount, historyCall};
-
-// How many line numbers an answer gives.
-fn line_count(a: Answer) -> usize
-    ensures { λ r. ⌜ r ≡ lineCount a ⌝ }
-{
-    match a {
-        Answer::Ordered(m) => m,
-        Answer::Offending(x, y) => 0,
-        Answer::Refused(x) => 0,
-    }
-}
+ghost use Rattle.register.specs.Calls.{wrote, historyCall};
 
 // Whether the operations of a history have an order; if so its line numbers go to the front of lines, which has 64 bytes at least.
 #[no_mangle]

@@ -1,6 +1,5 @@
 // The register for hosts in C and Rust: a static library whose functions take numbers and lent areas of bytes only. include/semduoli.h says the same for a host.
 pub mod accession;
-pub mod answers;
 pub mod asked;
 pub mod clients;
 pub mod coding;
@@ -8,4 +7,3 @@ pub mod histories;
 pub mod senders;
 pub mod servers;
 pub mod sheets;
-pub mod short;

@@ -1,11 +1,14 @@
 // A server, whose record the host keeps as bytes.
-use crate::answers::server_answer;
-use crate::answers::test_answer;
 use crate::senders::sender_of;
-use crate::short::frame_short;
-use crate::short::value_short;
+use answers::calls::is_turned_down;
+use answers::calls::server_answer;
+use answers::calls::test_answer;
+use answers::short::frame_short;
+use answers::short::value_short;
 use blocks::Params;
 use frame::Opened;
+use layout::servers::READERS_AT;
+use layout::servers::SERVER_SIZE;
 use layout::servers::put_scope;
 use layout::servers::put_server;
 use layout::servers::readers_at;
@@ -22,21 +25,12 @@ ghost use mathlib.Core.Path.{_≡_};
 ghost use Prim.Native.Nat.{_≤_};
 ghost use lib.ListN.{length};
 ghost use Rattle.layout.specs.Servers.{serverSize};
-ghost use Rattle.register.specs.Answers.{serverAnswer};
+ghost use Rattle.answers.specs.Answers.{serverAnswer};
 ghost use Rattle.register.specs.Calls.{params, wrote};
 ghost use Rattle.register.specs.Handed.{senderOf};
-ghost use Rattle.register.specs.ServerCalls.{isTurnedDown, freshAfter, scopeAfter, made, makeCall, serverGot, serverCall};
+ghost use Rattle.register.specs.ServerCalls.{freshAfter, scopeAfter, made, makeCall, serverGot, serverCall};
 
 // ---- the record after a call
-
-fn is_turned_down(a: Reply) -> bool
-    ensures { λ r. ⌜ r ≡ isTurnedDown a ⌝ }
-{
-    match a {
-        Reply::Step(m) => false,
-        Reply::Refused(r) => true,
-    }
-}
 
 // Writes a fresh record, unless the call was turned down.
 fn keep_fresh(a: Reply, s: Server, state: &mut [u8]) -> u64
@@ -85,7 +79,7 @@ pub extern "C" fn semduoli_server_fresh(
     }
     let own = me as u8;
     let g = Params { n, t, k, size };
-    if state.len() < 2353 {
+    if state.len() < SERVER_SIZE {
         let short = value_short(g, own, n, value.len());
         return test_answer(short);
     }
@@ -123,7 +117,7 @@ pub extern "C" fn semduoli_server_deliver(
     }
     let own = me as u8;
     let g = Params { n, t, k, size };
-    if state.len() < 2353 {
+    if state.len() < SERVER_SIZE {
         let short = frame_short(g, own, n, f);
         return test_answer(short);
     }
@@ -135,7 +129,7 @@ pub extern "C" fn semduoli_server_deliver(
     };
     let c = header.client as usize;
     let x = scope_at(state, c);
-    let readers = readers_at(state, 2191);
+    let readers = readers_at(state, READERS_AT);
     let call = Call {
         params: g,
         me: own,

@@ -9,13 +9,15 @@ use Rattle.quorum.specs.Quorum.{Among}
 use Rattle.quorum.proofs.Logic.{impossible}
 use Rattle.area.specs.Area.{Bytes}
 use Rattle.group_rules.specs.Coded.{digestsOf}
-use Rattle.frame.specs.Messages.{Entry}
+use Rattle.frame.specs.Messages.{Offer}
 use Rattle.frame.proofs.Sizes.{Small}
-use Rattle.server_rules.specs.State.{slotOf, blockView}
+use Rattle.server_rules.specs.State.{blockView}
 use Rattle.server_rules.specs.Steps as S
 use Rattle.server_rules.proofs.Parts.{noPart}
+use Rattle.server_rules.proofs.Shapes.{offerOf}
 use Rattle.server_rules.proofs.Views.{fresh-block-view}
 use Rattle.server_rules.proofs.Decoding.{Has}
+use Rattle.steps.proofs.CastFacts.{partAt}
 use Rattle.steps.proofs.DecodedFacts.{DecodedFacts, decoded-facts}
 use Rattle.runs.specs.Admissible.{Admissible}
 use Rattle.runs.specs.Events.{At, Accepts, Decodes}
@@ -51,25 +53,25 @@ module _ (Z : Setup) (G : Assumed Z) where
     w .4,
   )
 
-  done-from : (ks : List Call) (j c : ℕ) → Among 8 c → (y : Entry) → blockView g (serverAt Z G M ks j .area) c
-      (slotOf (serverAt Z G M ks j .server) c) .done ≡ some y → From ks (y .digests)
+  done-from : (ks : List Call) (j c : ℕ) → Among 8 c → (y : Offer) → partAt g (serverAt Z G M ks j .server) (serverAt Z G M ks j .area) c .done ≡ some y
+      → From ks (y .entry .digests)
   done-from [] j c is y u =
-      let e : blockView g (serverAt Z G M [] j .area) c (slotOf (serverAt Z G M [] j .server) c) ≡ noPart =
+      let e : partAt g (serverAt Z G M [] j .server) (serverAt Z G M [] j .area) c ≡ noPart =
       ap (blockView g (serverAt Z G M [] j .area) c) (start-slot Z G j c is) ∙ fresh-block-view g (serverAt Z G M [] j .area) c 1 in
       impossible (cc (ap (λ x. x .done) e, u))
   done-from (k ∷ ks) j c is y u = ⊎-elim
-      (λ e. later ks k (y .digests) (done-from ks j c is y (ap (λ h. blockView g (h .area) c (slotOf (h .server) c) .done) (sym e) ∙ u)))
+      (λ e. later ks k (y .entry .digests) (done-from ks j c is y (ap (λ h. partAt g (h .server) (h .area) c .done) (sym e) ∙ u)))
       (λ N. ⊎-elim
-      (λ o. later ks k (y .digests) (done-from ks j c is y o))
-      (λ w. now ks k j (N .0) (y .digests) w)
-      (keeps ks k j (N .0) .done c is y (ap (λ h. blockView g (h .area) c (slotOf (h .server) c) .done) (sym (N .1)) ∙ u)))
+      (λ o. later ks k (y .entry .digests) (done-from ks j c is y o))
+      (λ w. now ks k j (N .0) (y .entry .digests) w)
+      (keeps ks k j (N .0) .done c is y (ap (λ h. partAt g (h .server) (h .area) c .done) (sym (N .1)) ∙ u)))
       (server-next Z G M ks k j)
 
   accepts-from : (ks : List Call) (k : Call) (i : ℕ) (y : S.Write) → Accepts Z i y ks k → From (k ∷ ks) (y .entry .digests)
   accepts-from ks k i y u =
       let T = accepts-new Z G M ks k i y u in
       let w = keeps ks k i (T .0) .took y (T .1) in
-      ⊎-elim (λ o. later ks k (y .entry .digests) (done-from ks i (y .client) (w .0) (y .entry) o)) (λ h. now ks k i (T .0) (y .entry .digests) h) (w .1)
+      ⊎-elim (λ o. later ks k (y .entry .digests) (done-from ks i (y .client) (w .0) (offerOf y) o)) (λ h. now ks k i (T .0) (y .entry .digests) h) (w .1)
 
   pub accepted-from : (ks : List Call) → Admissible Z ks → (i p : ℕ) (y : S.Write) → At (Accepts Z i y) ks p
       → (v : List ℕ) × (p′ : ℕ) × At (Decodes Z v) ks p′ × (digestsOf H g v ≡ y .entry .digests) × (length v ≡ g .size) × Bytes v

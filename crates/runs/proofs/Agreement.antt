@@ -14,18 +14,23 @@ use Rattle.frame.specs.declared.Party.{Party}
 use Rattle.frame.specs.declared.Verdict.{Verdict}
 use Rattle.frame.specs.declared.Party.the-variants as A
 use Rattle.frame.specs.declared.Verdict.the-variants as J
-use Rattle.frame.specs.Messages.{Entry, send, blockIs, timeIs, Message, message, Formed}
+use Rattle.frame.specs.Messages.{Offer, send, blockIs, Message, message, Formed}
 use Rattle.frame.proofs.Sizes.{Small}
 use Rattle.frame.proofs.Sizes as Sizes
-use Rattle.server_rules.specs.State.{freshSlot, freshServer, noSlot, slotOf}
+use Rattle.server_rules.specs.Broadcast.{Rules}
+use Rattle.server_rules.specs.Rules.{blockRules}
+use Rattle.server_rules.specs.State.{freshSlot, freshServer, noSlot, slotOf, blockView}
 use Rattle.server_rules.specs.Delivery as SD
 use Rattle.server_rules.specs.Steps as S
 use Rattle.server_rules.proofs.Parts.{noPart}
-use Rattle.steps.proofs.CastFacts.{Cast, blocks, times, BroadcastFacts, cast-facts}
+use Rattle.server_rules.proofs.Shapes.{offerOf}
+use Rattle.server_rules.proofs.Thresholds.{agreed, blocks-sane}
+use Rattle.server_rules.proofs.Views.{fresh-block-view}
+use Rattle.steps.proofs.CastFacts.{partAt}
 use Rattle.runs.specs.Admissible.{Honest, Admissible}
 use Rattle.runs.specs.Events.{At, Accepts}
-use Rattle.runs.specs.World.{Setup, Call, initialOf, start, run}
-use Rattle.runs.proofs.Broadcasts.{serverAt, SentMessage, Takes, effectOf, shape, views, lawful-run}
+use Rattle.runs.specs.World.{Setup, Call, start, run}
+use Rattle.runs.proofs.Broadcasts.{serverAt, SentMessage, views, lawful-run}
 use Rattle.runs.proofs.Assumed.{Assumed}
 
 pub small : (Z : Setup) → Assumed Z → Small (Z .g)
@@ -50,63 +55,36 @@ module _ (Z : Setup) (G : Assumed Z)
   abbrev M : Small g
   M = small Z G
 
-  abbrev Kb : Cast H g Entry (List ℕ)
-  Kb = blocks H g (G .bounded)
-
-  abbrev Kt : Cast H g ℕ ℕ
-  Kt = times H g (G .bounded)
-
-  facts : {P D : Type 0} (K : Cast H g P D) (ks : List Call) (k : Call) (j : ℕ) (C : Takes Z G M ks k j)
-      → BroadcastFacts K (serverAt Z G M ks j .server) (serverAt Z G M ks j .area) (C .from) (C .m) (effectOf Z G M C)
-  facts K ks k j C = cast-facts K (G .bounded) j (serverAt Z G M ks j .server) (serverAt Z G M ks j .area) (initialOf Z j) (shape Z G M ks j)
-      (C .from) (C .m) (C .took .client) (C .took .sized) (C .took .passes)
+  abbrev R : Rules Offer
+  R = blockRules H g
 
   -- nothing is there at the start
-  start-part : {P D : Type 0} (K : Cast H g P D) (i c : ℕ) → Among 8 c → K .view (serverAt Z G M [] i .area) c (slotOf (serverAt Z G M [] i .server) c) ≡ noPart
-  start-part K i c is = ap (K .view (serverAt Z G M [] i .area) c) (start-slot Z G i c is) ∙ K .fresh (serverAt Z G M [] i .area) c 1
+  start-part : (i c : ℕ) → Among 8 c → partAt g (serverAt Z G M [] i .server) (serverAt Z G M [] i .area) c ≡ noPart
+  start-part i c is = ap (blockView g (serverAt Z G M [] i .area) c) (start-slot Z G i c is) ∙ fresh-block-view g (serverAt Z G M [] i .area) c 1
 
-  empty : {P D : Type 0} (K : Cast H g P D) → BL.Fresh (views Z G M formed K (facts K)) (g .n) (g .t) (K .rules .few) (K .rules .all) faultyServer faultyClient
-  empty K = record {
-    no-kept-echo = λ i c j x e. impossible (cc (ap (λ y. y .echoes j) (start-part K i c (e .0)), e .3));
-    no-kept-ready = λ i c j x e. impossible (cc (ap (λ y. y .readies j) (start-part K i c (e .0)), e .3));
+  empty : BL.Fresh (views Z G M formed) (g .n) (g .t) (R .few) (R .all) faultyServer faultyClient
+  empty = record {
+    no-kept-echo = λ i c j x e. impossible (cc (ap (λ y. y .echoes j) (start-part i c (e .0)), e .3));
+    no-kept-ready = λ i c j x e. impossible (cc (ap (λ y. y .readies j) (start-part i c (e .0)), e .3));
     no-echo = λ i c s x u. u .3;
     no-ready = λ i c s x u. u .3;
-    no-delivered = λ i c x u. impossible (cc (ap (λ y. y .done) (start-part K i c (u .0)), u .3));
+    no-delivered = λ i c x u. impossible (cc (ap (λ y. y .done) (start-part i c (u .0)), u .3));
     no-accepted = λ i c s x u. u .2;
   }
-
-  -- two acceptances of one write have one payload; that of an honest client's is what it sent
-  agreed : {P D : Type 0} (K : Cast H g P D) (ks : List Call) → Admissible Z ks → (i j p q : ℕ) (x y : S.Write) → At (Accepts Z i x) ks p
-      → At (Accepts Z j y) ks q
-      → x .client ≡ y .client → x .sequence ≡ y .sequence → K .what (K .sel x) ≡ K .what (K .sel y)
-  agreed K ks a i j p q x y u v ec eq =
-      BA.agreement (views Z G M formed K (facts K)) (g .n) (g .t) (K .rules .few) (K .rules .all) faultyServer faultyClient (G .faults) (K .sane .few-many)
-      (K .sane .all-many) (empty K)
-      (lawful-run Z G M formed K (facts K) ks a) i j (x .client) (x .sequence) (K .what (K .sel x)) (K .what (K .sel y)) (x, p, u, refl, refl, refl)
-      (y, q, v, sym ec, sym eq, refl)
-
-  valid : {P D : Type 0} (K : Cast H g P D) (ks : List Call) → Admissible Z ks → (i p : ℕ) (x : S.Write) → faultyClient (x .client) ≡ false
-      → At (Accepts Z i x) ks p
-      → (b : Party) × (y : P) × (K .what y ≡ K .what (K .sel x)) × SentMessage Z G M ks (A.Client (x .client)) b
-      (message (x .client) (x .sequence) (K .wrap send y))
-  valid K ks a i p x h u =
-      BA.validity (views Z G M formed K (facts K)) (g .n) (g .t) (K .rules .few) (K .rules .all) faultyServer faultyClient (G .faults) (K .sane .few-many)
-      (K .sane .all-many) (empty K)
-      (lawful-run Z G M formed K (facts K) ks a) i (x .client) (x .sequence) (K .what (K .sel x)) h (x, p, u, refl, refl, refl)
 
   -- Two acceptances of one write agree in stamp and digest list.
   pub agreement : (ks : List Call) → Admissible Z ks → (i j p q : ℕ) (x y : S.Write) → At (Accepts Z i x) ks p → At (Accepts Z j y) ks q
       → x .client ≡ y .client → x .sequence ≡ y .sequence → (S.stampOf x ≡ S.stampOf y) × (x .entry .digests ≡ y .entry .digests)
   agreement ks a i j p q x y u v ec eq =
-      let t = agreed Kt ks a i j p q x y u v ec eq in
-      ((λ d. record { time = t d + 1; writer = ec d; sequence = eq d }), agreed Kb ks a i j p q x y u v ec eq)
+      let e = BA.agreement (views Z G M formed) (g .n) (g .t) (R .few) (R .all) faultyServer faultyClient (G .faults) (blocks-sane H g .few-many)
+      (blocks-sane H g .all-many) empty (lawful-run Z G M formed ks a) i j (x .client) (x .sequence) (agreed (offerOf x)) (agreed (offerOf y))
+      (x, p, u, refl, refl, refl) (y, q, v, sym ec, sym eq, refl) in
+      ((λ d. record { time = e d .0 + 1; writer = ec d; sequence = eq d }), ap (λ w. w .1) e)
 
   -- What is accepted of an honest client's write is what it sent.
-  pub validity-time : (ks : List Call) → Admissible Z ks → (i p : ℕ) (x : S.Write) → faultyClient (x .client) ≡ false → At (Accepts Z i x) ks p
-      → (b : Party) × (T : ℕ) × (T ≡ x .time) × SentMessage Z G M ks (A.Client (x .client)) b (message (x .client) (x .sequence) (timeIs send T))
-  validity-time = valid Kt
-
-  pub validity-block : (ks : List Call) → Admissible Z ks → (i p : ℕ) (x : S.Write) → faultyClient (x .client) ≡ false → At (Accepts Z i x) ks p
-      → (b : Party) × (e : Entry) × (e .digests ≡ x .entry .digests) × SentMessage Z G M ks (A.Client (x .client)) b
-      (message (x .client) (x .sequence) (blockIs send e))
-  validity-block = valid Kb
+  pub validity : (ks : List Call) → Admissible Z ks → (i p : ℕ) (x : S.Write) → faultyClient (x .client) ≡ false → At (Accepts Z i x) ks p
+      → (b : Party) × (o : Offer) × (agreed o ≡ agreed (offerOf x)) × SentMessage Z G M ks (A.Client (x .client)) b
+      (message (x .client) (x .sequence) (blockIs send o))
+  validity ks a i p x h u =
+      BA.validity (views Z G M formed) (g .n) (g .t) (R .few) (R .all) faultyServer faultyClient (G .faults) (blocks-sane H g .few-many)
+      (blocks-sane H g .all-many) empty (lawful-run Z G M formed ks a) i (x .client) (x .sequence) (agreed (offerOf x)) h (x, p, u, refl, refl, refl)

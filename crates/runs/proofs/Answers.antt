@@ -19,7 +19,7 @@ use Rattle.frame.specs.declared.Party.the-variants as P
 use Rattle.frame.specs.declared.Opened.the-variants as O
 use Rattle.frame.specs.declared.Verdict.the-variants as J
 use Rattle.frame.specs.Params.{largestFrame, entryLength, serverFrames, clientFrames, outRoom, toRoom, Bounded, paramsTest}
-use Rattle.frame.specs.Messages.{Body, getStamp, ack, askRead, readComplete, stampIs, blockIs, timeIs, valueIs, send, echo, ready, Message, Sending, Formed, Judged, bad, good}
+use Rattle.frame.specs.Messages.{Body, getStamp, ack, askRead, readComplete, stampIs, blockIs, valueIs, send, echo, ready, Message, Sending, Formed, Judged, bad, good}
 use Rattle.frame.specs.Frames.{build, bodyBytes, kindOf, bodyLength, lengthOf, opened, messageIn}
 use Rattle.frame.specs.Outbox.{frames, receivers, partyBytes}
 use Rattle.frame.specs.Stamps.{lastClient}
@@ -59,12 +59,9 @@ module _ (g : Params) (B : Bounded g) where
   body-few askRead = omega arith
   body-few readComplete = omega arith
   body-few (stampIs T) = omega arith
-  body-few (blockIs send e) = omega arith
-  body-few (blockIs echo e) = omega arith
-  body-few (blockIs ready e) = omega arith
-  body-few (timeIs send T) = omega arith
-  body-few (timeIs echo T) = omega arith
-  body-few (timeIs ready T) = omega arith
+  body-few (blockIs send o) = omega arith
+  body-few (blockIs echo o) = omega arith
+  body-few (blockIs ready o) = omega arith
   body-few (valueIs s e) = omega arith
 
   frame-few : (m : Message) → Formed g m → length (build m) ≤ largestFrame g

@@ -19,7 +19,7 @@ use Rattle.runs.specs.Admissible.{Admissible}
 use Rattle.runs.specs.Events.{Event, At, Accepts, CompletesRead, OpensRead, OpensWrite}
 use Rattle.runs.specs.World.{Setup, Call, toServer, toClient, beginRead, beginWrite, ClientSide, clientLeft, lentBy, lentTo, readEffect, writeEffect, start, run, step, put}
 use Rattle.runs.proofs.Agreement.{small}
-use Rattle.runs.proofs.Formation.{validity-block, accepted-in-bounds}
+use Rattle.runs.proofs.Formation.{validity, accepted-in-bounds}
 use Rattle.runs.proofs.ReadOnce.{delivered-does, completed-number}
 use Rattle.runs.proofs.Written.{delivered-tells, lent-own, said-low}
 use Rattle.runs.proofs.Assumed.{Assumed}
@@ -155,7 +155,7 @@ module _ (Z : Setup) (G : Assumed Z) where
   pub write-begun : (ks : List Call) → Admissible Z ks → (i p : ℕ) (y : Write) → At (Accepts Z i y) ks p → Z .faultyClient (y .client) ≡ false
       → (p′ : ℕ) × (v : List ℕ) × At (OpensWrite Z (y .client) (y .sequence) v) ks p′
   write-begun ks a i p y u h =
-      let w = validity-block Z G ks a i p y h u in
+      let w = validity Z G ks a i p y h u in
       let o = reached (writes Z (y .client)) (Opens Z (y .client)) (none-yet Z (y .client) .1) (writes-rise Z (y .client)) ks (y .sequence)
       (accepted-in-bounds Z G (small Z G) ks a i p y u .low) (said-low Z G ks (y .client) (w .0) (y .sequence) (w .1) (w .3)) in
       let z = at-some (λ v. OpensWrite Z (y .client) (y .sequence) v) ks (o .0) (o .1) in

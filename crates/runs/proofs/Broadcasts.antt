@@ -1,5 +1,5 @@
--- The runs of the register keep the laws of a broadcast, for the times and for the blocks: each call is lawful by the facts of its step. That what honest
--- parties send can be said in a frame is a hypothesis here, proved in Formation. Assumes nothing else.
+-- The runs of the register keep the laws of a broadcast: each call is lawful by the facts of its step. That what honest parties send can be said in a
+-- frame is a hypothesis here, proved in Formation. Assumes nothing else.
 use Prim.Native.Nat.{ℕ, _-_}
 use native.Mathlib.Omega.{arith}
 use mathlib.Core.Bool.{Bool, true, false, _&&_}
@@ -17,22 +17,29 @@ use Rattle.frame.specs.declared.Party.{Party}
 use Rattle.frame.specs.declared.Party.the-variants as A
 use Rattle.frame.specs.declared.Opened.the-variants as O
 use Rattle.frame.specs.Frames.{build, opened, messageIn, headerFor}
-use Rattle.frame.specs.Messages.{Stage, send, echo, ready, Body, Message, message, Sending, sending, Formed}
+use Rattle.frame.specs.Messages.{Offer, Stage, send, echo, ready, Body, blockIs, Message, message, Sending, sending, Formed}
 use Rattle.frame.proofs.RoundTrip.{opened-build}
 use Rattle.frame.proofs.Sizes.{Small}
 use Rattle.server_rules.specs.declared.Server.{Server}
-use Rattle.server_rules.specs.Broadcast.{Part}
+use Rattle.server_rules.specs.Broadcast.{Rules, Part}
+use Rattle.server_rules.specs.Rules.{blockRules}
 use Rattle.server_rules.specs.State.{slotOf}
 use Rattle.server_rules.specs.Steps as S
 use Rattle.server_rules.proofs.Parts.{put-same, put-cases}
+use Rattle.server_rules.proofs.Shapes.{offerOf}
+use Rattle.server_rules.proofs.Thresholds.{agreed}
 use Rattle.steps.proofs.PartFacts.{Heard}
-use Rattle.steps.proofs.CastFacts.{Cast, BroadcastFacts, New}
+use Rattle.steps.proofs.CastFacts.{partAt, BroadcastFacts, New, block-inj, cast-facts}
 use Rattle.steps.proofs.ServerFits.{ServerShape, Delivered, refused, taken, delivered, shape-effect, shape-fresh}
 use Rattle.server_rules.proofs.Taking.{Taken}
 use Rattle.runs.specs.Admissible.{Sent, Honest, Proper, Admissible}
 use Rattle.runs.specs.Events.{At, Accepts}
 use Rattle.runs.specs.World.{Setup, Call, toServer, toClient, beginRead, beginWrite, caller, ServerSide, initialOf, start, serverEffect, serverLeft, step, run, sends, put}
 use Rattle.runs.proofs.Assumed.{Assumed}
+
+-- what servers agree on of a write: its time and its digest list
+abbrev pub Agreed : Type 0
+Agreed = ℕ × List ℕ
 
 module _ (Z : Setup) (G : Assumed Z) (M : Small (Z .g)) where
   open Setup Z using (H, g, initialValue, faultyServer, faultyClient, stateAreas, initialAreas, rowsAreas)
@@ -169,157 +176,158 @@ module _ (Z : Setup) (G : Assumed Z) (M : Small (Z .g)) where
     range-in : (c : ℕ) → Among 8 c → inRange c ≡ true
     range-in c i = rw (le-leb 1 c (i .0), le-leb c 8 (i .1))
 
-    module _ {P D : Type 0} (K : Cast H g P D) (facts : (ks : List Call) (k : Call) (j : ℕ) (C : Takes ks k j)
-        → BroadcastFacts K (serverAt ks j .server) (serverAt ks j .area) (C .from) (C .m) (effectOf C)) where
-      open Cast K using (view, wrap, rules, sel, what, inj)
+    abbrev R : Rules Offer
+    R = blockRules H g
 
-      abbrev pub part : List Call → ℕ → ℕ → Part P
-      part ks i c = view (serverAt ks i .area) c (slotOf (serverAt ks i .server) c)
+    abbrev pub part : List Call → ℕ → ℕ → Part Offer
+    part ks i c = partAt g (serverAt ks i .server) (serverAt ks i .area) c
 
-      abbrev pub SaidBy : Stage → List Call → ℕ → ℕ → ℕ → D → Type 0
-      SaidBy z ks i c s d = (b : Party) × (p : P) × (what p ≡ d) × SentMessage ks (A.Server i) b (message c s (wrap z p))
+    abbrev pub SaidBy : Stage → List Call → ℕ → ℕ → ℕ → Agreed → Type 0
+    SaidBy z ks i c s d = (b : Party) × (o : Offer) × (agreed o ≡ d) × SentMessage ks (A.Server i) b (message c s (blockIs z o))
 
-      abbrev pub views : BL.Views Call D
-      views = record {
-        sequence = λ ks i c. slotOf (serverAt ks i .server) c .sequence;
-        echoed = λ ks i c. inRange c && part ks i c .sent;
-        KeptEcho = λ ks i c j d. Among 8 c × (p : P) × (what p ≡ d) × (part ks i c .echoes j ≡ some p);
-        KeptReady = λ ks i c j d. Among 8 c × (p : P) × (what p ≡ d) × (part ks i c .readies j ≡ some p);
-        SentEcho = SaidBy echo;
-        SentReady = SaidBy ready;
-        Delivered = λ ks i c d. Among 8 c × (p : P) × (what p ≡ d) × (part ks i c .done ≡ some p);
-        Accepted = λ ks i c s d. (x : S.Write) × (n : ℕ) × At (Accepts Z i x) ks n × (x .client ≡ c) × (x .sequence ≡ s) × (what (sel x) ≡ d);
-        ClientSent = λ ks c s d. (b : Party) × (p : P) × (what p ≡ d) × SentMessage ks (A.Client c) b (message c s (wrap send p));
+    abbrev pub views : BL.Views Call Agreed
+    views = record {
+      sequence = λ ks i c. slotOf (serverAt ks i .server) c .sequence;
+      echoed = λ ks i c. inRange c && part ks i c .sent;
+      KeptEcho = λ ks i c j d. Among 8 c × (o : Offer) × (agreed o ≡ d) × (part ks i c .echoes j ≡ some o);
+      KeptReady = λ ks i c j d. Among 8 c × (o : Offer) × (agreed o ≡ d) × (part ks i c .readies j ≡ some o);
+      SentEcho = SaidBy echo;
+      SentReady = SaidBy ready;
+      Delivered = λ ks i c d. Among 8 c × (o : Offer) × (agreed o ≡ d) × (part ks i c .done ≡ some o);
+      Accepted = λ ks i c s d. (x : S.Write) × (n : ℕ) × At (Accepts Z i x) ks n × (x .client ≡ c) × (x .sequence ≡ s) × (agreed (offerOf x) ≡ d);
+      ClientSent = λ ks c s d. (b : Party) × (o : Offer) × (agreed o ≡ d) × SentMessage ks (A.Client c) b (message c s (blockIs send o));
+    }
+
+    module _ (ks : List Call) (k : Call) (adm : Admissible Z ks) (pr : Proper Z ks k) where
+      F : (j : ℕ) (C : Takes ks k j) → BroadcastFacts H g (serverAt ks j .server) (serverAt ks j .area) (C .from) (C .m) (effectOf C)
+      F j C = cast-facts H g (G .bounded) j (serverAt ks j .server) (serverAt ks j .area) (initialOf Z j) (shape ks j)
+          (C .from) (C .m) (C .took .client) (C .took .sized) (C .took .passes)
+
+      owner : (i c : ℕ) (C : Takes ks k i) (q : ℕ) (b : Body) → C .m ≡ message c q b → Among 8 c
+      owner i c C q b e = subst (Among 8) (ap (λ m. m .client) e) (C .took .client)
+
+      -- a frame of an honest server was sent by it
+      this : (i : ℕ) (C : Takes ks k i) (c j : ℕ) (z : Stage) (o : Offer) (d : Agreed) → agreed o ≡ d → faultyServer j ≡ false → Among (g .n) j
+          → New (serverAt ks i .server) (C .from) (C .m) c z j o
+          → SaidBy z ks j c (slotOf (serverAt ks i .server) c .sequence) d
+      this i C c j z o d e ok is n = (
+        A.Server i,
+        o,
+        e,
+        subst (λ a. SentMessage ks a (A.Server i) (message c (slotOf (serverAt ks i .server) c .sequence) (blockIs z o))) (n .0)
+            (subst (SentMessage ks (C .from) (A.Server i)) (n .1) (message-sent adm pr C (subst (Honest Z) (sym (n .0)) (is, ok)))),
+      )
+
+      known : (i : ℕ) (C : Takes ks k i) (c : ℕ) → Among 8 c → (f : ℕ → Option Offer) (z : Stage) (d : Agreed) (m : ℕ)
+          → B.AtLeast (g .n) m (Heard R (g .n) (g .t) agreed f (New (serverAt ks i .server) (C .from) (C .m) c z) d)
+          → B.AtLeast (g .n) m (λ j. faultyServer j ≡ false
+          → (Among 8 c × (o : Offer) × (agreed o ≡ d) × (f j ≡ some o)) ⊎ SaidBy z ks j c (slotOf (serverAt ks i .server) c .sequence) d)
+      known i C c ic f z d m = B.at-least-map (λ j is y ok. ⊎-elim (λ a. inl (ic, y .0, y .1, a)) (λ a. inr (this i C c j z (y .0) d (y .1) ok is a)) (y .2))
+
+      moved : (i c : ℕ) (C : Takes ks k i) → part (k ∷ ks) i c ≡ partAt g (effectOf C .server) (effectOf C .area) c
+      moved i c C = ap (λ h. partAt g (h .server) (h .area) c) (server-left ks k i C)
+
+      moved-seq : (i c : ℕ) (C : Takes ks k i) → slotOf (serverAt (k ∷ ks) i .server) c .sequence ≡ slotOf (effectOf C .server) c .sequence
+      moved-seq i c C = ap (λ h. slotOf (h .server) c .sequence) (server-left ks k i C)
+
+      on-sent : (i c : ℕ) (u v : Bool) → (Among 8 c → u ≡ true → v ≡ true) → (inRange c && u) ≡ true → (inRange c && v) ≡ true
+      on-sent i c u v f e = let w = and-split (inRange c) u e in rw (w .0) (f (in-range c (w .0)) (w .1))
+
+      lawful : BL.Lawful views (g .n) (g .t) (R .few) (R .all) faultyServer faultyClient ks k
+      lawful = record {
+        echo-stays = λ i c s d u. (u .0, u .1, u .2, inr (u .3));
+        ready-stays = λ i c s d u. (u .0, u .1, u .2, inr (u .3));
+        client-stays = λ c s d u. (u .0, u .1, u .2, inr (u .3));
+        onward = λ i c. ⊎-elim
+            (λ e. inl (ap (λ h. slotOf (h .server) c .sequence) e, λ u. ap (λ h. inRange c && partAt g (h .server) (h .area) c .sent) e ∙ u))
+            (λ N.
+            let C = N .0 in
+            ⊎-elim
+            (λ w. inl (moved-seq i c C ∙ w .0, λ u. ap (λ y. inRange c && y .sent) (moved i c C) ∙ on-sent i c _ _ (w .1) u))
+            (λ w. inr (omega (arith, w, moved-seq i c C)))
+            (F i C .onward c))
+            (server-next ks k i);
+        echo-new = λ i c s d u. ⊎-elim
+            (λ o. inl (u .0, u .1, u .2, o))
+            (λ N.
+            let C = N .0 in
+            let w = F i C .an-echo c (u .0) s (u .1) (N .1) in
+            let ic = owner i c C _ _ (w .4) in
+            inr (record {
+              current = w .0;
+              first = and-false (inRange c) _ (w .1);
+              then = ⊎-elim
+                  (λ z. inl (moved-seq i c C ∙ z .0, ap (λ y. inRange c && y .sent) (moved i c C) ∙ and-true (inRange c) _ (range-in c ic) (z .1)))
+                  (λ z. inr (omega (arith, z, moved-seq i c C))) (w .2);
+              sent = λ h.
+                  let r : SentMessage ks (A.Client c) (A.Server i) (message c (slotOf (serverAt ks i .server) c .sequence) (blockIs send (u .1))) =
+                  subst (λ a. SentMessage ks a (A.Server i) _) (w .3)
+                  (subst (SentMessage ks (C .from) (A.Server i)) (w .4) (message-sent adm pr C (subst (Honest Z) (sym (w .3)) (ic, h)))) in
+                  (A.Server i, u .1, u .2, rw (w .0) r);
+            }))
+            (sent-new ks k i (u .0) _ (u .3));
+        echo-one = λ i c s x y u v. ⊎-elim
+            (λ o. inr (inl (u .0, u .1, u .2, o)))
+            (λ N. ⊎-elim
+            (λ o. inr (inr (v .0, v .1, v .2, o)))
+            (λ N′.
+            let e1 = F i (N .0) .an-echo c (u .0) s (u .1) (N .1) .4 in
+            let e2 = F i (N′ .0) .an-echo c (v .0) s (v .1) (N′ .1) .4 in
+            inl (sym (u .2) ∙ ap agreed (block-inj send (u .1) (v .1) (ap (λ z. z .body) (sym e1 ∙ one-message ks k i (N .0) (N′ .0) ∙ e2))) ∙ v .2))
+            (sent-new ks k i (v .0) _ (v .3)))
+            (sent-new ks k i (u .0) _ (u .3));
+        echo-kept = λ i c j d is ok u. ⊎-elim
+            (λ e. (ap (λ h. slotOf (h .server) c .sequence) e, inl (u .0, u .1, u .2, ap (λ h. partAt g (h .server) (h .area) c .echoes j) (sym e) ∙ u .3)))
+            (λ N.
+            let C = N .0 in
+            let w = F i C .echo-kept c (u .0) j (u .1) (ap (λ y. y .echoes j) (sym (moved i c C)) ∙ u .3) in
+            (moved-seq i c C ∙ w .0, ⊎-elim (λ a. inl (u .0, u .1, u .2, a)) (λ a. inr (this i C c j echo (u .1) d (u .2) ok is a)) (w .1)))
+            (server-next ks k i);
+        ready-kept = λ i c j d is ok u. ⊎-elim
+            (λ e. (ap (λ h. slotOf (h .server) c .sequence) e, inl (u .0, u .1, u .2, ap (λ h. partAt g (h .server) (h .area) c .readies j) (sym e) ∙ u .3)))
+            (λ N.
+            let C = N .0 in
+            let w = F i C .ready-kept c (u .0) j (u .1) (ap (λ y. y .readies j) (sym (moved i c C)) ∙ u .3) in
+            (moved-seq i c C ∙ w .0, ⊎-elim (λ a. inl (u .0, u .1, u .2, a)) (λ a. inr (this i C c j ready (u .1) d (u .2) ok is a)) (w .1)))
+            (server-next ks k i);
+        ready-new = λ i c s d u. ⊎-elim
+            (λ o. inl (u .0, u .1, u .2, o))
+            (λ N.
+            let C = N .0 in
+            let w = F i C .a-ready c (u .0) s (u .1) (N .1) in
+            inr (
+              w .1,
+              rw (← u .2) (⊎-elim
+                  (λ a. inl (known i C c (w .0) (part ks i c .echoes) echo (agreed (u .1)) (g .n - g .t) a))
+                  (λ a. inr (known i C c (w .0) (part ks i c .readies) ready (agreed (u .1)) (R .few) a)) (w .2)),
+            ))
+            (sent-new ks k i (u .0) _ (u .3));
+        accepted-new = λ i c s d u. ⊎-elim
+            (λ N.
+            let T = accepts-new ks k i (u .0) (N .1) in
+            let C = T .0 in
+            let w = F i C .took-why (u .0) (T .1) in
+            inr (rw (← u .3, ← u .4, ← u .5) (
+              w .1,
+              ⊎-elim
+                  (λ a. inl (w .0, offerOf (u .0), refl, a))
+                  (λ a. inr (known i C (u .0 .client) (w .0) (part ks i (u .0 .client) .readies) ready (agreed (offerOf (u .0))) (R .all) a)) (w .2),
+            )))
+            (λ o. inl (u .0, u .1, o, u .3, u .4, u .5))
+            (u .2);
+        delivered-new = λ i c d u. ⊎-elim
+            (λ e. (ap (λ h. slotOf (h .server) c .sequence) e, inl (u .0, u .1, u .2, ap (λ h. partAt g (h .server) (h .area) c .done) (sym e) ∙ u .3)))
+            (λ N.
+            let C = N .0 in
+            let w = F i C .done-kept c (u .0) (u .1) (ap (λ y. y .done) (sym (moved i c C)) ∙ u .3) in (
+              moved-seq i c C ∙ w .0,
+              ⊎-elim
+                  (λ a. inl (u .0, u .1, u .2, a))
+                  (λ a. inr (rw (← u .2) (known i C c (u .0) (part ks i c .readies) ready (agreed (u .1)) (R .all) a))) (w .1),
+            ))
+            (server-next ks k i);
       }
 
-      module _ (ks : List Call) (k : Call) (adm : Admissible Z ks) (pr : Proper Z ks k) where
-        F : (j : ℕ) (C : Takes ks k j) → BroadcastFacts K (serverAt ks j .server) (serverAt ks j .area) (C .from) (C .m) (effectOf C)
-        F j C = facts ks k j C
-
-        owner : (i c : ℕ) (C : Takes ks k i) (q : ℕ) (b : Body) → C .m ≡ message c q b → Among 8 c
-        owner i c C q b e = subst (Among 8) (ap (λ m. m .client) e) (C .took .client)
-
-        -- a frame of an honest server was sent by it
-        this : (i : ℕ) (C : Takes ks k i) (c j : ℕ) (z : Stage) (x : P) (d : D) → what x ≡ d → faultyServer j ≡ false → Among (g .n) j
-            → New K (serverAt ks i .server) (C .from) (C .m) c z j x
-            → SaidBy z ks j c (slotOf (serverAt ks i .server) c .sequence) d
-        this i C c j z x d e ok is n = (
-          A.Server i,
-          x,
-          e,
-          subst (λ a. SentMessage ks a (A.Server i) (message c (slotOf (serverAt ks i .server) c .sequence) (wrap z x))) (n .0)
-              (subst (SentMessage ks (C .from) (A.Server i)) (n .1) (message-sent adm pr C (subst (Honest Z) (sym (n .0)) (is, ok)))),
-        )
-
-        known : (i : ℕ) (C : Takes ks k i) (c : ℕ) → Among 8 c → (f : ℕ → Option P) (z : Stage) (d : D) (m : ℕ)
-            → B.AtLeast (g .n) m (Heard rules (g .n) (g .t) what f (New K (serverAt ks i .server) (C .from) (C .m) c z) d)
-            → B.AtLeast (g .n) m (λ j. faultyServer j ≡ false → (Among 8 c × (x : P) × (what x ≡ d) × (f j ≡ some x)) ⊎ SaidBy z ks j c (slotOf (serverAt ks i .server) c .sequence) d)
-        known i C c ic f z d m = B.at-least-map (λ j is y ok. ⊎-elim (λ a. inl (ic, y .0, y .1, a)) (λ a. inr (this i C c j z (y .0) d (y .1) ok is a)) (y .2))
-
-        moved : (i c : ℕ) (C : Takes ks k i) → part (k ∷ ks) i c ≡ view (effectOf C .area) c (slotOf (effectOf C .server) c)
-        moved i c C = ap (λ h. view (h .area) c (slotOf (h .server) c)) (server-left ks k i C)
-
-        moved-seq : (i c : ℕ) (C : Takes ks k i) → slotOf (serverAt (k ∷ ks) i .server) c .sequence ≡ slotOf (effectOf C .server) c .sequence
-        moved-seq i c C = ap (λ h. slotOf (h .server) c .sequence) (server-left ks k i C)
-
-        on-sent : (i c : ℕ) (u v : Bool) → (Among 8 c → u ≡ true → v ≡ true) → (inRange c && u) ≡ true → (inRange c && v) ≡ true
-        on-sent i c u v f e = let w = and-split (inRange c) u e in rw (w .0) (f (in-range c (w .0)) (w .1))
-
-        lawful : BL.Lawful views (g .n) (g .t) (rules .few) (rules .all) faultyServer faultyClient ks k
-        lawful = record {
-          echo-stays = λ i c s d u. (u .0, u .1, u .2, inr (u .3));
-          ready-stays = λ i c s d u. (u .0, u .1, u .2, inr (u .3));
-          client-stays = λ c s d u. (u .0, u .1, u .2, inr (u .3));
-          onward = λ i c. ⊎-elim
-              (λ e. inl (ap (λ h. slotOf (h .server) c .sequence) e, λ u. ap (λ h. inRange c && view (h .area) c (slotOf (h .server) c) .sent) e ∙ u))
-              (λ N.
-              let C = N .0 in
-              ⊎-elim
-              (λ w. inl (moved-seq i c C ∙ w .0, λ u. ap (λ y. inRange c && y .sent) (moved i c C) ∙ on-sent i c _ _ (w .1) u))
-              (λ w. inr (omega (arith, w, moved-seq i c C)))
-              (F i C .onward c))
-              (server-next ks k i);
-          echo-new = λ i c s d u. ⊎-elim
-              (λ o. inl (u .0, u .1, u .2, o))
-              (λ N.
-              let C = N .0 in
-              let w = F i C .an-echo c (u .0) s (u .1) (N .1) in
-              let ic = owner i c C _ _ (w .4) in
-              inr (record {
-                current = w .0;
-                first = and-false (inRange c) _ (w .1);
-                then = ⊎-elim
-                    (λ z. inl (moved-seq i c C ∙ z .0, ap (λ y. inRange c && y .sent) (moved i c C) ∙ and-true (inRange c) _ (range-in c ic) (z .1)))
-                    (λ z. inr (omega (arith, z, moved-seq i c C))) (w .2);
-                sent = λ h.
-                    let r : SentMessage ks (A.Client c) (A.Server i) (message c (slotOf (serverAt ks i .server) c .sequence) (wrap send (u .1))) =
-                    subst (λ a. SentMessage ks a (A.Server i) _) (w .3)
-                    (subst (SentMessage ks (C .from) (A.Server i)) (w .4) (message-sent adm pr C (subst (Honest Z) (sym (w .3)) (ic, h)))) in
-                    (A.Server i, u .1, u .2, rw (w .0) r);
-              }))
-              (sent-new ks k i (u .0) _ (u .3));
-          echo-one = λ i c s x y u v. ⊎-elim
-              (λ o. inr (inl (u .0, u .1, u .2, o)))
-              (λ N. ⊎-elim
-              (λ o. inr (inr (v .0, v .1, v .2, o)))
-              (λ N′.
-              let e1 = F i (N .0) .an-echo c (u .0) s (u .1) (N .1) .4 in
-              let e2 = F i (N′ .0) .an-echo c (v .0) s (v .1) (N′ .1) .4 in
-              inl (sym (u .2) ∙ ap what (inj send (u .1) (v .1) (ap (λ z. z .body) (sym e1 ∙ one-message ks k i (N .0) (N′ .0) ∙ e2))) ∙ v .2))
-              (sent-new ks k i (v .0) _ (v .3)))
-              (sent-new ks k i (u .0) _ (u .3));
-          echo-kept = λ i c j d is ok u. ⊎-elim
-              (λ e. (ap (λ h. slotOf (h .server) c .sequence) e, inl (u .0, u .1, u .2, ap (λ h. view (h .area) c (slotOf (h .server) c) .echoes j) (sym e) ∙ u .3)))
-              (λ N.
-              let C = N .0 in
-              let w = F i C .echo-kept c (u .0) j (u .1) (ap (λ y. y .echoes j) (sym (moved i c C)) ∙ u .3) in
-              (moved-seq i c C ∙ w .0, ⊎-elim (λ a. inl (u .0, u .1, u .2, a)) (λ a. inr (this i C c j echo (u .1) d (u .2) ok is a)) (w .1)))
-              (server-next ks k i);
-          ready-kept = λ i c j d is ok u. ⊎-elim
-              (λ e. (ap (λ h. slotOf (h .server) c .sequence) e, inl (u .0, u .1, u .2, ap (λ h. view (h .area) c (slotOf (h .server) c) .readies j) (sym e) ∙ u .3)))
-              (λ N.
-              let C = N .0 in
-              let w = F i C .ready-kept c (u .0) j (u .1) (ap (λ y. y .readies j) (sym (moved i c C)) ∙ u .3) in
-              (moved-seq i c C ∙ w .0, ⊎-elim (λ a. inl (u .0, u .1, u .2, a)) (λ a. inr (this i C c j ready (u .1) d (u .2) ok is a)) (w .1)))
-              (server-next ks k i);
-          ready-new = λ i c s d u. ⊎-elim
-              (λ o. inl (u .0, u .1, u .2, o))
-              (λ N.
-              let C = N .0 in
-              let w = F i C .a-ready c (u .0) s (u .1) (N .1) in
-              inr (
-                w .1,
-                rw (← u .2) (⊎-elim
-                    (λ a. inl (known i C c (w .0) (part ks i c .echoes) echo (what (u .1)) (g .n - g .t) a))
-                    (λ a. inr (known i C c (w .0) (part ks i c .readies) ready (what (u .1)) (rules .few) a)) (w .2)),
-              ))
-              (sent-new ks k i (u .0) _ (u .3));
-          accepted-new = λ i c s d u. ⊎-elim
-              (λ N.
-              let T = accepts-new ks k i (u .0) (N .1) in
-              let C = T .0 in
-              let w = F i C .took-why (u .0) (T .1) in
-              inr (rw (← u .3, ← u .4, ← u .5) (
-                w .1,
-                ⊎-elim
-                    (λ a. inl (w .0, sel (u .0), refl, a))
-                    (λ a. inr (known i C (u .0 .client) (w .0) (part ks i (u .0 .client) .readies) ready (what (sel (u .0))) (rules .all) a)) (w .2),
-              )))
-              (λ o. inl (u .0, u .1, o, u .3, u .4, u .5))
-              (u .2);
-          delivered-new = λ i c d u. ⊎-elim
-              (λ e. (ap (λ h. slotOf (h .server) c .sequence) e, inl (u .0, u .1, u .2, ap (λ h. view (h .area) c (slotOf (h .server) c) .done) (sym e) ∙ u .3)))
-              (λ N.
-              let C = N .0 in
-              let w = F i C .done-kept c (u .0) (u .1) (ap (λ y. y .done) (sym (moved i c C)) ∙ u .3) in (
-                moved-seq i c C ∙ w .0,
-                ⊎-elim
-                    (λ a. inl (u .0, u .1, u .2, a))
-                    (λ a. inr (rw (← u .2) (known i C c (u .0) (part ks i c .readies) ready (what (u .1)) (rules .all) a))) (w .1),
-              ))
-              (server-next ks k i);
-        }
-
-      pub lawful-run : (ks : List Call) → Admissible Z ks → BL.Run views (g .n) (g .t) (rules .few) (rules .all) faultyServer faultyClient ks
-      lawful-run [] a = BL.fresh
-      lawful-run (k ∷ ks) a = BL.call k (lawful ks k (a .1) (a .0)) (lawful-run ks (a .1))
+    pub lawful-run : (ks : List Call) → Admissible Z ks → BL.Run views (g .n) (g .t) (R .few) (R .all) faultyServer faultyClient ks
+    lawful-run [] a = BL.fresh
+    lawful-run (k ∷ ks) a = BL.call k (lawful ks k (a .1) (a .0)) (lawful-run ks (a .1))

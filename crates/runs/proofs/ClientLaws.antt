@@ -36,9 +36,9 @@ use Rattle.steps.proofs.ClientTaken.{Taken, Delivered, refused, taken, delivere
 use Rattle.runs.specs.Admissible.{Named, Honest, Proper, Admissible}
 use Rattle.runs.specs.World.{Setup, Call, toServer, toClient, beginRead, beginWrite, caller, ClientSide, lentTo, clientEffect, readEffect, writeEffect, start, step, run, sends, put}
 use Rattle.runs.specs.Events as Rn
-use Rattle.runs.proofs.Broadcasts.{SentMessage, sent-message}
+use Rattle.runs.proofs.Broadcasts.{Agreed, SentMessage, sent-message}
 use Rattle.runs.proofs.Formation.{formed}
-use Rattle.runs.proofs.StampViews.{views, Stamped, Agreed}
+use Rattle.runs.proofs.StampViews.{views, Stamped}
 use Rattle.runs.proofs.Roomy.{roomy, roomy-long, roomy-same}
 use Rattle.runs.proofs.Assumed.{Assumed}
 
@@ -52,7 +52,7 @@ put-at h i v = go (eqb i i) refl
 module _ (Z : Setup) (G : Assumed Z) (M : Small (Z .g)) where
   open Setup Z using (H, g, initialValue, faultyServer, faultyClient, rowsAreas)
 
-  abbrev Vw : PL.Views Call (Agreed Z G M) (Stamped Z G M)
+  abbrev Vw : PL.Views Call Agreed (Stamped Z G M)
   Vw = views Z G M
 
   abbrev home : List Call → ℕ → ClientSide
@@ -242,9 +242,9 @@ module _ (Z : Setup) (G : Assumed Z) (M : Small (Z .g)) where
     time-new c q T u = ⊎-elim
         (λ n.
         let Q = act c (n .0) in
-        let w = Q .facts .t-sent (u .0) c q T (n .1) in
-        inr (w .0, at-least-map (λ j is f ok. (f .0, f .1, ⊎-elim (λ y. inl y) (λ y. inr (Q .brought j _ is ok y)) (f .2))) (w .1)))
-        (λ o. inl (u .0, o)) (u .1)
+        let w = Q .facts .t-sent (u .0) c q (u .1) (n .1) in
+        inr (w .0, at-least-map (λ j is f ok. (f .0, omega (arith, f .1, u .2), ⊎-elim (λ y. inl y) (λ y. inr (Q .brought j _ is ok y)) (f .2))) (w .1)))
+        (λ o. inl (u .0, u .1, u .2, o)) (u .3)
 
     wrote-ev : (k′ : Call) (c q : ℕ) → Rn.EndsWrite Z c q ks k′ → (caller k′ ≡ A.Client c) × (home ks c .client .writes ≡ q) × (ended ks k′ ≡ C.written)
     wrote-ev (toServer i from f out to) c q u = absurd u

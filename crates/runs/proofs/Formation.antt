@@ -12,13 +12,15 @@ use Rattle.frame.specs.declared.Party.{Party}
 use Rattle.frame.specs.declared.Verdict.{Verdict}
 use Rattle.frame.specs.declared.Party.the-variants as A
 use Rattle.frame.specs.declared.Verdict.the-variants as J
-use Rattle.frame.specs.Messages.{Entry, send, blockIs, timeIs, Message, message, sending, Formed}
+use Rattle.frame.specs.Messages.{Offer, send, blockIs, Message, message, sending, Formed}
 use Rattle.frame.specs.Params.{width}
 use Rattle.frame.proofs.Converse.{formed-opened}
 use Rattle.frame.proofs.Sizes.{Small}
 use Rattle.server_rules.specs.declared.Server.{Server}
 use Rattle.server_rules.specs.Delivery as SD
 use Rattle.server_rules.specs.Steps as S
+use Rattle.server_rules.proofs.Shapes.{offerOf}
+use Rattle.server_rules.proofs.Thresholds.{agreed}
 use Rattle.steps.proofs.ClientTaken.{delivered-formed, read-formed, write-formed}
 use Rattle.steps.proofs.ServerRanges.{WriteInBounds, InBounds, in-bounds-fresh, Good, effect-good}
 use Rattle.runs.specs.Admissible.{Honest, Proper, Admissible}
@@ -94,11 +96,7 @@ module _ (Z : Setup) (G : Assumed Z) where
       → x .client ≡ y .client → x .sequence ≡ y .sequence → (S.stampOf x ≡ S.stampOf y) × (x .entry .digests ≡ y .entry .digests)
   agreement = Ag.agreement Z G (formed Z G (Ag.small Z G))
 
-  pub validity-time : (ks : List Call) → Admissible Z ks → (i p : ℕ) (x : S.Write) → Z .faultyClient (x .client) ≡ false → At (Accepts Z i x) ks p
-      → (b : Party) × (T : ℕ) × (T ≡ x .time) × SentMessage Z G (Ag.small Z G) ks (A.Client (x .client)) b (message (x .client) (x .sequence) (timeIs send T))
-  validity-time = Ag.validity-time Z G (formed Z G (Ag.small Z G))
-
-  pub validity-block : (ks : List Call) → Admissible Z ks → (i p : ℕ) (x : S.Write) → Z .faultyClient (x .client) ≡ false → At (Accepts Z i x) ks p
-      → (b : Party) × (e : Entry) × (e .digests ≡ x .entry .digests)
-      × SentMessage Z G (Ag.small Z G) ks (A.Client (x .client)) b (message (x .client) (x .sequence) (blockIs send e))
-  validity-block = Ag.validity-block Z G (formed Z G (Ag.small Z G))
+  pub validity : (ks : List Call) → Admissible Z ks → (i p : ℕ) (x : S.Write) → Z .faultyClient (x .client) ≡ false → At (Accepts Z i x) ks p
+      → (b : Party) × (o : Offer) × (agreed o ≡ agreed (offerOf x))
+      × SentMessage Z G (Ag.small Z G) ks (A.Client (x .client)) b (message (x .client) (x .sequence) (blockIs send o))
+  validity = Ag.validity Z G (formed Z G (Ag.small Z G))

@@ -98,7 +98,7 @@ module _ (Z : Setup) (G : Assumed Z) (M : Small (Z .g)) where
     no-stamp = λ j c q T u. u;
     no-read = λ c q u. u .1;
     no-get-stamp = λ c q u. u .1;
-    no-time = λ c q T u. u .1;
+    no-time = λ c q T u. u .3;
     no-kept-ack = λ c j u. impossible (cc (u .0));
     no-kept-value = λ c j v u. impossible (cc (u .0));
     no-kept-stamp = λ c j T u. impossible (cc (u .0));

@@ -10,7 +10,7 @@ use Rattle.precedence.proofs.Precedence as PP
 use Rattle.frame.specs.declared.Party.{Party}
 use Rattle.frame.specs.declared.Party.the-variants as A
 use Rattle.group_rules.specs.Coded.{digestsOf}
-use Rattle.frame.specs.Messages.{message, send, timeIs}
+use Rattle.frame.specs.Messages.{Offer, message, send, blockIs}
 use Rattle.frame.specs.Stamps.{zeroStamp}
 use Rattle.frame.proofs.Sizes.{Small}
 use Rattle.frame.proofs.StampOrder.{three}
@@ -23,9 +23,9 @@ use Rattle.runs.specs.Events.{At, Accepts, CompletesRead, EndsWrite, Ope
 use Rattle.runs.specs.World.{Setup, Call, toServer, toClient, beginRead, beginWrite, run}
 use Rattle.runs.proofs.Agreement.{small}
 use Rattle.runs.proofs.ReadOnce.{read-once}
-use Rattle.runs.proofs.StampViews.{views, Stamped, Agreed, stamps}
-use Rattle.runs.proofs.Broadcasts.{SentMessage}
-use Rattle.runs.proofs.Formation.{agreement, validity-time, accepted-in-bounds}
+use Rattle.runs.proofs.StampViews.{views, Stamped, stamps}
+use Rattle.runs.proofs.Broadcasts.{Agreed, SentMessage}
+use Rattle.runs.proofs.Formation.{agreement, validity, accepted-in-bounds}
 use Rattle.runs.proofs.OrderLaws.{fresh, lawful-run}
 use Rattle.runs.proofs.Places.{at-both, cut, opens-read, opens-write, reader-honest, writer-honest}
 use Rattle.runs.proofs.Begun.{write-begun, read-begun}
@@ -38,27 +38,27 @@ module _ (Z : Setup) (G : Assumed Z) where
   abbrev M : Small g
   M = small Z G
 
-  abbrev Θ : PL.Stamps (Agreed Z G M) (Stamped Z G M)
+  abbrev Θ : PL.Stamps Agreed (Stamped Z G M)
   Θ = stamps Z G M
 
-  abbrev W : PL.Views Call (Agreed Z G M) (Stamped Z G M)
+  abbrev W : PL.Views Call Agreed (Stamped Z G M)
   W = views Z G M
 
-  agree : (ks : List Call) → Admissible Z ks → (i j c q : ℕ) (T T′ : Agreed Z G M) → W .Accepted ks i c q T → W .Accepted ks j c q T′ → T ≡ T′
+  agree : (ks : List Call) → Admissible Z ks → (i j c q : ℕ) (T T′ : Agreed) → W .Accepted ks i c q T → W .Accepted ks j c q T′ → T ≡ T′
   agree ks a i j c q T T′ (x, p, u, ec, eq, et, ed) (y, p′, w, fc, fq, ft, fd) =
       let h = agreement Z G ks a i j p p′ x y u w (ec ∙ sym fc) (eq ∙ sym fq) in
       let t : T .0 ≡ T′ .0 = omega (arith, ap (λ z. z .time) (h .0), et, ft) in
       let l : T .1 ≡ T′ .1 = sym ed ∙ h .1 ∙ fd in
       λ z. (t z, l z)
 
-  told : (ks : List Call) (b : Party) (c d q r t t′ : ℕ) → c ≡ d → q ≡ r → t ≡ t′ → SentMessage Z G M ks (A.Client c) b (message c q (timeIs send t))
-      → SentMessage Z G M ks (A.Client d) b (message d r (timeIs send t′))
-  told ks b c d q r t t′ ec eq et s = rw (ec, eq, et) at s
+  told : (ks : List Call) (b : Party) (c d q r : ℕ) (o : Offer) → c ≡ d → q ≡ r → SentMessage Z G M ks (A.Client c) b (message c q (blockIs send o))
+      → SentMessage Z G M ks (A.Client d) b (message d r (blockIs send o))
+  told ks b c d q r o ec eq s = rw (ec, eq) at s
 
-  valid : (ks : List Call) → Admissible Z ks → (i c q : ℕ) (T : Agreed Z G M) → faultyClient c ≡ false → W .Accepted ks i c q T → W .SentTime ks c q (T .0)
+  valid : (ks : List Call) → Admissible Z ks → (i c q : ℕ) (T : Agreed) → faultyClient c ≡ false → W .Accepted ks i c q T → W .SentTime ks c q (T .0)
   valid ks a i c q T h (x, p, u, ec, eq, et, ed) =
-      let w = validity-time Z G ks a i p x (ap faultyClient ec ∙ h) u in
-      (w .0, told ks (w .0) (x .client) c (x .sequence) q (w .1) (T .0) ec eq (w .2 ∙ et) (w .3))
+      let w = validity Z G ks a i p x (ap faultyClient ec ∙ h) u in
+      (w .0, w .1, ap (λ z. z .0) (w .2) ∙ et, told ks (w .0) (x .client) c (x .sequence) q (w .1) ec eq (w .3))
 
   module _ (ks : List Call) (a : Admissible Z ks) where
     ranged : (i p : ℕ) (x : Write) → At (Accepts Z i x) ks p → StampInBounds (stampOf x)

@@ -26,9 +26,9 @@ use Rattle.steps.proofs.Keys.{key}
 use Rattle.runs.specs.Admissible.{Honest, Proper, Admissible}
 use Rattle.runs.specs.Events.{At, Accepts}
 use Rattle.runs.specs.World.{Setup, Call, toServer, initialOf}
-use Rattle.runs.proofs.Broadcasts.{serverAt, SentMessage, Takes, effectOf, server-next, server-left, shape, sent-new, message-sent}
+use Rattle.runs.proofs.Broadcasts.{Agreed, serverAt, SentMessage, Takes, effectOf, server-next, server-left, shape, sent-new, message-sent}
 use Rattle.runs.proofs.Formation.{heard, in-bounds, formed}
-use Rattle.runs.proofs.StampViews.{views, Stamped, Agreed, stamps, shown}
+use Rattle.runs.proofs.StampViews.{views, Stamped, stamps, shown}
 use Rattle.runs.proofs.Assumed.{Assumed}
 
 pick-true : {A : Type 0} (b : Bool) (x y : A) → b ≡ true → pick b x y ≡ x
@@ -47,10 +47,10 @@ key-of T c q x a b d = omega (arith, a, ap (λ y. y % 16) b, ap (λ y. y % 42949
 module _ (Z : Setup) (G : Assumed Z) (M : Small (Z .g)) where
   open Setup Z using (H, g, initialValue, faultyServer, faultyClient, stateAreas, initialAreas)
 
-  abbrev Vw : PL.Views Call (Agreed Z G M) (Stamped Z G M)
+  abbrev Vw : PL.Views Call Agreed (Stamped Z G M)
   Vw = views Z G M
 
-  abbrev Ks : PL.Stamps (Agreed Z G M) (Stamped Z G M)
+  abbrev Ks : PL.Stamps Agreed (Stamped Z G M)
   Ks = stamps Z G M
 
   within : ℕ → Bool
@@ -110,7 +110,7 @@ module _ (Z : Setup) (G : Assumed Z) (M : Small (Z .g)) where
         (outside j)
 
     pub ack-new : (j c q : ℕ) → Vw .SentAck (k ∷ ks) j c q
-        → Vw .SentAck ks j c q ⊎ ((T : Agreed Z G M) × Vw .Accepted (k ∷ ks) j c q T × (Ks .key (Ks .stamped T c q) ≤ Ks .key (Vw .present (k ∷ ks) j)))
+        → Vw .SentAck ks j c q ⊎ ((T : Agreed) × Vw .Accepted (k ∷ ks) j c q T × (Ks .key (Ks .stamped T c q) ≤ Ks .key (Vw .present (k ∷ ks) j)))
     ack-new j c q u = ⊎-elim
         (λ o. inl o)
         (λ N.

@@ -12,7 +12,7 @@ use Rattle.frame.specs.declared.Stamp.{Stamp}
 use Rattle.frame.specs.declared.Party.{Party}
 use Rattle.frame.specs.declared.Party.the-variants as A
 use Rattle.group_rules.specs.Coded.{digestsOf}
-use Rattle.frame.specs.Messages.{Entry, send, getStamp, ack, askRead, stampIs, timeIs, valueIs, message}
+use Rattle.frame.specs.Messages.{Entry, Offer, send, getStamp, ack, askRead, stampIs, blockIs, valueIs, message}
 use Rattle.frame.specs.Stamps.{zeroStamp}
 use Rattle.frame.proofs.Sizes.{Small}
 use Rattle.server_rules.specs.State.{readerOf, presentEntry}
@@ -24,19 +24,16 @@ use Rattle.client_rules.proofs.CallFacts.{timeOf}
 use Rattle.steps.proofs.Keys.{key, key-time}
 use Rattle.runs.specs.Events.{At, Accepts, CompletesRead, EndsWrite}
 use Rattle.runs.specs.World.{Setup, Call, ClientSide, initialOf, run}
-use Rattle.runs.proofs.Broadcasts.{serverAt, SentMessage}
+use Rattle.runs.proofs.Broadcasts.{Agreed, serverAt, SentMessage}
 use Rattle.runs.proofs.Roomy.{roomy}
 use Rattle.runs.proofs.Assumed.{Assumed}
 
 module _ (Z : Setup) (G : Assumed Z) (M : Small (Z .g)) where
   open Setup Z using (H, g, initialValue, faultyServer, faultyClient)
 
-  -- a stamp with its digest list; what a write is accepted with
+  -- a stamp with its digest list
   abbrev pub Stamped : Type 0
   Stamped = Stamp × List ℕ
-
-  abbrev pub Agreed : Type 0
-  Agreed = ℕ × List ℕ
 
   abbrev pub stamps : PL.Stamps Agreed Stamped
   stamps = record {
@@ -69,7 +66,7 @@ module _ (Z : Setup) (G : Assumed Z) (M : Small (Z .g)) where
     SentStamp = λ ks j c q T. SentMessage Z G M ks (A.Server j) (A.Client c) (message c q (stampIs T));
     SentRead = λ ks c q. (b : Party) × SentMessage Z G M ks (A.Client c) b (message c q askRead);
     SentGetStamp = λ ks c q. (b : Party) × SentMessage Z G M ks (A.Client c) b (message c q getStamp);
-    SentTime = λ ks c q T. (b : Party) × SentMessage Z G M ks (A.Client c) b (message c q (timeIs send T));
+    SentTime = λ ks c q T. (b : Party) × (o : Offer) × (o .time ≡ T) × SentMessage Z G M ks (A.Client c) b (message c q (blockIs send o));
     KeptAck = λ ks c j. (clientAt ks c .client .phase ≡ F.Acking) × (heardOf (clientAt ks c .client) j ≡ true);
     KeptValue = λ ks c j v. (clientAt ks c .client .phase ≡ F.Reading)
         × (k : Kept) × (k .stamp ≡ v .0) × (k .entry .digests ≡ v .1) × List·Memᴰ k (rowView g (clientAt ks c .client) (roomy (clientAt ks c .area)) j);

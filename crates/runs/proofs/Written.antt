@@ -4,7 +4,7 @@ use native.Mathlib.Omega.{arith}
 use mathlib.Core.Bool.{true}
 use mathlib.Core.Path.{_≡_, refl, ap, sym, _∙_, subst}
 use mathlib.Core.Logic.{_⊎_, inl, inr, ⊎-elim}
-use mathlib.Core.List.{List, [], _∷_, List·Memᴰ, List·Memᴰ·not-nil, List·Memᴰ·append-cases}
+use mathlib.Core.List.{List, [], _∷_, List·Memᴰ, List·Memᴰ·not-nil}
 use Rattle.quorum.proofs.Logic.{impossible, and-split}
 use Rattle.area.specs.Area.{pick}
 use Rattle.blocks.specs.declared.Params.{Params}
@@ -14,7 +14,7 @@ use Rattle.frame.specs.declared.Verdict.{Verdict}
 use Rattle.frame.specs.declared.Party.the-variants as A
 use Rattle.frame.specs.declared.Verdict.the-variants as J
 use Rattle.group_rules.specs.Coded.{digestsOf, entryOf}
-use Rattle.frame.specs.Messages.{Entry, send, Body, getStamp, askRead, readComplete, blockIs, timeIs, Message, message, Sending, sending, toAll, numberIn}
+use Rattle.frame.specs.Messages.{Entry, Offer, offer, send, Body, getStamp, askRead, readComplete, blockIs, Message, message, Sending, sending, toAll, numberIn}
 use Rattle.frame.proofs.Sizes.{Small}
 use Rattle.server_rules.specs.Steps.{Write}
 use Rattle.server_rules.proofs.Parts.{put-same, put-cases}
@@ -32,7 +32,7 @@ use Rattle.runs.specs.Events.{At, Accepts, OpensWrite}
 use Rattle.runs.specs.World.{Setup, Call, toServer, toClient, beginRead, beginWrite, caller, World, ClientSide, clientLeft, lentBy, lentTo, run, step, sends, put, clientEffect, readEffect, writeEffect}
 use Rattle.runs.proofs.Agreement.{small}
 use Rattle.runs.proofs.Broadcasts.{SentMessage}
-use Rattle.runs.proofs.Formation.{validity-block}
+use Rattle.runs.proofs.Formation.{validity}
 use Rattle.runs.proofs.Places.{writer-honest}
 use Rattle.runs.proofs.Assumed.{Assumed}
 
@@ -40,14 +40,15 @@ use Rattle.runs.proofs.Assumed.{Assumed}
 
 module _ (H : List ℕ → List ℕ) (g : Params) (me : ℕ) where
   abbrev pub SendsOwn : ℕ → List ℕ → List Sending → Type 0
-  SendsOwn n v l = (b : Party) (d q : ℕ) (e : Entry) → List·Memᴰ (sending b (message d q (blockIs send e))) l → (q ≡ n) × (digestsOf H g v ≡ e .digests)
+  SendsOwn n v l = (b : Party) (d q : ℕ) (o : Offer) → List·Memᴰ (sending b (message d q (blockIs send o))) l
+      → (q ≡ n) × (digestsOf H g v ≡ o .entry .digests)
 
   pub record Tells (s : Client) (v : List ℕ) (r : C.Effect) : Type 0 where
     pub number : r .client .writes ≡ s .writes
     pub own : SendsOwn (s .writes) v (r .sends)
 
   none-own : (n : ℕ) (v : List ℕ) → SendsOwn n v []
-  none-own n v b d q e u = absurd (List·Memᴰ·not-nil u)
+  none-own n v b d q o u = absurd (List·Memᴰ·not-nil u)
 
   quiet-tells : (s : Client) (a v : List ℕ) → Tells s v (C.quiet s a)
   quiet-tells s a v = record { number = refl; own = none-own (s .writes) v }
@@ -57,9 +58,9 @@ module _ (H : List ℕ → List ℕ) (g : Params) (me : ℕ) where
   unfolding toAll
   from-all f b m u = let w = mem-all f 1 (g .n) (sending b m) u in (w .0, w .1)
 
-  entry-own : (v : List ℕ) (j : ℕ) (e : Entry) → blockIs send e ≡ blockIs send (entryOf H g v j) → digestsOf H g v ≡ e .digests
+  offer-own : (v : List ℕ) (j T : ℕ) (o : Offer) → blockIs send o ≡ blockIs send (offer T (entryOf H g v j)) → digestsOf H g v ≡ o .entry .digests
   unfolding entryOf
-  entry-own v j e h = let w : e ≡ entryOf H g v j = cc h in sym (ap (λ z. z .digests) w)
+  offer-own v j T o h = let w : o ≡ offer T (entryOf H g v j) = cc h in sym (ap (λ z. z .entry .digests) w)
 
   keeps-number : (s : Client) (a v : List ℕ) (j : ℕ) {x : Stamp} {e : Entry} {s′ : Client} {a′ : List ℕ} → Keeps H g me s a v j x e s′ a′ → s′ .writes ≡ s .writes
   keeps-number s a v j (drops z) = refl
@@ -75,11 +76,9 @@ module _ (H : List ℕ → List ℕ) (g : Params) (me : ℕ) where
         let e = own (asking-writing H g me (s .phase) (and-split (asking (s .phase)) _ (awaited-true H g me _ t) .0)) in
         record {
           number = refl;
-          own = λ b d q y u. ⊎-elim
-              (λ x. let w = from-all (λ i. message me (s .writes) (blockIs send (entryOf H g v i))) b _ x in
-              (ap (λ z. z .sequence) (w .1), ap (digestsOf H g) (sym e) ∙ entry-own v (w .0) y (ap (λ z. z .body) (w .1))))
-              (λ x. let w = from-all (λ i. message me (s .writes) (timeIs send _)) b _ x in impossible (cc (ap (λ z. z .body) (w .1))))
-              (List·Memᴰ·append-cases (toAll g (λ i. message me (s .writes) (blockIs send (entryOf H g v i)))) u);
+          own = λ b d q y u.
+              let w = from-all _ b _ u in
+              (ap (λ z. z .sequence) (w .1), ap (digestsOf H g) (sym e) ∙ offer-own v (w .0) _ y (ap (λ z. z .body) (w .1)));
         }
     shape-tells j q t (shuts T z l) = record { number = refl; own = none-own (s .writes) o }
     shape-tells j q t (counts z) = record { number = refl; own = none-own (s .writes) o }
@@ -222,31 +221,31 @@ module _ (Z : Setup) (G : Assumed Z) where
   abbrev M : Small g
   M = small Z G
 
-  pub said-low : (ks : List Call) (c : ℕ) (b : Party) (q : ℕ) (e : Entry) → SentMessage Z G M ks (A.Client c) b (message c q (blockIs send e)) → q ≤ wr Z ks c
-  said-low [] c b q e u = absurd u
-  said-low (k ∷ ks) c b q e (inl u) = let w = sent-now Z ks k c (u .0) b c q e (u .1) .0 in let y = up Z ks k c in omega (arith, w, y)
-  said-low (k ∷ ks) c b q e (inr u) = let w = said-low ks c b q e u in let y = up Z ks k c in omega (arith, w, y)
+  pub said-low : (ks : List Call) (c : ℕ) (b : Party) (q : ℕ) (o : Offer) → SentMessage Z G M ks (A.Client c) b (message c q (blockIs send o)) → q ≤ wr Z ks c
+  said-low [] c b q o u = absurd u
+  said-low (k ∷ ks) c b q o (inl u) = let w = sent-now Z ks k c (u .0) b c q o (u .1) .0 in let y = up Z ks k c in omega (arith, w, y)
+  said-low (k ∷ ks) c b q o (inr u) = let w = said-low ks c b q o u in let y = up Z ks k c in omega (arith, w, y)
 
-  said-own : (ks : List Call) (c : ℕ) (b : Party) (q : ℕ) (e : Entry) (p : ℕ) (v : List ℕ) → SentMessage Z G M ks (A.Client c) b (message c q (blockIs send e))
-      → At (OpensWrite Z c q v) ks p → digestsOf H g v ≡ e .digests
-  said-own [] c b q e p v s u = absurd u
-  said-own (k ∷ ks) c b q e p v (inl s) (inl u) =
-      let w = sent-now Z ks k c (s .0) b c q e (s .1) .0 in
+  said-own : (ks : List Call) (c : ℕ) (b : Party) (q : ℕ) (o : Offer) (p : ℕ) (v : List ℕ) → SentMessage Z G M ks (A.Client c) b (message c q (blockIs send o))
+      → At (OpensWrite Z c q v) ks p → digestsOf H g v ≡ o .entry .digests
+  said-own [] c b q o p v s u = absurd u
+  said-own (k ∷ ks) c b q o p v (inl s) (inl u) =
+      let w = sent-now Z ks k c (s .0) b c q o (s .1) .0 in
       let y = opened Z ks k c q v (u .1) .before in
       absurd (omega (arith, w, y))
-  said-own (k ∷ ks) c b q e p v (inl s) (inr u) =
-      let w = sent-now Z ks k c (s .0) b c q e (s .1) in
+  said-own (k ∷ ks) c b q o p v (inl s) (inr u) =
+      let w = sent-now Z ks k c (s .0) b c q o (s .1) in
       ap (digestsOf H g) (sym (lent Z ks c q p v u (sym (w .0)))) ∙ w .1
-  said-own (k ∷ ks) c b q e p v (inr s) (inl u) =
-      let w = said-low ks c b q e s in
+  said-own (k ∷ ks) c b q o p v (inr s) (inl u) =
+      let w = said-low ks c b q o s in
       let y = opened Z ks k c q v (u .1) .before in
       absurd (omega (arith, w, y))
-  said-own (k ∷ ks) c b q e p v (inr s) (inr u) = said-own ks c b q e p v s u
+  said-own (k ∷ ks) c b q o p v (inr s) (inr u) = said-own ks c b q o p v s u
 
   pub written-from : (ks : List Call) → Admissible Z ks → (i p : ℕ) (y : Write) (d r p′ : ℕ) (v : List ℕ) → At (Accepts Z i y) ks p → At (OpensWrite Z d r v) ks p′
       → y .client ≡ d → y .sequence ≡ r → digestsOf H g v ≡ y .entry .digests
   written-from ks a i p y d r p′ v u o ec eq =
       let h = writer-honest Z ks a d r p′ v o in
-      let w = validity-block Z G ks a i p y (ap faultyClient ec ∙ h) u in
+      let w = validity Z G ks a i p y (ap faultyClient ec ∙ h) u in
       let o′ : At (OpensWrite Z (y .client) (y .sequence) v) ks p′ = rw (ec, eq) o in
-      said-own ks (y .client) (w .0) (y .sequence) (w .1) p′ v (w .3) o′ ∙ w .2
+      said-own ks (y .client) (w .0) (y .sequence) (w .1) p′ v (w .3) o′ ∙ ap (λ z. z .1) (w .2)

@@ -1,25 +1,22 @@
 -- How much room the frames of a step take. Assumes nothing.
-use Prim.Native.Nat.{ℕ, zero, suc, _+_, _*_, _-_, _≤_, _<_}
+use Prim.Native.Nat.{ℕ, zero, suc, _+_, _*_, _≤_}
 use native.Mathlib.Omega.{arith}
-use native.Mathlib.Nat.{add-mul, suc-mul, mul-le-mul-left, mul-le-mul-right}
-use mathlib.Core.Path.{_≡_, refl, ap, sym, _∙_}
-use mathlib.Core.Bool.{Bool, true, false, _&&_}
+use native.Mathlib.Nat.{add-mul, suc-mul, mul-le-mul-right}
+use mathlib.Core.Path.{_≡_, ap, _∙_}
+use mathlib.Core.Bool.{Bool, true, false}
 use mathlib.Core.List.{List, [], _∷_, _++_}
 use lib.ListN.{length, length-append}
-use lib.Seq.{sets, length-sets}
+use lib.Seq.{length-sets}
 use Rattle.area.specs.Area.{pick}
-use Rattle.area.specs.Numbers.{bytes2, bytes4, bytes8}
 use Rattle.area.proofs.Sets.{length-part}
 use Rattle.blocks.specs.declared.Params.{Params}
 use Rattle.frame.specs.Params.{width, listed, largestFrame, Bounded}
 use Rattle.frame.specs.Chunks.{entryAt}
 use Rattle.frame.proofs.Sizes.{small}
-use Rattle.frame.specs.declared.Party.{Party}
 use Rattle.frame.specs.declared.Stamp.{Stamp}
 use Rattle.frame.specs.declared.Place.{Place}
-use Rattle.frame.specs.Stamps.{older}
-use Rattle.frame.specs.Messages.{Entry, entry, message, Message, Sending, sending, Stage, valueIs, timeIs, toFrom, toAll}
-use Rattle.frame.specs.Frames.{kindOf, entryBytes, stampBytes, bodyBytes, frameOf, build}
+use Rattle.frame.specs.Messages.{Entry, message, Message, Sending, valueIs, toFrom, toAll}
+use Rattle.frame.specs.Frames.{kindOf, entryBytes, stampBytes, bodyBytes, build}
 use Rattle.frame.specs.Outbox.{frames, receivers, Outbox, outbox, sent, Room}
 use Rattle.frame.proofs.RoundTrip.{length-frame, length-stamp}
 
@@ -119,25 +116,7 @@ all-room g d m p r o t o₀ t₀ k size h f R =
     let F = due-few d (toFrom (λ j. m) 1 (g .n)) (g .n) size (from-few m 1 (g .n) size h) in
     room-after p r o t o₀ t₀ (pick d (toFrom (λ j. m) 1 (g .n)) []) (g .n) k size f (F .bytes) (F .number) R
 
-pub length-time : (z : Stage) (c q T : ℕ) → length (build (message c q (timeIs z T))) ≡ 17
-unfolding build bodyBytes bytes8 bytes4 bytes2
-length-time z c q T = length-frame (kindOf (timeIs z T)) c q (bytes8 T)
-
--- room for readies of a time
-pub time-room : (g : Params) (p : Place) (k out to : ℕ) → Room p (g .n + k) (largestFrame g) out to → Room p (g .n) 17 out to
-unfolding largestFrame
-time-room g p k out to R =
-    let h : 17 ≤ largestFrame g = omega arith in
-    room-smaller p (g .n) 17 (largestFrame g) out to (mul-le-mul-left (g .n) h) (room-fewer p (g .n + k) (g .n) (largestFrame g) out to (omega arith) R)
-
-pub time-small : (z : Stage) (g : Params) (c q T : ℕ) → length (build (message c q (timeIs z T))) ≤ largestFrame g
-unfolding largestFrame
-time-small z g c q T = omega (arith, length-time z c q T)
-
 pub stamp-room : (g : Params) (p : Place) (k out to : ℕ) → 1 ≤ k → Room p (g .n + k) (largestFrame g) out to → Room p 1 17 out to
 unfolding largestFrame
 stamp-room g p k out to l R =
     room-smaller p 1 17 (largestFrame g) out to (omega arith) (room-fewer p (g .n + k) 1 (largestFrame g) out to (omega arith) R)
-
-pub value-room : (g : Params) (p : Place) (k out to : ℕ) → 1 ≤ k → Room p (g .n + k) (largestFrame g) out to → Room p 1 (largestFrame g) out to
-value-room g p k out to l R = room-fewer p (g .n + k) 1 (largestFrame g) out to (omega arith) R

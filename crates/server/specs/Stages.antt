@@ -12,7 +12,7 @@ use Rattle.frame.specs.declared.Verdict.{Verdict}
 use Rattle.frame.specs.declared.Verdict.the-variants as J
 use Rattle.frame.specs.declared.Refusal.the-variants as R
 use Rattle.frame.specs.Params.{Bounded, largestFrame}
-use Rattle.frame.specs.Messages.{Entry, Stage, Body, blockIs, timeIs, numberIn}
+use Rattle.frame.specs.Messages.{Offer, Stage, Body, blockIs, numberIn}
 use Rattle.frame.specs.Outbox.{frames, receivers, Outbox, outbox, sent, Room}
 use Rattle.frame.specs.Chunks.{areaBytes}
 use Rattle.server_rules.specs.declared.Slot.{Slot}
@@ -24,8 +24,8 @@ use Rattle.server.specs.declared.Counted.{Counted}
 use Rattle.server.specs.declared.Taken.{Taken}
 use Rattle.server_rules.specs.declared.Reply.the-variants as Y
 use Rattle.server_rules.specs.Scopes.{scopeOf, withScope}
-use Rattle.server_rules.specs.Tests.{senderRight, blockTest, timeTest}
-use Rattle.server_rules.specs.Steps.{Effect, Counting, onBlock, onTime}
+use Rattle.server_rules.specs.Tests.{senderRight, blockTest}
+use Rattle.server_rules.specs.Steps.{Effect, Counting, onBlock}
 use Rattle.server_rules.specs.Delivery.{Outcome}
 
 -- ---- of a scope
@@ -75,17 +75,11 @@ handledBy J.Fine x a p q = record { verdict = J.Fine; slot = p .slot; area = p .
 unfoldable pub sentBy : Call → Body → Verdict → Verdict
 sentBy k b v = pick (senderRight (k .params) (k .from) (k .header .client) b) v (J.Bad R.Sender)
 
-module _ (H : List ℕ → List ℕ) (k : Call) (x : Slot) (a : List ℕ) where
-  -- the frame k of the write whose slot is x: of its blocks, of its time
-  unfoldable pub blockFrame : Stage → Entry → Outbox → Handled
-  blockFrame z e q =
-      handledBy (sentBy k (blockIs z e) (blockTest H (k .params) (k .me) x (numberIn (k .from)) (k .header .sequence) z e)) x a
-      (onBlock H (k .params) (k .me) a (k .header .client) x (numberIn (k .from)) z e) q
-
-  unfoldable pub timeFrame : Stage → ℕ → Outbox → Handled
-  timeFrame z T q =
-      handledBy (sentBy k (timeIs z T) (timeTest H (k .params) (k .me) x (numberIn (k .from)) (k .header .sequence) z T)) x a
-      (onTime H (k .params) (k .me) a (k .header .client) x (numberIn (k .from)) z T) q
+-- the frame k, of the stage z and with the offer o, of the write whose slot is x
+unfoldable pub blockFrame : (List ℕ → List ℕ) → Call → Slot → List ℕ → Stage → Offer → Outbox → Handled
+blockFrame H k x a z o q =
+    handledBy (sentBy k (blockIs z o) (blockTest H (k .params) (k .me) x (numberIn (k .from)) (k .header .sequence) z o)) x a
+    (onBlock H (k .params) (k .me) a (k .header .client) x (numberIn (k .from)) z o) q
 
 -- ---- a server
 

@@ -5,14 +5,13 @@ use server_rules::Reader;
 use server_rules::Scope;
 use server_rules::Server;
 use server_rules::Slot;
-use server_rules::TimePart;
 ghost use mathlib.Core.Path.{_≡_};
 ghost use Prim.Native.Nat.{_<_};
 ghost use mathlib.Core.Bool.{not, _&&_, _||_};
 ghost use Rattle.area.specs.Area.{pick};
 ghost use Rattle.server_rules.specs.Scopes.{scopeOf, withScope};
 ghost use Rattle.server.specs.Stages.{slotIn, readerIn};
-ghost use Rattle.server_rules.specs.State.{withBlocks, withTimes, blockSent, blockEcho, blockReady, blockMarks, timeSent, timeEcho, timeReady, timeMarks};
+ghost use Rattle.server_rules.specs.State.{withBlocks, blockSent, blockEcho, blockReady, blockMarks};
 
 // ---- one client's scope
 
@@ -65,7 +64,7 @@ pub fn with_reader(s: Scope, x: Reader) -> Scope
     y
 }
 
-// ---- a frame is counted: of the blocks
+// ---- a frame is counted
 
 pub fn block_sent(x: Slot) -> Slot
     ensures { λ r. ⌜ r ≡ withBlocks x (blockSent (x .blocks)) ⌝ }
@@ -77,65 +76,33 @@ pub fn block_sent(x: Slot) -> Slot
     y
 }
 
-pub fn block_echo(x: Slot, j: usize) -> Slot
+// Server j's echo, of this time.
+pub fn block_echo(x: Slot, j: usize, time: u64) -> Slot
     requires { ⌜ j < 11 ⌝ }
-    ensures { λ r. ⌜ r ≡ withBlocks x (blockEcho (x .blocks) j) ⌝ }
+    ensures { λ r. ⌜ r ≡ withBlocks x (blockEcho (x .blocks) j time) ⌝ }
 {
     let mut b = x.blocks;
-    b.echoes[j] = true;
-    let mut y = x;
-    y.blocks = b;
-    y
-}
-
-pub fn block_ready(x: Slot, j: usize) -> Slot
-    requires { ⌜ j < 11 ⌝ }
-    ensures { λ r. ⌜ r ≡ withBlocks x (blockReady (x .blocks) j) ⌝ }
-{
-    let mut b = x.blocks;
-    b.readies[j] = true;
-    let mut y = x;
-    y.blocks = b;
-    y
-}
-
-// ---- of the time
-
-pub fn time_sent(x: Slot) -> Slot
-    ensures { λ r. ⌜ r ≡ withTimes x (timeSent (x .times)) ⌝ }
-{
-    let mut b = x.times;
-    b.sent = true;
-    let mut y = x;
-    y.times = b;
-    y
-}
-
-pub fn time_echo(x: Slot, j: usize, time: u64) -> Slot
-    requires { ⌜ j < 11 ⌝ }
-    ensures { λ r. ⌜ r ≡ withTimes x (timeEcho (x .times) j time) ⌝ }
-{
-    let mut b = x.times;
     b.echoes[j] = true;
     b.echoed[j] = time;
     let mut y = x;
-    y.times = b;
+    y.blocks = b;
     y
 }
 
-pub fn time_ready(x: Slot, j: usize, time: u64) -> Slot
+// Server j's ready, of this time.
+pub fn block_ready(x: Slot, j: usize, time: u64) -> Slot
     requires { ⌜ j < 11 ⌝ }
-    ensures { λ r. ⌜ r ≡ withTimes x (timeReady (x .times) j time) ⌝ }
+    ensures { λ r. ⌜ r ≡ withBlocks x (blockReady (x .blocks) j time) ⌝ }
 {
-    let mut b = x.times;
+    let mut b = x.blocks;
     b.readies[j] = true;
     b.readied[j] = time;
     let mut y = x;
-    y.times = b;
+    y.blocks = b;
     y
 }
 
-// ---- a ready goes out, a part is done
+// ---- a ready goes out, the write is complete
 
 fn either(a: bool, b: bool) -> bool
     ensures { λ r. ⌜ r ≡ (a || b) ⌝ }
@@ -146,11 +113,11 @@ fn either(a: bool, b: bool) -> bool
     b
 }
 
-// The first delivered time stands.
-fn first_time(delivered: bool, full: bool, time: u64, kept: u64) -> u64
-    ensures { λ r. ⌜ r ≡ pick (not delivered && full) time kept ⌝ }
+// The time of the group that was complete first stands.
+fn first_time(complete: bool, full: bool, time: u64, kept: u64) -> u64
+    ensures { λ r. ⌜ r ≡ pick (not complete && full) time kept ⌝ }
 {
-    if delivered {
+    if complete {
         return kept;
     }
     if full {
@@ -159,25 +126,15 @@ fn first_time(delivered: bool, full: bool, time: u64, kept: u64) -> u64
     kept
 }
 
-pub fn block_marks(x: Slot, due: bool, full: bool) -> Slot
-    ensures { λ r. ⌜ r ≡ withBlocks x (blockMarks (x .blocks) due full) ⌝ }
+// Where due, a ready goes out; where full, the write is complete with this time.
+pub fn block_marks(x: Slot, due: bool, full: bool, time: u64) -> Slot
+    ensures { λ r. ⌜ r ≡ withBlocks x (blockMarks (x .blocks) due full time) ⌝ }
 {
     let mut b = x.blocks;
+    b.time = first_time(b.complete, full, time, b.time);
     b.ready = either(b.ready, due);
     b.complete = either(b.complete, full);
     let mut y = x;
     y.blocks = b;
-    y
-}
-
-pub fn time_marks(x: Slot, due: bool, full: bool, time: u64) -> Slot
-    ensures { λ r. ⌜ r ≡ withTimes x (timeMarks (x .times) due full time) ⌝ }
-{
-    let mut b = x.times;
-    b.time = first_time(b.delivered, full, time, b.time);
-    b.ready = either(b.ready, due);
-    b.delivered = either(b.delivered, full);
-    let mut y = x;
-    y.times = b;
     y
 }

@@ -16,7 +16,7 @@ use Rattle.blocks.specs.declared.Params.{Params}
 use Rattle.frame.specs.declared.Party.the-variants as P
 use Rattle.frame.specs.declared.Stamp.{Stamp}
 use Rattle.frame.specs.Stamps.{older, lastTime}
-use Rattle.frame.specs.Messages.{Entry, entry, message, Sending, sending, valueIs, ack}
+use Rattle.frame.specs.Messages.{Entry, entry, offer, message, Sending, sending, valueIs, ack}
 use Rattle.frame.specs.Outbox.{Outbox, sent}
 use Rattle.frame.specs.Chunks.{entryAt, storeIf, presentAt, completeAt}
 use Rattle.frame.proofs.Outbox.{sent-append, sent-none}
@@ -25,9 +25,9 @@ use Rattle.server_rules.specs.declared.Scope.{Scope}
 use Rattle.server_rules.specs.declared.Slot.{Slot}
 use Rattle.server_rules.specs.declared.Server.{Server}
 use Rattle.server_rules.specs.Broadcast.{kept}
-use Rattle.server_rules.specs.State.{noReader, readerAt, freshSlot, timeView, blockView}
+use Rattle.server_rules.specs.State.{noReader, readerAt, freshSlot, blockView}
 use Rattle.server_rules.specs.Scopes.{withScope}
-use Rattle.server_rules.specs.Steps.{Write, stampOf, tellFrom, accept, bothDone, ripe, freeBy, free}
+use Rattle.server_rules.specs.Steps.{Write, stampOf, tellFrom, accept, ripeBy, ripe, freeBy, free}
 use Rattle.server.specs.Stages.{Holds, Progress, progress, moved}
 use Rattle.server.proofs.Answers.{none-sent}
 use Rattle.server.proofs.Scopes.{as-it-was}
@@ -136,82 +136,66 @@ accepted g w c s z rs a a′ d b newer q q₁ q₂ k i j h f n m e =
     let y = opened-next w c s z rs newer g a k h e in
     λ l. progress (y l) (v l) (u l)
 
--- the three answers of the test
-pub unripe-time : (x : Slot) → x .times .delivered ≡ false → false ≡ ripeIn x
+-- the two answers of the test
+pub not-complete : (x : Slot) → x .blocks .complete ≡ false → false ≡ ripeIn x
 unfolding ripeIn
-unripe-time x h = rw h
+not-complete x h = rw h
 
-pub unripe-blocks : (x : Slot) → x .times .delivered ≡ true → x .blocks .complete ≡ false → false ≡ ripeIn x
+pub ripe-below : (x : Slot) → x .blocks .complete ≡ true → ltb (x .blocks .time) lastTime ≡ ripeIn x
 unfolding ripeIn
-unripe-blocks x h i = rw (h, i)
-
-pub ripe-below : (x : Slot) → x .times .delivered ≡ true → x .blocks .complete ≡ true → ltb (x .times .time) lastTime ≡ ripeIn x
-unfolding ripeIn
-ripe-below x h i = rw (h, i)
+ripe-below x h = rw h
 
 -- the time of a write that can be accepted is below the last
-pub ripe-time : (x : Slot) → ripeIn x ≡ true → x .times .time < lastTime
+pub ripe-time : (x : Slot) → ripeIn x ≡ true → x .blocks .time < lastTime
 unfolding ripeIn
-ripe-time x h = ltb-true (x .times .time) lastTime (and-right (x .blocks .complete) _ (and-right (x .times .delivered) _ h))
+ripe-time x h = ltb-true (x .blocks .time) lastTime (and-right (x .blocks .complete) _ h)
 
 -- nothing can be accepted, or the write is
 module _ (g : Params) (w : Server) (c : ℕ) (s : Scope) (rs : List Reader) (a : List ℕ) (q : Outbox) (k : Holds w c s rs) where
   abbrev x : Slot
   x = s .slot
 
-  abbrev done : Bool → Bool → Option Write
-  done d b = bothDone w c (x .sequence) (kept d (x .times .time)) (kept b (entryAt g a (completeAt c)))
+  abbrev done : Bool → Option Write
+  done b = ripeBy w c (x .sequence) (kept b (offer (x .blocks .time) (entryAt g a (completeAt c))))
 
-  ripe-is : (d b : Bool) → x .times .delivered ≡ d → x .blocks .complete ≡ b → ripe g w a c ≡ done d b
-  unfolding ripe timeView blockView
-  ripe-is d b h i =
+  ripe-is : (b : Bool) → x .blocks .complete ≡ b → ripe g w a c ≡ done b
+  unfolding ripe blockView
+  ripe-is b h =
       ap
-      (λ (y : Scope). bothDone w c (y .slot .sequence) (kept (y .slot .times .delivered) (y .slot .times .time))
-      (kept (y .slot .blocks .complete) (entryAt g a (completeAt c))))
+      (λ (y : Scope). ripeBy w c (y .slot .sequence) (kept (y .slot .blocks .complete) (offer (y .slot .blocks .time) (entryAt g a (completeAt c)))))
       (sym (k .scope))
-      ∙ (λ l. done (h l) (i l))
+      ∙ ap done h
 
   waits : ripe g w a c ≡ none → progress (withScope w c s) a q ≡ moved (free g w a c) q
   unfolding free freeBy
   waits h = none-sent w (withScope w c s) a q (as-it-was w c s (k .scope)) ∙ ap (λ (y : Option Write). moved (freeBy y w a) q) (sym h)
 
-  wait-time : x .times .delivered ≡ false → progress (withScope w c s) a q ≡ moved (free g w a c) q
-  unfolding bothDone
-  wait-time h = waits (ripe-is false (x .blocks .complete) h refl)
+  wait-open : x .blocks .complete ≡ false → progress (withScope w c s) a q ≡ moved (free g w a c) q
+  unfolding ripeBy
+  wait-open h = waits (ripe-is false h)
 
-  wait-blocks : x .times .delivered ≡ true → x .blocks .complete ≡ false → progress (withScope w c s) a q ≡ moved (free g w a c) q
-  unfolding bothDone
-  wait-blocks h i = waits (ripe-is true false h i)
+  below : (b : Bool) → x .blocks .complete ≡ true → ltb (x .blocks .time) lastTime ≡ b → ripe g w a c ≡ pick b (some (writeIn g s c a)) none
+  unfolding ripeBy
+  below b h l = ripe-is true h ∙ ap (λ (y : Bool). pick y (some (writeIn g s c a)) none) l
 
-  below : (b : Bool) → x .times .delivered ≡ true → x .blocks .complete ≡ true → ltb (x .times .time) lastTime ≡ b
-      → ripe g w a c ≡ pick b (some (writeIn g s c a)) none
-  unfolding bothDone
-  below b h i l = ripe-is true true h i ∙ ap (λ (y : Bool). pick y (some (writeIn g s c a)) none) l
-
-  wait-last : x .times .delivered ≡ true → x .blocks .complete ≡ true → lastTime ≤ x .times .time
-      → progress (withScope w c s) a q ≡ moved (free g w a c) q
+  wait-last : x .blocks .complete ≡ true → lastTime ≤ x .blocks .time → progress (withScope w c s) a q ≡ moved (free g w a c) q
   unfolding pick
-  wait-last h i l = waits (below false h i (le-ltb (x .times .time) lastTime l))
+  wait-last h l = waits (below false h (le-ltb (x .blocks .time) lastTime l))
 
-  freed : (r : Progress) → x .times .delivered ≡ true → x .blocks .complete ≡ true → x .times .time < lastTime
-      → r ≡ moved (accept w a (writeIn g s c a)) q → r ≡ moved (free g w a c) q
+  freed : (r : Progress) → x .blocks .complete ≡ true → x .blocks .time < lastTime → r ≡ moved (accept w a (writeIn g s c a)) q → r ≡ moved (free g w a c) q
   unfolding free freeBy pick
-  freed r h i l e = e ∙ ap (λ (y : Option Write). moved (freeBy y w a) q) (sym (below true h i (lt-ltb (x .times .time) lastTime l)))
+  freed r h l e = e ∙ ap (λ (y : Option Write). moved (freeBy y w a) q) (sym (below true h (lt-ltb (x .blocks .time) lastTime l)))
 
   -- where the slot is not ripe nothing is accepted, and where it is the write
   pub unripe : ripeIn x ≡ false → progress (withScope w c s) a q ≡ moved (free g w a c) q
   unfolding ripeIn
-  unripe h = go (x .times .delivered) (x .blocks .complete) refl refl h
+  unripe h = go (x .blocks .complete) refl h
     where
-      go : (d b : Bool) → x .times .delivered ≡ d → x .blocks .complete ≡ b → d && (b && ltb (x .times .time) lastTime) ≡ false
-          → progress (withScope w c s) a q ≡ moved (free g w a c) q
-      go false b i j l = wait-time i
-      go true false i j l = wait-blocks i j
-      go true true i j l = wait-last i j (ltb-false (x .times .time) lastTime l)
+      go : (b : Bool) → x .blocks .complete ≡ b → b && ltb (x .blocks .time) lastTime ≡ false → progress (withScope w c s) a q ≡ moved (free g w a c) q
+      go false i l = wait-open i
+      go true i l = wait-last i (ltb-false (x .blocks .time) lastTime l)
 
   pub ripened : (r : Progress) → ripeIn x ≡ true → r ≡ moved (accept w a (writeIn g s c a)) q → r ≡ moved (free g w a c) q
   unfolding ripeIn
   ripened r h e =
-      let i = and-right (x .times .delivered) _ h in
-      freed r (and-left (x .times .delivered) _ h) (and-left (x .blocks .complete) _ i)
-      (ltb-true (x .times .time) lastTime (and-right (x .blocks .complete) _ i)) e
+      freed r (and-left (x .blocks .complete) _ h) (ltb-true (x .blocks .time) lastTime (and-right (x .blocks .complete) _ h)) e

@@ -32,11 +32,11 @@ opensIn s newer x = record { stamp = pick newer x (s .stamp); slot = freshSlot (
 
 -- the write of a slot can be accepted
 unfoldable pub ripeIn : Slot → Bool
-ripeIn x = x .times .delivered && (x .blocks .complete && ltb (x .times .time) lastTime)
+ripeIn x = x .blocks .complete && ltb (x .blocks .time) lastTime
 
--- the write of client c's scope s, its time delivered and its blocks complete
+-- the write of client c's scope s, with the time and the entry that were completed
 abbrev pub writeIn : Params → Scope → ℕ → List ℕ → Write
-writeIn g s c a = record { client = c; sequence = s .slot .sequence; time = s .slot .times .time; entry = entryAt g a (completeAt c) }
+writeIn g s c a = record { client = c; sequence = s .slot .sequence; time = s .slot .blocks .time; entry = entryAt g a (completeAt c) }
 
 -- of every server that has the scope s of client c and these readers, what is left is what the effect says; q is the outbox before
 abbrev pub Freeing : Scope → List Reader → ℕ → (Server → Effect) → Outbox → Freed → List ℕ → List ℕ → List ℕ → Type 0

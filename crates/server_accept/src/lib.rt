@@ -1,4 +1,4 @@
-// Acceptance: the write of a client whose time is delivered and whose blocks are complete. Only here are readers and the stamp seen.
+// Acceptance: the write of a client that is complete. Only here are readers and the stamp seen.
 use blocks::Params;
 use frame::Place;
 use frame::Stamp;
@@ -128,22 +128,18 @@ fn opens_next(s: Scope, newer: bool, x: Stamp) -> Scope
     y
 }
 
-// Whether the write of a slot can be accepted: its time delivered, and not the last, and its blocks complete.
+// Whether the write of a slot can be accepted: it is complete, and its time is not the last.
 pub fn is_ripe(x: Slot) -> bool
     ensures { λ r. ⌜ r ≡ ripeIn x ⌝ }
 {
-    let t = x.times;
     let b = x.blocks;
-    if !t.delivered {
-        return false;
-    }
     if !b.complete {
         return false;
     }
-    t.time < Server::LAST_TIME
+    b.time < Server::LAST_TIME
 }
 
-// The write of client c's scope is accepted with its delivered time, its entry being the completed one.
+// The write of client c's scope is accepted, with the time and the entry that were completed.
 pub fn accept(
     s: Scope,
     readers: [Reader; 9],
@@ -155,17 +151,17 @@ pub fn accept(
     p: Place,
 ) -> Freed
     requires { ⌜ Lent g c (length (now area)) p 9 (length (now out)) (length (now to))
-        × (s .slot .times .time < lastTime) × (s .slot .sequence < 4294967296) ⌝ }
+        × (s .slot .blocks .time < lastTime) × (s .slot .sequence < 4294967296) ⌝ }
     ensures { λ r. ⌜ Freeing s readers c (λ w. accept w (now (area .entry)) (writeIn g s c (now (area .entry))))
         (outbox (now (out .entry)) (now (to .entry)) p) r (now (area .exit)) (now (out .exit)) (now (to .exit)) ⌝ }
 {
     let i = c as usize;
     let from = 21 * i - 20;
     let slot = s.slot;
-    let t = slot.times;
+    let b = slot.blocks;
     let q = slot.sequence as u32;
     let x = Stamp {
-        time: t.time + 1,
+        time: b.time + 1,
         writer: c,
         sequence: q,
     };

@@ -1,10 +1,10 @@
--- What the specification of a server says of the blocks of a write, by flags and counts. Assumes nothing.
+-- What the specification of a server says of a write, by flags and counts. Assumes nothing.
 use Prim.Native.Nat.{ℕ, _+_, _*_, _-_, _≤_, _<_}
 use native.Mathlib.Omega.{arith}
 use mathlib.Core.Path.{_≡_, refl, ap, ap₂, sym, _∙_}
 use mathlib.Core.Bool.{Bool, true, false, not, _&&_, _||_}
 use mathlib.Core.Logic.{_⊎_, inl, inr}
-use mathlib.Core.Option.{Option, none, some}
+use mathlib.Core.Option.{Option}
 use mathlib.Core.List.{List}
 use lib.ListN.{length, getD}
 use lib.Dec.{leb}
@@ -16,20 +16,21 @@ use Rattle.quorum.proofs.Logic.{and-split, or-split}
 use Rattle.blocks.specs.declared.Params.{Params}
 use Rattle.frame.specs.declared.Place.{Place}
 use Rattle.frame.specs.Params.{Bounded, quota}
-use Rattle.frame.specs.Messages.{Entry, entry}
+use Rattle.frame.specs.Messages.{Entry, entry, Offer, offer}
 use Rattle.frame.specs.Chunks.{chunkAt, entryAt}
 use Rattle.group_rules.specs.Coded.{hasList, digestsOf, decoded}
 use Rattle.group.specs.Entries as E
-use Rattle.group.specs.Entries.{marked, entries, sentList, flags, placesFrom}
+use Rattle.group.specs.Entries.{marked, timed, entries, sentList, flags, placesFrom}
 use Rattle.group.specs.Choice.{valueFrom}
 use Rattle.group.specs.Needs.{Comparing}
-use Rattle.group.proofs.Matched.{count-agree, place-law, entry-law, matched-count, matched-value, within-places}
+use Rattle.group.proofs.Matched.{marked-timed, place-law, entry-law, matched-count, matched-value, within-places}
 use Rattle.server_rules.specs.declared.BlockPart.{BlockPart}
 use Rattle.server_rules.specs.declared.Slot.{Slot}
-use Rattle.server_rules.specs.Broadcast.{kept, undone, isLike, votes, enough, due, full}
+use Rattle.server_rules.specs.Broadcast.{kept, votes, enough, due, full}
 use Rattle.server_rules.specs.State.{blockView}
 use Rattle.server.specs.Stages.{Lent}
-use Rattle.server_rules.specs.Rules.{chosen, regained, blockRules}
+use Rattle.server_rules.specs.Rules.{entryBy, atTime, chosen, regained, regainedOf, blockRules}
+use Rattle.server_rules.proofs.AtTime.{by-flag, votes-are}
 use Rattle.server_blocks.specs.declared.Voters.{Voters}
 use Rattle.server_blocks.specs.declared.Due.{Due}
 use Rattle.server_blocks.specs.Votes.{enoughBy, mattersBy, dueBy, fullBy, votersOf, dueFor}
@@ -46,34 +47,32 @@ kept-same : (b : Bool) (e : Entry) → E.kept b e ≡ kept b e
 kept-same true e = refl
 kept-same false e = refl
 
-undone-kept : (b : Bool) (e : Entry) → undone (kept b e) ≡ not b
-undone-kept true e = refl
-undone-kept false e = refl
+module _ (g : Params) (B : Bounded g) (a d : List ℕ) (T : ℕ) where
+  -- what server j sent with the time T, kept with its flag and its time
+  timed-agree : (on : List Bool) (ts : List ℕ) (p j : ℕ) → j ≤ g .n
+      → entries g (timed on ts T) (placesFrom p) a j ≡ entryBy (kept (getD on j false) (offer (getD ts j 0) (entryAt g a (p + j)))) T
+  unfolding marked
+  timed-agree on ts p j h =
+      let m : j ≤ 10 = omega (arith, h, B .servers-high) in
+      entry-law g (timed on ts T) (placesFrom p) a d j (p + j) (place-law p j m)
+      ∙ kept-same (getD (timed on ts T) j false) (entryAt g a (p + j))
+      ∙ ap (λ (b : Bool). kept b (entryAt g a (p + j))) (marked-timed on ts T j m)
+      ∙ sym (by-flag (getD on j false) (getD ts j 0) T (entryAt g a (p + j)))
 
-module _ (g : Params) (B : Bounded g) (a d : List ℕ) (c : ℕ) (x : Slot) where
-  echo-agree : (j : ℕ) → 1 ≤ j → j ≤ g .n → entries g (x .blocks .echoes) (placesFrom (21 * c - 20)) a j ≡ blockView g a c x .echoes j
-  unfolding blockView
-  echo-agree j l h =
-      entry-law g (x .blocks .echoes) (placesFrom (21 * c - 20)) a d j (21 * c - 20 + j) (place-law (21 * c - 20) j (omega (arith, B .servers-high)))
-      ∙ kept-same (getD (x .blocks .echoes) j false) (entryAt g a (21 * c - 20 + j))
+  module _ (c : ℕ) (x : Slot) where
+    abbrev echoes : ℕ → Option Entry
+    echoes = atTime (blockView g a c x .echoes) T
 
-  ready-agree : (j : ℕ) → 1 ≤ j → j ≤ g .n → entries g (x .blocks .readies) (placesFrom (21 * c - 10)) a j ≡ blockView g a c x .readies j
-  unfolding blockView
-  ready-agree j l h =
-      entry-law g (x .blocks .readies) (placesFrom (21 * c - 10)) a d j (21 * c - 10 + j) (place-law (21 * c - 10) j (omega (arith, B .servers-high)))
-      ∙ kept-same (getD (x .blocks .readies) j false) (entryAt g a (21 * c - 10 + j))
+    abbrev readies : ℕ → Option Entry
+    readies = atTime (blockView g a c x .readies) T
 
-  -- ---- votes
+    echo-agree : (j : ℕ) → 1 ≤ j → j ≤ g .n → entries g (timed (x .blocks .echoes) (x .blocks .echoed) T) (placesFrom (21 * c - 20)) a j ≡ echoes j
+    unfolding blockView atTime
+    echo-agree j l h = timed-agree (x .blocks .echoes) (x .blocks .echoed) (21 * c - 20) j h
 
-  module _ (H : List ℕ → List ℕ) (b : List ℕ) where
-    like : (o : Option Entry) → isLike (blockRules H g) (g .n) (g .t) o (entry d b) ≡ hasList o d
-    like none = refl
-    like (some y) = refl
-
-    votes-list : (f : ℕ → Option Entry) → votes (blockRules H g) (g .n) (g .t) f (entry d b) ≡ count (λ j. hasList (f j) d) (g .n)
-    unfolding votes
-    votes-list f =
-        count-agree (λ j. isLike (blockRules H g) (g .n) (g .t) (f j) (entry d b)) (λ j. hasList (f j) d) (g .n) (λ j l h. like (f j))
+    ready-agree : (j : ℕ) → 1 ≤ j → j ≤ g .n → entries g (timed (x .blocks .readies) (x .blocks .readied) T) (placesFrom (21 * c - 10)) a j ≡ readies j
+    unfolding blockView atTime
+    ready-agree j l h = timed-agree (x .blocks .readies) (x .blocks .readied) (21 * c - 10) j h
 
 -- the value of readies or of echoes
 picked-value : (g : Params) (d : List ℕ) (t : Bool) (u v : List ℕ) (f h : ℕ → Option Entry) → u ≡ decoded g f d → v ≡ decoded g h d
@@ -84,52 +83,58 @@ picked-value g d false u v f h p q = q
 
 -- ---- what is due, by flags and numbers
 
-module _ (H : List ℕ → List ℕ) (g : Params) (B : Bounded g) (a d b : List ℕ) (c : ℕ) (x : Slot) where
-  echo-number : votersOf g a c (x .blocks) d .echoed ≡ count (λ j. hasList (blockView g a c x .echoes j) d) (g .n)
+module _ (H : List ℕ → List ℕ) (g : Params) (B : Bounded g) (a d b : List ℕ) (T c : ℕ) (x : Slot) where
+  abbrev w : Voters
+  w = votersOf g a c (x .blocks) T d
+
+  abbrev o : Offer
+  o = offer T (entry d b)
+
+  echo-number : w .echoed ≡ count (λ j. hasList (echoes g B a d T c x j) d) (g .n)
   unfolding votersOf
-  echo-number = matched-count g (x .blocks .echoes) (placesFrom (21 * c - 20)) a d (blockView g a c x .echoes) (echo-agree g B a d c x) (B .servers-high)
+  echo-number =
+      matched-count g (timed (x .blocks .echoes) (x .blocks .echoed) T) (placesFrom (21 * c - 20)) a d (echoes g B a d T c x) (echo-agree g B a d T c x)
+      (B .servers-high)
 
-  ready-number : votersOf g a c (x .blocks) d .readied ≡ count (λ j. hasList (blockView g a c x .readies j) d) (g .n)
+  ready-number : w .readied ≡ count (λ j. hasList (readies g B a d T c x j) d) (g .n)
   unfolding votersOf
-  ready-number = matched-count g (x .blocks .readies) (placesFrom (21 * c - 10)) a d (blockView g a c x .readies) (ready-agree g B a d c x) (B .servers-high)
+  ready-number =
+      matched-count g (timed (x .blocks .readies) (x .blocks .readied) T) (placesFrom (21 * c - 10)) a d (readies g B a d T c x) (ready-agree g B a d T c x)
+      (B .servers-high)
 
-  echo-votes : votes (blockRules H g) (g .n) (g .t) (blockView g a c x .echoes) (entry d b) ≡ votersOf g a c (x .blocks) d .echoed
-  echo-votes = votes-list g B a d c x H b (blockView g a c x .echoes) ∙ sym echo-number
+  echo-votes : votes (blockRules H g) (g .n) (g .t) (blockView g a c x .echoes) o ≡ w .echoed
+  echo-votes = votes-are H g (blockView g a c x .echoes) o ∙ sym echo-number
 
-  ready-votes : votes (blockRules H g) (g .n) (g .t) (blockView g a c x .readies) (entry d b) ≡ votersOf g a c (x .blocks) d .readied
-  ready-votes = votes-list g B a d c x H b (blockView g a c x .readies) ∙ sym ready-number
+  ready-votes : votes (blockRules H g) (g .n) (g .t) (blockView g a c x .readies) o ≡ w .readied
+  ready-votes = votes-are H g (blockView g a c x .readies) o ∙ sym ready-number
 
   -- "decode from the k lowest senders with that list, readies if there are q, else echoes"
-  pub value-is : regained g (blockView g a c x .echoes) (blockView g a c x .readies) d ≡ groupValue g (votersOf g a c (x .blocks) d) c a
+  pub value-is : regainedOf g (blockView g a c x .echoes) (blockView g a c x .readies) o ≡ groupValue g w c a
   unfolding regained chosen groupValue votersOf
   value-is =
-      let v = votersOf g a c (x .blocks) d in
-      let p : valueFrom g (v .readies) (placesFrom (21 * c - 10)) a ≡ decoded g (blockView g a c x .readies) d =
-      matched-value g (x .blocks .readies) (placesFrom (21 * c - 10)) a d (blockView g a c x .readies) (ready-agree g B a d c x) (B .servers-high) in
-      let q : valueFrom g (v .echoes) (placesFrom (21 * c - 20)) a ≡ decoded g (blockView g a c x .echoes) d =
-      matched-value g (x .blocks .echoes) (placesFrom (21 * c - 20)) a d (blockView g a c x .echoes) (echo-agree g B a d c x) (B .servers-high) in
-      ap (λ m. decoded g (pick (leb (quota g) m) (blockView g a c x .readies) (blockView g a c x .echoes)) d) (sym ready-number)
-      ∙ sym (picked-value g d (leb (quota g) (v .readied))
-      (valueFrom g (v .readies) (placesFrom (21 * c - 10)) a) (valueFrom g (v .echoes) (placesFrom (21 * c - 20)) a)
-      (blockView g a c x .readies) (blockView g a c x .echoes) p q)
+      let es = echoes g B a d T c x in
+      let rs = readies g B a d T c x in
+      let p : valueFrom g (w .readies) (placesFrom (21 * c - 10)) a ≡ decoded g rs d =
+      matched-value g (timed (x .blocks .readies) (x .blocks .readied) T) (placesFrom (21 * c - 10)) a d rs (ready-agree g B a d T c x) (B .servers-high) in
+      let q : valueFrom g (w .echoes) (placesFrom (21 * c - 20)) a ≡ decoded g es d =
+      matched-value g (timed (x .blocks .echoes) (x .blocks .echoed) T) (placesFrom (21 * c - 20)) a d es (echo-agree g B a d T c x) (B .servers-high) in
+      ap (λ m. decoded g (pick (leb (quota g) m) rs es) d) (sym ready-number)
+      ∙ sym (picked-value g d (leb (quota g) (w .readied))
+      (valueFrom g (w .readies) (placesFrom (21 * c - 10)) a) (valueFrom g (w .echoes) (placesFrom (21 * c - 20)) a) rs es p q)
 
-  enough-is : enough (blockRules H g) (g .n) (g .t) (blockView g a c x) (entry d b)
-      ≡ enoughBy g (votersOf g a c (x .blocks) d .echoed) (votersOf g a c (x .blocks) d .readied)
+  enough-is : enough (blockRules H g) (g .n) (g .t) (blockView g a c x) o ≡ enoughBy g (w .echoed) (w .readied)
   unfolding enough enoughBy
   enough-is = ap₂ (λ u v. leb (g .n) (u + g .t) || leb (quota g) v) echo-votes ready-votes
 
-  supports-is : blockRules H g .supports (blockView g a c x .echoes) (blockView g a c x .readies) (entry d b)
-      ≡ groupEqual H g (votersOf g a c (x .blocks) d) c a d
+  supports-is : blockRules H g .supports (blockView g a c x .echoes) (blockView g a c x .readies) o ≡ groupEqual H g w c a d
   unfolding groupEqual
   supports-is = ap (λ v. same (digestsOf H g v) d) value-is
 
-  pub due-is : due (blockRules H g) (g .n) (g .t) (blockView g a c x) (entry d b)
-      ≡ dueFor g (x .blocks) (votersOf g a c (x .blocks) d) (groupEqual H g (votersOf g a c (x .blocks) d) c a d) .ready
+  pub due-is : due (blockRules H g) (g .n) (g .t) (blockView g a c x) o ≡ dueFor g (x .blocks .ready) w (groupEqual H g w c a d) T .ready
   unfolding due dueFor dueBy blockView
   due-is = ap₂ (λ u v. not (x .blocks .ready) && (u && v)) enough-is supports-is
 
-  pub full-is : full (blockRules H g) (g .n) (g .t) (blockView g a c x) (entry d b)
-      ≡ dueFor g (x .blocks) (votersOf g a c (x .blocks) d) (groupEqual H g (votersOf g a c (x .blocks) d) c a d) .complete
+  pub full-is : full (blockRules H g) (g .n) (g .t) (blockView g a c x) o ≡ dueFor g (x .blocks .ready) w (groupEqual H g w c a d) T .complete
   unfolding full dueFor fullBy
   full-is = ap₂ (λ u v. leb (quota g + g .t) u && v) ready-votes supports-is
 
@@ -153,20 +158,21 @@ enough-echoes g went complete e r h m = go (or-split (not went && enoughBy g e r
     go (inr k) = absurd (let z = leb-true (quota g + g .t) r (and-split (leb (quota g + g .t) r) (not complete) k .0) in omega (arith, z, h))
 
 -- there are as many as were flagged, and at most 10
-pub voters-few : (g : Params) (a : List ℕ) (c : ℕ) (b : BlockPart) (d : List ℕ) (v : Voters) → Bounded g → v ≡ votersOf g a c b d → v .echoed ≤ 10
+pub voters-few : (g : Params) (a : List ℕ) (c : ℕ) (b : BlockPart) (T : ℕ) (d : List ℕ) (v : Voters) → Bounded g → v ≡ votersOf g a c b T d
+    → v .echoed ≤ 10
 unfolding votersOf
-voters-few g a c b d v B e =
+voters-few g a c b T d v B e =
     let n = ap (λ (w : Voters). w .echoed) e in
-    let l = count-le (marked (votersOf g a c b d .echoes)) (g .n) in
+    let l = count-le (marked (votersOf g a c b T d .echoes)) (g .n) in
     omega (arith, n, l, B .servers-high)
 
 pub stored : (g : Params) (c a : ℕ) (p : Place) (m out to : ℕ) → Lent g c a p m out to → Stored g c a
 stored g c a p m out to L = record { bounded = L .bounded; client-low = L .client-low; client-high = L .client-high; whole = L .whole }
 
-pub regaining : (g : Params) (a d : List ℕ) (c : ℕ) (b : BlockPart) (v : Voters) → Stored g c (length a) → v ≡ votersOf g a c b d
+pub regaining : (g : Params) (a d : List ℕ) (T c : ℕ) (b : BlockPart) (v : Voters) → Stored g c (length a) → v ≡ votersOf g a c b T d
     → (went complete : Bool) → mattersBy g went complete (v .echoed) (v .readied) ≡ true → Regaining g v c (length a)
 unfolding votersOf
-regaining g a d c b v S e went complete h =
+regaining g a d T c b v S e went complete h =
     let n : v .echoed ≡ count (marked (v .echoes)) (g .n) = ap (λ (w : Voters). w .echoed) e ∙ ap (λ (w : Voters). count (marked (w .echoes)) (g .n)) (sym e) in
     record {
       stored = S;
@@ -202,28 +208,28 @@ pub full-by : (g : Params) (equal : Bool) (r q : ℕ) (b : Bool) → q ≡ quota
 unfolding fullBy
 full-by g equal r q b h k = k ∙ ap (λ (y : ℕ). leb (y + g .t) r && equal) h
 
-pub due-for : (g : Params) (b : BlockPart) (v : Voters) (equal m f : Bool) → m ≡ dueBy g (b .ready) equal (v .echoed) (v .readied)
-    → f ≡ fullBy g equal (v .readied) → _≡_ {A = Due} (record { ready = m; complete = f }) (dueFor g b v equal)
+pub due-for : (g : Params) (went : Bool) (v : Voters) (equal : Bool) (T : ℕ) (m f : Bool) → m ≡ dueBy g went equal (v .echoed) (v .readied)
+    → f ≡ fullBy g equal (v .readied) → _≡_ {A = Due} (record { ready = m; complete = f; time = T }) (dueFor g went v equal T)
 unfolding dueFor
-due-for g b v equal m f h k = λ i. record { ready = h i; complete = k i }
+due-for g went v equal T m f h k = λ i. record { ready = h i; complete = k i; time = T }
 
 -- ---- flags of the entries in chunks from p on
 
 pub comparing : (g : Params) (at a : List ℕ) (p : ℕ) → Bounded g → at ≡ placesFrom p → chunkAt (p + 10) + 576 ≤ length a → Comparing g at a
 comparing g at a p B e h = record { bounded = B; within = rw e (within-places p a h) }
 
-pub flags-at : (g : Params) (on : List Bool) (at a d : List ℕ) (p : ℕ) (r : List Bool) → at ≡ placesFrom p
-    → r ≡ flags (sentList g on at a d) (g .n) → r ≡ flags (sentList g on (placesFrom p) a d) (g .n)
-flags-at g on at a d p r e k = k ∙ ap (λ (l : List ℕ). flags (sentList g on l a d) (g .n)) e
+pub flags-at : (g : Params) (on ts : List Bool) (at a d : List ℕ) (p : ℕ) (r : List Bool) → on ≡ ts → at ≡ placesFrom p
+    → r ≡ flags (sentList g on at a d) (g .n) → r ≡ flags (sentList g ts (placesFrom p) a d) (g .n)
+flags-at g on ts at a d p r h e k = k ∙ ap₂ (λ (o : List Bool) (l : List ℕ). flags (sentList g o l a d) (g .n)) h e
 
-pub voters-are : (g : Params) (a : List ℕ) (c : ℕ) (b : BlockPart) (d : List ℕ) (es rs : List Bool) (e r : ℕ)
-    → es ≡ flags (sentList g (b .echoes) (placesFrom (21 * c - 20)) a d) (g .n)
-    → rs ≡ flags (sentList g (b .readies) (placesFrom (21 * c - 10)) a d) (g .n)
+pub voters-are : (g : Params) (a : List ℕ) (c : ℕ) (b : BlockPart) (T : ℕ) (d : List ℕ) (es rs : List Bool) (e r : ℕ)
+    → es ≡ flags (sentList g (timed (b .echoes) (b .echoed) T) (placesFrom (21 * c - 20)) a d) (g .n)
+    → rs ≡ flags (sentList g (timed (b .readies) (b .readied) T) (placesFrom (21 * c - 10)) a d) (g .n)
     → e ≡ count (marked es) (g .n)
     → r ≡ count (marked rs) (g .n)
-    → _≡_ {A = Voters} (record { echoes = es; readies = rs; echoed = e; readied = r }) (votersOf g a c b d)
+    → _≡_ {A = Voters} (record { echoes = es; readies = rs; echoed = e; readied = r }) (votersOf g a c b T d)
 unfolding votersOf
-voters-are g a c b d es rs e r h k m n =
+voters-are g a c b T d es rs e r h k m n =
     let u = m ∙ ap (λ (l : List Bool). count (marked l) (g .n)) h in
     let w = n ∙ ap (λ (l : List Bool). count (marked l) (g .n)) k in
     λ i. record { echoes = h i; readies = k i; echoed = u i; readied = w i }

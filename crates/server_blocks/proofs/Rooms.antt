@@ -1,4 +1,4 @@
--- Room for the frames of the blocks, and what is left after them. Assumes nothing.
+-- Room for the frames of a write, and what is left after them. Assumes nothing.
 use Prim.Native.Nat.{ℕ, _+_, _≤_}
 use native.Mathlib.Omega.{arith}
 use native.Mathlib.Nat.{mul-le-mul-left}
@@ -10,21 +10,22 @@ use Rattle.area.specs.Area.{pick}
 use Rattle.blocks.specs.declared.Params.{Params}
 use Rattle.frame.specs.declared.Place.{Place}
 use Rattle.frame.specs.Params.{Bounded, largestFrame}
-use Rattle.frame.specs.Messages.{Entry, entry, Stage, message, toAll, blockIs}
+use Rattle.frame.specs.Messages.{Entry, entry, offer, Stage, Message, message, toAll, blockIs}
 use Rattle.frame.specs.Outbox.{outbox, sent, firstPlace, Room}
 use Rattle.frame.specs.Chunks.{areaBytes, storeEntry}
-use Rattle.frame.proofs.Rooms.{build-room}
+use Rattle.frame.specs.Frames.{kindOf, offerBytes, bodyBytes, build}
+use Rattle.frame.proofs.RoundTrip.{length-frame, length-offer}
 use Rattle.frame.proofs.Chunks.{length-store}
 use Rattle.frame.proofs.Sizes.{small}
 use Rattle.server.proofs.Sending.{room-fewer, room-smaller, all-room}
 use Rattle.server_blocks.specs.Stage.{Carried}
 
--- room for an entry to all servers
-pub entry-room : (g : Params) (p : Place) (k d b out to : ℕ) → Carried g d b → Room p (g .n + k) (largestFrame g) out to → Room p (g .n) (9 + (d + b)) out to
+-- room for an offer to all servers
+pub offer-room : (g : Params) (p : Place) (k d b out to : ℕ) → Carried g d b → Room p (g .n + k) (largestFrame g) out to → Room p (g .n) (17 + (d + b)) out to
 unfolding largestFrame
-entry-room g p k d b out to C R =
-    let h : 9 + (d + b) ≤ largestFrame g = omega (arith, C .list-is, C .block-is) in
-    room-smaller p (g .n) (9 + (d + b)) (largestFrame g) out to (mul-le-mul-left (g .n) h)
+offer-room g p k d b out to C R =
+    let h : 17 + (d + b) ≤ largestFrame g = omega (arith, C .list-is, C .block-is) in
+    room-smaller p (g .n) (17 + (d + b)) (largestFrame g) out to (mul-le-mul-left (g .n) h)
     (room-fewer p (g .n + k) (g .n) (largestFrame g) out to (omega arith) R)
 
 -- an entry fits into its chunk
@@ -41,16 +42,24 @@ whole-after a a′ p e k h = let n = ap length k ∙ length-store a p e in omega
 pub room-before : (g : Params) (out to : ℕ) → Room firstPlace (g .n + 9) (largestFrame g) out to → Room firstPlace 9 (largestFrame g) out to
 room-before g out to R = room-fewer firstPlace (g .n + 9) 9 (largestFrame g) out to (omega arith) R
 
--- an entry went to all, where it was due: there still is
-module _ (g : Params) (o₀ t₀ : List ℕ) (R : Room firstPlace (g .n + 9) (largestFrame g) (length o₀) (length t₀)) (c q : ℕ) (z : Stage) (d b : List ℕ)
+-- an offer went to all, where it was due: there still is
+module _ (g : Params) (o₀ t₀ : List ℕ) (R : Room firstPlace (g .n + 9) (largestFrame g) (length o₀) (length t₀)) (c q : ℕ) (z : Stage) (T : ℕ) (d b : List ℕ)
     (C : Carried g (length d) (length b)) (o t : List ℕ) (p : Place) where
-  pub room-behind : (r : Bool) → outbox o t p ≡ sent (outbox o₀ t₀ firstPlace) (pick r (toAll g (λ j. message c q (blockIs z (entry d b)))) [])
-      → Room p 9 (largestFrame g) (length o) (length t)
-  room-behind r k =
-      all-room g r (message c q (blockIs z (entry d b))) firstPlace p o t o₀ t₀ 9 (largestFrame g)
-      (build-room g (message c q (blockIs z (entry d b))) (record { list-is = C .list-is; block-is = C .block-is })) k R
+  abbrev m : Message
+  m = message c q (blockIs z (offer T (entry d b)))
 
-  pub room-sent : outbox o t p ≡ sent (outbox o₀ t₀ firstPlace) (toAll g (λ j. message c q (blockIs z (entry d b))))
-      → Room p 9 (largestFrame g) (length o) (length t)
+  offer-small : length (build m) ≤ largestFrame g
+  unfolding build bodyBytes largestFrame
+  offer-small =
+      omega (
+        arith,
+        length-frame (kindOf (blockIs z (offer T (entry d b)))) c q (offerBytes (offer T (entry d b))),
+        length-offer g (offer T (entry d b)) (record { list-is = C .list-is; block-is = C .block-is }),
+      )
+
+  pub room-behind : (r : Bool) → outbox o t p ≡ sent (outbox o₀ t₀ firstPlace) (pick r (toAll g (λ j. m)) []) → Room p 9 (largestFrame g) (length o) (length t)
+  room-behind r k = all-room g r m firstPlace p o t o₀ t₀ 9 (largestFrame g) offer-small k R
+
+  pub room-sent : outbox o t p ≡ sent (outbox o₀ t₀ firstPlace) (toAll g (λ j. m)) → Room p 9 (largestFrame g) (length o) (length t)
   unfolding pick
   room-sent k = room-behind true k

@@ -1,4 +1,4 @@
--- The value that client c's kept entries give, by the votes v for a digest list. These are definitions.
+-- The value that client c's kept entries give, by the votes v for a time and a digest list. These are definitions.
 use Prim.Native.Nat.{ℕ, _*_, _-_, _≤_, _<_}
 use mathlib.Core.Path.{_≡_}
 use mathlib.Core.Bool.{Bool}

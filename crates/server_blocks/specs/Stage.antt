@@ -1,9 +1,10 @@
--- How the code handles a frame of a write's blocks, stage by stage: what each stage asks, and what it leaves. These are definitions.
-use Prim.Native.Nat.{ℕ, _+_, _≤_}
+-- How the code handles a frame of a write, stage by stage: what each stage asks, and what it leaves. These are definitions.
+use Prim.Native.Nat.{ℕ, _+_, _*_, _-_, _≤_}
 use mathlib.Core.Path.{_≡_}
-use mathlib.Core.Bool.{Bool, not, _&&_}
+use mathlib.Core.Bool.{Bool, false, not, _&&_}
 use mathlib.Core.List.{List, []}
-use lib.ListN.{length}
+use lib.ListN.{length, getD}
+use lib.Dec.{eqb}
 use Rattle.area.specs.Area.{pick}
 use Rattle.blocks.specs.declared.Params.{Params}
 use Rattle.sha256.specs.Hash.{digestOf}
@@ -12,12 +13,13 @@ use Rattle.frame.specs.declared.Verdict.the-variants as J
 use Rattle.frame.specs.declared.Refusal.the-variants as R
 use Rattle.frame.specs.Refusals.{andThen}
 use Rattle.frame.specs.Params.{Bounded, width, listed, largestFrame}
-use Rattle.frame.specs.Messages.{Entry, entry, Stage, message, Sending, toAll, blockIs, ready, numberIn, fromServer}
+use Rattle.frame.specs.Messages.{Entry, entry, Offer, offer, Stage, echo, ready, message, Sending, toAll, blockIs, numberIn, fromServer}
 use Rattle.frame.specs.Outbox.{outbox, firstPlace, Room}
 use Rattle.frame.specs.Chunks.{storeIf, completeAt}
+use Rattle.server_rules.specs.declared.BlockPart.{BlockPart}
 use Rattle.server_rules.specs.declared.Slot.{Slot}
-use Rattle.server_rules.specs.State.{withBlocks, blockMarks}
-use Rattle.server_rules.specs.Tests.{openTest, fitTest, blockTest}
+use Rattle.server_rules.specs.State.{withBlocks, blockEcho, blockReady, blockMarks}
+use Rattle.server_rules.specs.Tests.{fromOwner, openTest, fitTest, blockTest}
 use Rattle.server_rules.specs.Steps.{Counting, votedBlock}
 use Rattle.server.specs.declared.Call.{Call}
 use Rattle.server.specs.declared.Moved.{Moved}
@@ -46,29 +48,53 @@ RoomFor k out to = Room firstPlace (k .params .n + 9) (largestFrame (k .params))
 abbrev pub LentFor : Call → ℕ → ℕ → ℕ → Type 0
 LentFor k area out to = Lent (k .params) (k .header .client) area firstPlace (k .params .n + 9) out to
 
+-- ---- echoes and readies, kinds 4 and 5
+
+unfoldable pub voteStage : ℕ → Stage
+voteStage kind = pick (eqb kind 4) echo ready
+
+-- server j's, of time T, is counted
+unfoldable pub voteCounted : Bool → BlockPart → ℕ → ℕ → BlockPart
+voteCounted echoes b j T = pick echoes (blockEcho b j T) (blockReady b j T)
+
+-- server j's, of client c, is kept in the chunk that lies by j behind this one
+unfoldable pub votesFrom : Bool → ℕ → ℕ
+votesFrom echoes c = pick echoes (21 * c - 20) (21 * c - 10)
+
 -- ---- 11 to 14
 
--- of the frame k, of the stage z and with the entry e, whose write has the slot x
-unfoldable pub verdictOf : Call → Slot → Stage → Entry → Verdict
-verdictOf k x z e = sentBy k (blockIs z e) (blockTest digestOf (k .params) (k .me) x (numberIn (k .from)) (k .header .sequence) z e)
+-- of the frame k, of the stage z and with the offer o, whose write has the slot x
+unfoldable pub verdictOf : Call → Slot → Stage → Offer → Verdict
+verdictOf k x z o = sentBy k (blockIs z o) (blockTest digestOf (k .params) (k .me) x (numberIn (k .from)) (k .header .sequence) z o)
 
--- of an echo or a ready, of which one was counted already where again holds
-unfoldable pub voteVerdict : Call → Slot → Bool → Entry → Verdict
-voteVerdict k x again e =
-    pick (fromServer (k .params) (k .from)) (andThen (openTest x (k .header .sequence) again) (fitTest digestOf e (numberIn (k .from)))) (J.Bad R.Sender)
+-- the same of the owner's frame, whose time is tested against nothing
+unfoldable pub sendVerdict : Call → Slot → Entry → Verdict
+sendVerdict k x e =
+    pick (fromOwner (k .from) (k .header .client)) (andThen (openTest x (k .header .sequence) (x .blocks .sent)) (fitTest digestOf e (k .me))) (J.Bad R.Sender)
+
+-- whether the sender's echo or ready was counted already
+unfoldable pub votedBefore : Call → Slot → Bool
+votedBefore k x = getD (pick (eqb (k .header .kind) 4) (x .blocks .echoes) (x .blocks .readies)) (numberIn (k .from)) false
+
+-- of an echo or a ready
+unfoldable pub voteVerdict : Call → Slot → Entry → Verdict
+voteVerdict k x e =
+    pick (fromServer (k .params) (k .from)) (andThen (openTest x (k .header .sequence) (votedBefore k x)) (fitTest digestOf e (numberIn (k .from))))
+    (J.Bad R.Sender)
 
 -- ---- what they leave
 
--- readies of the own entry to all
-abbrev pub readiesOf : Call → Entry → List Sending
+-- readies of the own offer to all
+abbrev pub readiesOf : Call → Offer → List Sending
 readiesOf k own = toAll (k .params) (λ j. message (k .header .client) (k .header .sequence) (blockIs ready own))
 
--- What is due is known: readies of the own entry go out, and it is the completed one, unless there is one. (The decoded values are left out.)
+-- What is due is known: readies of the own entry go out with the time, and both are the completed ones, unless there are some. (The decoded values are left
+-- out.)
 unfoldable pub answeredBy : Call → List ℕ → Slot → Due → Entry → Counting
 answeredBy k a x d own = record {
-  slot = withBlocks x (blockMarks (x .blocks) (d .ready) (d .complete));
+  slot = withBlocks x (blockMarks (x .blocks) (d .ready) (d .complete) (d .time));
   area = storeIf (not (x .blocks .complete) && d .complete) a (completeAt (k .header .client)) own;
-  sends = pick (d .ready) (readiesOf k own) [];
+  sends = pick (d .ready) (readiesOf k (offer (d .time) own)) [];
   decodes = [];
 }
 
@@ -78,14 +104,14 @@ module _ (k : Call) (x : Slot) where
     pub leaves : left (m .slot) a (outbox out to (m .place)) ≡ counts (answeredBy k a₀ x d own) (outbox out₀ to₀ firstPlace)
     pub room : Room (m .place) 9 (largestFrame (k .params)) (length out) (length to)
 
-  -- an echo or a ready of the list d was counted in the slot x; its block does not matter
-  pub record BlockVoted (d a₀ out₀ to₀ : List ℕ) (m : Moved) (a out to : List ℕ) : Type 0 where
+  -- an echo or a ready of the time T and the list d was counted in the slot x; its block does not matter
+  pub record BlockVoted (T : ℕ) (d a₀ out₀ to₀ : List ℕ) (m : Moved) (a out to : List ℕ) : Type 0 where
     pub leaves : (b : List ℕ)
         → left (m .slot) a (outbox out to (m .place))
-        ≡ counts (votedBlock digestOf (k .params) (k .me) a₀ (k .header .client) x (entry d b)) (outbox out₀ to₀ firstPlace)
+        ≡ counts (votedBlock digestOf (k .params) (k .me) a₀ (k .header .client) x (offer T (entry d b))) (outbox out₀ to₀ firstPlace)
     pub room : Room (m .place) 9 (largestFrame (k .params)) (length out) (length to)
 
-  -- a frame of the stage z, with the list d and the block b, reached the slot x
-  pub record BlockHandled (z : Stage) (d b a₀ out₀ to₀ : List ℕ) (r : Counted) (a out to : List ℕ) : Type 0 where
-    pub handles : handled r a out to ≡ blockFrame digestOf k x a₀ z (entry d b) (outbox out₀ to₀ firstPlace)
+  -- a frame of the stage z, with the offer o, reached the slot x
+  pub record BlockHandled (z : Stage) (o : Offer) (a₀ out₀ to₀ : List ℕ) (r : Counted) (a out to : List ℕ) : Type 0 where
+    pub handles : handled r a out to ≡ blockFrame digestOf k x a₀ z o (outbox out₀ to₀ firstPlace)
     pub room : Room (r .place) 9 (largestFrame (k .params)) (length out) (length to)

@@ -1,4 +1,4 @@
--- What is due of a write's blocks by the numbers e of echoes and r of readies that have its digest list. These are definitions.
+-- What is due of a write by the numbers e of echoes and r of readies that have one time and digest list. These are definitions.
 use Prim.Native.Nat.{ℕ, _+_, _*_, _-_}
 use mathlib.Core.Bool.{Bool, not, _&&_, _||_}
 use mathlib.Core.List.{List}
@@ -6,7 +6,7 @@ use lib.Dec.{leb}
 use Rattle.quorum.specs.Quorum.{count}
 use Rattle.blocks.specs.declared.Params.{Params}
 use Rattle.frame.specs.Params.{quota}
-use Rattle.group.specs.Entries.{marked, sentList, flags, placesFrom}
+use Rattle.group.specs.Entries.{marked, timed, sentList, flags, placesFrom}
 use Rattle.server_rules.specs.declared.BlockPart.{BlockPart}
 use Rattle.server_blocks.specs.declared.Voters.{Voters}
 use Rattle.server_blocks.specs.declared.Due.{Due}
@@ -27,15 +27,19 @@ dueBy g went supported e r = not went && (enoughBy g e r && supported)
 unfoldable pub fullBy : Params → Bool → ℕ → Bool
 fullBy g supported r = leb (quota g + g .t) r && supported
 
--- ---- the same of a slot's blocks b
+-- ---- the same of a slot's part b
 
--- the votes for the list d, the entries of client c lying in the area a
-unfoldable pub votersOf : Params → List ℕ → ℕ → BlockPart → List ℕ → Voters
-votersOf g a c b d =
-    let es = flags (sentList g (b .echoes) (placesFrom (21 * c - 20)) a d) (g .n) in
-    let rs = flags (sentList g (b .readies) (placesFrom (21 * c - 10)) a d) (g .n) in
+-- the votes for the time T and the list d, the entries of client c lying in the area a
+unfoldable pub votersOf : Params → List ℕ → ℕ → BlockPart → ℕ → List ℕ → Voters
+votersOf g a c b T d =
+    let es = flags (sentList g (timed (b .echoes) (b .echoed) T) (placesFrom (21 * c - 20)) a d) (g .n) in
+    let rs = flags (sentList g (timed (b .readies) (b .readied) T) (placesFrom (21 * c - 10)) a d) (g .n) in
     record { echoes = es; readies = rs; echoed = count (marked es) (g .n); readied = count (marked rs) (g .n) }
 
--- what the votes v bring forth
-unfoldable pub dueFor : Params → BlockPart → Voters → Bool → Due
-dueFor g b v supported = record { ready = dueBy g (b .ready) supported (v .echoed) (v .readied); complete = fullBy g supported (v .readied) }
+-- what the votes v for the time T bring forth; went says whether a ready went out before
+unfoldable pub dueFor : Params → Bool → Voters → Bool → ℕ → Due
+dueFor g went v supported T = record {
+  ready = dueBy g went supported (v .echoed) (v .readied);
+  complete = fullBy g supported (v .readied);
+  time = T;
+}

@@ -3,6 +3,7 @@ use crate::Due;
 use crate::votes::both;
 use frame::Broadcast;
 use frame::Place;
+use frame::WriteTime;
 use frame::entries::put_entry;
 use frame::send::block_all;
 use server::Call;
@@ -15,34 +16,29 @@ ghost use Prim.Native.Nat.{_≤_};
 ghost use lib.ListN.{length};
 ghost use Rattle.area.specs.Area.{pick};
 ghost use Rattle.frame.specs.Params.{Bounded};
-ghost use Rattle.frame.specs.Messages.{entry};
+ghost use Rattle.frame.specs.Messages.{entry, offer};
 ghost use Rattle.frame.specs.Outbox.{outbox, sent, firstPlace};
 ghost use Rattle.frame.specs.Chunks.{areaBytes, storeIf, completeAt};
 ghost use Rattle.server_blocks.specs.Stage.{Carried, RoomFor, LentFor, readiesOf, Answered};
 
-// The first frames of a step: readies of the list with the own block to all servers, if they are due.
-fn ready_if(due: bool, k: Call, list: &[u8], block: &[u8], out: &mut [u8], to: &mut [u8]) -> Place
+// The first frames of a step: readies of the time and the list with the own block to all servers, if they are due.
+fn ready_if(d: Due, k: Call, list: &[u8], block: &[u8], out: &mut [u8], to: &mut [u8]) -> Place
     requires { ⌜ Bounded (k .params) × RoomFor k (length (now out)) (length (now to)) × Carried (k .params) (length (now list)) (length (now block)) ⌝ }
-    ensures { λ r. ⌜ outbox (now (out .exit)) (now (to .exit)) r ≡
-        sent (outbox (now (out .entry)) (now (to .entry)) firstPlace) (pick due (readiesOf k (entry (now (list .entry)) (now (block .entry)))) []) ⌝ }
+    ensures { λ r. ⌜ outbox (now (out .exit)) (now (to .exit)) r ≡ sent (outbox (now (out .entry)) (now (to .entry)) firstPlace)
+        (pick (d .ready) (readiesOf k (offer (d .time) (entry (now (list .entry)) (now (block .entry))))) []) ⌝ }
 {
     let p = Place { at: 0, count: 0 };
-    if !due {
+    if !d.ready {
         return p;
     }
     let g = k.params;
     let h = k.header;
-    block_all(
-        out,
-        to,
-        p,
-        g,
-        Broadcast::Ready,
-        h.client,
-        h.sequence,
-        list,
-        block,
-    )
+    let w = WriteTime {
+        client: h.client,
+        sequence: h.sequence,
+        time: d.time,
+    };
+    block_all(out, to, p, g, Broadcast::Ready, w, list, block)
 }
 
 // The list with the own block becomes client c's completed entry, where the test holds.
@@ -74,8 +70,8 @@ pub fn answer(
     let b = x.blocks;
     let h = k.header;
     let test = both(!b.complete, d.complete);
-    let place = ready_if(d.ready, k, list, block, out, to);
+    let place = ready_if(d, k, list, block, out, to);
     complete_if(test, area, h.client, list, block);
-    let slot = block_marks(x, d.ready, d.complete);
+    let slot = block_marks(x, d.ready, d.complete, d.time);
     Moved { slot, place }
 }

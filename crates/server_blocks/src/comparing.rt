@@ -17,7 +17,7 @@ ghost use Rattle.sha256.specs.Hash.{digestOf};
 ghost use Rattle.frame.specs.Params.{listed};
 ghost use Rattle.server_blocks.specs.Group.{groupValue, groupEqual, Regaining};
 
-// The value from the readies that have the list if there are q, else from the echoes.
+// The value from the readies of the group if there are q, else from the echoes.
 fn regain_group(
     g: Params,
     v: Voters,

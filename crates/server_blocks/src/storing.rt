@@ -1,10 +1,11 @@
-// Frames of a write's blocks: kinds 3 to 5.
+// Frames of a write: kinds 3 to 5.
 use crate::voted_block;
 use blocks::Params;
 use frame::Broadcast;
 use frame::Place;
 use frame::Refusal;
 use frame::Verdict;
+use frame::WriteTime;
 use frame::entries::put_entry;
 use frame::parties::number_in;
 use frame::send::block_all;
@@ -18,15 +19,16 @@ use server::tests::owner_test;
 use server::tests::server_test;
 use server_rules::Slot;
 ghost use mathlib.Core.Path.{_≡_};
-ghost use Prim.Native.Nat.{ℕ, _≤_};
-ghost use mathlib.Core.Bool.{false};
+ghost use Prim.Native.Nat.{ℕ, _≤_, _<_};
 ghost use mathlib.Core.List.{List};
-ghost use lib.ListN.{length, getD};
-ghost use Rattle.frame.specs.Messages.{entry, send, echo, ready, numberIn};
+ghost use lib.ListN.{length};
+ghost use Rattle.area.specs.Area.{pick};
+ghost use Rattle.frame.specs.Messages.{entry, offer, send};
 ghost use Rattle.frame.specs.Params.{Bounded};
 ghost use Rattle.sha256.specs.Hash.{digestOf};
+ghost use Rattle.server_rules.specs.State.{withBlocks};
 ghost use Rattle.server_rules.specs.Tests.{fitTest};
-ghost use Rattle.server_blocks.specs.Stage.{Carried, Own, RoomFor, LentFor, verdictOf, voteVerdict, BlockHandled};
+ghost use Rattle.server_blocks.specs.Stage.{Carried, Own, RoomFor, LentFor, voteStage, voteCounted, votesFrom, sendVerdict, voteVerdict, BlockHandled};
 
 // 14: a block against the digest at place j of its list.
 fn fit_test(list: &[u8], block: &[u8], j: u8, g: Params) -> Verdict
@@ -39,10 +41,10 @@ fn fit_test(list: &[u8], block: &[u8], j: u8, g: Params) -> Verdict
     Verdict::Fine
 }
 
-// 11 to 14 of the owner's blocks.
+// 11 to 14 of the owner's frame.
 fn send_test(x: Slot, k: Call, list: &[u8], block: &[u8]) -> Verdict
     requires { ⌜ Own (k .params) (k .me) × Carried (k .params) (length (now list)) (length (now block)) ⌝ }
-    ensures { λ r. ⌜ r ≡ verdictOf k x send (entry (now (list .entry)) (now (block .entry))) ⌝ }
+    ensures { λ r. ⌜ r ≡ sendVerdict k x (entry (now (list .entry)) (now (block .entry))) ⌝ }
 {
     let b = x.blocks;
     let h = k.header;
@@ -55,14 +57,28 @@ fn send_test(x: Slot, k: Call, list: &[u8], block: &[u8]) -> Verdict
     fit_test(list, block, k.me, g)
 }
 
-// 11 to 14 of a server's echo or ready; on says of which one was counted already.
-fn vote_test(x: Slot, k: Call, on: [bool; 11], list: &[u8], block: &[u8]) -> Verdict
+// The flags of the echoes, or of the readies.
+fn flags_of(echo: bool, echoes: [bool; 11], readies: [bool; 11]) -> [bool; 11]
+    ensures { λ r. ⌜ r ≡ pick echo echoes readies ⌝ }
+{
+    if echo {
+        return echoes;
+    }
+    readies
+}
+
+// 11 to 14 of a server's echo or ready.
+fn vote_test(x: Slot, k: Call, list: &[u8], block: &[u8]) -> Verdict
     requires { ⌜ Bounded (k .params) × Carried (k .params) (length (now list)) (length (now block)) ⌝ }
-    ensures { λ r. ⌜ r ≡ voteVerdict k x (getD on (numberIn (k .from)) false) (entry (now (list .entry)) (now (block .entry))) ⌝ }
+    ensures { λ r. ⌜ r ≡ voteVerdict k x (entry (now (list .entry)) (now (block .entry))) ⌝ }
 {
     let g = k.params;
     let h = k.header;
     let from = k.from;
+    let b = x.blocks;
+    let echoes = b.echoes;
+    let readies = b.readies;
+    let on = flags_of(h.kind == 4, echoes, readies);
     let v = server_test(g, from, x, h.sequence, on);
     if let Verdict::Bad(r) = v {
         return Verdict::Bad(r);
@@ -71,17 +87,18 @@ fn vote_test(x: Slot, k: Call, on: [bool; 11], list: &[u8], block: &[u8]) -> Ver
     fit_test(list, block, j, g)
 }
 
-// 3: the owner's digest list and block, echoed to all.
+// 3: the owner's time, digest list and block, echoed to all.
 pub fn on_block_send(
     x: Slot,
     k: Call,
+    time: u64,
     list: &[u8],
     block: &[u8],
     out: &mut [u8],
     to: &mut [u8],
 ) -> Counted
     requires { ⌜ Own (k .params) (k .me) × RoomFor k (length (now out)) (length (now to)) × Carried (k .params) (length (now list)) (length (now block)) ⌝ }
-    ensures { λ r. ⌜ ((a : List ℕ) → BlockHandled k x send (now (list .entry)) (now (block .entry)) a (now (out .entry)) (now (to .entry))
+    ensures { λ r. ⌜ ((a : List ℕ) → BlockHandled k x send (offer time (entry (now (list .entry)) (now (block .entry)))) a (now (out .entry)) (now (to .entry))
         r a (now (out .exit)) (now (to .exit))) ⌝ }
 {
     let p = Place { at: 0, count: 0 };
@@ -95,17 +112,12 @@ pub fn on_block_send(
     }
     let g = k.params;
     let h = k.header;
-    let place = block_all(
-        out,
-        to,
-        p,
-        g,
-        Broadcast::Echo,
-        h.client,
-        h.sequence,
-        list,
-        block,
-    );
+    let w = WriteTime {
+        client: h.client,
+        sequence: h.sequence,
+        time,
+    };
+    let place = block_all(out, to, p, g, Broadcast::Echo, w, list, block);
     let slot = block_sent(x);
     Counted {
         verdict: Verdict::Fine,
@@ -114,51 +126,34 @@ pub fn on_block_send(
     }
 }
 
-// 4: a server's echo of the blocks, kept.
-pub fn on_block_echo(
-    x: Slot,
-    k: Call,
-    list: &[u8],
-    block: &[u8],
-    area: &mut [u8],
-    out: &mut [u8],
-    to: &mut [u8],
-) -> Counted
-    requires { ⌜ LentFor k (length (now area)) (length (now out)) (length (now to)) × Carried (k .params) (length (now list)) (length (now block)) ⌝ }
-    ensures { λ r. ⌜ BlockHandled k x echo (now (list .entry)) (now (block .entry)) (now (area .entry)) (now (out .entry)) (now (to .entry))
-        r (now (area .exit)) (now (out .exit)) (now (to .exit)) ⌝ }
+// Server j's echo or ready, of this time, is counted.
+fn count_vote(x: Slot, echo: bool, j: usize, time: u64) -> Slot
+    requires { ⌜ j < 11 ⌝ }
+    ensures { λ r. ⌜ r ≡ withBlocks x (voteCounted echo (x .blocks) j time) ⌝ }
 {
-    let b = x.blocks;
-    let echoes = b.echoes;
-    let v = vote_test(x, k, echoes, list, block);
-    if let Verdict::Bad(r) = v {
-        let place = Place { at: 0, count: 0 };
-        return Counted {
-            verdict: Verdict::Bad(r),
-            slot: x,
-            place,
-        };
+    if echo {
+        return block_echo(x, j, time);
     }
-    let h = k.header;
-    let from = k.from;
-    let c = h.client as usize;
-    let j = number_in(from) as usize;
-    put_entry(area, 21 * c - 20 + j, list, block);
-    let y = block_echo(x, j);
-    let m = voted_block(y, k, list, area, out, to);
-    let slot = m.slot;
-    let place = m.place;
-    Counted {
-        verdict: Verdict::Fine,
-        slot,
-        place,
-    }
+    block_ready(x, j, time)
 }
 
-// 5: a server's ready of the blocks, kept.
-pub fn on_block_ready(
+// The chunk behind which client c's echoes or readies are kept.
+fn votes_from(echo: bool, c: u8) -> usize
+    requires { ⌜ (1 ≤ c) × (c ≤ 8) ⌝ }
+    ensures { λ r. ⌜ (r ≡ votesFrom echo c) × (r ≤ 158) ⌝ }
+{
+    let i = c as usize;
+    if echo {
+        return 21 * i - 20;
+    }
+    21 * i - 10
+}
+
+// 4 and 5: a server's echo or ready, kept.
+pub fn on_block_vote(
     x: Slot,
     k: Call,
+    time: u64,
     list: &[u8],
     block: &[u8],
     area: &mut [u8],
@@ -166,12 +161,10 @@ pub fn on_block_ready(
     to: &mut [u8],
 ) -> Counted
     requires { ⌜ LentFor k (length (now area)) (length (now out)) (length (now to)) × Carried (k .params) (length (now list)) (length (now block)) ⌝ }
-    ensures { λ r. ⌜ BlockHandled k x ready (now (list .entry)) (now (block .entry)) (now (area .entry)) (now (out .entry)) (now (to .entry))
-        r (now (area .exit)) (now (out .exit)) (now (to .exit)) ⌝ }
+    ensures { λ r. ⌜ BlockHandled k x (voteStage (k .header .kind)) (offer time (entry (now (list .entry)) (now (block .entry))))
+        (now (area .entry)) (now (out .entry)) (now (to .entry)) r (now (area .exit)) (now (out .exit)) (now (to .exit)) ⌝ }
 {
-    let b = x.blocks;
-    let readies = b.readies;
-    let v = vote_test(x, k, readies, list, block);
+    let v = vote_test(x, k, list, block);
     if let Verdict::Bad(r) = v {
         let place = Place { at: 0, count: 0 };
         return Counted {
@@ -182,11 +175,12 @@ pub fn on_block_ready(
     }
     let h = k.header;
     let from = k.from;
-    let c = h.client as usize;
+    let echo = h.kind == 4;
     let j = number_in(from) as usize;
-    put_entry(area, 21 * c - 10 + j, list, block);
-    let y = block_ready(x, j);
-    let m = voted_block(y, k, list, area, out, to);
+    let first = votes_from(echo, h.client);
+    put_entry(area, first + j, list, block);
+    let y = count_vote(x, echo, j, time);
+    let m = voted_block(y, k, time, list, area, out, to);
     let slot = m.slot;
     let place = m.place;
     Counted {

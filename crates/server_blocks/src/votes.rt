@@ -1,8 +1,9 @@
-// The blocks of a write: which servers said a digest list, and what is due by their numbers.
+// A write: which servers said one time and digest list, and what is due by their numbers.
 use crate::Due;
 use crate::Voters;
 use blocks::Params;
 use frame::bounds::quota;
+use group::matching::at_time;
 use group::matching::matching;
 use group::matching::places;
 use group::matching::tally;
@@ -13,29 +14,40 @@ ghost use Prim.Native.Nat.{_+_, _≤_};
 ghost use lib.ListN.{length};
 ghost use Rattle.frame.specs.Params.{Bounded};
 ghost use Rattle.frame.specs.Chunks.{chunkAt};
-ghost use Rattle.group.specs.Entries.{sentList, flags, placesFrom};
+ghost use Rattle.group.specs.Entries.{timed, sentList, flags, placesFrom};
 ghost use Rattle.server_blocks.specs.Votes.{enoughBy, mattersBy, dueBy, fullBy, votersOf, dueFor};
 ghost use Rattle.server_blocks.specs.Group.{Stored};
 
-// The flagged servers whose entry has the list; server j's lies in chunk first + j.
-fn with_list(g: Params, on: [bool; 11], first: usize, area: &[u8], list: &[u8]) -> [bool; 11]
+// The flagged servers whose time and digest list are these; server j's time is at place j of times, its entry lies in chunk first + j.
+fn in_group(
+    g: Params,
+    on: [bool; 11],
+    times: [u64; 11],
+    time: u64,
+    first: usize,
+    area: &[u8],
+    list: &[u8],
+) -> [bool; 11]
     requires { ⌜ Bounded g × (first ≤ 1000) × (chunkAt (first + 10) + 576 ≤ length (now area)) ⌝ }
-    ensures { λ r. ⌜ r ≡ flags (sentList g on (placesFrom first) (now (area .entry)) (now (list .entry))) (g .n) ⌝ }
+    ensures { λ r. ⌜ r ≡ flags (sentList g (timed on times time) (placesFrom first) (now (area .entry)) (now (list .entry))) (g .n) ⌝ }
 {
     let at = places(first);
-    matching(on, at, area, list, g)
+    let timed = at_time(on, times, time);
+    matching(timed, at, area, list, g)
 }
 
-// The votes for the list, of client c's kept echoes and readies.
-pub fn voters_of(g: Params, b: BlockPart, c: u8, area: &[u8], list: &[u8]) -> Voters
+// The votes for the time and the list, of client c's kept echoes and readies.
+pub fn voters_of(g: Params, b: BlockPart, c: u8, time: u64, area: &[u8], list: &[u8]) -> Voters
     requires { ⌜ Stored g c (length (now area)) ⌝ }
-    ensures { λ v. ⌜ v ≡ votersOf g (now (area .entry)) c b (now (list .entry)) ⌝ }
+    ensures { λ v. ⌜ v ≡ votersOf g (now (area .entry)) c b time (now (list .entry)) ⌝ }
 {
     let i = c as usize;
     let on = b.echoes;
-    let echoes = with_list(g, on, 21 * i - 20, area, list);
+    let times = b.echoed;
+    let echoes = in_group(g, on, times, time, 21 * i - 20, area, list);
     let on = b.readies;
-    let readies = with_list(g, on, 21 * i - 10, area, list);
+    let times = b.readied;
+    let readies = in_group(g, on, times, time, 21 * i - 10, area, list);
     let echoed = tally(echoes, g.n);
     let readied = tally(readies, g.n);
     Voters {
@@ -75,7 +87,7 @@ fn enough(g: Params, e: usize, r: usize) -> bool
     quota(g) <= r
 }
 
-// Whether anything hangs on the comparison of the list that e echoes and r readies have.
+// Whether anything hangs on the comparison of a group that e echoes and r readies have.
 pub fn matters(g: Params, went: bool, complete: bool, e: usize, r: usize) -> bool
     requires { ⌜ Bounded g × (e ≤ 10) ⌝ }
     ensures { λ b. ⌜ b ≡ mattersBy g went complete e r ⌝ }
@@ -97,7 +109,7 @@ fn block_due(g: Params, went: bool, supported: bool, e: usize, r: usize) -> bool
     both(!went, right)
 }
 
-// Whether q + t readies have the list and the comparison is equal.
+// Whether the group has q + t readies and the comparison is equal.
 fn block_full(g: Params, supported: bool, r: usize) -> bool
     requires { ⌜ Bounded g ⌝ }
     ensures { λ b. ⌜ b ≡ fullBy g supported r ⌝ }
@@ -106,12 +118,16 @@ fn block_full(g: Params, supported: bool, r: usize) -> bool
     both(all, supported)
 }
 
-// What is due by the votes.
-pub fn due_for(g: Params, b: BlockPart, v: Voters, supported: bool) -> Due
+// What is due by the votes for the time; went says whether a ready went out before.
+pub fn due_for(g: Params, went: bool, v: Voters, supported: bool, time: u64) -> Due
     requires { ⌜ Bounded g × (v .echoed ≤ 10) ⌝ }
-    ensures { λ d. ⌜ d ≡ dueFor g b v supported ⌝ }
+    ensures { λ d. ⌜ d ≡ dueFor g went v supported time ⌝ }
 {
-    let ready = block_due(g, b.ready, supported, v.echoed, v.readied);
+    let ready = block_due(g, went, supported, v.echoed, v.readied);
     let complete = block_full(g, supported, v.readied);
-    Due { ready, complete }
+    Due {
+        ready,
+        complete,
+        time,
+    }
 }

@@ -103,7 +103,7 @@ pub fn handed(line: &[u8], at: usize, x: Trial, area: &mut [u8], initial: &mut [
     )
 }
 
-// unready CLIENT: the own ready of the blocks of the client's open write counts as not sent. No run makes such a record.
+// unready CLIENT: the own ready of the client's open write counts as not sent. No run makes such a record.
 pub fn unready(line: &[u8], at: usize, x: Trial) -> Trial
     requires { ⌜ at ≤ length (now line) ⌝ }
 {

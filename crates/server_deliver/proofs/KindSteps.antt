@@ -2,19 +2,22 @@
 use Prim.Native.Nat.{ℕ, _+_, _*_, _-_, _≤_, _<_}
 use native.Mathlib.Omega.{arith}
 use mathlib.Core.Path.{_≡_, refl, ap, sym, _∙_}
+use native.Mathlib.Decide.{decLe}
 use mathlib.Core.Bool.{Bool, true, false}
 use mathlib.Core.List.{List, [], _∷_}
 use lib.ListN.{length, take, drop}
-use lib.Dec.{eqb}
+use lib.Dec.{eqb, leb}
 use borrow.Author.Tests.{lt-leb, le-leb, eqb-true, eqb-false}
 use Rattle.area.specs.Area.{pick}
+use Rattle.quorum.proofs.Logic.{impossible}
+use Rattle.area.specs.Numbers.{be8}
 use Rattle.area.proofs.Sets.{length-part}
 use Rattle.blocks.specs.declared.Params.{Params}
 use Rattle.frame.specs.declared.Party.the-variants as P
 use Rattle.frame.specs.declared.Refusal.the-variants as R
 use Rattle.frame.specs.Params.{width, listed}
-use Rattle.frame.specs.Messages.{entry, Body, getStamp, askRead, readComplete, stampIs, message, sending}
-use Rattle.frame.specs.Frames.{bodyAt, lengthOf, bodyLength, entryIn, bodyIn, messageIn}
+use Rattle.frame.specs.Messages.{entry, offer, Body, getStamp, askRead, readComplete, stampIs, message, sending}
+use Rattle.frame.specs.Frames.{bodyAt, retired, lengthOf, bodyLength, offerIn, bodyIn, messageIn}
 use Rattle.frame.proofs.Writing.{part-at}
 use Rattle.server_rules.specs.declared.Server.{Server}
 use Rattle.server_rules.specs.declared.Scope.{Scope}
@@ -29,40 +32,43 @@ use Rattle.server.proofs.Scopes.{as-it-was}
 use Rattle.server_blocks.specs.Stage.{Carried}
 use Rattle.server_deliver.specs.Handed.{stepFor}
 
--- ---- the lengths
+-- ---- the offer of a frame of a write
 
--- of a frame with a digest list and a block
-pub block-frame : (g : Params) (kind l : ℕ) → 3 ≤ kind → kind ≤ 5 → l ≡ bodyAt + bodyLength g kind → l ≡ 9 + (32 * g .n + width g)
+-- the length of the frame
+pub offer-frame : (g : Params) (kind l : ℕ) → 3 ≤ kind → kind ≤ 5 → l ≡ bodyAt + bodyLength g kind → l ≡ 17 + (32 * g .n + width g)
 unfolding bodyLength lengthOf pick
-block-frame g kind l h k e =
+offer-frame g kind l h k e =
     let a : 1 < kind = omega arith in
     let b : 2 < kind = omega arith in
-    e ∙ rw (lt-leb _ _ a, lt-leb _ _ b, le-leb _ _ k)
-
--- of a frame with a time
-pub time-frame : (g : Params) (kind l : ℕ) → 6 ≤ kind → kind ≤ 8 → l ≡ bodyAt + bodyLength g kind → 17 ≤ l
-unfolding bodyLength lengthOf pick
-time-frame g kind l h k e =
-    let a : 1 < kind = omega arith in
-    let b : 2 < kind = omega arith in
-    let c : 5 < kind = omega arith in
-    let z : l ≡ 17 = e ∙ rw (lt-leb _ _ a, lt-leb _ _ b, lt-leb _ _ c, le-leb _ _ k) in
+    let z : l ≡ 9 + (8 + (32 * g .n + width g)) = e ∙ rw (lt-leb _ _ a, lt-leb _ _ b, le-leb _ _ k) in
     omega (arith, z)
 
 -- the parts of a frame that the code lends
-pub carried-in : (g : Params) (f : List ℕ) (w : ℕ) → w ≡ width g → length f ≡ 9 + (32 * g .n + width g)
-    → Carried g (length (take (9 + 32 * g .n - 9) (drop 9 f))) (length (take (9 + 32 * g .n + w - (9 + 32 * g .n)) (drop (9 + 32 * g .n) f)))
+pub carried-in : (g : Params) (f : List ℕ) (w : ℕ) → w ≡ width g → length f ≡ 17 + (32 * g .n + width g)
+    → Carried g (length (take (17 + 32 * g .n - 17) (drop 17 f))) (length (take (17 + 32 * g .n + w - (17 + 32 * g .n)) (drop (17 + 32 * g .n) f)))
 carried-in g f w e l = record {
-  list-is = ap length (part-at f 9 (32 * g .n) (listed g) refl) ∙ length-part f 9 (listed g) (omega (arith, l));
-  block-is = ap length (part-at f (9 + 32 * g .n) w (width g) e) ∙ length-part f (9 + 32 * g .n) (width g) (omega (arith, l));
+  list-is = ap length (part-at f 17 (32 * g .n) (listed g) refl) ∙ length-part f 17 (listed g) (omega (arith, l));
+  block-is = ap length (part-at f (17 + 32 * g .n) w (width g) e) ∙ length-part f (17 + 32 * g .n) (width g) (omega (arith, l));
 }
 
-pub entry-is : (g : Params) (f : List ℕ) (w : ℕ) → w ≡ width g
-    → entryIn g f bodyAt ≡ entry (take (9 + 32 * g .n - 9) (drop 9 f)) (take (9 + 32 * g .n + w - (9 + 32 * g .n)) (drop (9 + 32 * g .n) f))
-entry-is g f w e =
-    let d = part-at f 9 (32 * g .n) (listed g) refl in
-    let b = part-at f (9 + 32 * g .n) w (width g) e in
-    sym (λ i. entry (d i) (b i))
+pub offer-is : (g : Params) (f : List ℕ) (T w : ℕ) → T ≡ be8 f bodyAt → w ≡ width g
+    → offer T (entry (take (17 + 32 * g .n - 17) (drop 17 f)) (take (17 + 32 * g .n + w - (17 + 32 * g .n)) (drop (17 + 32 * g .n) f))) ≡ offerIn g f
+offer-is g f T w t e =
+    let d = part-at f 17 (32 * g .n) (listed g) refl in
+    let b = part-at f (17 + 32 * g .n) w (width g) e in
+    λ i. offer (t i) (entry (d i) (b i))
+
+-- a kind up to 8 that is not retired
+pub used-kind : (kind : ℕ) → retired kind ≡ false → kind ≤ 8 → kind ≤ 5
+unfolding retired
+used-kind kind r h = go (decLe kind 5)
+  where
+    go : Dec (kind ≤ 5) → kind ≤ 5
+    go (yes k) = k
+    go (no k) =
+        let a : leb 6 kind ≡ true = le-leb 6 kind (omega (arith, k)) in
+        let b : leb kind 8 ≡ true = le-leb kind 8 h in
+        impossible (cc (a, b, r))
 
 -- ---- the steps
 

@@ -128,6 +128,7 @@ handed k f area initial out to q e p =
         own-high = A .own-high;
         kind-low = F .kind-low;
         kind-high = F .kind-high;
+        kind-used = F .kind-used;
         frame-is = F .length-is;
       },
       S .initial-whole,

@@ -3,6 +3,7 @@ use frame::Refusal;
 use frame::Verdict;
 use frame::bounds::width;
 use frame::layout::BODY_AT;
+use frame::layout::OFFER_AT;
 use server::Call;
 use server::Counted;
 use server::Taken;
@@ -13,24 +14,22 @@ use server::replies::taken;
 use server::state::with_slot;
 use server_accept::accept;
 use server_accept::is_ripe;
-use server_blocks::storing::on_block_echo;
-use server_blocks::storing::on_block_ready;
 use server_blocks::storing::on_block_send;
+use server_blocks::storing::on_block_vote;
 use server_rules::Reader;
 use server_rules::Reply;
 use server_rules::Scope;
 use server_rules::Slot;
-use server_times::on_time_echo;
-use server_times::on_time_ready;
-use server_times::on_time_send;
 ghost use Prim.Native.Nat.{ℕ, _≤_, _<_};
 ghost use mathlib.Core.Path.{_≡_};
 ghost use mathlib.Core.List.{List};
 ghost use lib.ListN.{length};
 ghost use Rattle.frame.specs.Params.{width};
-ghost use Rattle.server_deliver.specs.Handed.{Handed, HandedOwn, OfServers, storedBy, VoteHandled, Stepping};
+ghost use Rattle.frame.specs.Frames.{offerIn};
+ghost use Rattle.server_blocks.specs.Stage.{voteStage, BlockHandled};
+ghost use Rattle.server_deliver.specs.Handed.{Handed, HandedOwn, storedBy, Stepping};
 
-// ---- the client's own frames of its write: kinds 3 and 6
+// ---- the client's own frame of its write: kind 3
 
 // Nothing can be accepted behind such a frame: the slot is stored, unless the frame was turned down.
 fn stored(s: Scope, n: Counted) -> Taken
@@ -49,72 +48,43 @@ fn stored(s: Scope, n: Counted) -> Taken
     taken(y, place)
 }
 
-// Kind 3, whose body is a digest list and a block.
-fn step_of_blocks(s: Scope, k: Call, f: &[u8], out: &mut [u8], to: &mut [u8]) -> Taken
+// Kind 3, whose body is a time, a digest list and a block.
+fn step_of_send(s: Scope, k: Call, f: &[u8], out: &mut [u8], to: &mut [u8]) -> Taken
     requires { ⌜ HandedOwn k (length (now f)) (length (now out)) (length (now to)) × (k .header .kind ≡ 3) ⌝ }
     ensures { λ r. ⌜ ((rs : List Reader) (a i : List ℕ) → Stepping s rs k a i (now (f .entry)) (now (out .entry)) (now (to .entry))
         r a (now (out .exit)) (now (to .exit))) ⌝ }
 {
     let g = k.params;
     let x = s.slot;
-    let middle = BODY_AT + 32 * g.n;
+    let time = area::read8(f, BODY_AT);
+    let middle = OFFER_AT + 32 * g.n;
     let end = middle + width(g);
-    let n = on_block_send(x, k, &f[BODY_AT..middle], &f[middle..end], out, to);
+    let n = on_block_send(x, k, time, &f[OFFER_AT..middle], &f[middle..end], out, to);
     stored(s, n)
 }
 
-// Kind 6.
-fn step_of_time(s: Scope, k: Call, f: &[u8], out: &mut [u8], to: &mut [u8]) -> Taken
-    requires { ⌜ HandedOwn k (length (now f)) (length (now out)) (length (now to)) × (k .header .kind ≡ 6) ⌝ }
-    ensures { λ r. ⌜ ((rs : List Reader) (a i : List ℕ) → Stepping s rs k a i (now (f .entry)) (now (out .entry)) (now (to .entry))
-        r a (now (out .exit)) (now (to .exit))) ⌝ }
-{
-    let x = s.slot;
-    let n = on_time_send(x, k, f, out, to);
-    stored(s, n)
-}
+// ---- servers' frames of a write: kinds 4 and 5
 
-// ---- servers' frames of a write: kinds 4, 5, 7 and 8
-
-// Kinds 4 and 5, whose body is a digest list and a block.
-fn count_blocks(
-    x: Slot,
-    k: Call,
-    f: &[u8],
-    area: &mut [u8],
-    out: &mut [u8],
-    to: &mut [u8],
-) -> Counted
+// Such a frame, whose body is a time, a digest list and a block, counted in the slot.
+fn count_vote(x: Slot, k: Call, f: &[u8], area: &mut [u8], out: &mut [u8], to: &mut [u8]) -> Counted
     requires { ⌜ Handed k (length (now f)) (length (now area)) (length (now out)) (length (now to)) × (4 ≤ k .header .kind) × (k .header .kind ≤ 5) ⌝ }
-    ensures { λ r. ⌜ VoteHandled k x (now (area .entry)) (now (f .entry)) (now (out .entry)) (now (to .entry))
-        r (now (area .exit)) (now (out .exit)) (now (to .exit)) ⌝ }
+    ensures { λ r. ⌜ BlockHandled k x (voteStage (k .header .kind)) (offerIn (k .params) (now (f .entry)))
+        (now (area .entry)) (now (out .entry)) (now (to .entry)) r (now (area .exit)) (now (out .exit)) (now (to .exit)) ⌝ }
 {
     let g = k.params;
-    let h = k.header;
-    let middle = BODY_AT + 32 * g.n;
+    let time = area::read8(f, BODY_AT);
+    let middle = OFFER_AT + 32 * g.n;
     let end = middle + width(g);
-    let list = &f[BODY_AT..middle];
-    let block = &f[middle..end];
-    if h.kind == 4 {
-        return on_block_echo(x, k, list, block, area, out, to);
-    }
-    on_block_ready(x, k, list, block, area, out, to)
-}
-
-// Kinds 4, 5, 7 and 8, counted in the slot.
-fn count_vote(x: Slot, k: Call, f: &[u8], area: &mut [u8], out: &mut [u8], to: &mut [u8]) -> Counted
-    requires { ⌜ Handed k (length (now f)) (length (now area)) (length (now out)) (length (now to)) × OfServers (k .header .kind) ⌝ }
-    ensures { λ r. ⌜ VoteHandled k x (now (area .entry)) (now (f .entry)) (now (out .entry)) (now (to .entry))
-        r (now (area .exit)) (now (out .exit)) (now (to .exit)) ⌝ }
-{
-    let h = k.header;
-    if h.kind < 6 {
-        return count_blocks(x, k, f, area, out, to);
-    }
-    if h.kind == 7 {
-        return on_time_echo(x, k, f, out, to);
-    }
-    on_time_ready(x, k, f, out, to)
+    on_block_vote(
+        x,
+        k,
+        time,
+        &f[OFFER_AT..middle],
+        &f[middle..end],
+        area,
+        out,
+        to,
+    )
 }
 
 // Counted; then the write is accepted if it can be.
@@ -128,7 +98,7 @@ fn step_of_vote(
     to: &mut [u8],
 ) -> Taken
     requires { ⌜ Handed k (length (now f)) (length (now area)) (length (now out)) (length (now to)) ×
-        OfServers (k .header .kind) × (k .header .sequence < 4294967296) ⌝ }
+        (4 ≤ k .header .kind) × (k .header .kind ≤ 5) × (k .header .sequence < 4294967296) ⌝ }
     ensures { λ r. ⌜ ((i : List ℕ) → Stepping s readers k (now (area .entry)) i (now (f .entry)) (now (out .entry)) (now (to .entry))
         r (now (area .exit)) (now (out .exit)) (now (to .exit))) ⌝ }
 {
@@ -156,7 +126,7 @@ fn step_of_vote(
 
 // ---- any frame
 
-// Kinds 3 to 8, of a write's two broadcasts.
+// Kinds 3 to 5, of a write.
 fn step_of_write(
     s: Scope,
     readers: [Reader; 9],
@@ -166,21 +136,18 @@ fn step_of_write(
     out: &mut [u8],
     to: &mut [u8],
 ) -> Taken
-    requires { ⌜ Handed k (length (now f)) (length (now area)) (length (now out)) (length (now to)) × (3 ≤ k .header .kind) × (k .header .kind ≤ 8) ⌝ }
+    requires { ⌜ Handed k (length (now f)) (length (now area)) (length (now out)) (length (now to)) × (3 ≤ k .header .kind) × (k .header .kind ≤ 5) ⌝ }
     ensures { λ r. ⌜ ((i : List ℕ) → Stepping s readers k (now (area .entry)) i (now (f .entry)) (now (out .entry)) (now (to .entry))
         r (now (area .exit)) (now (out .exit)) (now (to .exit))) ⌝ }
 {
     let h = k.header;
     if h.kind == 3 {
-        return step_of_blocks(s, k, f, out, to);
-    }
-    if h.kind == 6 {
-        return step_of_time(s, k, f, out, to);
+        return step_of_send(s, k, f, out, to);
     }
     step_of_vote(s, readers, k, f, area, out, to)
 }
 
-// Kinds 1 to 12; 2, 9 and 11 do not go to servers.
+// Kinds 1 to 5 and 9 to 12; 2, 9 and 11 do not go to servers.
 pub fn step_of_kind(
     s: Scope,
     readers: [Reader; 9],

@@ -8,7 +8,7 @@ use mathlib.Core.List.{_∷_, List·Memᴰ, List·Memᴰ·head, List·Memᴰ·ta
 use lib.ListN.{length}
 use Rattle.blocks.specs.declared.Params.{Params}
 use Rattle.frame.specs.declared.Party.the-variants as P
-use Rattle.frame.specs.Messages.{Body, getStamp, ack, askRead, readComplete, stampIs, blockIs, timeIs, valueIs, Message, Sending, sending, toFrom, toAll}
+use Rattle.frame.specs.Messages.{Body, getStamp, ack, askRead, readComplete, stampIs, blockIs, valueIs, Message, Sending, sending, toFrom, toAll}
 
 -- a frame of a write's broadcast
 abbrev pub IsCast : Body → Type 0
@@ -17,8 +17,7 @@ IsCast ack = ⊥
 IsCast askRead = ⊥
 IsCast readComplete = ⊥
 IsCast (stampIs T) = ⊥
-IsCast (blockIs z e) = Unit {0}
-IsCast (timeIs z T) = Unit {0}
+IsCast (blockIs z o) = Unit {0}
 IsCast (valueIs x e) = ⊥
 
 pub mem-all : (f : ℕ → Message) (j m : ℕ) (x : Sending) → List·Memᴰ x (toFrom f j m) → (i : ℕ) × (x .says ≡ f i)

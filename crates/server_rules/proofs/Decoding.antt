@@ -1,4 +1,4 @@
--- What a server decodes of a write's frames: what it computes from enough of one digest list has the sizes of an entry, and a block part becomes
+-- What a server decodes of a write's frames: what it computes from enough of one time and digest list has the sizes of an entry, and a write becomes
 -- complete with the digests of a value that was decoded. Assumes nothing.
 use Prim.Native.Nat.{ℕ, zero, suc, _+_, _≤_}
 use native.Mathlib.Omega.{arith}
@@ -20,12 +20,13 @@ use Rattle.blocks.proofs.Stripes.{length-blockOf}
 use Rattle.blocks.proofs.Values.{length-valueOf}
 use Rattle.blocks.proofs.RoundTrip.{Bytes-valueOf}
 use Rattle.group_rules.specs.Coded.{Piece, hasList, pieceOf, pieces, numbers, joinedBytes, decoded, digestsOf}
-use Rattle.frame.specs.Messages.{Entry, Sized}
+use Rattle.frame.specs.Messages.{Entry, Offer, Sized}
 use Rattle.frame.specs.Params.{width, quota}
-use Rattle.server_rules.specs.Broadcast.{Rules, Part, kept, undone, isLike, votes, enough, due, full, matters}
-use Rattle.server_rules.specs.Rules.{chosen, regained, blockRules}
+use Rattle.server_rules.specs.Broadcast.{Rules, Part, kept, undone, votes, enough, due, full, matters}
+use Rattle.server_rules.specs.Rules.{atTime, chosen, regained, regainedOf, blockRules}
 use Rattle.server_rules.proofs.Parts.{firstOf, settled}
 use Rattle.server_rules.proofs.Thresholds.{due-votes, full-votes, full-supported, quota-blocks, compared}
+use Rattle.server_rules.proofs.AtTime.{votes-are}
 
 piece-size : (o : Option Entry) (d : List ℕ) (j : ℕ) (l : List Piece) → length (pieceOf o d j l) ≡ bit (hasList o d) + length l
 unfolding pick
@@ -63,16 +64,16 @@ unfolding width
 block-width g v j e = length-blockOf (g .k) v j ∙ ap (λ l. blockLength l (g .k)) e
 
 module _ (H : List ℕ → List ℕ) (g : Params) where
-  abbrev Rb : Rules Entry
+  abbrev Rb : Rules Offer
   Rb = blockRules H g
 
   -- one of the values has these digests
   abbrev pub Has : List (List ℕ) → List ℕ → Type 0
   Has vs d = (v : List ℕ) × List·Memᴰ v vs × (digestsOf H g v ≡ d) × (length v ≡ g .size) × Bytes v
 
-  -- what is decoded as the part w meets x
-  abbrev pub decodes : Part Entry → Entry → List (List ℕ)
-  decodes w x = pick (matters Rb (g .n) (g .t) w x) (regained g (w .echoes) (w .readies) (x .digests) ∷ []) []
+  -- what is decoded as the part w meets o
+  abbrev pub decodes : Part Offer → Offer → List (List ℕ)
+  decodes w o = pick (matters Rb (g .n) (g .t) w o) (regainedOf g (w .echoes) (w .readies) o ∷ []) []
 
 module _ (H : List ℕ → List ℕ) (g : Params) (kk : 1 ≤ g .k) where
   pub decoded-size : (f : ℕ → Option Entry) (d : List ℕ) → g .k ≤ count (λ j. hasList (f j) d) (g .n) → length (decoded g f d) ≡ g .size
@@ -80,48 +81,42 @@ module _ (H : List ℕ → List ℕ) (g : Params) (kk : 1 ≤ g .k) where
   decoded-size f d h =
       let p = all-pieces f d (g .n) in
       let t : length (take (g .k) (pieces f d 1 (g .n))) ≡ g .k = length-take-le (g .k) (pieces f d 1 (g .n)) (omega arith) in
-      let m : length (numbers (take (g .k) (pieces f d 1 (g .n)))) ≡ length (take (g .k) (pieces f d 1 (g .n))) = length-map (take (g .k) (pieces f d 1 (g .n))) (λ p. p .number) in
+      let m : length (numbers (take (g .k) (pieces f d 1 (g .n)))) ≡ length (take (g .k) (pieces f d 1 (g .n))) =
+      length-map (take (g .k) (pieces f d 1 (g .n))) (λ p. p .number) in
       length-valueOf (numbers (take (g .k) (pieces f d 1 (g .n)))) _ (g .size) (omega arith)
 
-  like : (o : Option Entry) (x : Entry) → isLike (blockRules H g) (g .n) (g .t) o x ≡ hasList o (x .digests)
-  like none x = refl
-  like (some y) x = refl
-
-  pub votes-are : (f : ℕ → Option Entry) (x : Entry) → votes (blockRules H g) (g .n) (g .t) f x ≡ count (λ j. hasList (f j) (x .digests)) (g .n)
-  unfolding votes
-  votes-are f x i = count (λ j. like (f j) x i) (g .n)
-
   -- from q readies, and from the echoes where there are fewer
-  by-readies : (es rs : ℕ → Option Entry) (x : Entry) → quota g ≤ votes (blockRules H g) (g .n) (g .t) rs x → length (regained g es rs (x .digests)) ≡ g .size
+  by-readies : (es rs : ℕ → Option Offer) (o : Offer) → quota g ≤ votes (blockRules H g) (g .n) (g .t) rs o → length (regainedOf g es rs o) ≡ g .size
   unfolding regained chosen pick votes
-  by-readies es rs x v =
-      let c = votes-are rs x in
-      let q : quota g ≤ count (λ j. hasList (rs j) (x .digests)) (g .n) = omega arith in
-      rw (le-leb (quota g) _ q) (decoded-size rs (x .digests) (omega (arith, quota-blocks g)))
+  by-readies es rs o v =
+      let c = votes-are H g rs o in
+      let q : quota g ≤ count (λ j. hasList (atTime rs (o .time) j) (o .entry .digests)) (g .n) = omega arith in
+      rw (le-leb (quota g) _ q) (decoded-size (atTime rs (o .time)) (o .entry .digests) (omega (arith, quota-blocks g)))
 
-  by-echoes : (es rs : ℕ → Option Entry) (x : Entry) → g .k ≤ votes (blockRules H g) (g .n) (g .t) es x → length (regained g es rs (x .digests)) ≡ g .size
+  by-echoes : (es rs : ℕ → Option Offer) (o : Offer) → g .k ≤ votes (blockRules H g) (g .n) (g .t) es o → length (regainedOf g es rs o) ≡ g .size
   unfolding regained chosen pick votes
-  by-echoes es rs x v = go (leb (quota g) (count (λ j. hasList (rs j) (x .digests)) (g .n))) refl
+  by-echoes es rs o v = go (leb (quota g) (count (λ j. hasList (atTime rs (o .time) j) (o .entry .digests)) (g .n))) refl
     where
-      go : (b : Bool) → leb (quota g) (count (λ j. hasList (rs j) (x .digests)) (g .n)) ≡ b → length (decoded g (pick b rs es) (x .digests)) ≡ g .size
-      go true e = decoded-size rs (x .digests) (omega (arith, quota-blocks g, leb-true (quota g) _ e))
-      go false e = decoded-size es (x .digests) (omega (arith, v, votes-are es x))
+      go : (b : Bool) → leb (quota g) (count (λ j. hasList (atTime rs (o .time) j) (o .entry .digests)) (g .n)) ≡ b
+          → length (decoded g (pick b (atTime rs (o .time)) (atTime es (o .time))) (o .entry .digests)) ≡ g .size
+      go true e = decoded-size (atTime rs (o .time)) (o .entry .digests) (omega (arith, quota-blocks g, leb-true (quota g) _ e))
+      go false e = decoded-size (atTime es (o .time)) (o .entry .digests) (omega (arith, v, votes-are H g es o))
 
-  sized-own : (me : ℕ) (w : Part Entry) (x : Entry) → Sized g x → length (regained g (w .echoes) (w .readies) (x .digests)) ≡ g .size
-      → Sized g (blockRules H g .own me (w .echoes) (w .readies) x)
-  sized-own me w x Q s = record { list-is = Q .list-is; block-is = block-width g (regained g (w .echoes) (w .readies) (x .digests)) me s }
+  sized-own : (me : ℕ) (w : Part Offer) (o : Offer) → Sized g (o .entry) → length (regainedOf g (w .echoes) (w .readies) o) ≡ g .size
+      → Sized g (blockRules H g .own me (w .echoes) (w .readies) o .entry)
+  sized-own me w o Q s = record { list-is = Q .list-is; block-is = block-width g (regainedOf g (w .echoes) (w .readies) o) me s }
 
-  -- an entry that completes the part, and one that is due
-  pub coded : (me : ℕ) (w : Part Entry) (x : Entry) → Sized g x → full (blockRules H g) (g .n) (g .t) w x ≡ true
-      → Sized g (blockRules H g .own me (w .echoes) (w .readies) x)
-  coded me w x Q e = sized-own me w x Q (by-readies (w .echoes) (w .readies) x (omega (arith, full-votes (blockRules H g) (g .n) (g .t) w x e)))
+  -- an offer that completes the part, and one that is due
+  pub coded : (me : ℕ) (w : Part Offer) (o : Offer) → Sized g (o .entry) → full (blockRules H g) (g .n) (g .t) w o ≡ true
+      → Sized g (blockRules H g .own me (w .echoes) (w .readies) o .entry)
+  coded me w o Q e = sized-own me w o Q (by-readies (w .echoes) (w .readies) o (omega (arith, full-votes (blockRules H g) (g .n) (g .t) w o e)))
 
-  pub due-sized : g .k + g .t ≤ g .n → (me : ℕ) (w : Part Entry) (x : Entry) → Sized g x → due (blockRules H g) (g .n) (g .t) w x ≡ true
-      → Sized g (blockRules H g .own me (w .echoes) (w .readies) x)
-  due-sized kn me w x Q e = sized-own me w x Q (⊎-elim
-      (λ a. by-echoes (w .echoes) (w .readies) x (omega (arith, kn, a)))
-      (λ a. by-readies (w .echoes) (w .readies) x a)
-      (due-votes (blockRules H g) (g .n) (g .t) w x e))
+  pub due-sized : g .k + g .t ≤ g .n → (me : ℕ) (w : Part Offer) (o : Offer) → Sized g (o .entry) → due (blockRules H g) (g .n) (g .t) w o ≡ true
+      → Sized g (blockRules H g .own me (w .echoes) (w .readies) o .entry)
+  due-sized kn me w o Q e = sized-own me w o Q (⊎-elim
+      (λ a. by-echoes (w .echoes) (w .readies) o (omega (arith, kn, a)))
+      (λ a. by-readies (w .echoes) (w .readies) o a)
+      (due-votes (blockRules H g) (g .n) (g .t) w o e))
 
   -- ---- what was decoded
 
@@ -136,27 +131,27 @@ module _ (H : List ℕ → List ℕ) (g : Params) (kk : 1 ≤ g .k) where
   in-pick true v e = List·Memᴰ·head refl
   in-pick false v e = impossible (cc e)
 
-  full-has : (w : Part Entry) (x : Entry) → w .done ≡ none → full (blockRules H g) (g .n) (g .t) w x ≡ true → Has H g (decodes H g w x) (x .digests)
+  full-has : (w : Part Offer) (o : Offer) → w .done ≡ none → full (blockRules H g) (g .n) (g .t) w o ≡ true → Has H g (decodes H g w o) (o .entry .digests)
   unfolding full matters votes
-  full-has w x n h =
-      let u = and-split (leb (blockRules H g .all) (votes (blockRules H g) (g .n) (g .t) (w .readies) x)) _ h in
-      let m = or-right (not (w .ready) && enough (blockRules H g) (g .n) (g .t) w x) _ (and-true _ _ (u .0) (ap undone n)) in (
-        regained g (w .echoes) (w .readies) (x .digests),
+  full-has w o n h =
+      let u = and-split (leb (blockRules H g .all) (votes (blockRules H g) (g .n) (g .t) (w .readies) o)) _ h in
+      let m = or-right (not (w .ready) && enough (blockRules H g) (g .n) (g .t) w o) _ (and-true _ _ (u .0) (ap undone n)) in (
+        regainedOf g (w .echoes) (w .readies) o,
         in-pick _ _ m,
-        compared H g (w .echoes) (w .readies) x (full-supported (blockRules H g) (g .n) (g .t) w x h),
-        by-readies (w .echoes) (w .readies) x (omega (arith, full-votes (blockRules H g) (g .n) (g .t) w x h)),
-        regained-bytes (w .echoes) (w .readies) (x .digests),
+        compared H g (w .echoes) (w .readies) o (full-supported (blockRules H g) (g .n) (g .t) w o h),
+        by-readies (w .echoes) (w .readies) o (omega (arith, full-votes (blockRules H g) (g .n) (g .t) w o h)),
+        regained-bytes _ _ (o .entry .digests),
       )
 
-  pub settled-has : (me : ℕ) (w : Part Entry) (x y : Entry) → settled (blockRules H g) (g .n) (g .t) me w x .done ≡ some y
-      → (w .done ≡ some y) ⊎ Has H g (decodes H g w x) (y .digests)
-  settled-has me w x y = go (w .done) (full (blockRules H g) (g .n) (g .t) w x) refl refl
+  pub settled-has : (me : ℕ) (w : Part Offer) (o y : Offer) → settled (blockRules H g) (g .n) (g .t) me w o .done ≡ some y
+      → (w .done ≡ some y) ⊎ Has H g (decodes H g w o) (y .entry .digests)
+  settled-has me w o y = go (w .done) (full (blockRules H g) (g .n) (g .t) w o) refl refl
     where
-      go : (o : Option Entry) (b : Bool) → w .done ≡ o → full (blockRules H g) (g .n) (g .t) w x ≡ b
-          → firstOf o (kept b (blockRules H g .own me (w .echoes) (w .readies) x)) ≡ some y
-          → (w .done ≡ some y) ⊎ Has H g (decodes H g w x) (y .digests)
+      go : (d : Option Offer) (b : Bool) → w .done ≡ d → full (blockRules H g) (g .n) (g .t) w o ≡ b
+          → firstOf d (kept b (blockRules H g .own me (w .echoes) (w .readies) o)) ≡ some y
+          → (w .done ≡ some y) ⊎ Has H g (decodes H g w o) (y .entry .digests)
       go (some z) b p q u = inl (p ∙ u)
       go none true p q u =
-          let i : blockRules H g .own me (w .echoes) (w .readies) x ≡ y = cc u in
-          inr (subst (λ z. Has H g (decodes H g w x) (z .digests)) i (full-has w x p q))
+          let i : blockRules H g .own me (w .echoes) (w .readies) o ≡ y = cc u in
+          inr (subst (λ z. Has H g (decodes H g w o) (z .entry .digests)) i (full-has w o p q))
       go none false p q u = impossible (cc u)

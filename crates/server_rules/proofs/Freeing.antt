@@ -13,7 +13,7 @@ use Rattle.quorum.specs.Quorum.{Among}
 use Rattle.area.specs.Area.{pick}
 use Rattle.blocks.specs.declared.Params.{Params}
 use Rattle.frame.specs.Chunks.{entryAt, storeIf, presentAt, completeAt, areaBytes}
-use Rattle.frame.specs.Messages.{Entry, Sending, Sized}
+use Rattle.frame.specs.Messages.{Offer, offer, Sending, Sized}
 use Rattle.frame.specs.Params.{width, listed}
 use Rattle.frame.specs.Stamps.{older}
 use Rattle.frame.proofs.Chunks.{entry-same}
@@ -27,14 +27,15 @@ use Rattle.server_rules.specs.WellFormed.{Within}
 use Rattle.server_rules.proofs.Parts.{kept-some}
 use Rattle.server_rules.proofs.Views.{shapes, Shaped, present-if}
 use Rattle.server_rules.proofs.Accepting.{Told, ackOf, accept-mem, accept-ack, accept-length}
-use Rattle.server_rules.proofs.Shapes.{Ripe, Freed, nothing, accepts}
+use Rattle.server_rules.proofs.Shapes.{offerOf, Ripe, Freed, nothing, accepts}
 
 -- the completed entry has its sizes
-pub done-sized : (g : Params) → Small g → (a : List ℕ) → areaBytes ≤ length a → (c : ℕ) → Among 8 c → (x : Slot) (y : Entry)
-    → blockView g a c x .done ≡ some y → Sized g y
+pub done-sized : (g : Params) → Small g → (a : List ℕ) → areaBytes ≤ length a → (c : ℕ) → Among 8 c → (x : Slot) (y : Offer)
+    → blockView g a c x .done ≡ some y → Sized g (y .entry)
 unfolding blockView entryAt
 done-sized g M a R c is x y q =
-    let e : entryAt g a (completeAt c) ≡ y = kept-some (x .blocks .complete) (entryAt g a (completeAt c)) y q in
+    let o = offer (x .blocks .time) (entryAt g a (completeAt c)) in
+    let e : o ≡ y = kept-some (x .blocks .complete) o y q in
     rw (← e) (record {
       list-is = length-take-le (listed g) (drop (576 * completeAt c) a) (rw length-drop (omega (arith, M .list-room)));
       block-is = length-take-le (width g) (drop (576 * completeAt c + 320) a) (rw length-drop (omega (arith, M .block-room)));
@@ -56,7 +57,7 @@ module _ {g : Params} {s : Server} {a : List ℕ} {c : ℕ} where
 
   pub freed-sized : Small g → areaBytes ≤ length a → Among 8 c → {r : S.Effect} → Freed g s a c r → (w : S.Write) → List·Memᴰ w (r .accepted)
       → Sized g (w .entry)
-  freed-sized M room is f w u = let (i, R) = freed-ripe is f w u in done-sized g M a room (w .client) i (slotOf s (w .client)) (w .entry) (R .entry)
+  freed-sized M room is f w u = let (i, R) = freed-ripe is f w u in done-sized g M a room (w .client) i (slotOf s (w .client)) (offerOf w) (R .complete)
 
   -- ---- what they leave
 
@@ -87,7 +88,7 @@ module _ {g : Params} {s : Server} {a : List ℕ} {c : ℕ} where
   freed-blocks M room is nothing d i x X = refl
   freed-blocks M room is (accepts w e R) d i x X =
       present-if g M a room d x X i (older (s .stamp) (S.stampOf w)) (w .entry)
-      (λ z. done-sized g M a room (w .client) (subst (Among 8) (sym e) is) _ (w .entry) (R .entry))
+      (λ z. done-sized g M a room (w .client) (subst (Among 8) (sym e) is) _ (offerOf w) (R .complete))
 
   pub freed-readers : {r : S.Effect} → Freed g s a c r → r .server .readers ≡ s .readers
   unfolding S.accept
@@ -109,7 +110,7 @@ module _ {g : Params} {s : Server} {a : List ℕ} {c : ℕ} where
         w,
         List·Memᴰ·head refl,
         refl,
-        entry-same g M a presentAt (w .entry) (done-sized g M a room (w .client) (subst (Among 8) (sym e) is) _ (w .entry) (R .entry)) (omega arith),
+        entry-same g M a presentAt (w .entry) (done-sized g M a room (w .client) (subst (Among 8) (sym e) is) _ (offerOf w) (R .complete)) (omega arith),
       )
       go false = inl (refl, refl)
 

@@ -14,14 +14,15 @@ use Rattle.frame.specs.declared.Party.{Party}
 use Rattle.frame.specs.declared.Party.the-variants as P
 use Rattle.frame.specs.declared.Refusal.the-variants as R
 use Rattle.frame.specs.declared.Verdict.the-variants as J
-use Rattle.frame.specs.Messages.{Entry, Stage, send, echo, ready, Body, getStamp, ack, askRead, readComplete, stampIs, blockIs, timeIs, valueIs, Message, fromServer, numberIn, Sized}
+use Rattle.frame.specs.Messages.{Offer, Stage, send, echo, ready, Body, getStamp, ack, askRead, readComplete, stampIs, blockIs, valueIs, Message}
+use Rattle.frame.specs.Messages.{fromServer, numberIn, Sized}
 use Rattle.frame.proofs.Verdicts.{fine-both, fine-is}
 use Rattle.server_rules.specs.declared.Slot.{Slot}
 use Rattle.server_rules.specs.declared.Server.{Server}
 use Rattle.server_rules.specs.State.{slotOf}
 use Rattle.server_rules.specs.Steps as S
 use Rattle.server_rules.specs.Tests as ST
-use Rattle.server_rules.proofs.Shapes.{Counted, block, time}
+use Rattle.server_rules.proofs.Shapes.{Counted, block}
 
 -- an entry in a body has the right sizes
 abbrev pub SizedIn : Params → Body → Type 0
@@ -30,8 +31,7 @@ SizedIn g ack = Unit {0}
 SizedIn g askRead = Unit {0}
 SizedIn g readComplete = Unit {0}
 SizedIn g (stampIs T) = Unit {0}
-SizedIn g (blockIs z e) = Sized g e
-SizedIn g (timeIs z T) = Unit {0}
+SizedIn g (blockIs z o) = Sized g (o .entry)
 SizedIn g (valueIs x e) = Sized g e
 
 pub open-passed : (x : Slot) (q : ℕ) (again : Bool) → ST.openTest x q again ≡ J.Fine → (q ≡ x .sequence) × (again ≡ false)
@@ -72,17 +72,11 @@ module _ (g : Params) (from : Party) (c : ℕ) where
   by-number : fromServer g from ≡ true → (from ≡ P.Server (numberIn from)) × Among (g .n) (numberIn from)
   by-number e = let (j, f, i) = is-server g from e in rw f (refl, i)
 
-  pub block-sender : (z : Stage) (e : Entry) → ST.senderRight g from c (blockIs z e) ≡ true → SenderIs g from c z
+  pub block-sender : (z : Stage) (o : Offer) → ST.senderRight g from c (blockIs z o) ≡ true → SenderIs g from c z
   unfolding ST.senderRight
-  block-sender send e h = is-owner from c h
-  block-sender echo e h = by-number h
-  block-sender ready e h = by-number h
-
-  pub time-sender : (z : Stage) (T : ℕ) → ST.senderRight g from c (timeIs z T) ≡ true → SenderIs g from c z
-  unfolding ST.senderRight
-  time-sender send T h = is-owner from c h
-  time-sender echo T h = by-number h
-  time-sender ready T h = by-number h
+  block-sender send o h = is-owner from c h
+  block-sender echo o h = by-number h
+  block-sender ready o h = by-number h
 
   sender-number : Among 8 c → g .n ≤ 10 → (z : Stage) → SenderIs g from c z → Among 10 (numberIn from)
   sender-number is few send e = let n : numberIn from ≡ c = ap numberIn e in omega arith
@@ -92,13 +86,11 @@ module _ (g : Params) (from : Party) (c : ℕ) where
   -- its sender has a number from 1 to 10
   pub counted-from : Among 8 c → g .n ≤ 10 → {H : List ℕ → List ℕ} {me : ℕ} {s : Server} {a initial : List ℕ} {b : Body} {p : S.Counting}
       → Counted H g me s a initial (numberIn from) c b p → ST.senderRight g from c b ≡ true → Among 10 (numberIn from)
-  counted-from is few (block z e) h = sender-number is few z (block-sender z e h)
-  counted-from is few (time z T) h = sender-number is few z (time-sender z T h)
+  counted-from is few (block z o) h = sender-number is few z (block-sender z o h)
 
 -- its write is the open one
 pub counted-open : {H : List ℕ → List ℕ} {g : Params} {me : ℕ} {s : Server} {a initial : List ℕ} {j c : ℕ} {b : Body} {p : S.Counting}
     → Counted H g me s a initial j c b p
     → (q : ℕ) → ST.orderTest H g me s j c q b ≡ J.Fine → q ≡ slotOf s c .sequence
 unfolding ST.orderTest
-counted-open (block z e) q o = open-passed _ q _ (fine-both _ _ o .0) .0
-counted-open (time z T) q o = open-passed _ q _ o .0
+counted-open (block z x) q o = open-passed _ q _ (fine-both _ _ o .0) .0

@@ -14,13 +14,14 @@ use Rattle.frame.specs.declared.Refusal.{Refusal}
 use Rattle.frame.specs.declared.Party.the-variants as P
 use Rattle.frame.specs.Stamps.{lastTime}
 use Rattle.frame.specs.Chunks.{storeEntry, storeIf, echoAt, readyAt}
-use Rattle.frame.specs.Messages.{Entry, Stage, send, echo, ready, Body, getStamp, ack, askRead, readComplete, stampIs, blockIs, timeIs, valueIs, Message, message, Sending, sending, toAll, numberIn, Judged, bad, good}
+use Rattle.frame.specs.Messages.{Entry, Offer, offer, Stage, send, echo, ready, Body, getStamp, ack, askRead, readComplete, stampIs, blockIs, valueIs}
+use Rattle.frame.specs.Messages.{Message, message, Sending, sending, toAll, numberIn, Judged, bad, good}
 use Rattle.frame.proofs.Chunks.{length-store}
 use Rattle.server_rules.specs.declared.Slot.{Slot}
 use Rattle.server_rules.specs.declared.Server.{Server}
-use Rattle.server_rules.specs.State.{slotOf, readerOf, withSlot, withReader, withBlocks, blockView, timeView, presentEntry, blockEcho, blockReady}
+use Rattle.server_rules.specs.State.{slotOf, readerOf, withSlot, withReader, withBlocks, blockView, presentEntry, blockEcho, blockReady}
 use Rattle.server_rules.specs.Broadcast.{due}
-use Rattle.server_rules.specs.Rules.{blockRules, timeRules}
+use Rattle.server_rules.specs.Rules.{blockRules}
 use Rattle.server_rules.specs.Steps as S
 use Rattle.server_rules.specs.Tests.{judge}
 use Rattle.server_rules.specs.Delivery as SD
@@ -28,11 +29,14 @@ use Rattle.server_rules.proofs.Casts.{IsCast}
 
 -- ---- acceptance
 
--- the write w can be accepted: its client's slot has the sequence, the time and the entry
+-- what an accepted write was completed with
+abbrev pub offerOf : S.Write → Offer
+offerOf w = offer (w .time) (w .entry)
+
+-- the write w can be accepted: its client's slot has the sequence, and is complete with its time and entry
 pub record Ripe (g : Params) (s : Server) (a : List ℕ) (w : S.Write) : Type 0 where
   pub sequence : w .sequence ≡ slotOf s (w .client) .sequence
-  pub time : timeView (slotOf s (w .client)) .done ≡ some (w .time)
-  pub entry : blockView g a (w .client) (slotOf s (w .client)) .done ≡ some (w .entry)
+  pub complete : blockView g a (w .client) (slotOf s (w .client)) .done ≡ some (offerOf w)
   pub below : w .time < lastTime
 
 -- what a server accepts behind a counted frame of client c: nothing, or a write of c
@@ -42,19 +46,17 @@ pub data Freed (g : Params) (s : Server) (a : List ℕ) (c : ℕ) : S.Effect →
 
 module _ (g : Params) (s : Server) (a : List ℕ) (c : ℕ) where
   free : Freed g s a c (S.free g s a c)
-  unfolding S.free S.freeBy S.ripe S.bothDone pick
-  free = go (timeView (slotOf s c) .done) (blockView g a c (slotOf s c) .done) refl refl
+  unfolding S.free S.freeBy S.ripe S.ripeBy pick
+  free = go (blockView g a c (slotOf s c) .done) refl
     where
-      at : (b : Bool) (T : ℕ) (e : Entry) → timeView (slotOf s c) .done ≡ some T → blockView g a c (slotOf s c) .done ≡ some e → ltb T lastTime ≡ b
-          → Freed g s a c (S.freeBy (pick b (some (record { client = c; sequence = slotOf s c .sequence; time = T; entry = e })) none) s a)
-      at true T e p q z = accepts _ refl (record { sequence = refl; time = p; entry = q; below = ltb-true T lastTime z })
-      at false T e p q z = nothing
+      at : (b : Bool) (o : Offer) → blockView g a c (slotOf s c) .done ≡ some o → ltb (o .time) lastTime ≡ b
+          → Freed g s a c (S.freeBy (pick b (some (record { client = c; sequence = slotOf s c .sequence; time = o .time; entry = o .entry })) none) s a)
+      at true o p z = accepts _ refl (record { sequence = refl; complete = p; below = ltb-true (o .time) lastTime z })
+      at false o p z = nothing
 
-      go : (o : Option ℕ) (o′ : Option Entry) → timeView (slotOf s c) .done ≡ o → blockView g a c (slotOf s c) .done ≡ o′
-          → Freed g s a c (S.freeBy (S.bothDone s c (slotOf s c .sequence) o o′) s a)
-      go none o′ p q = nothing
-      go (some T) none p q = nothing
-      go (some T) (some e) p q = at (ltb T lastTime) T e p q refl
+      go : (d : Option Offer) → blockView g a c (slotOf s c) .done ≡ d → Freed g s a c (S.freeBy (S.ripeBy s c (slotOf s c .sequence) d) s a)
+      go none p = nothing
+      go (some o) p = at (ltb (o .time) lastTime) o p refl
 
   pub freed : (z : Stage) → Freed g s a c (S.freed g z s a c)
   unfolding S.freed
@@ -76,18 +78,14 @@ freed-length (accepts w e R) = rw length-if
 module _ (H : List ℕ → List ℕ) (g : Params) (me : ℕ) (s : Server) (a initial : List ℕ) (j c : ℕ) where
   -- a frame from party j of client c's open write, and what it does before anything is accepted
   pub data Counted : Body → S.Counting → Type 0 where
-    block : (z : Stage) (e : Entry) → Counted (blockIs z e) (S.onBlock H g me a c (slotOf s c) j z e)
-    time : (z : Stage) (T : ℕ) → Counted (timeIs z T) (S.onTime H g me a c (slotOf s c) j z T)
+    block : (z : Stage) (o : Offer) → Counted (blockIs z o) (S.onBlock H g me a c (slotOf s c) j z o)
 
   -- the write stays open
   pub counted-sequence : {b : Body} {p : S.Counting} → Counted b p → p .slot .sequence ≡ slotOf s c .sequence
-  unfolding S.onBlock S.votedBlock S.onTime S.votedTime
-  counted-sequence (block send e) = refl
-  counted-sequence (block echo e) = refl
-  counted-sequence (block ready e) = refl
-  counted-sequence (time send T) = refl
-  counted-sequence (time echo T) = refl
-  counted-sequence (time ready T) = refl
+  unfolding S.onBlock S.votedBlock
+  counted-sequence (block send o) = refl
+  counted-sequence (block echo o) = refl
+  counted-sequence (block ready o) = refl
 
   -- what goes out goes to all: one body, or nothing
   pub record Casts (l : List Sending) : Type 0 where
@@ -96,42 +94,34 @@ module _ (H : List ℕ → List ℕ) (g : Params) (me : ℕ) (s : Server) (a ini
     pub is : IsCast says
     pub sends : l ≡ pick speaks (toAll g (λ i. message c (slotOf s c .sequence) says)) []
 
-  voted-casts : (a : List ℕ) (x : Slot) (e : Entry) → x .sequence ≡ slotOf s c .sequence → Casts (S.votedBlock H g me a c x e .sends)
+  voted-casts : (a : List ℕ) (x : Slot) (o : Offer) → x .sequence ≡ slotOf s c .sequence → Casts (S.votedBlock H g me a c x o .sends)
   unfolding S.votedBlock
-  voted-casts a x e q = record {
-    speaks = due (blockRules H g) (g .n) (g .t) (blockView g a c x) e;
-    says = blockIs ready (blockRules H g .own me (blockView g a c x .echoes) (blockView g a c x .readies) e);
+  voted-casts a x o q = record {
+    speaks = due (blockRules H g) (g .n) (g .t) (blockView g a c x) o;
+    says = blockIs ready (blockRules H g .own me (blockView g a c x .echoes) (blockView g a c x .readies) o);
     is = tt;
     sends = rw q;
   }
 
-  timed-casts : (a : List ℕ) (x : Slot) (T : ℕ) → x .sequence ≡ slotOf s c .sequence → Casts (S.votedTime H g me a c x T .sends)
-  unfolding S.votedTime
-  timed-casts a x T q = record { speaks = due (timeRules H g) (g .n) (g .t) (timeView x) T; says = timeIs ready T; is = tt; sends = rw q }
-
   pub counted-casts : {b : Body} {p : S.Counting} → Counted b p → Casts (p .sends)
-  unfolding S.onBlock S.onTime pick
-  counted-casts (block send e) = record { speaks = true; says = blockIs echo e; is = tt; sends = refl }
-  counted-casts (block echo e) = voted-casts _ _ e refl
-  counted-casts (block ready e) = voted-casts _ _ e refl
-  counted-casts (time send T) = record { speaks = true; says = timeIs echo T; is = tt; sends = refl }
-  counted-casts (time echo T) = timed-casts _ _ T refl
-  counted-casts (time ready T) = timed-casts _ _ T refl
+  unfolding S.onBlock pick
+  counted-casts (block send o) = record { speaks = true; says = blockIs echo o; is = tt; sends = refl }
+  counted-casts (block echo o) = voted-casts _ _ o refl
+  counted-casts (block ready o) = voted-casts _ _ o refl
 
-  voted-length : (a : List ℕ) (x : Slot) (e : Entry) → length (S.votedBlock H g me a c x e .area) ≡ length a
+  voted-length : (a : List ℕ) (x : Slot) (o : Offer) → length (S.votedBlock H g me a c x o .area) ≡ length a
   unfolding S.votedBlock
-  voted-length a x e = rw length-if
+  voted-length a x o = rw length-if
 
   pub counted-length : {b : Body} {p : S.Counting} → Counted b p → length (p .area) ≡ length a
-  unfolding S.onBlock S.votedBlock S.onTime S.votedTime
-  counted-length (block send e) = refl
-  counted-length (block echo e) = voted-length (storeEntry a (echoAt c j) e) (withBlocks (slotOf s c) (blockEcho (slotOf s c .blocks) j)) e
-      ∙ length-store a (echoAt c j) e
-  counted-length (block ready e) = voted-length (storeEntry a (readyAt c j) e) (withBlocks (slotOf s c) (blockReady (slotOf s c .blocks) j)) e
-      ∙ length-store a (readyAt c j) e
-  counted-length (time send T) = refl
-  counted-length (time echo T) = refl
-  counted-length (time ready T) = refl
+  unfolding S.onBlock S.votedBlock
+  counted-length (block send o) = refl
+  counted-length (block echo o) =
+      voted-length (storeEntry a (echoAt c j) (o .entry)) (withBlocks (slotOf s c) (blockEcho (slotOf s c .blocks) j (o .time))) o
+      ∙ length-store a (echoAt c j) (o .entry)
+  counted-length (block ready o) =
+      voted-length (storeEntry a (readyAt c j) (o .entry)) (withBlocks (slotOf s c) (blockReady (slotOf s c .blocks) j (o .time))) o
+      ∙ length-store a (readyAt c j) (o .entry)
 
   -- what a step for client c's operation q does: nothing, an answer, a reader noted or ended, or a frame counted and then what is accepted
   pub data Shape (q : ℕ) : Body → S.Effect → Type 0 where
@@ -156,8 +146,7 @@ module _ (H : List ℕ → List ℕ) (g : Params) (me : ℕ) (s : Server) (a ini
   shape q askRead = notes
   shape q readComplete = ends
   shape q (stampIs T) = idle (stampIs T)
-  shape q (blockIs z e) = settles _ _ (block z e) (freed g _ _ c z)
-  shape q (timeIs z T) = settles _ _ (time z T) (freed g _ _ c z)
+  shape q (blockIs z o) = settles _ _ (block z o) (freed g _ _ c z)
   shape q (valueIs x e) = idle (valueIs x e)
 
 module _ (H : List ℕ → List ℕ) (g : Params) (me : ℕ) (s : Server) (a initial : List ℕ) (from : Party) where

@@ -18,7 +18,7 @@ use Rattle.frame.specs.declared.Verdict.{Verdict}
 use Rattle.frame.specs.declared.Opened.{Opened}
 use Rattle.frame.specs.declared.Verdict.the-variants as J
 use Rattle.frame.specs.declared.Opened.the-variants as O
-use Rattle.frame.specs.Frames.{lengthOf, bodyLength, opened, entryIn, bodyIn, messageIn}
+use Rattle.frame.specs.Frames.{offerAt, lengthOf, bodyLength, opened, entryIn, bodyIn, messageIn}
 use Rattle.frame.specs.Messages.{Message, Judged, good, judgedBy, after, numberIn, Sized}
 use Rattle.frame.specs.Params.{width, listed, paramsTest}
 use Rattle.frame.specs.Refusals.{andThen}
@@ -54,16 +54,16 @@ unfolding bodyIn bodyLength lengthOf pick
 body-sized g f k l =
     by-pick (SizedIn g) (eqb k 1) _ _ (λ q. tt)
     (by-pick (SizedIn g) (eqb k 2) _ _ (λ q. tt)
-    (by-pick (SizedIn g) (eqb k 3) _ _ (λ q. entry-in g f 9 (long g f k 3 (listed g + width g) l refl q))
-    (by-pick (SizedIn g) (eqb k 4) _ _ (λ q. entry-in g f 9 (long g f k 4 (listed g + width g) l refl q))
-    (by-pick (SizedIn g) (eqb k 5) _ _ (λ q. entry-in g f 9 (long g f k 5 (listed g + width g) l refl q))
-    (by-pick (SizedIn g) (eqb k 6) _ _ (λ q. tt)
-    (by-pick (SizedIn g) (eqb k 7) _ _ (λ q. tt)
-    (by-pick (SizedIn g) (eqb k 8) _ _ (λ q. tt)
+    (by-pick (SizedIn g) (eqb k 3) _ _ (λ q. offered 3 refl q)
+    (by-pick (SizedIn g) (eqb k 4) _ _ (λ q. offered 4 refl q)
+    (by-pick (SizedIn g) (eqb k 5) _ _ (λ q. offered 5 refl q)
     (by-pick (SizedIn g) (eqb k 9) _ _ (λ q. tt)
     (by-pick (SizedIn g) (eqb k 10) _ _ (λ q. tt)
     (by-pick (SizedIn g) (eqb k 11) _ _ (λ q. entry-in g f 22 (let h = long g f k 11 (13 + (listed g + width g)) l refl q in omega (arith, h)))
-    tt))))))))))
+    tt)))))))
+  where
+    offered : (k′ : ℕ) → bodyLength g k′ ≡ 8 + (listed g + width g) → eqb k k′ ≡ true → Sized g (entryIn g f offerAt)
+    offered k′ e q = entry-in g f offerAt (let h = long g f k k′ (8 + (listed g + width g)) l e q in omega (arith, h))
 
 pub message-sized : (g : Params) (f : List ℕ) (h : Header) → opened g f ≡ O.Frame h → SizedIn g (messageIn g h f .body)
 unfolding messageIn

@@ -1,4 +1,4 @@
--- What each store does to the views of a server's slots: one law for each. Assumes nothing.
+-- What each store does to the view of a server's slot: one law for each. Assumes nothing.
 use Prim.Native.Nat.{ℕ, _+_, _≤_}
 use native.Mathlib.Omega.{arith}
 use native.Mathlib.Decide.{decLe}
@@ -13,13 +13,13 @@ use Rattle.area.specs.Area.{pick}
 use Rattle.area.proofs.Tests.{and-right}
 use Rattle.blocks.specs.declared.Params.{Params}
 use Rattle.frame.specs.Chunks.{entryAt, storeEntry, storeIf, completeAt, echoAt, readyAt, areaBytes}
-use Rattle.frame.specs.Messages.{Entry, Sized}
+use Rattle.frame.specs.Messages.{Entry, Offer, offer, Sized}
 use Rattle.frame.proofs.Chunks.{entry-same, entry-other}
 use Rattle.frame.proofs.Sizes.{Small}
 use Rattle.server_rules.specs.declared.Slot.{Slot}
 use Rattle.server_rules.specs.Broadcast.{kept}
 use Rattle.server_rules.specs.WellFormed.{Bounds, SlotWithin}
-use Rattle.server_rules.specs.State.{freshSlot, freshBlocks, freshTimes, withBlocks, withTimes, blockView, timeView, blockSent, blockEcho, blockReady, blockMarks, timeSent, timeEcho, timeReady, timeMarks}
+use Rattle.server_rules.specs.State.{freshSlot, freshBlocks, withBlocks, blockView, blockSent, blockEcho, blockReady, blockMarks}
 use Rattle.server_rules.proofs.Parts.{same-part, firstOf, noPart, withSent, withEcho, withReady, Flags, flag-place, kept-set, kept-when}
 
 -- a slot's arrays have eleven places, of which the first is never set
@@ -29,15 +29,22 @@ shapes = record { flags = Flags; time = λ T. Unit {0}; sequence = λ q. Unit {0
 abbrev pub Shaped : Slot → Type 0
 Shaped = SlotWithin shapes
 
+same-offer : {T T′ : ℕ} {e e′ : Entry} → T ≡ T′ → e ≡ e′ → offer T e ≡ offer T′ e′
+same-offer p q i = offer (p i) (q i)
+
 module _ (g : Params) (M : Small g) (a : List ℕ) (room : areaBytes ≤ length a) (c : ℕ) (x : Slot) (X : Shaped x) where
   -- a store to a chunk that holds nothing of this slot
   pub other-chunk : (p : ℕ) (e : Entry) → Sized g e → ((m : ℕ) → 1 ≤ m → m ≤ 10 → (echoAt c m ≡ p → ⊥) × (readyAt c m ≡ p → ⊥)) → (completeAt c ≡ p → ⊥)
       → blockView g (storeEntry a p e) c x ≡ blockView g a c x
   unfolding blockView
   other-chunk p e Q f h = same-part _ _ refl refl
-      (λ m. kept-when _ _ _ (λ b. let w = flag-place (x .blocks .echoes) (X .blocks .echoes) m b in entry-other g M a p e Q (echoAt c m) (f m (w .0) (w .1) .0)))
-      (λ m. kept-when _ _ _ (λ b. let w = flag-place (x .blocks .readies) (X .blocks .readies) m b in entry-other g M a p e Q (readyAt c m) (f m (w .0) (w .1) .1)))
-      (ap (kept (x .blocks .complete)) (entry-other g M a p e Q (completeAt c) h))
+      (λ m. kept-when _ _ _ (λ b.
+      let w = flag-place (x .blocks .echoes) (X .blocks .echoes) m b in
+      ap (offer _) (entry-other g M a p e Q (echoAt c m) (f m (w .0) (w .1) .0))))
+      (λ m. kept-when _ _ _ (λ b.
+      let w = flag-place (x .blocks .readies) (X .blocks .readies) m b in
+      ap (offer _) (entry-other g M a p e Q (readyAt c m) (f m (w .0) (w .1) .1))))
+      (ap (λ y. kept (x .blocks .complete) (offer (x .blocks .time) y)) (entry-other g M a p e Q (completeAt c) h))
 
   module _ (is : Among 8 c) where
     -- chunk 0, and the chunks of another client
@@ -62,44 +69,53 @@ module _ (g : Params) (M : Small g) (a : List ℕ) (room : areaBytes ≤ length 
     unfolding blockView
     sent-view = refl
 
-    module _ (j : ℕ) (at : Among 10 j) (e : Entry) (Q : Sized g e) where
-      pub echo-view : blockView g (storeEntry a (echoAt c j) e) c (withBlocks x (blockEcho (x .blocks) j)) ≡ withEcho (blockView g a c x) j e
+    module _ (j : ℕ) (at : Among 10 j) (o : Offer) (Q : Sized g (o .entry)) where
+      pub echo-view : blockView g (storeEntry a (echoAt c j) (o .entry)) c (withBlocks x (blockEcho (x .blocks) j (o .time))) ≡ withEcho (blockView g a c x) j o
       unfolding blockView
       echo-view = same-part _ _ refl refl
-          (kept-set (x .blocks .echoes) (λ m. entryAt g a (echoAt c m)) (λ m. entryAt g (storeEntry a (echoAt c j) e) (echoAt c m)) j e
+          (kept-set (x .blocks .echoes) (λ m. offer (getD (x .blocks .echoed) m 0) (entryAt g a (echoAt c m)))
+          (λ m. offer (getD (set (x .blocks .echoed) j (o .time)) m 0) (entryAt g (storeEntry a (echoAt c j) (o .entry)) (echoAt c m))) j o
           (omega (arith, X .blocks .echoes .many))
-          (entry-same g M a (echoAt c j) e Q (omega arith))
-          (λ m ne. entry-other g M a (echoAt c j) e Q (echoAt c m) (λ z. ne (omega arith))))
+          (same-offer (getD-set-same (x .blocks .echoed) j (o .time) 0 (omega (arith, X .blocks .echoed .0)))
+          (entry-same g M a (echoAt c j) (o .entry) Q (omega arith)))
+          (λ m ne. same-offer (getD-set-other (x .blocks .echoed) j m (o .time) 0 ne)
+          (entry-other g M a (echoAt c j) (o .entry) Q (echoAt c m) (λ z. ne (omega arith)))))
           (λ m. kept-when _ _ _ (λ b.
           let w = flag-place (x .blocks .readies) (X .blocks .readies) m b in
-          entry-other g M a (echoAt c j) e Q (readyAt c m) (λ z. omega (arith, w .0, w .1))))
-          (ap (kept (x .blocks .complete)) (entry-other g M a (echoAt c j) e Q (completeAt c) (λ z. omega arith)))
+          ap (offer _) (entry-other g M a (echoAt c j) (o .entry) Q (readyAt c m) (λ z. omega (arith, w .0, w .1)))))
+          (ap (λ y. kept (x .blocks .complete) (offer (x .blocks .time) y)) (entry-other g M a (echoAt c j) (o .entry) Q (completeAt c) (λ z. omega arith)))
 
-      pub ready-view : blockView g (storeEntry a (readyAt c j) e) c (withBlocks x (blockReady (x .blocks) j)) ≡ withReady (blockView g a c x) j e
+      pub ready-view : blockView g (storeEntry a (readyAt c j) (o .entry)) c (withBlocks x (blockReady (x .blocks) j (o .time)))
+          ≡ withReady (blockView g a c x) j o
       unfolding blockView
       ready-view = same-part _ _ refl refl
           (λ m. kept-when _ _ _ (λ b.
           let w = flag-place (x .blocks .echoes) (X .blocks .echoes) m b in
-          entry-other g M a (readyAt c j) e Q (echoAt c m) (λ z. omega (arith, w .0, w .1))))
-          (kept-set (x .blocks .readies) (λ m. entryAt g a (readyAt c m)) (λ m. entryAt g (storeEntry a (readyAt c j) e) (readyAt c m)) j e
+          ap (offer _) (entry-other g M a (readyAt c j) (o .entry) Q (echoAt c m) (λ z. omega (arith, w .0, w .1)))))
+          (kept-set (x .blocks .readies) (λ m. offer (getD (x .blocks .readied) m 0) (entryAt g a (readyAt c m)))
+          (λ m. offer (getD (set (x .blocks .readied) j (o .time)) m 0) (entryAt g (storeEntry a (readyAt c j) (o .entry)) (readyAt c m))) j o
           (omega (arith, X .blocks .readies .many))
-          (entry-same g M a (readyAt c j) e Q (omega arith))
-          (λ m ne. entry-other g M a (readyAt c j) e Q (readyAt c m) (λ z. ne (omega arith))))
-          (ap (kept (x .blocks .complete)) (entry-other g M a (readyAt c j) e Q (completeAt c) (λ z. omega arith)))
+          (same-offer (getD-set-same (x .blocks .readied) j (o .time) 0 (omega (arith, X .blocks .readied .0)))
+          (entry-same g M a (readyAt c j) (o .entry) Q (omega arith)))
+          (λ m ne. same-offer (getD-set-other (x .blocks .readied) j m (o .time) 0 ne)
+          (entry-other g M a (readyAt c j) (o .entry) Q (readyAt c m) (λ z. ne (omega arith)))))
+          (ap (λ y. kept (x .blocks .complete) (offer (x .blocks .time) y)) (entry-other g M a (readyAt c j) (o .entry) Q (completeAt c) (λ z. omega arith)))
 
     if-other : (t : Bool) (e : Entry) → (t ≡ true → Sized g e) → (q : ℕ) → (q ≡ completeAt c → ⊥) → entryAt g (storeIf t a (completeAt c) e) q ≡ entryAt g a q
     if-other true e Q q ne = entry-other g M a (completeAt c) e (Q refl) q ne
     if-other false e Q q ne = refl
 
-    if-done : (k f : Bool) (own : Entry) → (f ≡ true → Sized g own)
-        → kept (k || f) (entryAt g (storeIf (not k && f) a (completeAt c) own) (completeAt c)) ≡ firstOf (kept k (entryAt g a (completeAt c))) (kept f own)
-    if-done true f own Q = refl
-    if-done false true own Q = ap some (entry-same g M a (completeAt c) own (Q refl) (omega arith))
-    if-done false false own Q = refl
+    if-done : (k f : Bool) (T : ℕ) (own : Offer) → (f ≡ true → Sized g (own .entry))
+        → kept (k || f) (offer (pick (not k && f) (own .time) T) (entryAt g (storeIf (not k && f) a (completeAt c) (own .entry)) (completeAt c)))
+        ≡ firstOf (kept k (offer T (entryAt g a (completeAt c)))) (kept f own)
+    unfolding pick
+    if-done true f T own Q = refl
+    if-done false true T own Q = ap (λ y. some (offer (own .time) y)) (entry-same g M a (completeAt c) (own .entry) (Q refl) (omega arith))
+    if-done false false T own Q = refl
 
-    -- the marks after a counted frame, with the completed entry stored where the part becomes complete
-    pub marks-view : (r f : Bool) (own : Entry) → (f ≡ true → Sized g own)
-        → blockView g (storeIf (not (x .blocks .complete) && f) a (completeAt c) own) c (withBlocks x (blockMarks (x .blocks) r f))
+    -- the marks after a counted frame, with the completed entry stored where the write becomes complete
+    pub marks-view : (r f : Bool) (own : Offer) → (f ≡ true → Sized g (own .entry))
+        → blockView g (storeIf (not (x .blocks .complete) && f) a (completeAt c) (own .entry)) c (withBlocks x (blockMarks (x .blocks) r f (own .time)))
         ≡ record {
           sent = x .blocks .sent;
           ready = x .blocks .ready || r;
@@ -111,54 +127,14 @@ module _ (g : Params) (M : Small g) (a : List ℕ) (room : areaBytes ≤ length 
     marks-view r f own Q = same-part _ _ refl refl
         (λ m. kept-when _ _ _ (λ b.
         let w = flag-place (x .blocks .echoes) (X .blocks .echoes) m b in
-        if-other (not (x .blocks .complete) && f) own (λ z. Q (and-right (not (x .blocks .complete)) f z)) (echoAt c m) (λ z. omega (arith, w .0, w .1))))
+        ap (offer _) (if-other (not (x .blocks .complete) && f) (own .entry) stored (echoAt c m) (λ z. omega (arith, w .0, w .1)))))
         (λ m. kept-when _ _ _ (λ b.
         let w = flag-place (x .blocks .readies) (X .blocks .readies) m b in
-        if-other (not (x .blocks .complete) && f) own (λ z. Q (and-right (not (x .blocks .complete)) f z)) (readyAt c m) (λ z. omega (arith, w .0, w .1))))
-        (if-done (x .blocks .complete) f own Q)
-
--- ---- times
-
-module _ (x : Slot) (X : Shaped x) (j : ℕ) (at : Among 10 j) (T : ℕ) where
-  pub time-echo-view : timeView (withTimes x (timeEcho (x .times) j T)) ≡ withEcho (timeView x) j T
-  unfolding timeView
-  time-echo-view = same-part _ _ refl refl
-      (kept-set (x .times .echoes) (λ m. getD (x .times .echoed) m 0) (λ m. getD (set (x .times .echoed) j T) m 0) j T
-      (omega (arith, X .times .echoes .many))
-      (getD-set-same (x .times .echoed) j T 0 (omega (arith, X .times .echoed .0)))
-      (λ m ne. getD-set-other (x .times .echoed) j m T 0 ne))
-      (λ m. refl) refl
-
-  pub time-ready-view : timeView (withTimes x (timeReady (x .times) j T)) ≡ withReady (timeView x) j T
-  unfolding timeView
-  time-ready-view = same-part _ _ refl refl
-      (λ m. refl)
-      (kept-set (x .times .readies) (λ m. getD (x .times .readied) m 0) (λ m. getD (set (x .times .readied) j T) m 0) j T
-      (omega (arith, X .times .readies .many))
-      (getD-set-same (x .times .readied) j T 0 (omega (arith, X .times .readied .0)))
-      (λ m ne. getD-set-other (x .times .readied) j m T 0 ne))
-      refl
-
-time-done : (k f : Bool) (T t : ℕ) → kept (k || f) (pick (not k && f) T t) ≡ firstOf (kept k t) (kept f T)
-unfolding pick
-time-done true f T t = refl
-time-done false true T t = refl
-time-done false false T t = refl
-
-pub time-sent-view : (x : Slot) → timeView (withTimes x (timeSent (x .times))) ≡ withSent (timeView x)
-unfolding timeView
-time-sent-view x = refl
-
-pub time-marks-view : (x : Slot) (r f : Bool) (T : ℕ) → timeView (withTimes x (timeMarks (x .times) r f T))
-    ≡ record {
-      sent = x .times .sent;
-      ready = x .times .ready || r;
-      echoes = timeView x .echoes;
-      readies = timeView x .readies;
-      done = firstOf (timeView x .done) (kept f T);
-    }
-unfolding timeView
-time-marks-view x r f T = same-part _ _ refl refl (λ m. refl) (λ m. refl) (time-done (x .times .delivered) f T (x .times .time))
+        ap (offer _) (if-other (not (x .blocks .complete) && f) (own .entry) stored (readyAt c m) (λ z. omega (arith, w .0, w .1)))))
+        (if-done (x .blocks .complete) f (x .blocks .time) own Q)
+      where
+        stored : (not (x .blocks .complete) && f) ≡ true → Sized g (own .entry)
+        stored z = Q (and-right (not (x .blocks .complete)) f z)
 
 -- a fresh slot shows nothing
 fresh-flag : (m : ℕ) → getD (replicate 11 false) m false ≡ false
@@ -171,9 +147,5 @@ fresh-flag m = go (decLe 11 m)
 pub fresh-block-view : (g : Params) (a : List ℕ) (c q : ℕ) → blockView g a c (freshSlot q) ≡ noPart
 unfolding blockView freshSlot freshBlocks
 fresh-block-view g a c q = same-part _ _ refl refl
-    (λ m. ap (λ b. kept b (entryAt g a (echoAt c m))) (fresh-flag m)) (λ m. ap (λ b. kept b (entryAt g a (readyAt c m))) (fresh-flag m)) refl
-
-pub fresh-time-view : (q : ℕ) → timeView (freshSlot q) ≡ noPart
-unfolding timeView freshSlot freshTimes
-fresh-time-view q = same-part _ _ refl refl
-    (λ m. ap (λ b. kept b (getD (replicate 11 0) m 0)) (fresh-flag m)) (λ m. ap (λ b. kept b (getD (replicate 11 0) m 0)) (fresh-flag m)) refl
+    (λ m. ap (λ b. kept b (offer (getD (replicate 11 0) m 0) (entryAt g a (echoAt c m)))) (fresh-flag m))
+    (λ m. ap (λ b. kept b (offer (getD (replicate 11 0) m 0) (entryAt g a (readyAt c m)))) (fresh-flag m)) refl

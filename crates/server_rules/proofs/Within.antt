@@ -10,17 +10,17 @@ use Rattle.area.specs.Area.{pick}
 use Rattle.blocks.specs.declared.Params.{Params}
 use Rattle.frame.specs.declared.Verdict.the-variants as J
 use Rattle.frame.specs.Stamps.{older, zeroStamp, lastTime}
-use Rattle.frame.specs.Messages.{Entry, send, echo, ready, Body, getStamp, ack, askRead, readComplete, stampIs, blockIs, timeIs, valueIs}
+use Rattle.frame.specs.Messages.{Offer, send, echo, ready, Body, getStamp, ack, askRead, readComplete, stampIs, blockIs, valueIs}
 use Rattle.server_rules.specs.declared.BlockPart.{BlockPart}
-use Rattle.server_rules.specs.declared.TimePart.{TimePart}
 use Rattle.server_rules.specs.declared.Slot.{Slot}
 use Rattle.server_rules.specs.declared.Reader.{Reader}
 use Rattle.server_rules.specs.declared.Server.{Server}
-use Rattle.server_rules.specs.State.{freshBlocks, freshTimes, freshSlot, freshReader, freshServer, noSlot, noReader, slotOf, readerOf, withSlot, withReader, withBlocks, withTimes, blockEcho, blockReady, timeEcho, timeReady}
-use Rattle.server_rules.specs.WellFormed.{Every, Array, Bounds, BlocksWithin, TimesWithin, SlotWithin, Within}
+use Rattle.server_rules.specs.State.{freshBlocks, freshSlot, freshReader, freshServer, noSlot, noReader, slotOf, readerOf}
+use Rattle.server_rules.specs.State.{withSlot, withReader, withBlocks, blockEcho, blockReady}
+use Rattle.server_rules.specs.WellFormed.{Every, Array, Bounds, SlotWithin, Within}
 use Rattle.server_rules.specs.Steps as S
 use Rattle.server_rules.specs.Tests as ST
-use Rattle.server_rules.proofs.Shapes.{Ripe, Freed, nothing, accepts, Counted, block, time, counted-sequence, Shape, idle, answers, notes, ends, settles}
+use Rattle.server_rules.proofs.Shapes.{Ripe, Freed, nothing, accepts, Counted, block, counted-sequence, Shape, idle, answers, notes, ends, settles}
 use Rattle.server_rules.proofs.Passing.{counted-open}
 
 -- ---- arrays, and one of two
@@ -58,8 +58,7 @@ module _ (B : Bounds) where
   TimeIn askRead = Unit {0}
   TimeIn readComplete = Unit {0}
   TimeIn (stampIs T) = Unit {0}
-  TimeIn (blockIs z e) = Unit {0}
-  TimeIn (timeIs z T) = B .time T
+  TimeIn (blockIs z o) = B .time (o .time)
   TimeIn (valueIs x e) = Unit {0}
 
   -- nothing has come
@@ -68,12 +67,11 @@ module _ (B : Bounds) where
     pub time : B .time 0
 
   pub fresh-within : Empty → (q : ℕ) → B .sequence q → SlotWithin B (freshSlot q)
-  unfolding freshSlot freshBlocks freshTimes
+  unfolding freshSlot freshBlocks
   fresh-within E q h =
       let n : Array 11 (B .time) (replicate 11 0) = (refl, every-replicate (B .time) 11 0 (E .time)) in record {
         sequence = h;
-        blocks = record { echoes = E .flags; readies = E .flags };
-        times = record { time = E .time; echoes = E .flags; readies = E .flags; echoed = n; readied = n };
+        blocks = record { time = E .time; echoes = E .flags; readies = E .flags; echoed = n; readied = n };
       }
 
   pub server-within : Empty → B .sequence 1 → B .stamp zeroStamp → B .reader freshReader → Within B freshServer
@@ -106,65 +104,50 @@ module _ (B : Bounds) where
   Setting j = (l : List Bool) → B .flags l → B .flags (set l j true)
 
   module _ (x : Slot) (X : SlotWithin B x) where
-    blocks-within : (b : BlockPart) → BlocksWithin B b → SlotWithin B (withBlocks x b)
-    blocks-within b u = record { sequence = X .sequence; blocks = u; times = X .times }
-
-    times-within : (b : TimePart) → TimesWithin B b → SlotWithin B (withTimes x b)
-    times-within b u = record { sequence = X .sequence; blocks = X .blocks; times = u }
-
-    module _ (j : ℕ) (flag : Setting j) where
-      pub echo-within : SlotWithin B (withBlocks x (blockEcho (x .blocks) j))
-      echo-within = blocks-within _ (record { echoes = flag _ (X .blocks .echoes); readies = X .blocks .readies })
-
-      pub ready-within : SlotWithin B (withBlocks x (blockReady (x .blocks) j))
-      ready-within = blocks-within _ (record { echoes = X .blocks .echoes; readies = flag _ (X .blocks .readies) })
-
-      module _ (T : ℕ) (h : B .time T) where
-        time-echo-within : SlotWithin B (withTimes x (timeEcho (x .times) j T))
-        time-echo-within = let u = X .times in times-within _ (record {
+    module _ (j : ℕ) (flag : Setting j) (T : ℕ) (h : B .time T) where
+      pub echo-within : SlotWithin B (withBlocks x (blockEcho (x .blocks) j T))
+      echo-within = let u = X .blocks in record {
+        sequence = X .sequence;
+        blocks = record {
           time = u .time;
           echoes = flag _ (u .echoes);
           readies = u .readies;
-          echoed = array-set (B .time) 11 (x .times .echoed) j T (u .echoed) h;
+          echoed = array-set (B .time) 11 (x .blocks .echoed) j T (u .echoed) h;
           readied = u .readied;
-        })
+        };
+      }
 
-        time-ready-within : SlotWithin B (withTimes x (timeReady (x .times) j T))
-        time-ready-within = let u = X .times in times-within _ (record {
+      pub ready-within : SlotWithin B (withBlocks x (blockReady (x .blocks) j T))
+      ready-within = let u = X .blocks in record {
+        sequence = X .sequence;
+        blocks = record {
           time = u .time;
           echoes = u .echoes;
           readies = flag _ (u .readies);
           echoed = u .echoed;
-          readied = array-set (B .time) 11 (x .times .readied) j T (u .readied) h;
-        })
+          readied = array-set (B .time) 11 (x .blocks .readied) j T (u .readied) h;
+        };
+      }
 
-    same-blocks : (b : BlockPart) → b .echoes ≡ x .blocks .echoes → b .readies ≡ x .blocks .readies → SlotWithin B (withBlocks x b)
-    same-blocks b e r = blocks-within b (record { echoes = rw e (X .blocks .echoes); readies = rw r (X .blocks .readies) })
-
-    same-times : (b : TimePart) → B .time (b .time) → b .echoes ≡ x .times .echoes → b .readies ≡ x .times .readies → b .echoed ≡ x .times .echoed
-        → b .readied ≡ x .times .readied
-        → SlotWithin B (withTimes x b)
-    same-times b h e r f k = let u = X .times in times-within b
-        (record { time = h; echoes = rw e (u .echoes); readies = rw r (u .readies); echoed = rw f (u .echoed); readied = rw k (u .readied) })
+    same-blocks : (b : BlockPart) → B .time (b .time) → b .echoes ≡ x .blocks .echoes → b .readies ≡ x .blocks .readies → b .echoed ≡ x .blocks .echoed
+        → b .readied ≡ x .blocks .readied
+        → SlotWithin B (withBlocks x b)
+    same-blocks b h e r f k = let u = X .blocks in record {
+      sequence = X .sequence;
+      blocks = record { time = h; echoes = rw e (u .echoes); readies = rw r (u .readies); echoed = rw f (u .echoed); readied = rw k (u .readied) };
+    }
 
   module _ (H : List ℕ → List ℕ) (g : Params) (me : ℕ) (s : Server) (a initial : List ℕ) (j c : ℕ) where
-    voted-within : (a : List ℕ) (x : Slot) (e : Entry) → SlotWithin B x → SlotWithin B (S.votedBlock H g me a c x e .slot)
+    voted-within : (a : List ℕ) (x : Slot) (o : Offer) → SlotWithin B x → B .time (o .time) → SlotWithin B (S.votedBlock H g me a c x o .slot)
     unfolding S.votedBlock
-    voted-within a x e X = same-blocks x X _ refl refl
-
-    timed-within : (a : List ℕ) (x : Slot) (T : ℕ) → SlotWithin B x → B .time T → SlotWithin B (S.votedTime H g me a c x T .slot)
-    unfolding S.votedTime
-    timed-within a x T X h = same-times x X _ (either (B .time) _ T (x .times .time) h (X .times .time)) refl refl refl refl
+    voted-within a x o X h = same-blocks x X _ (either (B .time) _ (o .time) (x .blocks .time) h (X .blocks .time)) refl refl refl refl
 
     pub counted-within : Setting j → SlotWithin B (slotOf s c) → {b : Body} {p : S.Counting} → Counted H g me s a initial j c b p → TimeIn b
         → SlotWithin B (p .slot)
-    unfolding S.onBlock S.onTime
-    counted-within flag X (block send e) h = same-blocks (slotOf s c) X _ refl refl
-    counted-within flag X (block echo e) h = voted-within _ _ e (echo-within (slotOf s c) X j flag)
-    counted-within flag X (block ready e) h = voted-within _ _ e (ready-within (slotOf s c) X j flag)
-    counted-within flag X (time send T) h = same-times (slotOf s c) X _ (X .times .time) refl refl refl refl
-    counted-within flag X (time echo T) h = timed-within a _ T (time-echo-within (slotOf s c) X j flag T h) h
-    counted-within flag X (time ready T) h = timed-within a _ T (time-ready-within (slotOf s c) X j flag T h) h
+    unfolding S.onBlock
+    counted-within flag X (block send o) h = same-blocks (slotOf s c) X _ (X .blocks .time) refl refl refl refl
+    counted-within flag X (block echo o) h = voted-within _ _ o (echo-within (slotOf s c) X j flag (o .time) h) h
+    counted-within flag X (block ready o) h = voted-within _ _ o (ready-within (slotOf s c) X j flag (o .time) h) h
 
   -- ---- a step
 

@@ -1,5 +1,5 @@
 -- A server's part in the broadcast of one write, for any payload: what it counted and kept, and when a ready or the delivery is due.
--- The blocks and the time of a write are two instances (Rules.antt). These are definitions.
+-- A write's time, digest list and blocks are the instance (Rules.antt). These are definitions.
 use Prim.Native.Nat.{ℕ, _+_}
 use mathlib.Core.Bool.{Bool, true, false, not, _&&_, _||_}
 use mathlib.Core.Option.{Option, none, some}

@@ -6,7 +6,7 @@ use mathlib.Core.List.{List, [], _∷_}
 use Rattle.blocks.specs.declared.Params.{Params}
 use Rattle.frame.specs.declared.Party.{Party}
 use Rattle.frame.specs.declared.Party.the-variants as P
-use Rattle.frame.specs.Messages.{Body, getStamp, ack, askRead, readComplete, stampIs, blockIs, timeIs, valueIs, Sending}
+use Rattle.frame.specs.Messages.{Body, getStamp, ack, askRead, readComplete, stampIs, blockIs, valueIs, Sending}
 use Rattle.server_rules.specs.declared.Server.{Server}
 use Rattle.server_rules.specs.Delivery.{delivered}
 
@@ -20,8 +20,7 @@ placeIn n (P.Client c) ack = n + 9
 placeIn n (P.Client c) askRead = n + 9
 placeIn n (P.Client c) readComplete = n + 9
 placeIn n (P.Client c) (stampIs T) = n + 9
-placeIn n (P.Client c) (blockIs z e) = n + 9
-placeIn n (P.Client c) (timeIs z T) = n + 9
+placeIn n (P.Client c) (blockIs z o) = n + 9
 
 -- frames by rising place, from place k on
 pub data Rising (n : ℕ) : ℕ → List Sending → Type 0 where

@@ -1,16 +1,26 @@
--- The two broadcasts of a write, "Blocks, server" and "Time, server" of document 01. H is the digest; it is never unfolded. These are definitions.
-use Prim.Native.Nat.{ℕ, _+_, _*_}
-use mathlib.Core.Bool.{true}
-use mathlib.Core.Option.{Option}
+-- The broadcast of a write, "Blocks, server" of document 01 with the time in it (request F-4): "a group is frames with equal time and digest list". H is the
+-- digest; it is never unfolded. These are definitions.
+use Prim.Native.Nat.{ℕ, _+_}
+use mathlib.Core.Bool.{_&&_}
+use mathlib.Core.Option.{Option, none, some}
 use mathlib.Core.List.{List}
 use lib.Dec.{leb, eqb}
 use Rattle.quorum.specs.Quorum.{count}
 use Rattle.area.specs.Area.{pick, same}
 use Rattle.blocks.specs.declared.Params.{Params}
 use Rattle.frame.specs.Params.{quota}
-use Rattle.frame.specs.Messages.{Entry, entry}
+use Rattle.frame.specs.Messages.{Entry, entry, Offer, offer}
 use Rattle.group_rules.specs.Coded.{hasList, blockAt, digestsOf, decoded}
-use Rattle.server_rules.specs.Broadcast.{Rules}
+use Rattle.server_rules.specs.Broadcast.{Rules, kept}
+
+-- the entry of an offer that goes by the time T
+abbrev pub entryBy : Option Offer → ℕ → Option Entry
+entryBy none T = none
+entryBy (some o) T = kept (eqb (o .time) T) (o .entry)
+
+-- the entries of those offers that go by the time T
+unfoldable pub atTime : (ℕ → Option Offer) → ℕ → (ℕ → Option Entry)
+atTime f T j = entryBy (f j) T
 
 -- "readies if there are q, else echoes"
 unfoldable pub chosen : Params → (ℕ → Option Entry) → (ℕ → Option Entry) → List ℕ → (ℕ → Option Entry)
@@ -20,24 +30,18 @@ chosen g es rs d = pick (leb (quota g) (count (λ j. hasList (rs j) d) (g .n))) 
 unfoldable pub regained : Params → (ℕ → Option Entry) → (ℕ → Option Entry) → List ℕ → List ℕ
 regained g es rs d = decoded g (chosen g es rs d) d
 
+-- the same of an offer: of the frames of its time and digest list
+abbrev pub regainedOf : Params → (ℕ → Option Offer) → (ℕ → Option Offer) → Offer → List ℕ
+regainedOf g es rs o = regained g (atTime es (o .time)) (atTime rs (o .time)) (o .entry .digests)
+
 module _ (H : List ℕ → List ℕ) (g : Params) where
-  -- Payloads are equal if their digest lists are. "encode afresh with zero padding and compare all n digests; if equal, send ready with the
-  -- server's own block of that encoding"; q readies bring forth a ready, "if there are then q + t readies" the part is complete.
-  abbrev pub blockRules : Rules Entry
+  -- Offers are equal if their times and their digest lists are. "encode afresh with zero padding and compare all n digests; if equal, send ready with the
+  -- server's own block of that encoding"; q readies bring forth a ready, "if there are then q + t readies" the write is complete.
+  abbrev pub blockRules : Rules Offer
   blockRules = record {
-    alike = λ x y. same (x .digests) (y .digests);
-    supports = λ es rs x. same (digestsOf H g (regained g es rs (x .digests))) (x .digests);
-    own = λ i es rs x. entry (x .digests) (blockAt H g (regained g es rs (x .digests)) i);
+    alike = λ x y. eqb (x .time) (y .time) && same (x .entry .digests) (y .entry .digests);
+    supports = λ es rs o. same (digestsOf H g (regainedOf g es rs o)) (o .entry .digests);
+    own = λ i es rs o. offer (o .time) (entry (o .entry .digests) (blockAt H g (regainedOf g es rs o) i));
     few = quota g;
     all = quota g + g .t;
-  }
-
-  -- "At n - t equal echoes or t + 1 equal readies: ready, once. At 2t + 1 equal readies: delivered"
-  abbrev pub timeRules : Rules ℕ
-  timeRules = record {
-    alike = eqb;
-    supports = λ es rs x. true;
-    own = λ i es rs x. x;
-    few = g .t + 1;
-    all = 2 * g .t + 1;
   }

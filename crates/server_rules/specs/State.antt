@@ -9,10 +9,9 @@ use Rattle.blocks.specs.declared.Params.{Params}
 use Rattle.frame.specs.declared.Stamp.{Stamp}
 use Rattle.frame.specs.Params.{width, listed}
 use Rattle.frame.specs.Stamps.{zeroStamp}
-use Rattle.frame.specs.Messages.{Entry, entry}
+use Rattle.frame.specs.Messages.{Entry, entry, Offer, offer}
 use Rattle.frame.specs.Chunks.{entryAt, chunkAt, blockPlace, presentAt, completeAt, echoAt, readyAt}
 use Rattle.server_rules.specs.declared.BlockPart.{BlockPart}
-use Rattle.server_rules.specs.declared.TimePart.{TimePart}
 use Rattle.server_rules.specs.declared.Slot.{Slot}
 use Rattle.server_rules.specs.declared.Reader.{Reader}
 use Rattle.server_rules.specs.declared.Server.{Server}
@@ -21,13 +20,10 @@ use Rattle.server_rules.specs.Broadcast.{Part, kept}
 -- ---- fresh
 
 unfoldable pub freshBlocks : BlockPart
-freshBlocks = record { sent = false; ready = false; complete = false; echoes = replicate 11 false; readies = replicate 11 false }
-
-unfoldable pub freshTimes : TimePart
-freshTimes = record {
+freshBlocks = record {
   sent = false;
   ready = false;
-  delivered = false;
+  complete = false;
   time = 0;
   echoes = replicate 11 false;
   readies = replicate 11 false;
@@ -37,7 +33,7 @@ freshTimes = record {
 
 -- the write q is open, and nothing of it has come
 unfoldable pub freshSlot : ℕ → Slot
-freshSlot q = record { sequence = q; blocks = freshBlocks; times = freshTimes }
+freshSlot q = record { sequence = q; blocks = freshBlocks }
 
 unfoldable pub freshReader : Reader
 freshReader = record { sequence = 0; listening = false; noted = zeroStamp }
@@ -52,8 +48,7 @@ freshServer = record { stamp = zeroStamp; slots = replicate 9 (freshSlot 1); rea
 abbrev pub noSlot : Slot
 noSlot = record {
   sequence = 0;
-  blocks = record { sent = false; ready = false; complete = false; echoes = []; readies = [] };
-  times = record { sent = false; ready = false; delivered = false; time = 0; echoes = []; readies = []; echoed = []; readied = [] };
+  blocks = record { sent = false; ready = false; complete = false; time = 0; echoes = []; readies = []; echoed = []; readied = [] };
 }
 
 abbrev pub noReader : Reader
@@ -74,34 +69,19 @@ withSlot s c x = record { stamp = s .stamp; slots = set (s .slots) c x; readers 
 abbrev pub withReader : Server → ℕ → Reader → Server
 withReader s c x = record { stamp = s .stamp; slots = s .slots; readers = set (s .readers) c x }
 
--- ---- the parts of a slot changed
-
 abbrev pub withBlocks : Slot → BlockPart → Slot
-withBlocks x b = record { sequence = x .sequence; blocks = b; times = x .times }
+withBlocks x b = record { sequence = x .sequence; blocks = b }
 
-abbrev pub withTimes : Slot → TimePart → Slot
-withTimes x b = record { sequence = x .sequence; blocks = x .blocks; times = b }
+-- ---- the view
 
--- ---- the views
-
--- the blocks of client c's slot x, whose entries lie in the area a
-unfoldable pub blockView : Params → List ℕ → ℕ → Slot → Part Entry
+-- the broadcast of client c's slot x, whose entries lie in the area a
+unfoldable pub blockView : Params → List ℕ → ℕ → Slot → Part Offer
 blockView g a c x = record {
   sent = x .blocks .sent;
   ready = x .blocks .ready;
-  echoes = λ j. kept (getD (x .blocks .echoes) j false) (entryAt g a (echoAt c j));
-  readies = λ j. kept (getD (x .blocks .readies) j false) (entryAt g a (readyAt c j));
-  done = kept (x .blocks .complete) (entryAt g a (completeAt c));
-}
-
--- the time of the slot x
-unfoldable pub timeView : Slot → Part ℕ
-timeView x = record {
-  sent = x .times .sent;
-  ready = x .times .ready;
-  echoes = λ j. kept (getD (x .times .echoes) j false) (getD (x .times .echoed) j 0);
-  readies = λ j. kept (getD (x .times .readies) j false) (getD (x .times .readied) j 0);
-  done = kept (x .times .delivered) (x .times .time);
+  echoes = λ j. kept (getD (x .blocks .echoes) j false) (offer (getD (x .blocks .echoed) j 0) (entryAt g a (echoAt c j)));
+  readies = λ j. kept (getD (x .blocks .readies) j false) (offer (getD (x .blocks .readied) j 0) (entryAt g a (readyAt c j)));
+  done = kept (x .blocks .complete) (offer (x .blocks .time) (entryAt g a (completeAt c)));
 }
 
 -- x is the present stamp. "Until its first accepted write a server answers from the initial block its host lends"
@@ -112,26 +92,13 @@ presentBlock g x a initial = pick (eqb (x .time) 0) (take (width g) initial) (pa
 unfoldable pub presentEntry : Params → Stamp → List ℕ → List ℕ → Entry
 presentEntry g x a initial = entry (part a (chunkAt presentAt) (listed g)) (presentBlock g x a initial)
 
--- ---- the stores: a part of the record after a frame was counted
+-- ---- the stores: a slot's part of the record after a frame was counted
 
 abbrev pub blockSent : BlockPart → BlockPart
-blockSent b = record { sent = true; ready = b .ready; complete = b .complete; echoes = b .echoes; readies = b .readies }
-
-abbrev pub blockEcho : BlockPart → ℕ → BlockPart
-blockEcho b j = record { sent = b .sent; ready = b .ready; complete = b .complete; echoes = set (b .echoes) j true; readies = b .readies }
-
-abbrev pub blockReady : BlockPart → ℕ → BlockPart
-blockReady b j = record { sent = b .sent; ready = b .ready; complete = b .complete; echoes = b .echoes; readies = set (b .readies) j true }
-
--- where r, a ready goes out; where f, the part is complete
-abbrev pub blockMarks : BlockPart → Bool → Bool → BlockPart
-blockMarks b r f = record { sent = b .sent; ready = b .ready || r; complete = b .complete || f; echoes = b .echoes; readies = b .readies }
-
-abbrev pub timeSent : TimePart → TimePart
-timeSent b = record {
+blockSent b = record {
   sent = true;
   ready = b .ready;
-  delivered = b .delivered;
+  complete = b .complete;
   time = b .time;
   echoes = b .echoes;
   readies = b .readies;
@@ -139,11 +106,12 @@ timeSent b = record {
   readied = b .readied;
 }
 
-abbrev pub timeEcho : TimePart → ℕ → ℕ → TimePart
-timeEcho b j T = record {
+-- server j's echo, of time T
+abbrev pub blockEcho : BlockPart → ℕ → ℕ → BlockPart
+blockEcho b j T = record {
   sent = b .sent;
   ready = b .ready;
-  delivered = b .delivered;
+  complete = b .complete;
   time = b .time;
   echoes = set (b .echoes) j true;
   readies = b .readies;
@@ -151,11 +119,12 @@ timeEcho b j T = record {
   readied = b .readied;
 }
 
-abbrev pub timeReady : TimePart → ℕ → ℕ → TimePart
-timeReady b j T = record {
+-- server j's ready, of time T
+abbrev pub blockReady : BlockPart → ℕ → ℕ → BlockPart
+blockReady b j T = record {
   sent = b .sent;
   ready = b .ready;
-  delivered = b .delivered;
+  complete = b .complete;
   time = b .time;
   echoes = b .echoes;
   readies = set (b .readies) j true;
@@ -163,13 +132,13 @@ timeReady b j T = record {
   readied = set (b .readied) j T;
 }
 
--- where r, a ready goes out; where f, T is delivered: "the first such time stands"
-abbrev pub timeMarks : TimePart → Bool → Bool → ℕ → TimePart
-timeMarks b r f T = record {
+-- where r, a ready goes out; where f, the write is complete with the time T, unless it was before
+abbrev pub blockMarks : BlockPart → Bool → Bool → ℕ → BlockPart
+blockMarks b r f T = record {
   sent = b .sent;
   ready = b .ready || r;
-  delivered = b .delivered || f;
-  time = pick (not (b .delivered) && f) T (b .time);
+  complete = b .complete || f;
+  time = pick (not (b .complete) && f) T (b .time);
   echoes = b .echoes;
   readies = b .readies;
   echoed = b .echoed;

@@ -12,16 +12,18 @@ use Rattle.frame.specs.declared.Stamp.{Stamp}
 use Rattle.frame.specs.declared.Party.{Party}
 use Rattle.frame.specs.declared.Party.the-variants as P
 use Rattle.frame.specs.Stamps.{older, lastTime}
-use Rattle.frame.specs.Messages.{Entry, Stage, send, echo, ready, Body, getStamp, ack, askRead, readComplete, stampIs, blockIs, timeIs, valueIs, Message, message, Sending, sending, toAll, numberIn}
+use Rattle.frame.specs.Messages.{Entry, Offer, Stage, send, echo, ready, Body, getStamp, ack, askRead, readComplete, stampIs, blockIs, valueIs}
+use Rattle.frame.specs.Messages.{Message, message, Sending, sending, toAll, numberIn}
 use Rattle.frame.specs.Chunks.{storeEntry, storeIf, presentAt, completeAt, echoAt, readyAt}
 use Rattle.server_rules.specs.declared.Slot.{Slot}
 use Rattle.server_rules.specs.declared.Reader.{Reader}
 use Rattle.server_rules.specs.declared.Server.{Server}
 use Rattle.server_rules.specs.Broadcast.{due, full, matters}
-use Rattle.server_rules.specs.State.{freshSlot, slotOf, readerAt, readerOf, withSlot, withReader, withBlocks, withTimes, blockView, timeView, presentEntry, blockSent, blockEcho, blockReady, blockMarks, timeSent, timeEcho, timeReady, timeMarks}
-use Rattle.server_rules.specs.Rules.{regained, blockRules, timeRules}
+use Rattle.server_rules.specs.State.{freshSlot, slotOf, readerAt, readerOf, withSlot, withReader, withBlocks, blockView, presentEntry}
+use Rattle.server_rules.specs.State.{blockSent, blockEcho, blockReady, blockMarks}
+use Rattle.server_rules.specs.Rules.{regainedOf, blockRules}
 
--- a write that is accepted, with the time that was delivered and the entry that was completed
+-- a write that is accepted, with the time and the entry that were completed
 pub record Write : Type 0 where
   pub client : ℕ
   pub sequence : ℕ
@@ -55,57 +57,33 @@ pub record Counting : Type 0 where
 module _ (H : List ℕ → List ℕ) (g : Params) (me : ℕ) where
   -- ---- Blocks, server
 
-  -- An echo or a ready of e was counted in client c's slot x and kept in a. "At each counted echo or ready whose digest list then has n - t echoes or q
-  -- readies, decode .., encode afresh .. and compare all n digests; if equal, send ready .. once for the write. If there are then q + t readies, and
-  -- that comparison is equal, the block part is complete for good". A comparison on which nothing hangs is not made, so it decodes nothing.
-  unfoldable pub votedBlock : List ℕ → ℕ → Slot → Entry → Counting
-  votedBlock a c x e =
+  -- An echo or a ready of o was counted in client c's slot x and kept in a and x. "At each counted echo or ready whose" time and "digest list then has n - t
+  -- echoes or q readies, decode .., encode afresh .. and compare all n digests; if equal, send ready .. once for the write. If there are then q + t readies,
+  -- and that comparison is equal," the write "is complete for good", with the time of the group (request F-4). A comparison on which nothing hangs is not
+  -- made, so it decodes nothing.
+  unfoldable pub votedBlock : List ℕ → ℕ → Slot → Offer → Counting
+  votedBlock a c x o =
       let w = blockView g a c x in
-      let r = due (blockRules H g) (g .n) (g .t) w e in
-      let f = full (blockRules H g) (g .n) (g .t) w e in
-      let own = blockRules H g .own me (w .echoes) (w .readies) e in
+      let r = due (blockRules H g) (g .n) (g .t) w o in
+      let f = full (blockRules H g) (g .n) (g .t) w o in
+      let own = blockRules H g .own me (w .echoes) (w .readies) o in
       record {
-        slot = withBlocks x (blockMarks (x .blocks) r f);
-        area = storeIf (not (x .blocks .complete) && f) a (completeAt c) own;
+        slot = withBlocks x (blockMarks (x .blocks) r f (o .time));
+        area = storeIf (not (x .blocks .complete) && f) a (completeAt c) (own .entry);
         sends = pick r (toAll g (λ j. message c (x .sequence) (blockIs ready own))) [];
-        decodes = pick (matters (blockRules H g) (g .n) (g .t) w e) (regained g (w .echoes) (w .readies) (e .digests) ∷ []) [];
+        decodes = pick (matters (blockRules H g) (g .n) (g .t) w o) (regainedOf g (w .echoes) (w .readies) o ∷ []) [];
       }
 
   -- a frame of client c's open write, its slot being x, from party j
-  unfoldable pub onBlock : List ℕ → ℕ → Slot → ℕ → Stage → Entry → Counting
-  onBlock a c x j send e = record {
+  unfoldable pub onBlock : List ℕ → ℕ → Slot → ℕ → Stage → Offer → Counting
+  onBlock a c x j send o = record {
     slot = withBlocks x (blockSent (x .blocks));
     area = a;
-    sends = toAll g (λ i. message c (x .sequence) (blockIs echo e));
+    sends = toAll g (λ i. message c (x .sequence) (blockIs echo o));
     decodes = [];
   }
-  onBlock a c x j echo e = votedBlock (storeEntry a (echoAt c j) e) c (withBlocks x (blockEcho (x .blocks) j)) e
-  onBlock a c x j ready e = votedBlock (storeEntry a (readyAt c j) e) c (withBlocks x (blockReady (x .blocks) j)) e
-
-  -- ---- Time, server
-
-  -- an echo or a ready of T was counted in client c's slot x
-  unfoldable pub votedTime : List ℕ → ℕ → Slot → ℕ → Counting
-  votedTime a c x T =
-      let w = timeView x in
-      let r = due (timeRules H g) (g .n) (g .t) w T in
-      let f = full (timeRules H g) (g .n) (g .t) w T in
-      record {
-        slot = withTimes x (timeMarks (x .times) r f T);
-        area = a;
-        sends = pick r (toAll g (λ j. message c (x .sequence) (timeIs ready T))) [];
-        decodes = [];
-      }
-
-  unfoldable pub onTime : List ℕ → ℕ → Slot → ℕ → Stage → ℕ → Counting
-  onTime a c x j send T = record {
-    slot = withTimes x (timeSent (x .times));
-    area = a;
-    sends = toAll g (λ i. message c (x .sequence) (timeIs echo T));
-    decodes = [];
-  }
-  onTime a c x j echo T = votedTime a c (withTimes x (timeEcho (x .times) j T)) T
-  onTime a c x j ready T = votedTime a c (withTimes x (timeReady (x .times) j T)) T
+  onBlock a c x j echo o = votedBlock (storeEntry a (echoAt c j) (o .entry)) c (withBlocks x (blockEcho (x .blocks) j (o .time))) o
+  onBlock a c x j ready o = votedBlock (storeEntry a (readyAt c j) (o .entry)) c (withBlocks x (blockReady (x .blocks) j (o .time))) o
 
 -- ---- Acceptance
 
@@ -137,15 +115,16 @@ accept s a w = record {
 abbrev pub vouched : Server → ℕ → Bool
 vouched s T = true
 
--- "Both done and the time below 2^64 - 1"; "A delivered time of 2^64 - 1 is never accepted and only that client waits."
-unfoldable pub bothDone : Server → ℕ → ℕ → Option ℕ → Option Entry → Option Write
-bothDone s c q none o = none
-bothDone s c q (some T) none = none
-bothDone s c q (some T) (some e) = pick (vouched s T && ltb T lastTime) (some (record { client = c; sequence = q; time = T; entry = e })) none
+-- Request F-4: "Acceptance follows completion alone, still with the time below 2^64 - 1." A completed time of 2^64 - 1 is never accepted, and only that
+-- client waits.
+unfoldable pub ripeBy : Server → ℕ → ℕ → Option Offer → Option Write
+ripeBy s c q none = none
+ripeBy s c q (some o) =
+    pick (vouched s (o .time) && ltb (o .time) lastTime) (some (record { client = c; sequence = q; time = o .time; entry = o .entry })) none
 
 -- the write of client c that can be accepted
 unfoldable pub ripe : Params → Server → List ℕ → ℕ → Option Write
-ripe g s a c = bothDone s c (slotOf s c .sequence) (timeView (slotOf s c) .done) (blockView g a c (slotOf s c) .done)
+ripe g s a c = ripeBy s c (slotOf s c .sequence) (blockView g a c (slotOf s c) .done)
 
 unfoldable pub freeBy : Option Write → Server → List ℕ → Effect
 freeBy none s a = sendOnly s a []
@@ -192,8 +171,7 @@ module _ (H : List ℕ → List ℕ) (g : Params) (me : ℕ) where
   onBody s a initial j c q askRead = onRead s a initial c q
   onBody s a initial j c q readComplete = onReadComplete s a c q
   onBody s a initial j c q (stampIs T) = sendOnly s a []
-  onBody s a initial j c q (blockIs z e) = settle g s c z (onBlock H g me a c (slotOf s c) j z e)
-  onBody s a initial j c q (timeIs z T) = settle g s c z (onTime H g me a c (slotOf s c) j z T)
+  onBody s a initial j c q (blockIs z o) = settle g s c z (onBlock H g me a c (slotOf s c) j z o)
   onBody s a initial j c q (valueIs x e) = sendOnly s a []
 
   unfoldable pub effect : Server → List ℕ → List ℕ → Party → Message → Effect

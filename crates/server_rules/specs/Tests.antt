@@ -16,7 +16,8 @@ use Rattle.frame.specs.declared.Verdict.the-variants as J
 use Rattle.frame.specs.declared.Opened.the-variants as O
 use Rattle.frame.specs.Refusals.{andThen}
 use Rattle.frame.specs.Params.{width, serverFrames, outRoom, toRoom, paramsTest}
-use Rattle.frame.specs.Messages.{Entry, Stage, send, echo, ready, Body, getStamp, ack, askRead, readComplete, stampIs, blockIs, timeIs, valueIs, Message, numberIn, fromServer, Judged, bad, judgedBy, after}
+use Rattle.frame.specs.Messages.{Entry, Offer, Stage, send, echo, ready, Body, getStamp, ack, askRead, readComplete, stampIs, blockIs, valueIs, Message}
+use Rattle.frame.specs.Messages.{numberIn, fromServer, Judged, bad, judgedBy, after}
 use Rattle.frame.specs.Frames.{opened, messageIn}
 use Rattle.frame.specs.Chunks.{areaBytes}
 use Rattle.group_rules.specs.Coded.{fits}
@@ -40,19 +41,16 @@ abbrev pub fromOwner : Party → ℕ → Bool
 fromOwner (P.Client d) c = eqb d c
 fromOwner (P.Server j) c = false
 
--- kinds 1, 3, 6, 10, 12 come from the owner c, 4, 5, 7, 8 from a server, and 2, 9, 11 do not go to servers
+-- kinds 1, 3, 10, 12 come from the owner c, 4, 5 from a server, and 2, 9, 11 do not go to servers
 unfoldable pub senderRight : Params → Party → ℕ → Body → Bool
 senderRight g from c getStamp = fromOwner from c
 senderRight g from c ack = false
 senderRight g from c askRead = fromOwner from c
 senderRight g from c readComplete = fromOwner from c
 senderRight g from c (stampIs T) = false
-senderRight g from c (blockIs send e) = fromOwner from c
-senderRight g from c (blockIs echo e) = fromServer g from
-senderRight g from c (blockIs ready e) = fromServer g from
-senderRight g from c (timeIs send T) = fromOwner from c
-senderRight g from c (timeIs echo T) = fromServer g from
-senderRight g from c (timeIs ready T) = fromServer g from
+senderRight g from c (blockIs send o) = fromOwner from c
+senderRight g from c (blockIs echo o) = fromServer g from
+senderRight g from c (blockIs ready o) = fromServer g from
 senderRight g from c (valueIs s e) = false
 
 -- ---- 12 and 13
@@ -64,12 +62,9 @@ counted x j ack = false
 counted x j askRead = false
 counted x j readComplete = false
 counted x j (stampIs T) = false
-counted x j (blockIs send e) = x .blocks .sent
-counted x j (blockIs echo e) = getD (x .blocks .echoes) j false
-counted x j (blockIs ready e) = getD (x .blocks .readies) j false
-counted x j (timeIs send T) = x .times .sent
-counted x j (timeIs echo T) = getD (x .times .echoes) j false
-counted x j (timeIs ready T) = getD (x .times .readies) j false
+counted x j (blockIs send o) = x .blocks .sent
+counted x j (blockIs echo o) = getD (x .blocks .echoes) j false
+counted x j (blockIs ready o) = getD (x .blocks .readies) j false
 counted x j (valueIs s e) = false
 
 -- of a frame of the write q: 12 where it is old or counted again, 13 where it is "above the open sequence; offer again"
@@ -105,11 +100,8 @@ placeIn me ready j = j
 
 module _ (H : List ℕ → List ℕ) (g : Params) (me : ℕ) where
   -- of a frame of a write from party j whose sender is right, the client's slot being x
-  abbrev pub blockTest : Slot → ℕ → ℕ → Stage → Entry → Verdict
-  blockTest x j q z e = andThen (openTest x q (counted x j (blockIs z e))) (fitTest H e (placeIn me z j))
-
-  abbrev pub timeTest : Slot → ℕ → ℕ → Stage → ℕ → Verdict
-  timeTest x j q z T = openTest x q (counted x j (timeIs z T))
+  abbrev pub blockTest : Slot → ℕ → ℕ → Stage → Offer → Verdict
+  blockTest x j q z o = andThen (openTest x q (counted x j (blockIs z o))) (fitTest H (o .entry) (placeIn me z j))
 
   -- of any frame whose sender is right; "Get-stamp is never 12"
   unfoldable pub orderTest : Server → ℕ → ℕ → ℕ → Body → Verdict
@@ -118,8 +110,7 @@ module _ (H : List ℕ → List ℕ) (g : Params) (me : ℕ) where
   orderTest s j c q askRead = readTest (readerOf s c) q
   orderTest s j c q readComplete = doneTest (readerOf s c) q
   orderTest s j c q (stampIs T) = J.Fine
-  orderTest s j c q (blockIs z e) = blockTest (slotOf s c) j q z e
-  orderTest s j c q (timeIs z T) = timeTest (slotOf s c) j q z T
+  orderTest s j c q (blockIs z o) = blockTest (slotOf s c) j q z o
   orderTest s j c q (valueIs x e) = J.Fine
 
   -- 11 to 14

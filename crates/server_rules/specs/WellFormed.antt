@@ -7,7 +7,6 @@ use mathlib.Core.List.{List, [], _∷_}
 use lib.ListN.{length}
 use Rattle.frame.specs.declared.Stamp.{Stamp}
 use Rattle.server_rules.specs.declared.BlockPart.{BlockPart}
-use Rattle.server_rules.specs.declared.TimePart.{TimePart}
 use Rattle.server_rules.specs.declared.Slot.{Slot}
 use Rattle.server_rules.specs.declared.Reader.{Reader}
 use Rattle.server_rules.specs.declared.Server.{Server}
@@ -29,10 +28,6 @@ pub record Bounds : Type 1 where
   pub reader : Reader → Type 0
 
 pub record BlocksWithin (B : Bounds) (b : BlockPart) : Type 0 where
-  pub echoes : B .flags (b .echoes)
-  pub readies : B .flags (b .readies)
-
-pub record TimesWithin (B : Bounds) (b : TimePart) : Type 0 where
   pub time : B .time (b .time)
   pub echoes : B .flags (b .echoes)
   pub readies : B .flags (b .readies)
@@ -42,7 +37,6 @@ pub record TimesWithin (B : Bounds) (b : TimePart) : Type 0 where
 pub record SlotWithin (B : Bounds) (x : Slot) : Type 0 where
   pub sequence : B .sequence (x .sequence)
   pub blocks : BlocksWithin B (x .blocks)
-  pub times : TimesWithin B (x .times)
 
 pub record Within (B : Bounds) (s : Server) : Type 0 where
   pub stamp : B .stamp (s .stamp)

@@ -2,10 +2,9 @@
 use crate::BlockPart;
 use crate::Reader;
 use crate::Slot;
-use crate::TimePart;
 use frame::stamps::zero_stamp;
 ghost use mathlib.Core.Path.{_≡_};
-ghost use Rattle.server_rules.specs.State.{freshBlocks, freshTimes, freshSlot, freshReader};
+ghost use Rattle.server_rules.specs.State.{freshBlocks, freshSlot, freshReader};
 
 fn fresh_blocks() -> BlockPart
     ensures { λ r. ⌜ r ≡ freshBlocks ⌝ }
@@ -14,18 +13,6 @@ fn fresh_blocks() -> BlockPart
         sent: false,
         ready: false,
         complete: false,
-        echoes: [false; 11],
-        readies: [false; 11],
-    }
-}
-
-fn fresh_times() -> TimePart
-    ensures { λ r. ⌜ r ≡ freshTimes ⌝ }
-{
-    TimePart {
-        sent: false,
-        ready: false,
-        delivered: false,
         time: 0,
         echoes: [false; 11],
         readies: [false; 11],
@@ -39,11 +26,9 @@ pub fn fresh_slot(q: u64) -> Slot
     ensures { λ r. ⌜ r ≡ freshSlot q ⌝ }
 {
     let blocks = fresh_blocks();
-    let times = fresh_times();
     Slot {
         sequence: q,
         blocks,
-        times,
     }
 }
 

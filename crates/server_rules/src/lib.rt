@@ -9,20 +9,12 @@ ghost use Rattle.server_rules.specs.State.{freshServer};
 
 pub mod fresh;
 
-// What was counted of the blocks of one write. The entries themselves lie in the state area.
+// What was counted of one write: flags, and the times of the kept echoes, of the kept readies and of the completed group. The entries themselves lie in
+// the state area.
 pub struct BlockPart {
     pub sent: bool,
     pub ready: bool,
     pub complete: bool,
-    pub echoes: [bool; 11],
-    pub readies: [bool; 11],
-}
-
-// What was counted and kept of its time.
-pub struct TimePart {
-    pub sent: bool,
-    pub ready: bool,
-    pub delivered: bool,
     pub time: u64,
     pub echoes: [bool; 11],
     pub readies: [bool; 11],
@@ -34,7 +26,6 @@ pub struct TimePart {
 pub struct Slot {
     pub sequence: u64,
     pub blocks: BlockPart,
-    pub times: TimePart,
 }
 
 // A client's newest read, whether it still listens, and the stamp noted for it.

@@ -4,8 +4,7 @@ use native.Mathlib.Omega.{arith}
 use native.Mathlib.Nat.{mul-comm}
 use mathlib.Core.Bool.{Bool, true, false, not, _&&_}
 use mathlib.Core.Path.{_≡_, refl, _∙_, subst}
-use mathlib.Core.Logic.{⊎-elim}
-use mathlib.Core.List.{List, [], _++_, List·Memᴰ·not-nil, List·Memᴰ·append-cases}
+use mathlib.Core.List.{List, [], List·Memᴰ·not-nil}
 use lib.ListN.{length}
 use lib.Dec.{eqb}
 use borrow.Author.Tests.{leb-false, ltb-false, eqb-true, not-false}
@@ -24,7 +23,8 @@ use Rattle.frame.specs.declared.Verdict.the-variants as J
 use Rattle.frame.specs.declared.Opened.the-variants as O
 use Rattle.group_rules.specs.Coded.{digestsOf, entryOf, blockAt}
 use Rattle.frame.specs.Frames.{opened, messageIn}
-use Rattle.frame.specs.Messages.{Entry, send, Body, getStamp, askRead, readComplete, blockIs, timeIs, Message, message, Sending, numberIn, fromServer, Judged, bad, good, judgedBy, after, Sized, Formed, FormedBody}
+use Rattle.frame.specs.Messages.{Entry, offer, send, Body, getStamp, askRead, readComplete, blockIs, Message, message}
+use Rattle.frame.specs.Messages.{numberIn, fromServer, Judged, bad, good, judgedBy, after, Sized, Formed, FormedBody}
 use Rattle.frame.specs.Params.{paramsTest, listed, clientFrames, outRoom, toRoom}
 use Rattle.frame.specs.Refusals.{andThen}
 use Rattle.frame.specs.Stamps.{lastSequence, lastClient}
@@ -173,9 +173,6 @@ module _ (H : List ℕ → List ℕ) (g : Params) (me : ℕ) where
   none-formed : AllFormed g []
   none-formed x u = absurd (List·Memᴰ·not-nil u)
 
-  both-formed : (l l′ : List Sending) → AllFormed g l → AllFormed g l′ → AllFormed g (l ++ l′)
-  both-formed l l′ f f′ x u = ⊎-elim (f x) (f′ x) (List·Memᴰ·append-cases l u)
-
   module _ (D : (b : List ℕ) → length (H b) ≡ 32) (is : Among 8 me) where
     said : (q : ℕ) → 1 ≤ q → q < 4294967296 → (b : Body) → FormedBody g b → Formed g (message me q b)
     said q lo hi b f = record { client-low = is .0; client-high = is .1; sequence-low = lo; sequence-high = hi; body = f }
@@ -195,9 +192,7 @@ module _ (H : List ℕ → List ℕ) (g : Params) (me : ℕ) where
         let lo : 1 ≤ s .writes = omega (arith, y, f .sequence-low) in
         let hi : s .writes < 4294967296 = omega (arith, y, f .sequence-high) in
         let e = value-long s (length v) t (asking-writing (s .phase) (w .0)) in
-        both-formed _ _
-        (formed-all g _ (λ i. said (s .writes) lo hi (blockIs send (entryOf H g v i)) (entry-size D v e i)))
-        (formed-all g _ (λ i. said (s .writes) lo hi (timeIs send _) (omega (arith, l))))
+        formed-all g _ (λ i. said (s .writes) lo hi (blockIs send (offer _ (entryOf H g v i))) (entry-size D v e i, omega (arith, l)))
     shape-formed s a v j c q f o t (shuts T z l) = none-formed
     shape-formed s a v j c q f o t (counts z) = none-formed
     shape-formed s a v j c q f o t (ends z) = none-formed

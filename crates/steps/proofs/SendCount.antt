@@ -1,9 +1,9 @@
--- How many frames a step sends: a server at most n + 9, a client at most 2n. Assumes nothing.
-use Prim.Native.Nat.{ℕ, _+_, _*_, _≤_}
+-- How many frames a step sends: a server at most n + 9, a client at most n. Assumes nothing.
+use Prim.Native.Nat.{ℕ, _+_, _≤_}
 use native.Mathlib.Omega.{arith}
 use mathlib.Core.Path.{_≡_, refl}
-use mathlib.Core.List.{List, [], _++_}
-use lib.ListN.{length, length-append}
+use mathlib.Core.List.{List}
+use lib.ListN.{length}
 use Rattle.blocks.specs.declared.Params.{Params}
 use Rattle.frame.specs.declared.Party.{Party}
 use Rattle.frame.specs.Messages.{Body, readComplete, Message, message, toAll, numberIn}
@@ -19,11 +19,8 @@ use Rattle.server_rules.proofs.Casts.{all-length}
 use Rattle.server_rules.proofs.Shapes.{shape-of}
 use Rattle.server_rules.proofs.Speaking.{step-few}
 
-all-few : (g : Params) (f : ℕ → Message) (m : ℕ) → g .n ≤ m → length (toAll g f) ≤ m
-all-few g f m h = let w = all-length g f in omega (arith, w, h)
-
-both-few : (g : Params) (f f′ : ℕ → Message) → length (toAll g f ++ toAll g f′) ≤ 2 * g .n
-both-few g f f′ = let p = length-append (toAll g f) (toAll g f′) in let q = all-length g f in let r = all-length g f′ in omega (arith, p, q, r)
+all-few : (g : Params) (f : ℕ → Message) → length (toAll g f) ≤ g .n
+all-few g f = let w = all-length g f in omega (arith, w)
 
 module _ (H : List ℕ → List ℕ) (g : Params) (me : ℕ) where
   -- "frames out need n + 9 largest frames (server)"
@@ -40,7 +37,7 @@ module _ (H : List ℕ → List ℕ) (g : Params) (me : ℕ) where
   eventSends (C.completed x) m = g .n
 
   pub record Sends (r : C.Effect) : Type 0 where
-    pub few : length (r .sends) ≤ 2 * g .n
+    pub few : length (r .sends) ≤ g .n
     pub event : eventSends (r .event) (length (r .sends)) ≡ length (r .sends)
 
   none-sent : (s : Client) (a : List ℕ) → Sends (C.quiet s a)
@@ -49,21 +46,21 @@ module _ (H : List ℕ → List ℕ) (g : Params) (me : ℕ) where
   shape-sends : (s : Client) (a v : List ℕ) (j : ℕ) {b : Body} {r : C.Effect} → Shape H g me s a v j b r → Sends r
   shape-sends s a v j (idle b) = none-sent s a
   shape-sends s a v j (hears T z) = none-sent _ a
-  shape-sends s a v j (disperses T z l) = record { few = both-few g _ _; event = refl }
+  shape-sends s a v j (disperses T z l) = record { few = all-few g _; event = refl }
   shape-sends s a v j (shuts T z l) = record { few = omega arith; event = refl }
   shape-sends s a v j (counts z) = none-sent _ a
   shape-sends s a v j (ends z) = record { few = omega arith; event = refl }
   shape-sends s a v j (waits x e {s′} {a′} k z) = none-sent s′ a′
   shape-sends s a v j (completes x e {s′} k y z) = let w = all-length g (λ i. message me (s′ .reads) readComplete) in record { few = omega (arith, w); event = omega (arith, w) }
 
-  -- "2n (client)"
+  -- "The client's largest need is now n frames" (request F-4)
   pub client-sends : (s : Client) (a v : List ℕ) (from : Party) (m : Message) → Sends (C.effect H g me s a v from m)
   client-sends s a v from m = shape-sends s a v (numberIn from) (client-shape H g me s a v from m)
 
-  pub read-sends : (s : Client) → length (CB.openRead g me s .sends) ≤ 2 * g .n
+  pub read-sends : (s : Client) → length (CB.openRead g me s .sends) ≤ g .n
   unfolding CB.openRead
-  read-sends s = all-few g _ _ (omega arith)
+  read-sends s = all-few g _
 
-  pub write-sends : (s : Client) → length (CB.openWrite g me s .sends) ≤ 2 * g .n
+  pub write-sends : (s : Client) → length (CB.openWrite g me s .sends) ≤ g .n
   unfolding CB.openWrite
-  write-sends s = all-few g _ _ (omega arith)
+  write-sends s = all-few g _

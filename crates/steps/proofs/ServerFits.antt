@@ -19,7 +19,7 @@ use Rattle.server_rules.specs.Steps as S
 use Rattle.server_rules.specs.Tests as ST
 use Rattle.server_rules.proofs.Parts.{flags-set}
 use Rattle.server_rules.proofs.Views.{shapes}
-use Rattle.server_rules.proofs.Shapes.{Counted, block, time, counted-length, step-length, shape-of}
+use Rattle.server_rules.proofs.Shapes.{Counted, block, counted-length, step-length, shape-of}
 use Rattle.server_rules.proofs.Passing.{test-split, counted-from}
 use Rattle.server_rules.proofs.Within.{TimeIn, Empty, slot-within, with-slot, counted-within, server-within, step-within}
 use Rattle.server_rules.proofs.Taking.{Taken, took}
@@ -30,8 +30,7 @@ pub record ServerShape (s : Server) (a : List ℕ) : Type 0 where
 
 no-time : {H : List ℕ → List ℕ} {g : Params} {me : ℕ} {s : Server} {a initial : List ℕ} {j c : ℕ} {b : Body} {p : S.Counting}
     → Counted H g me s a initial j c b p → TimeIn shapes b
-no-time (block z e) = tt
-no-time (time z T) = tt
+no-time (block z o) = tt
 
 -- a counted frame of a sender with a number keeps it
 pub counted-shape : (H : List ℕ → List ℕ) (g : Params) (me : ℕ) (s : Server) (a initial : List ℕ) → ServerShape s a → (j : ℕ) → 1 ≤ j → (c : ℕ) → c ≤ 8

@@ -29,7 +29,7 @@ use Rattle.server_rules.specs.Steps as S
 use Rattle.server_rules.specs.Tests as ST
 use Rattle.server_rules.proofs.Casts.{mem-all}
 use Rattle.server_rules.proofs.Views.{shapes}
-use Rattle.server_rules.proofs.Shapes.{Freed, Counted, block, time, counted-sequence, counted-length, Shape, idle, answers, notes, ends, settles, shape-of}
+use Rattle.server_rules.proofs.Shapes.{Freed, Counted, block, counted-sequence, counted-length, Shape, idle, answers, notes, ends, settles, shape-of}
 use Rattle.server_rules.proofs.Passing.{test-split, counted-open}
 use Rattle.server_rules.proofs.Within.{TimeIn, server-within, reader-within, this-slot, step-within}
 use Rattle.server_rules.proofs.Counting.{counted-word}
@@ -131,8 +131,7 @@ present-sized g M x a initial R I = record {
 
 no-time : {H : List ℕ → List ℕ} {g : Params} {me : ℕ} {s : Server} {a initial : List ℕ} {j c : ℕ} {b : Body} {p : S.Counting}
     → Counted H g me s a initial j c b p → TimeIn ranges b
-no-time (block z e) = tt
-no-time (time z T) = tt
+no-time (block z o) = tt
 
 one-formed : (g : Params) (y : Sending) → Formed g (y .says) → AllFormed g (y ∷ [])
 one-formed g y f x u = subst (λ z. Formed g (z .says)) (sym (List·Memᴰ·eq-of-singleton u)) f

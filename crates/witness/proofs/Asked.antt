@@ -14,7 +14,7 @@ use Rattle.frame.specs.Params.{Bounded, paramsTest}
 use Rattle.frame.specs.Stamps.{lastTime, lastClient}
 use Rattle.frame.specs.Refusals.{andThen}
 use Rattle.frame.specs.Frames.{opened}
-use Rattle.frame.specs.Messages.{Entry, Sized, Body, getStamp, ack, askRead, readComplete, stampIs, blockIs, timeIs, valueIs, Sending, numberIn, Judged, bad, good, after}
+use Rattle.frame.specs.Messages.{Entry, Sized, Body, getStamp, ack, askRead, readComplete, stampIs, blockIs, valueIs, Sending, numberIn, Judged, bad, good, after}
 use Rattle.frame.specs.Chunks.{entryAt, storeEntry, placeAt, rowsBytes}
 use Rattle.frame.proofs.Sizes.{Small}
 use Rattle.client_rules.specs.declared.Row.{Row}
@@ -64,8 +64,7 @@ module _ (H : List ℕ → List ℕ) (g : Params) (me : ℕ) where
   bodyBy s f v j askRead = heard (C.onBody H g me s [] v j askRead) f
   bodyBy s f v j readComplete = heard (C.onBody H g me s [] v j readComplete) f
   bodyBy s f v j (stampIs T) = heard (C.onBody H g me s [] v j (stampIs T)) f
-  bodyBy s f v j (blockIs z e) = heard (C.onBody H g me s [] v j (blockIs z e)) f
-  bodyBy s f v j (timeIs z T) = heard (C.onBody H g me s [] v j (timeIs z T)) f
+  bodyBy s f v j (blockIs z o) = heard (C.onBody H g me s [] v j (blockIs z o)) f
   bodyBy s f v j (valueIs x e) = keptBy (placeFor (rowOf s j) x) s f j x e
 
   unfoldable pub heardBy : Judged → Client → (ℕ → Entry) → List ℕ → Party → Heard
@@ -143,8 +142,7 @@ module _ (H : List ℕ → List ℕ) (g : Params) (B : Bounded g) (M : Small g) 
   body-seen s a f X v j lo hi readComplete Q = record { client = refl; sends = refl; event = refl; area = X }
   body-seen s a f X v j lo hi (stampIs T) Q =
       gather-seen (inPhase s F.Asking (set (s .heard) j true) (set (s .times) j T)) a f X v (C.quorate g (set (s .heard) j true))
-  body-seen s a f X v j lo hi (blockIs z e) Q = record { client = refl; sends = refl; event = refl; area = X }
-  body-seen s a f X v j lo hi (timeIs z T) Q = record { client = refl; sends = refl; event = refl; area = X }
+  body-seen s a f X v j lo hi (blockIs z o) Q = record { client = refl; sends = refl; event = refl; area = X }
   body-seen s a f X v j lo hi (valueIs x e) Q = keep-seen s a f X j lo hi x e Q (placeFor (rowOf s j) x) refl
 
   pub judge-seen : (s : Client) (a v : List ℕ) (from : Party) (f result out to : List ℕ) → length a ≡ rowsBytes

@@ -47,7 +47,7 @@ use Rattle.witness.proofs.Setups as Setups
 use Rattle.witness.proofs.Served as Served
 use Rattle.witness.proofs.Asked as Asked
 use Rattle.witness.specs.Refusals.{Refuses}
-use Rattle.witness.specs.Contending.{g, initial, value, nobodys, Z, largest, stamp, entryFor, stampAsked, stampFrom, blockTo, timeTo, block, time, readAsked, initialFrom, valueFrom, falseValue, falseEcho, noFrame, falseBlock, noRoom, opening, asking, refused, blocks, times, spread, first, second, told, calls, write, found, writing, reading, Shown}
+use Rattle.witness.specs.Contending.{g, initial, value, nobodys, Z, largest, stamp, entryFor, offerFor, stampAsked, stampFrom, blockTo, block, readAsked, initialFrom, valueFrom, falseValue, falseEcho, falseTime, noFrame, timeAlone, falseBlock, noRoom, opening, asking, refused, rounds, spread, first, second, told, calls, write, found, writing, reading, Shown}
 use Rattle.witness.proofs.Images.{sameParty, amongSends, wasSent, allBytes, judgedBad, verdictBad, isFrame, honest, properFrame, properCall, advance, image, refusedIn, acceptedIn, endIn}
 use Rattle.witness.proofs.Depicted.{Exact, admissible-by, accepts-by, completes-by, refuses-by, at-drop}
 
@@ -67,25 +67,27 @@ sound = Setups.sound Toy.toy g initial 4 (λ c. false) bounded (record { many = 
 
 record Computed : Type 0 where
   pub proper : image Z calls .proper ≡ true
-  -- five calls are refused
+  -- six calls are refused
   pub stale : refusedIn Z (image Z asking) (readAsked 1) ≡ some R.Stale
   pub busy : refusedIn Z (image Z (readAsked 1 ∷ asking)) (Toy.startWrite g 1 (value 2)) ≡ some R.Busy
   pub framing : refusedIn Z (image Z (Toy.startWrite g 1 (value 2) ∷ readAsked 1 ∷ asking)) noFrame ≡ some R.Framing
-  pub digest : refusedIn Z (image Z (noFrame ∷ Toy.startWrite g 1 (value 2) ∷ readAsked 1 ∷ asking)) falseBlock ≡ some R.Digest
-  pub room : refusedIn Z (image Z (falseBlock ∷ noFrame ∷ Toy.startWrite g 1 (value 2) ∷ readAsked 1 ∷ asking)) noRoom ≡ some R.Room
+  pub kind : refusedIn Z (image Z (noFrame ∷ Toy.startWrite g 1 (value 2) ∷ readAsked 1 ∷ asking)) timeAlone ≡ some R.Kind
+  pub digest : refusedIn Z (image Z (timeAlone ∷ noFrame ∷ Toy.startWrite g 1 (value 2) ∷ readAsked 1 ∷ asking)) falseBlock ≡ some R.Digest
+  pub room : refusedIn Z (image Z (falseBlock ∷ timeAlone ∷ noFrame ∷ Toy.startWrite g 1 (value 2) ∷ readAsked 1 ∷ asking)) noRoom ≡ some R.Room
   -- two writes are accepted, and the read completes
-  pub larger : acceptedIn Z (image Z first) (time ready 2 2 1) ≡ write 2 ∷ []
-  pub smaller : acceptedIn Z (image Z second) (time ready 1 2 1) ≡ write 1 ∷ []
+  pub larger : acceptedIn Z (image Z first) (block ready 2 2 1) ≡ write 2 ∷ []
+  pub smaller : acceptedIn Z (image Z second) (block ready 1 2 1) ≡ write 1 ∷ []
   pub completes : endIn Z (image Z told) (valueFrom 2 4) ≡ completed found
   pub number : image Z told .clients 3 .client .reads ≡ 1
 
 computed : Computed
-unfolding judgedBad verdictBad refusedIn FrChunks.entryAt RuWorld.start SeDelivery.constructTest SeDelivery.constructBy SeDelivery.construction Toy.toy Toy.startWrite g initial value nobodys Z largest stamp entryFor stampAsked stampFrom blockTo timeTo block time readAsked initialFrom valueFrom falseValue falseEcho noFrame falseBlock noRoom opening asking refused blocks times spread first second told calls write found Toy.zeros Toy.four Toy.setup Toy.handServer Toy.handClient Toy.startRead Served.freeBy Served.freedBy Served.settledBy Served.votedBy Served.blockBy Served.bodyBy Served.servedBy Served.judgeBy Served.served Asked.searchedBy Asked.keptBy Asked.bodyBy Asked.heardBy Asked.judgeBy Asked.asked sameParty amongSends wasSent allBytes isFrame honest properFrame properCall advance image acceptedIn endIn QuQuorum.count ArArea.pick ArArea.same ArArea.compared ArArea.tableFrom ArArea.table ArArea.joined ArNumbers.be2 ArNumbers.be4 ArNumbers.be8 ArNumbers.bytes2 ArNumbers.bytes4 ArNumbers.bytes8 _⊕_ FiField.reduction FiField.xtime FiField.shiftAdd _⊗_ FiField.powerOf FiField.Powers FiField.Logs BlCode.blockLength BlCode.padded BlCode.stripe BlCode.blockByte BlCode.blockOf BlCode.encoded BlCode.row BlCode.valueOf BlCode.blocksOf BlParams.partiesFit BlParams.thresholdFits BlParams.lengthFits BlPoly.eval BlPoly.plus BlPoly.scale BlPoly.withRoot BlPoly.vanishing BlPoly.newtonStep BlPoly.through FrCoded.pieces FrCoded.decoded FrCoded.digestsOf FrCoded.entryOf FrCoded.fits FrFrames.kindOf FrFrames.lengthOf FrFrames.bodyLength FrFrames.entryBytes FrFrames.stampBytes FrFrames.bodyBytes FrFrames.headerBytes FrFrames.frameOf FrFrames.build FrFrames.framingTest FrFrames.headerIn FrFrames.headerTest FrFrames.bodyTest FrFrames.stampIn FrFrames.stampTest FrFrames.contentTest FrFrames.frameTest FrFrames.opened FrFrames.openedUnder FrFrames.bodyIn FrFrames.messageIn FrMessages.toFrom FrMessages.toAll FrParams.width FrParams.quota FrParams.largestFrame FrParams.outRoom FrParams.toRoom FrParams.ownTest FrParams.codeTest FrParams.boundsTest FrParams.paramsTest FrStamps.older FrStamps.sameStamp FrStamps.zeroStamp FrStamps.partsAgree SeBroadcast.votes SeBroadcast.enough SeBroadcast.due SeBroadcast.full SeBroadcast.matters SeRules.chosen SeRules.regained SeState.freshBlocks SeState.freshTimes SeState.freshSlot SeState.freshReader SeState.freshServer SeState.blockView SeState.timeView SeState.presentBlock SeState.presentEntry SeSteps.votedBlock SeSteps.onBlock SeSteps.votedTime SeSteps.onTime SeSteps.tellFrom SeSteps.accept SeSteps.bothDone SeSteps.ripe SeSteps.freeBy SeSteps.free SeSteps.freed SeSteps.settle SeSteps.onRead SeSteps.onReadComplete SeSteps.onBody SeSteps.effect SeTests.roomTest SeTests.senderRight SeTests.counted SeTests.openTest SeTests.readTest SeTests.doneTest SeTests.fitTest SeTests.orderTest SeTests.messageTest SeTests.judgeOpened SeTests.judge CB.idleTest CB.closedTest CB.lengthTest CB.readTest CB.writeTest CB.openRead CB.openWrite CB.beginBy CB.readBegun CB.writeBegun CB.beginAnswer CB.begunOf CB.readBeginning CB.writeBeginning ClRows.placesFrom ClRows.rowView ClRows.hasStamp ClRows.smallest ClRows.placeFor ClRows.atStamp ClRows.rowsFrom ClRows.agreed ClRows.firstBy ClRows.firstAgreed ClRows.foundOf ClRows.foundBy ClRows.search ClState.freshRow ClState.freshClient ClState.largest ClSteps.quorate ClSteps.sendBelow ClSteps.gatherBy ClSteps.onStamp ClSteps.endBy ClSteps.onAck ClSteps.completeBy ClSteps.settle ClSteps.keepBy ClSteps.onValue ClSteps.onBody ClSteps.effect ClTests.sendRoom ClTests.roomTest ClTests.valueTest ClTests.answers ClTests.awaited ClTests.fitTest ClTests.orderTest ClTests.messageTest ClTests.judgeOpened ClTests.judge
+unfolding judgedBad verdictBad refusedIn FrChunks.entryAt RuWorld.start SeDelivery.constructTest SeDelivery.constructBy SeDelivery.construction Toy.toy Toy.startWrite g initial value nobodys Z largest stamp entryFor offerFor stampAsked stampFrom blockTo block readAsked initialFrom valueFrom falseValue falseEcho falseTime noFrame timeAlone falseBlock noRoom opening asking refused rounds spread first second told calls write found Toy.zeros Toy.four Toy.setup Toy.handServer Toy.handClient Toy.startRead Served.freeBy Served.freedBy Served.settledBy Served.votedBy Served.blockBy Served.bodyBy Served.servedBy Served.judgeBy Served.served Asked.searchedBy Asked.keptBy Asked.bodyBy Asked.heardBy Asked.judgeBy Asked.asked sameParty amongSends wasSent allBytes isFrame honest properFrame properCall advance image acceptedIn endIn QuQuorum.count ArArea.pick ArArea.same ArArea.compared ArArea.tableFrom ArArea.table ArArea.joined ArNumbers.be2 ArNumbers.be4 ArNumbers.be8 ArNumbers.bytes2 ArNumbers.bytes4 ArNumbers.bytes8 _⊕_ FiField.reduction FiField.xtime FiField.shiftAdd _⊗_ FiField.powerOf FiField.Powers FiField.Logs BlCode.blockLength BlCode.padded BlCode.stripe BlCode.blockByte BlCode.blockOf BlCode.encoded BlCode.row BlCode.valueOf BlCode.blocksOf BlParams.partiesFit BlParams.thresholdFits BlParams.lengthFits BlPoly.eval BlPoly.plus BlPoly.scale BlPoly.withRoot BlPoly.vanishing BlPoly.newtonStep BlPoly.through FrCoded.pieces FrCoded.decoded FrCoded.digestsOf FrCoded.entryOf FrCoded.fits FrFrames.kindOf FrFrames.retired FrFrames.lengthOf FrFrames.bodyLength FrFrames.entryBytes FrFrames.offerBytes FrFrames.stampBytes FrFrames.bodyBytes FrFrames.headerBytes FrFrames.frameOf FrFrames.build FrFrames.framingTest FrFrames.headerIn FrFrames.headerTest FrFrames.bodyTest FrFrames.stampIn FrFrames.stampTest FrFrames.contentTest FrFrames.frameTest FrFrames.opened FrFrames.openedUnder FrFrames.bodyIn FrFrames.messageIn FrMessages.toFrom FrMessages.toAll FrParams.width FrParams.quota FrParams.largestFrame FrParams.outRoom FrParams.toRoom FrParams.ownTest FrParams.codeTest FrParams.boundsTest FrParams.paramsTest FrStamps.older FrStamps.sameStamp FrStamps.zeroStamp FrStamps.partsAgree SeBroadcast.votes SeBroadcast.enough SeBroadcast.due SeBroadcast.full SeBroadcast.matters SeRules.atTime SeRules.chosen SeRules.regained SeState.freshBlocks SeState.freshSlot SeState.freshReader SeState.freshServer SeState.blockView SeState.presentBlock SeState.presentEntry SeSteps.votedBlock SeSteps.onBlock SeSteps.tellFrom SeSteps.accept SeSteps.ripeBy SeSteps.ripe SeSteps.freeBy SeSteps.free SeSteps.freed SeSteps.settle SeSteps.onRead SeSteps.onReadComplete SeSteps.onBody SeSteps.effect SeTests.roomTest SeTests.senderRight SeTests.counted SeTests.openTest SeTests.readTest SeTests.doneTest SeTests.fitTest SeTests.orderTest SeTests.messageTest SeTests.judgeOpened SeTests.judge CB.idleTest CB.closedTest CB.lengthTest CB.readTest CB.writeTest CB.openRead CB.openWrite CB.beginBy CB.readBegun CB.writeBegun CB.beginAnswer CB.begunOf CB.readBeginning CB.writeBeginning ClRows.placesFrom ClRows.rowView ClRows.hasStamp ClRows.smallest ClRows.placeFor ClRows.atStamp ClRows.rowsFrom ClRows.agreed ClRows.firstBy ClRows.firstAgreed ClRows.foundOf ClRows.foundBy ClRows.search ClState.freshRow ClState.freshClient ClState.largest ClSteps.quorate ClSteps.sendBelow ClSteps.gatherBy ClSteps.onStamp ClSteps.endBy ClSteps.onAck ClSteps.completeBy ClSteps.settle ClSteps.keepBy ClSteps.onValue ClSteps.onBody ClSteps.effect ClTests.sendRoom ClTests.roomTest ClTests.valueTest ClTests.answers ClTests.awaited ClTests.fitTest ClTests.orderTest ClTests.messageTest ClTests.judgeOpened ClTests.judge
 computed = record {
   proper = refl;
   stale = refl;
   busy = refl;
   framing = refl;
+  kind = refl;
   digest = refl;
   room = refl;
   larger = refl;
@@ -97,40 +99,45 @@ computed = record {
 -- ---- so
 
 stale : At (Refuses Z R.Stale) calls 18
-unfolding opening asking refused blocks times spread first second told calls
-stale = at-drop (Refuses Z R.Stale) 54 calls 18 (inl (refl, refuses-by Z exact asking (readAsked 1) R.Stale (computed .stale)))
+unfolding opening asking refused rounds spread first second told calls
+stale = at-drop (Refuses Z R.Stale) 34 calls 18 (inl (refl, refuses-by Z exact asking (readAsked 1) R.Stale (computed .stale)))
 
 busy : At (Refuses Z R.Busy) calls 19
-unfolding opening asking refused blocks times spread first second told calls
-busy = at-drop (Refuses Z R.Busy) 53 calls 19 (inl (refl, refuses-by Z exact (readAsked 1 ∷ asking) (Toy.startWrite g 1 (value 2)) R.Busy (computed .busy)))
+unfolding opening asking refused rounds spread first second told calls
+busy = at-drop (Refuses Z R.Busy) 33 calls 19 (inl (refl, refuses-by Z exact (readAsked 1 ∷ asking) (Toy.startWrite g 1 (value 2)) R.Busy (computed .busy)))
 
 framing : At (Refuses Z R.Framing) calls 20
-unfolding opening asking refused blocks times spread first second told calls
-framing = at-drop (Refuses Z R.Framing) 52 calls 20
+unfolding opening asking refused rounds spread first second told calls
+framing = at-drop (Refuses Z R.Framing) 32 calls 20
     (inl (refl, refuses-by Z exact (Toy.startWrite g 1 (value 2) ∷ readAsked 1 ∷ asking) noFrame R.Framing (computed .framing)))
 
-digest : At (Refuses Z R.Digest) calls 21
-unfolding opening asking refused blocks times spread first second told calls
-digest = at-drop (Refuses Z R.Digest) 51 calls 21
-    (inl (refl, refuses-by Z exact (noFrame ∷ Toy.startWrite g 1 (value 2) ∷ readAsked 1 ∷ asking) falseBlock R.Digest (computed .digest)))
+kind : At (Refuses Z R.Kind) calls 21
+unfolding opening asking refused rounds spread first second told calls
+kind = at-drop (Refuses Z R.Kind) 31 calls 21
+    (inl (refl, refuses-by Z exact (noFrame ∷ Toy.startWrite g 1 (value 2) ∷ readAsked 1 ∷ asking) timeAlone R.Kind (computed .kind)))
 
-room : At (Refuses Z R.Room) calls 22
-unfolding opening asking refused blocks times spread first second told calls
-room = at-drop (Refuses Z R.Room) 50 calls 22
-    (inl (refl, refuses-by Z exact (falseBlock ∷ noFrame ∷ Toy.startWrite g 1 (value 2) ∷ readAsked 1 ∷ asking) noRoom R.Room (computed .room)))
+digest : At (Refuses Z R.Digest) calls 22
+unfolding opening asking refused rounds spread first second told calls
+digest = at-drop (Refuses Z R.Digest) 30 calls 22
+    (inl (refl, refuses-by Z exact (timeAlone ∷ noFrame ∷ Toy.startWrite g 1 (value 2) ∷ readAsked 1 ∷ asking) falseBlock R.Digest (computed .digest)))
 
-larger : At (Accepts Z 1 (write 2)) calls 62
-unfolding opening asking refused blocks times spread first second told calls time Toy.handServer
-larger = at-drop (Accepts Z 1 (write 2)) 10 calls 62
-    (inl (refl, accepts-by Z exact first (time ready 2 2 1) 1 (write 2) refl (rw (computed .larger) (List·Memᴰ·head refl))))
+room : At (Refuses Z R.Room) calls 23
+unfolding opening asking refused rounds spread first second told calls
+room = at-drop (Refuses Z R.Room) 29 calls 23
+    (inl (refl, refuses-by Z exact (falseBlock ∷ timeAlone ∷ noFrame ∷ Toy.startWrite g 1 (value 2) ∷ readAsked 1 ∷ asking) noRoom R.Room (computed .room)))
 
-smaller : At (Accepts Z 1 (write 1)) calls 65
-unfolding opening asking refused blocks times spread first second told calls time Toy.handServer
-smaller = at-drop (Accepts Z 1 (write 1)) 7 calls 65
-    (inl (refl, accepts-by Z exact second (time ready 1 2 1) 1 (write 1) refl (rw (computed .smaller) (List·Memᴰ·head refl))))
+larger : At (Accepts Z 1 (write 2)) calls 42
+unfolding opening asking refused rounds spread first second told calls block Toy.handServer
+larger = at-drop (Accepts Z 1 (write 2)) 10 calls 42
+    (inl (refl, accepts-by Z exact first (block ready 2 2 1) 1 (write 2) refl (rw (computed .larger) (List·Memᴰ·head refl))))
 
-completes : At (CompletesRead Z 3 1 found) calls 72
-unfolding opening asking refused blocks times spread first second told calls valueFrom Toy.handClient
+smaller : At (Accepts Z 1 (write 1)) calls 45
+unfolding opening asking refused rounds spread first second told calls block Toy.handServer
+smaller = at-drop (Accepts Z 1 (write 1)) 7 calls 45
+    (inl (refl, accepts-by Z exact second (block ready 1 2 1) 1 (write 1) refl (rw (computed .smaller) (List·Memᴰ·head refl))))
+
+completes : At (CompletesRead Z 3 1 found) calls 52
+unfolding opening asking refused rounds spread first second told calls valueFrom Toy.handClient
 completes = inl (refl, completes-by Z exact told (valueFrom 2 4) 3 1 found refl (computed .number) (computed .completes))
 
 -- ---- the row
@@ -153,15 +160,15 @@ not-older = (refl, refl)
 module _ (D : Demand3 Z calls) where
   one : List·Memᴰ (writing 1) (D .row)
   unfolding writing write stamp largest ArArea.pick
-  one = D .all (writing 1) (inr (refl, (1, write 1, 65, smaller, refl, refl, refl)))
+  one = D .all (writing 1) (inr (refl, (1, write 1, 45, smaller, refl, refl, refl)))
 
   two : List·Memᴰ (writing 2) (D .row)
   unfolding writing write stamp largest ArArea.pick
-  two = D .all (writing 2) (inr (refl, (1, write 2, 62, larger, refl, refl, refl)))
+  two = D .all (writing 2) (inr (refl, (1, write 2, 42, larger, refl, refl, refl)))
 
   last : List·Memᴰ reading (D .row)
   unfolding reading found
-  last = D .all reading (inl (refl, (found, 72, completes, refl)))
+  last = D .all reading (inl (refl, (found, 52, completes, refl)))
 
   not-back : InOrder Z calls (writing 2) (writing 1) → ⊥
   unfolding writing
@@ -191,6 +198,7 @@ shown = record {
   stale = stale;
   busy = busy;
   framing = framing;
+  kind = kind;
   digest = digest;
   room = room;
   larger = larger;

@@ -16,14 +16,14 @@ use Rattle.frame.specs.declared.Party.the-variants as P
 use Rattle.frame.specs.Params.{width, Bounded, paramsTest}
 use Rattle.frame.specs.Stamps.{older, lastTime}
 use Rattle.frame.specs.Frames.{opened}
-use Rattle.frame.specs.Messages.{Entry, entry, Sized, Stage, send, echo, ready, Body, getStamp, ack, askRead, readComplete, stampIs, blockIs, timeIs, valueIs, message, Sending, sending, toAll, numberIn, Judged, bad, good, after}
+use Rattle.frame.specs.Messages.{Entry, entry, Offer, offer, Sized, Stage, send, echo, ready, Body, getStamp, ack, askRead, readComplete, stampIs, blockIs, valueIs, message, Sending, sending, toAll, numberIn, Judged, bad, good, after}
 use Rattle.frame.specs.Chunks.{entryAt, completeAt, echoAt, readyAt, areaBytes}
 use Rattle.frame.proofs.Sizes.{Small}
 use Rattle.server_rules.specs.declared.Slot.{Slot}
 use Rattle.server_rules.specs.declared.Server.{Server}
 use Rattle.server_rules.specs.Broadcast.{Part, kept, due, full}
 use Rattle.server_rules.specs.Rules.{blockRules}
-use Rattle.server_rules.specs.State.{slotOf, withSlot, withReader, withBlocks, blockView, timeView, presentBlock, presentEntry, blockEcho, blockReady, blockMarks}
+use Rattle.server_rules.specs.State.{slotOf, withSlot, withReader, withBlocks, blockView, presentBlock, presentEntry, blockEcho, blockReady, blockMarks}
 use Rattle.server_rules.specs.Steps as S
 use Rattle.server_rules.specs.Tests as ST
 use Rattle.server_rules.specs.Delivery as SD
@@ -53,14 +53,14 @@ pub record Counted : Type 0 where
 abbrev pub counted : S.Counting → (ℕ → Entry) → Counted
 counted p f = record { slot = p .slot; entries = f; sends = p .sends }
 
--- the blocks of client c's slot x
-abbrev pub viewBy : (ℕ → Entry) → ℕ → Slot → Part Entry
+-- the broadcast of client c's slot x
+abbrev pub viewBy : (ℕ → Entry) → ℕ → Slot → Part Offer
 viewBy f c x = record {
   sent = x .blocks .sent;
   ready = x .blocks .ready;
-  echoes = λ j. kept (getD (x .blocks .echoes) j false) (f (echoAt c j));
-  readies = λ j. kept (getD (x .blocks .readies) j false) (f (readyAt c j));
-  done = kept (x .blocks .complete) (f (completeAt c));
+  echoes = λ j. kept (getD (x .blocks .echoes) j false) (offer (getD (x .blocks .echoed) j 0) (f (echoAt c j)));
+  readies = λ j. kept (getD (x .blocks .readies) j false) (offer (getD (x .blocks .readied) j 0) (f (readyAt c j)));
+  done = kept (x .blocks .complete) (offer (x .blocks .time) (f (completeAt c)));
 }
 
 -- a write is accepted if there is one
@@ -70,8 +70,8 @@ freeBy (some w) s f = seen (S.accept s [] w) (putIf (older (s .stamp) (S.stampOf
 
 unfoldable pub freedBy : Stage → Server → (ℕ → Entry) → ℕ → Seen
 freedBy send s f c = seen (S.sendOnly s [] []) f
-freedBy echo s f c = freeBy (S.bothDone s c (slotOf s c .sequence) (timeView (slotOf s c) .done) (viewBy f c (slotOf s c) .done)) s f
-freedBy ready s f c = freeBy (S.bothDone s c (slotOf s c .sequence) (timeView (slotOf s c) .done) (viewBy f c (slotOf s c) .done)) s f
+freedBy echo s f c = freeBy (S.ripeBy s c (slotOf s c .sequence) (viewBy f c (slotOf s c) .done)) s f
+freedBy ready s f c = freeBy (S.ripeBy s c (slotOf s c .sequence) (viewBy f c (slotOf s c) .done)) s f
 
 abbrev pub behindBy : List Sending → Seen → Seen
 behindBy l r = record { server = r .server; entries = r .entries; sends = l ++ r .sends; accepted = r .accepted }
@@ -80,25 +80,25 @@ unfoldable pub settledBy : Server → ℕ → Stage → Counted → Seen
 settledBy s c z n = behindBy (n .sends) (freedBy z (withSlot s c (n .slot)) (n .entries) c)
 
 module _ (H : List ℕ → List ℕ) (g : Params) (me : ℕ) where
-  unfoldable pub votedBy : Part Entry → (ℕ → Entry) → ℕ → Slot → Entry → Counted
-  votedBy w f c x e =
-      let r = due (blockRules H g) (g .n) (g .t) w e in
-      let u = full (blockRules H g) (g .n) (g .t) w e in
-      let own = blockRules H g .own me (w .echoes) (w .readies) e in
+  unfoldable pub votedBy : Part Offer → (ℕ → Entry) → ℕ → Slot → Offer → Counted
+  votedBy w f c x o =
+      let r = due (blockRules H g) (g .n) (g .t) w o in
+      let u = full (blockRules H g) (g .n) (g .t) w o in
+      let own = blockRules H g .own me (w .echoes) (w .readies) o in
       record {
-        slot = withBlocks x (blockMarks (x .blocks) r u);
-        entries = putIf (not (x .blocks .complete) && u) f (completeAt c) own;
+        slot = withBlocks x (blockMarks (x .blocks) r u (o .time));
+        entries = putIf (not (x .blocks .complete) && u) f (completeAt c) (own .entry);
         sends = pick r (toAll g (λ j. message c (x .sequence) (blockIs ready own))) [];
       }
 
-  unfoldable pub blockBy : (ℕ → Entry) → ℕ → Slot → ℕ → Stage → Entry → Counted
-  blockBy f c x j send e = counted (S.onBlock H g me [] c x j send e) f
-  blockBy f c x j echo e =
-      let y = withBlocks x (blockEcho (x .blocks) j) in
-      votedBy (viewBy (put f (echoAt c j) e) c y) (put f (echoAt c j) e) c y e
-  blockBy f c x j ready e =
-      let y = withBlocks x (blockReady (x .blocks) j) in
-      votedBy (viewBy (put f (readyAt c j) e) c y) (put f (readyAt c j) e) c y e
+  unfoldable pub blockBy : (ℕ → Entry) → ℕ → Slot → ℕ → Stage → Offer → Counted
+  blockBy f c x j send o = counted (S.onBlock H g me [] c x j send o) f
+  blockBy f c x j echo o =
+      let y = withBlocks x (blockEcho (x .blocks) j (o .time)) in
+      votedBy (viewBy (put f (echoAt c j) (o .entry)) c y) (put f (echoAt c j) (o .entry)) c y o
+  blockBy f c x j ready o =
+      let y = withBlocks x (blockReady (x .blocks) j (o .time)) in
+      votedBy (viewBy (put f (readyAt c j) (o .entry)) c y) (put f (readyAt c j) (o .entry)) c y o
 
   -- what a read is answered with
   abbrev pub answerBy : Server → (ℕ → Entry) → List ℕ → Entry
@@ -115,8 +115,7 @@ module _ (H : List ℕ → List ℕ) (g : Params) (me : ℕ) where
   }
   bodyBy s f initial j c q readComplete = seen (S.onBody H g me s [] initial j c q readComplete) f
   bodyBy s f initial j c q (stampIs T) = seen (S.onBody H g me s [] initial j c q (stampIs T)) f
-  bodyBy s f initial j c q (blockIs z e) = settledBy s c z (blockBy f c (slotOf s c) j z e)
-  bodyBy s f initial j c q (timeIs z T) = settledBy s c z (counted (S.onTime H g me [] c (slotOf s c) j z T) f)
+  bodyBy s f initial j c q (blockIs z o) = settledBy s c z (blockBy f c (slotOf s c) j z o)
   bodyBy s f initial j c q (valueIs x e) = seen (S.onBody H g me s [] initial j c q (valueIs x e)) f
 
   unfoldable pub servedBy : Judged → Server → (ℕ → Entry) → List ℕ → Party → Seen
@@ -145,34 +144,38 @@ unfolding blockView
 view-seen g a f h c x i = record {
   sent = x .blocks .sent;
   ready = x .blocks .ready;
-  echoes = λ j. kept (getD (x .blocks .echoes) j false) (h (echoAt c j) i);
-  readies = λ j. kept (getD (x .blocks .readies) j false) (h (readyAt c j) i);
-  done = kept (x .blocks .complete) (h (completeAt c) i);
+  echoes = λ j. kept (getD (x .blocks .echoes) j false) (offer (getD (x .blocks .echoed) j 0) (h (echoAt c j) i));
+  readies = λ j. kept (getD (x .blocks .readies) j false) (offer (getD (x .blocks .readied) j 0) (h (readyAt c j) i));
+  done = kept (x .blocks .complete) (offer (x .blocks .time) (h (completeAt c) i));
 }
 
 module _ (H : List ℕ → List ℕ) (g : Params) (B : Bounded g) (M : Small g) (me : ℕ) where
-  done-seen : (s : Server) (a : List ℕ) (f : ℕ → Entry) → Shows g areaBytes a f → (c q : ℕ) (o : Option ℕ) (d : Option Entry)
-      → ((y : Entry) → d ≡ some y → Sized g y)
-      → Sees g (S.freeBy (S.bothDone s c q o d) s a) (freeBy (S.bothDone s c q o d) s f)
-  unfolding S.freeBy S.bothDone S.accept freeBy pick
-  done-seen s a f X c q none d Q = record { server = refl; sends = refl; accepted = refl; area = X }
-  done-seen s a f X c q (some T) none Q = record { server = refl; sends = refl; accepted = refl; area = X }
-  done-seen s a f X c q (some T) (some e) Q = go (ltb T lastTime)
+  done-seen : (s : Server) (a : List ℕ) (f : ℕ → Entry) → Shows g areaBytes a f → (c q : ℕ) (d : Option Offer)
+      → ((y : Offer) → d ≡ some y → Sized g (y .entry))
+      → Sees g (S.freeBy (S.ripeBy s c q d) s a) (freeBy (S.ripeBy s c q d) s f)
+  unfolding S.freeBy S.ripeBy S.accept freeBy pick
+  done-seen s a f X c q none Q = record { server = refl; sends = refl; accepted = refl; area = X }
+  done-seen s a f X c q (some o) Q = go (ltb (o .time) lastTime)
     where
       w : S.Write
-      w = record { client = c; sequence = q; time = T; entry = e }
+      w = record { client = c; sequence = q; time = o .time; entry = o .entry }
 
       go : (b : Bool) → Sees g (S.freeBy (pick b (some w) none) s a) (freeBy (pick b (some w) none) s f)
-      go true = record { server = refl; sends = refl; accepted = refl; area = stored-if g M areaBytes a f X 0 (omega arith) e (older (s .stamp) (S.stampOf w)) (λ h. Q e refl) }
+      go true = record {
+        server = refl;
+        sends = refl;
+        accepted = refl;
+        area = stored-if g M areaBytes a f X 0 (omega arith) (o .entry) (older (s .stamp) (S.stampOf w)) (λ h. Q o refl);
+      }
       go false = record { server = refl; sends = refl; accepted = refl; area = X }
 
   free-seen : (s : Server) (a : List ℕ) (f : ℕ → Entry) → Shows g areaBytes a f → (c : ℕ) → Among 8 c
-      → Sees g (S.free g s a c) (freeBy (S.bothDone s c (slotOf s c .sequence) (timeView (slotOf s c) .done) (viewBy f c (slotOf s c) .done)) s f)
+      → Sees g (S.free g s a c) (freeBy (S.ripeBy s c (slotOf s c .sequence) (viewBy f c (slotOf s c) .done)) s f)
   unfolding S.free S.ripe
   free-seen s a f X c is =
-      subst (λ v. Sees g (S.free g s a c) (freeBy (S.bothDone s c (slotOf s c .sequence) (timeView (slotOf s c) .done) (v .done)) s f))
+      subst (λ v. Sees g (S.free g s a c) (freeBy (S.ripeBy s c (slotOf s c .sequence) (v .done)) s f))
       (view-seen g a f (X .at) c (slotOf s c))
-      (done-seen s a f X c (slotOf s c .sequence) (timeView (slotOf s c) .done) (blockView g a c (slotOf s c) .done)
+      (done-seen s a f X c (slotOf s c .sequence) (blockView g a c (slotOf s c) .done)
       (λ y e. done-sized g M a (omega (arith, X .long)) c is (slotOf s c) y e))
 
   freed-seen : (s : Server) (a : List ℕ) (f : ℕ → Entry) → Shows g areaBytes a f → (c : ℕ) → Among 8 c → (z : Stage)
@@ -189,34 +192,27 @@ module _ (H : List ℕ → List ℕ) (g : Params) (B : Bounded g) (M : Small g) 
       let r = freed-seen (withSlot s c (p .slot)) (p .area) f X c is z in
       record { server = r .server; sends = ap (λ l. p .sends ++ l) (r .sends); accepted = r .accepted; area = r .area }
 
-  voted-seen : (s : Server) (a : List ℕ) (f : ℕ → Entry) → Shows g areaBytes a f → (c : ℕ) → Among 8 c → (z : Stage) (x : Slot) (e : Entry) → Sized g e
-      → Sees g (S.settle g s c z (S.votedBlock H g me a c x e)) (settledBy s c z (votedBy H g me (viewBy f c x) f c x e))
+  voted-seen : (s : Server) (a : List ℕ) (f : ℕ → Entry) → Shows g areaBytes a f → (c : ℕ) → Among 8 c → (z : Stage) (x : Slot) (o : Offer) → Sized g (o .entry)
+      → Sees g (S.settle g s c z (S.votedBlock H g me a c x o)) (settledBy s c z (votedBy H g me (viewBy f c x) f c x o))
   unfolding S.votedBlock votedBy
-  voted-seen s a f X c is z x e Q =
-      subst (λ w. Sees g (S.settle g s c z (S.votedBlock H g me a c x e)) (settledBy s c z (votedBy H g me w f c x e))) (view-seen g a f (X .at) c x)
-      (settle-seen s c is (S.votedBlock H g me a c x e) _
+  voted-seen s a f X c is z x o Q =
+      subst (λ w. Sees g (S.settle g s c z (S.votedBlock H g me a c x o)) (settledBy s c z (votedBy H g me w f c x o))) (view-seen g a f (X .at) c x)
+      (settle-seen s c is (S.votedBlock H g me a c x o) _
       (stored-if g M areaBytes a f X (completeAt c) (omega (arith, is .0, is .1)) _
-      (not (x .blocks .complete) && full (blockRules H g) (g .n) (g .t) (blockView g a c x) e)
-      (λ h. coded H g (B .blocks-low) me (blockView g a c x) e Q (and-split (not (x .blocks .complete)) _ h .1))) z)
+      (not (x .blocks .complete) && full (blockRules H g) (g .n) (g .t) (blockView g a c x) o)
+      (λ h. coded H g (B .blocks-low) me (blockView g a c x) o Q (and-split (not (x .blocks .complete)) _ h .1))) z)
 
-  block-seen : (s : Server) (a : List ℕ) (f : ℕ → Entry) → Shows g areaBytes a f → (c : ℕ) → Among 8 c → (j : ℕ) (z : Stage) (e : Entry) → Sized g e
+  block-seen : (s : Server) (a : List ℕ) (f : ℕ → Entry) → Shows g areaBytes a f → (c : ℕ) → Among 8 c → (j : ℕ) (z : Stage) (o : Offer) → Sized g (o .entry)
       → (from : Party) → SenderIs g from c z → j ≡ numberIn from
-      → Sees g (S.settle g s c z (S.onBlock H g me a c (slotOf s c) j z e)) (settledBy s c z (blockBy H g me f c (slotOf s c) j z e))
+      → Sees g (S.settle g s c z (S.onBlock H g me a c (slotOf s c) j z o)) (settledBy s c z (blockBy H g me f c (slotOf s c) j z o))
   unfolding S.onBlock blockBy
-  block-seen s a f X c is j send e Q from h n = settle-seen s c is (S.onBlock H g me a c (slotOf s c) j send e) f X send
-  block-seen s a f X c is j echo e Q from h n =
-      voted-seen s _ _ (stored g M areaBytes a f X (echoAt c j) (omega (arith, is .0, is .1, n, h .1 .1, B .servers-high)) e Q) c is echo
-      (withBlocks (slotOf s c) (blockEcho (slotOf s c .blocks) j)) e Q
-  block-seen s a f X c is j ready e Q from h n =
-      voted-seen s _ _ (stored g M areaBytes a f X (readyAt c j) (omega (arith, is .0, is .1, n, h .1 .1, B .servers-high)) e Q) c is ready
-      (withBlocks (slotOf s c) (blockReady (slotOf s c .blocks) j)) e Q
-
-  time-seen : (s : Server) (a : List ℕ) (f : ℕ → Entry) → Shows g areaBytes a f → (c : ℕ) → Among 8 c → (j : ℕ) (z : Stage) (T : ℕ)
-      → Sees g (S.settle g s c z (S.onTime H g me a c (slotOf s c) j z T)) (settledBy s c z (counted (S.onTime H g me [] c (slotOf s c) j z T) f))
-  unfolding S.onTime S.votedTime
-  time-seen s a f X c is j send T = settle-seen s c is (S.onTime H g me a c (slotOf s c) j send T) f X send
-  time-seen s a f X c is j echo T = settle-seen s c is (S.onTime H g me a c (slotOf s c) j echo T) f X echo
-  time-seen s a f X c is j ready T = settle-seen s c is (S.onTime H g me a c (slotOf s c) j ready T) f X ready
+  block-seen s a f X c is j send o Q from h n = settle-seen s c is (S.onBlock H g me a c (slotOf s c) j send o) f X send
+  block-seen s a f X c is j echo o Q from h n =
+      voted-seen s _ _ (stored g M areaBytes a f X (echoAt c j) (omega (arith, is .0, is .1, n, h .1 .1, B .servers-high)) (o .entry) Q) c is echo
+      (withBlocks (slotOf s c) (blockEcho (slotOf s c .blocks) j (o .time))) o Q
+  block-seen s a f X c is j ready o Q from h n =
+      voted-seen s _ _ (stored g M areaBytes a f X (readyAt c j) (omega (arith, is .0, is .1, n, h .1 .1, B .servers-high)) (o .entry) Q) c is ready
+      (withBlocks (slotOf s c) (blockReady (slotOf s c .blocks) j (o .time))) o Q
 
   present-seen : (s : Server) (a : List ℕ) (f : ℕ → Entry) → Shows g areaBytes a f → (initial : List ℕ)
       → presentEntry g (s .stamp) a initial ≡ answerBy H g me s f initial
@@ -237,8 +233,7 @@ module _ (H : List ℕ → List ℕ) (g : Params) (B : Bounded g) (M : Small g) 
   }
   body-seen s a f X initial from c q is readComplete Q p = record { server = refl; sends = refl; accepted = refl; area = X }
   body-seen s a f X initial from c q is (stampIs T) Q p = record { server = refl; sends = refl; accepted = refl; area = X }
-  body-seen s a f X initial from c q is (blockIs z e) Q p = block-seen s a f X c is (numberIn from) z e Q from (block-sender g from c z e p) refl
-  body-seen s a f X initial from c q is (timeIs z T) Q p = time-seen s a f X c is (numberIn from) z T
+  body-seen s a f X initial from c q is (blockIs z o) Q p = block-seen s a f X c is (numberIn from) z o Q from (block-sender g from c z o p) refl
   body-seen s a f X initial from c q is (valueIs x e) Q p = record { server = refl; sends = refl; accepted = refl; area = X }
 
   pub judge-seen : (s : Server) (a initial : List ℕ) (from : Party) (f out to : List ℕ) → length a ≡ areaBytes → length initial ≡ width g

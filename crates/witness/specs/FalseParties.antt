@@ -1,12 +1,12 @@
--- A run, as a list of calls, latest first: server 4 and client 1 are false. Client 1 sends a time without blocks; client 2 reads, and its read completes with the
--- initial value. k = 1. These are definitions.
+-- A run, as a list of calls, latest first: server 4 and client 1 are false. Client 1 sends its block to one server alone; client 2 reads, and its read
+-- completes with the initial value. k = 1. These are definitions.
 use Prim.Native.Nat.{ℕ}
 use mathlib.Core.List.{List, [], _∷_}
 use lib.Dec.{eqb}
 use Rattle.blocks.specs.declared.Params.{Params}
 use Rattle.frame.specs.declared.Party.the-variants as P
 use Rattle.frame.specs.Stamps.{zeroStamp}
-use Rattle.frame.specs.Messages.{send, Message, message, askRead, timeIs, valueIs}
+use Rattle.frame.specs.Messages.{offer, send, Message, message, askRead, blockIs, valueIs}
 use Rattle.group_rules.specs.Coded.{entryOf, digestsOf}
 use Rattle.client_rules.specs.Rows.{Found}
 use Rattle.runs.specs.World.{Setup, Sound, Call}
@@ -23,9 +23,9 @@ initial = 9 ∷ []
 unfoldable pub Z : Setup
 Z = setup toy g initial 4 (λ c. eqb c 1)
 
--- what false client 1 sends, what client 2 asks, and what server j answers, false server 4 too
-unfoldable pub falseTime : Message
-falseTime = message 1 1 (timeIs send 5)
+-- what false client 1 sends server 1, what client 2 asks, and what server j answers, false server 4 too
+unfoldable pub falseBlock : Message
+falseBlock = message 1 1 (blockIs send (offer 5 (entryOf toy g (7 ∷ []) 1)))
 
 unfoldable pub question : Message
 question = message 2 1 askRead
@@ -37,7 +37,7 @@ unfoldable pub calls : List Call
 calls =
     handClient g 2 (P.Server 4) (answer 4) ∷ handClient g 2 (P.Server 2) (answer 2) ∷ handClient g 2 (P.Server 1) (answer 1)
     ∷ handServer g 2 (P.Client 2) question ∷ handServer g 1 (P.Client 2) question ∷ startRead g 2
-    ∷ handServer g 1 (P.Client 1) falseTime ∷ []
+    ∷ handServer g 1 (P.Client 1) falseBlock ∷ []
 
 -- what the read finds
 unfoldable pub found : Found

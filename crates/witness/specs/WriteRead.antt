@@ -6,7 +6,7 @@ use mathlib.Core.List.{List, [], _∷_}
 use Rattle.blocks.specs.declared.Params.{Params}
 use Rattle.frame.specs.declared.Stamp.{Stamp}
 use Rattle.frame.specs.declared.Party.the-variants as P
-use Rattle.frame.specs.Messages.{Entry, Stage, send, echo, ready, message, getStamp, stampIs, blockIs, timeIs, ack, askRead, valueIs}
+use Rattle.frame.specs.Messages.{Entry, offer, Stage, send, echo, ready, message, getStamp, stampIs, blockIs, ack, askRead, valueIs}
 use Rattle.group_rules.specs.Coded.{entryOf, digestsOf}
 use Rattle.server_rules.specs.Steps.{Write}
 use Rattle.client_rules.specs.Rows.{Found}
@@ -46,19 +46,13 @@ stampAsked i = handServer g i (P.Client 1) (message 1 1 getStamp)
 unfoldable pub stampFrom : ℕ → Call
 stampFrom j = handClient g 1 (P.Server j) (message 1 1 (stampIs 0))
 
--- client 1's block and time to server i
+-- client 1's block to server i, with the time
 unfoldable pub blockTo : ℕ → Call
-blockTo i = handServer g i (P.Client 1) (message 1 1 (blockIs send (entryFor i)))
+blockTo i = handServer g i (P.Client 1) (message 1 1 (blockIs send (offer 0 (entryFor i))))
 
-unfoldable pub timeTo : ℕ → Call
-timeTo i = handServer g i (P.Client 1) (message 1 1 (timeIs send 0))
-
--- server j's echo or ready to server i, of its block and of the time
+-- server j's echo or ready to server i
 unfoldable pub block : Stage → ℕ → ℕ → Call
-block z j i = handServer g i (P.Server j) (message 1 1 (blockIs z (entryFor j)))
-
-unfoldable pub time : Stage → ℕ → ℕ → Call
-time z j i = handServer g i (P.Server j) (message 1 1 (timeIs z 0))
+block z j i = handServer g i (P.Server j) (message 1 1 (blockIs z (offer 0 (entryFor j))))
 
 unfoldable pub ackFrom : ℕ → Call
 ackFrom j = handClient g 1 (P.Server j) (message 1 1 ack)
@@ -73,32 +67,23 @@ valueFrom j = handClient g 2 (P.Server j) (message 2 1 (valueIs stamp (entryFor 
 
 -- ---- the run, each part latest first
 
--- Client 1 begins to write; three stamps come, and it sends blocks and time.
+-- Client 1 begins to write; three stamps come, and it sends blocks with the time.
 unfoldable pub asking : List Call
 asking = stampFrom 4 ∷ stampFrom 2 ∷ stampFrom 1 ∷ stampAsked 2 ∷ stampAsked 1 ∷ startWrite g 1 value ∷ []
 
--- Servers 1 and 2 echo their blocks. Server 1 hears three echoes and sends a ready; server 2 hears two readies and sends one; each hears three readies, and its block
--- part is complete.
-unfoldable pub blocks : List Call
-blocks =
-    block ready 2 1 ∷ block ready 1 1 ∷ block ready 4 1
-    ∷ block ready 2 2 ∷ block ready 1 2 ∷ block ready 4 2
+-- Servers 1 and 2 echo their blocks. Server 1 hears three echoes and sends a ready; server 2 hears two readies and sends one.
+unfoldable pub spread : List Call
+spread =
+    block ready 1 2 ∷ block ready 4 2
     ∷ block echo 2 1 ∷ block echo 1 1 ∷ block echo 4 1
     ∷ blockTo 2 ∷ blockTo 1 ∷ asking
 
--- The same of the time, up to the call in which server 2 accepts
-unfoldable pub times : List Call
-times =
-    time ready 1 2 ∷ time ready 4 2
-    ∷ time echo 2 1 ∷ time echo 1 1 ∷ time echo 4 1
-    ∷ timeTo 2 ∷ timeTo 1 ∷ blocks
-
--- Server 2 accepts, then server 1; two acks come.
+-- Server 2 hears three readies and accepts, then server 1; two acks come.
 unfoldable pub accepting : List Call
 accepting =
     ackFrom 2 ∷ ackFrom 1
-    ∷ time ready 2 1 ∷ time ready 1 1 ∷ time ready 4 1
-    ∷ time ready 2 2 ∷ times
+    ∷ block ready 2 1 ∷ block ready 1 1 ∷ block ready 4 1
+    ∷ block ready 2 2 ∷ spread
 
 -- The third ack ends the write. Client 2 begins to read; two values come.
 unfoldable pub reading : List Call
@@ -133,10 +118,10 @@ pub record Shown : Type 0 where
   pub admissible : Admissible Z calls
   -- client 1, which is honest, begins its write 1 of the value; server 2, which is honest, accepts it; it ends
   pub writes : At (OpensWrite Z 1 1 value) calls 0
-  pub accepts : At (Accepts Z 2 (writeAt 2)) calls 24
-  pub ends : At (EndsWrite Z 1 1) calls 30
+  pub accepts : At (Accepts Z 2 (writeAt 2)) calls 13
+  pub ends : At (EndsWrite Z 1 1) calls 19
   -- then client 2's read 1 begins, and it returns what was written, with the write's stamp
-  pub opens : At (OpensRead Z 2 1) calls 31
-  pub completes : At (CompletesRead Z 2 1 found) calls 36
+  pub opens : At (OpensRead Z 2 1) calls 20
+  pub completes : At (CompletesRead Z 2 1 found) calls 25
   -- the write stands before the read in the row
   pub in-order : (D : Demand3 Z calls) → Stands (D .row) write read

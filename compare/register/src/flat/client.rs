@@ -56,7 +56,7 @@ impl Client {
     }
 
     fn check_begin(&self, p: &Params, used: u32, out: &[u8], to: &[u8]) -> Result<(), Refusal> {
-        if out.len() < p.client_room() || to.len() < 4 * p.n {
+        if out.len() < p.client_room() || to.len() < 2 * p.n {
             return Err(Refusal::Room);
         }
         if self.operation != Operation::None {
@@ -134,7 +134,7 @@ impl Client {
             return Err(Refusal::ValueLength);
         }
         let frame = open(p, bytes)?;
-        if out.len() < p.client_room() || to.len() < 4 * p.n || rows.len() < ROWS_AREA || value.len() < p.l {
+        if out.len() < p.client_room() || to.len() < 2 * p.n || rows.len() < ROWS_AREA || value.len() < p.l {
             return Err(Refusal::Room);
         }
         let server = match from {
@@ -209,11 +209,9 @@ impl Client {
         let digests = &digests[..p.list()];
         for (j, block) in blocks.iter().enumerate().take(p.n + 1).skip(1) {
             let block = &block[..p.block()];
-            let body = Body::Block { stage: Stage::Send, digests, block };
+            let body = Body::Block { stage: Stage::Send, time: largest, digests, block };
             out.send(1, j, &Frame { body, ..*frame });
         }
-        let body = Body::Time { stage: Stage::Send, time: largest };
-        out.send_servers(p.n, &Frame { body, ..*frame });
         Ok(Outcome::Going)
     }
 

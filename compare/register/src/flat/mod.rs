@@ -12,7 +12,7 @@ mod client;
 mod server;
 
 pub use client::{Client, Operation};
-pub use server::{BlockPart, Reader, Server, Slot, TimePart};
+pub use server::{Reader, Server, Slot};
 
 use crate::client::KEPT;
 use crate::frame::{write, Frame, Stamp};

@@ -7,20 +7,14 @@ use crate::frame::{open, Body, Frame, Stage, Stamp};
 use crate::params::{Params, Party, Refusal, CLIENTS, DIGEST, MAX_K, MAX_VALUE};
 use crate::sha256::digest;
 
+/// A client's open write. Place j of the arrays is server j's; the digest lists and blocks lie in the state area.
 #[derive(Clone, Copy, Debug, PartialEq, Eq)]
-pub struct BlockPart {
+pub struct Slot {
+    pub open: u64,
     pub sent: bool,
     pub ready: bool,
     pub complete: bool,
-    pub echoes: [bool; SEATS],
-    pub readies: [bool; SEATS],
-}
-
-#[derive(Clone, Copy, Debug, PartialEq, Eq)]
-pub struct TimePart {
-    pub sent: bool,
-    pub ready: bool,
-    pub delivered: bool,
+    /// The time of the complete write.
     pub time: u64,
     pub echoes: [bool; SEATS],
     pub readies: [bool; SEATS],
@@ -28,36 +22,41 @@ pub struct TimePart {
     pub ready_times: [u64; SEATS],
 }
 
-#[derive(Clone, Copy, Debug, PartialEq, Eq)]
-pub struct Slot {
-    pub open: u64,
-    pub blocks: BlockPart,
-    pub times: TimePart,
-}
-
 impl Slot {
     pub const fn fresh(open: u64) -> Slot {
         Slot {
             open,
-            blocks: BlockPart {
-                sent: false,
-                ready: false,
-                complete: false,
-                echoes: [false; SEATS],
-                readies: [false; SEATS],
-            },
-            times: TimePart {
-                sent: false,
-                ready: false,
-                delivered: false,
-                time: 0,
-                echoes: [false; SEATS],
-                readies: [false; SEATS],
-                echo_times: [0; SEATS],
-                ready_times: [0; SEATS],
-            },
+            sent: false,
+            ready: false,
+            complete: false,
+            time: 0,
+            echoes: [false; SEATS],
+            readies: [false; SEATS],
+            echo_times: [0; SEATS],
+            ready_times: [0; SEATS],
         }
     }
+
+    /// The chunk of server j's echo, if it is of this group.
+    fn echo_of(&self, p: &Params, area: &[u8], c: usize, j: usize, group: Group) -> Option<usize> {
+        let chunk = echo_chunk(c, j);
+        let kept = self.echoes[j] && self.echo_times[j] == group.time;
+        (kept && list_in(p, area, chunk) == group.digests).then_some(chunk)
+    }
+
+    /// The chunk of server j's ready, if it is of this group.
+    fn ready_of(&self, p: &Params, area: &[u8], c: usize, j: usize, group: Group) -> Option<usize> {
+        let chunk = ready_chunk(c, j);
+        let kept = self.readies[j] && self.ready_times[j] == group.time;
+        (kept && list_in(p, area, chunk) == group.digests).then_some(chunk)
+    }
+}
+
+/// Frames of one write with equal time and digest list.
+#[derive(Clone, Copy)]
+struct Group<'a> {
+    time: u64,
+    digests: &'a [u8],
 }
 
 #[derive(Clone, Copy, Debug, Default, PartialEq, Eq)]
@@ -187,25 +186,15 @@ impl Server {
                 let body = Body::Stamp { time: self.stamp.time };
                 out.send_client(&Frame { body, ..frame });
             }
-            Body::Block { stage, digests, block } => {
+            Body::Block { stage, time, digests, block } => {
                 self.check_open(&frame)?;
-                self.keep_block(area, own, c, stage, from, digests, block)?;
+                let group = Group { time, digests };
+                self.keep(area, own, c, stage, from, group, block)?;
                 if stage == Stage::Send {
-                    let body = Body::Block { stage: Stage::Echo, digests, block };
+                    let body = Body::Block { stage: Stage::Echo, time, digests, block };
                     out.send_servers(p.n, &Frame { body, ..frame });
                 } else {
-                    self.compare(p, own, area, &frame, digests, &mut out);
-                    accepted = self.accept(p, area, &frame, &mut out);
-                }
-            }
-            Body::Time { stage, time } => {
-                self.check_open(&frame)?;
-                self.keep_time(c, stage, from, time)?;
-                if stage == Stage::Send {
-                    let body = Body::Time { stage: Stage::Echo, time };
-                    out.send_servers(p.n, &Frame { body, ..frame });
-                } else {
-                    self.count_times(p, &frame, time, &mut out);
+                    self.compare(p, own, area, &frame, group, &mut out);
                     accepted = self.accept(p, area, &frame, &mut out);
                 }
             }
@@ -237,8 +226,8 @@ impl Server {
     /// Refusal 11; gives the sender's number.
     fn sender(p: &Params, frame: &Frame, from: Party) -> Result<usize, Refusal> {
         match (frame.body.kind(), from) {
-            (1 | 3 | 6 | 10 | 12, Party::Client(c)) if c == frame.client as usize => Ok(c),
-            (4 | 5 | 7 | 8, Party::Server(j)) if 1 <= j && j <= p.n => Ok(j),
+            (1 | 3 | 10 | 12, Party::Client(c)) if c == frame.client as usize => Ok(c),
+            (4 | 5, Party::Server(j)) if 1 <= j && j <= p.n => Ok(j),
             _ => Err(Refusal::Sender),
         }
     }
@@ -253,21 +242,22 @@ impl Server {
     }
 
     #[allow(clippy::too_many_arguments)]
-    fn keep_block(
+    fn keep(
         &mut self,
         area: &mut [u8],
         own: usize,
         c: usize,
         stage: Stage,
         from: usize,
-        digests: &[u8],
+        group: Group,
         block: &[u8],
     ) -> Result<(), Refusal> {
-        let part = &mut self.slots[c].blocks;
+        let Group { time, digests } = group;
+        let slot = &mut self.slots[c];
         let (flag, place) = match stage {
-            Stage::Send => (&mut part.sent, own),
-            Stage::Echo => (&mut part.echoes[from], from),
-            Stage::Ready => (&mut part.readies[from], from),
+            Stage::Send => (&mut slot.sent, own),
+            Stage::Echo => (&mut slot.echoes[from], from),
+            Stage::Ready => (&mut slot.readies[from], from),
         };
         if *flag {
             return Err(Refusal::Old);
@@ -278,70 +268,50 @@ impl Server {
         *flag = true;
         match stage {
             Stage::Send => {}
-            Stage::Echo => store(area, echo_chunk(c, from), digests, block),
-            Stage::Ready => store(area, ready_chunk(c, from), digests, block),
+            Stage::Echo => {
+                slot.echo_times[from] = time;
+                store(area, echo_chunk(c, from), digests, block);
+            }
+            Stage::Ready => {
+                slot.ready_times[from] = time;
+                store(area, ready_chunk(c, from), digests, block);
+            }
         }
         Ok(())
     }
 
-    fn keep_time(&mut self, c: usize, stage: Stage, from: usize, time: u64) -> Result<(), Refusal> {
-        let part = &mut self.slots[c].times;
-        let flag = match stage {
-            Stage::Send => &mut part.sent,
-            Stage::Echo => &mut part.echoes[from],
-            Stage::Ready => &mut part.readies[from],
-        };
-        if *flag {
-            return Err(Refusal::Old);
-        }
-        *flag = true;
-        match stage {
-            Stage::Send => {}
-            Stage::Echo => part.echo_times[from] = time,
-            Stage::Ready => part.ready_times[from] = time,
-        }
-        Ok(())
-    }
-
-    /// The block part at a counted echo or ready with this list.
+    /// What a counted echo or ready of this group brings about, but for acceptance.
     fn compare(
         &mut self,
         p: &Params,
         own: usize,
         area: &mut [u8],
         frame: &Frame,
-        digests: &[u8],
+        group: Group,
         out: &mut Out,
     ) {
         let c = frame.client as usize;
-        let part = &mut self.slots[c].blocks;
-        let mut echoes = 0;
-        let mut readies = 0;
-        for j in 1..=p.n {
-            if part.echoes[j] && list_in(p, area, echo_chunk(c, j)) == digests {
-                echoes += 1;
-            }
-            if part.readies[j] && list_in(p, area, ready_chunk(c, j)) == digests {
-                readies += 1;
-            }
-        }
+        let Group { time, digests } = group;
+        let slot = &mut self.slots[c];
+        let echoes = (1..=p.n).filter(|&j| slot.echo_of(p, area, c, j, group).is_some()).count();
+        let readies = (1..=p.n).filter(|&j| slot.ready_of(p, area, c, j, group).is_some()).count();
         if echoes < p.most() && readies < p.q() {
             return;
         }
-        let completes = readies >= p.q() + p.t && !part.complete;
-        if part.ready && !completes {
+        let completes = readies >= p.q() + p.t && !slot.complete;
+        if slot.ready && !completes {
             return;
         }
         let mut numbers = [0; MAX_K];
         let mut blocks: [&[u8]; MAX_K] = [&[]; MAX_K];
         let mut found = 0;
         for j in 1..=p.n {
-            let (kept, chunk) = if readies >= p.q() {
-                (part.readies[j], ready_chunk(c, j))
+            let chunk = if readies >= p.q() {
+                slot.ready_of(p, area, c, j, group)
             } else {
-                (part.echoes[j], echo_chunk(c, j))
+                slot.echo_of(p, area, c, j, group)
             };
-            if found < p.k && kept && list_in(p, area, chunk) == digests {
+            if let Some(chunk) = chunk.filter(|_| found < p.k) {
                 numbers[found] = j as u8;
                 blocks[found] = block_in(p, area, chunk);
                 found += 1;
@@ -354,44 +324,25 @@ impl Server {
             return;
         }
         let block = &own_block[..p.block()];
-        if !part.ready {
-            part.ready = true;
-            let body = Body::Block { stage: Stage::Ready, digests, block };
+        if !slot.ready {
+            slot.ready = true;
+            let body = Body::Block { stage: Stage::Ready, time, digests, block };
             out.send_servers(p.n, &Frame { body, ..*frame });
         }
         if completes {
-            part.complete = true;
+            slot.complete = true;
+            slot.time = time;
             store(area, complete_chunk(c), digests, block);
-        }
-    }
-
-    /// The time part at a counted echo or ready with this time.
-    fn count_times(&mut self, p: &Params, frame: &Frame, time: u64, out: &mut Out) {
-        let part = &mut self.slots[frame.client as usize].times;
-        let mut echoes = 0;
-        let mut readies = 0;
-        for j in 1..=p.n {
-            echoes += (part.echoes[j] && part.echo_times[j] == time) as usize;
-            readies += (part.readies[j] && part.ready_times[j] == time) as usize;
-        }
-        if !part.ready && (echoes >= p.most() || readies > p.t) {
-            part.ready = true;
-            let body = Body::Time { stage: Stage::Ready, time };
-            out.send_servers(p.n, &Frame { body, ..*frame });
-        }
-        if !part.delivered && readies > 2 * p.t {
-            part.delivered = true;
-            part.time = time;
         }
     }
 
     fn accept(&mut self, p: &Params, area: &mut [u8], frame: &Frame, out: &mut Out) -> bool {
         let c = frame.client as usize;
         let slot = &mut self.slots[c];
-        if !slot.blocks.complete || !slot.times.delivered || slot.times.time == u64::MAX {
+        if !slot.complete || slot.time == u64::MAX {
             return false;
         }
-        let stamp = Stamp { time: slot.times.time + 1, writer: frame.client, sequence: frame.sequence };
+        let stamp = Stamp { time: slot.time + 1, writer: frame.client, sequence: frame.sequence };
         *slot = Slot::fresh(frame.sequence as u64 + 1);
         let chunk = complete_chunk(c);
         if stamp > self.stamp {

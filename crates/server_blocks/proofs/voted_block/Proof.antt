@@ -17,8 +17,8 @@ tally-requires-2 c κs = c .before .before .before .before .before .before .befo
 matters-requires : tie.Need-matters-requires
 matters-requires c κs = let B = c .before .before .before .before .before .before .before .before .before .before .pre .0 .bounded in (B, omega (arith, c .before .tally .ensures .1, B .servers-high))
 
-voted-list-requires : tie.Need-voted-list-requires
-voted-list-requires c κs = search needs
+voted-group-requires : tie.Need-voted-group-requires
+voted-group-requires c κs = search needs
 
 same-length : tie.Need-same-length
 same-length c = search needs
@@ -30,14 +30,14 @@ same-length-3 : tie.Need-same-length-3
 same-length-3 c = search needs
 
 returns : tie.Need-returns
-returns c = c .before .before .before .before .before .before .voted-list .ensures
+returns c = c .before .before .before .before .before .before .voted-group .ensures
 
 returns-2 : tie.Need-returns-2
 returns-2 c =
     let P = c .before .before .before .before .before .before .before .before .before .before .before .before .pre in
     let a = c .before .before .before .before .before .before .before .before .before .before .before .before .args in record {
       leaves = λ b.
-          unlisted digestOf (a .k) (P .0 .bounded) (a .area .now) (a .list .now) b (a .x) (P .1) _ _ _ (c .before .before .before .tally .ensures .0) (c .before .before .tally2 .ensures .0) (sym (c .before .matters .ensures) ∙ c .if1 .left);
+          unlisted digestOf (a .k) (P .0 .bounded) (a .area .now) (a .list .now) b (a .time) (a .x) (P .1) _ _ _ (c .before .before .before .tally .ensures .0) (c .before .before .tally2 .ensures .0) (sym (c .before .matters .ensures) ∙ c .if1 .left);
       room = room-before _ _ _ (P .0 .room);
     }
 
@@ -48,7 +48,7 @@ voted-block-spec =
     tally-requires
     tally-requires-2
     matters-requires
-    voted-list-requires
+    voted-group-requires
     same-length
     same-length-2
     same-length-3

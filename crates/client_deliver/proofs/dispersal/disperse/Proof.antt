@@ -1,9 +1,9 @@
--- The digest list is made, then the blocks go out, then the time. Assumes nothing.
+-- The digest list is made, then the blocks go out with it and the time. Assumes nothing.
 use Prim.Native.Nat.{_*_, _≤_}
 use mathlib.Core.Path.{sym}
 use lib.ListN.{length}
 use lib.Seq.{length-take-le}
-use Rattle.client_deliver.proofs.OwnBlocks.{list-front, block-room, time-room, both-sent}
+use Rattle.client_deliver.proofs.OwnBlocks.{list-front, block-room}
 use native.Mathlib.Omega.{arith}
 use borrow.Author.Needs.{needs}
 use Rattle.client_deliver.proofs.dispersal.disperse.Statement.{statement}
@@ -33,7 +33,7 @@ array-share-prefix-list c = omega (arith, c .before .before .before .before .bef
 
 slice-aggregate-own-blocks : tie.Need-slice-aggregate-own-blocks
 slice-aggregate-own-blocks c =
-    let n : 32 * c .before .before .before .before .before .before .before .before .before .before .before .before .before .args .w .params .n ≤ length (c .before .before .before .digests .last .1 .1 .0) = omega (arith, c .before .before .before .before .before .before .before .before .before .before .before .before .before .pre .0 .servers-high, c .before .before .before .digests .kept .1 .1 .0) in
+    let n : 32 * c .before .before .before .before .before .before .before .before .before .before .before .before .before .args .d .params .n ≤ length (c .before .before .before .digests .last .1 .1 .0) = omega (arith, c .before .before .before .before .before .before .before .before .before .before .before .before .before .pre .0 .servers-high, c .before .before .before .digests .kept .1 .1 .0) in
     sym (length-take-le _ _ n)
 
 own-blocks-requires : tie.Need-own-blocks-requires
@@ -42,14 +42,11 @@ own-blocks-requires c κs =
       record {
         bounded = B;
         whole = c .before .before .before .before .before .before .before .before .before .before .before .before .before .before .before .before .before .pre .1;
-        list-is = list-front (c .before .before .before .before .before .before .before .before .before .before .before .before .before .before .before .before .before .args .w .params) (c .before .before .before .before .before .before .before .before .before .before .before .before .before .before .before .before .before .args .value .now) _ _ B (omega arith) (c .before .before .before .before .before .before .before .digests .ensures);
+        list-is = list-front (c .before .before .before .before .before .before .before .before .before .before .before .before .before .before .before .before .before .args .d .params) (c .before .before .before .before .before .before .before .before .before .before .before .before .before .before .before .before .before .args .value .now) _ _ B (omega arith) (c .before .before .before .before .before .before .before .digests .ensures);
         tables = record { powers = c .before .before .before .before .before .before .before .before .before .before .before .before .powers .ensures; logs = c .before .before .before .before .before .before .before .before .before .before .before .logs .ensures };
       },
-      block-room (c .before .before .before .before .before .before .before .before .before .before .before .before .before .before .before .before .before .args .w .params) _ _ _ (c .before .before .before .before .before .before .before .before .before .before .before .before .before .before .before .before .before .pre .2),
+      block-room (c .before .before .before .before .before .before .before .before .before .before .before .before .before .before .before .before .before .args .d .params) _ _ _ (c .before .before .before .before .before .before .before .before .before .before .before .before .before .before .before .before .before .pre .2),
     )
-
-time-all-requires : tie.Need-time-all-requires
-time-all-requires c κs = (c .before .before .before .before .before .before .before .before .before .before .before .before .before .before .before .before .before .before .before .before .before .before .before .before .pre .0, time-room (c .before .before .before .before .before .before .before .before .before .before .before .before .before .before .before .before .before .before .before .before .before .before .before .before .args .w .params) (c .before .before .before .before .before .before .before .before .before .before .before .before .before .before .before .before .before .before .before .before .before .before .before .before .args .value .now) (c .before .before .before .before .before .before .before .before .before .before .before .before .before .before .before .before .before .before .before .before .before .before .before .before .pre .1) _ _ _ _ _ _ _ _ (c .before .before .before .before .before .before .own-blocks .ensures) (c .before .before .before .before .before .before .before .before .before .before .before .before .before .before .before .before .before .before .before .before .before .before .before .before .pre .2))
 
 same-length : tie.Need-same-length
 same-length c = search needs
@@ -58,7 +55,7 @@ same-length-2 : tie.Need-same-length-2
 same-length-2 c = search needs
 
 returns : tie.Need-returns
-returns c = both-sent _ _ _ _ _ (c .before .before .before .before .before .before .before .before .before .before .before .own-blocks .ensures) (c .before .before .before .before .time-all .ensures)
+returns c = c .before .before .before .before .own-blocks .ensures
 
 pub disperse-spec : {M : Type 1} → statement M
 disperse-spec =
@@ -72,7 +69,6 @@ disperse-spec =
     array-share-prefix-list
     slice-aggregate-own-blocks
     own-blocks-requires
-    time-all-requires
     same-length
     same-length-2
     returns)

@@ -11,11 +11,11 @@ use Rattle.client_deliver.proofs.dispersal.own_blocks.Statement.{statem
 use Rattle.client_deliver.proofs.dispersal.own_blocks.Tie as tie
 
 abbrev Inv-loop : tie.InvT-loop
-Inv-loop value w list out₀ to₀ ps ls g r₀ j₀ out to r j =
-    (j ≤ w .params .n) × (outbox out to r ≡ sent (outbox out₀ to₀ r₀) (toFrom (own (w .params) value (w .me) (w .sequence)) 1 j))
+Inv-loop value d list out₀ to₀ ps ls g r₀ j₀ out to r j =
+    (j ≤ d .params .n) × (outbox out to r ≡ sent (outbox out₀ to₀ r₀) (toFrom (own (d .params) value (d .write)) 1 j))
 
 abbrev μ-loop : tie.MeasureT-loop
-μ-loop value w list out₀ to₀ ps ls g r₀ j₀ out to r j = w .params .n - j
+μ-loop value d list out₀ to₀ ps ls g r₀ j₀ out to r j = d .params .n - j
 
 loop-holds : tie.Need-loop-holds Inv-loop μ-loop
 loop-holds c = (omega arith, turn-none _ _)
@@ -30,7 +30,7 @@ send-own-requires : tie.Need-send-own-requires Inv-loop μ-loop
 send-own-requires c κs =
     let a = c .before .before .before .before .before .before .before .before .before .before .args in
     let D = c .before .before .before .before .before .before .before .before .before .before .pre .0 in
-    (D, turn-room (a .w .params) (a .value .now) (D .whole) _ _ _ _ _ _ _ _ _ (c .before .before .if1 .taken) (c .before .before .before .before .loop .inv .1) (c .before .before .before .before .before .before .before .before .before .before .pre .1))
+    (D, turn-room (a .d .params) (a .value .now) (D .whole) (a .d .write) _ _ _ _ _ _ _ (c .before .before .if1 .taken) (c .before .before .before .before .loop .inv .1) (c .before .before .before .before .before .before .before .before .before .before .pre .1))
 
 loop-less : tie.Need-loop-less Inv-loop μ-loop
 loop-less c = search needs
@@ -38,7 +38,7 @@ loop-less c = search needs
 loop-again : tie.Need-loop-again Inv-loop μ-loop
 loop-again c =
     let a = c .before .before .before .before .before .before .before .before .before .before .before .before .before .before .before .args in
-    (omega arith, turn-next (own (a .w .params) (a .value .now) (a .w .me) (a .w .sequence)) (c .before .before .before .before .before .before .before .before .before .loop .j) _ _ _ (c .before .before .before .before .before .before .before .before .before .loop .inv .1) (c .before .before .before .before .send-own .ensures))
+    (omega arith, turn-next (own (a .d .params) (a .value .now) (a .d .write)) (c .before .before .before .before .before .before .before .before .before .loop .j) _ _ _ (c .before .before .before .before .before .before .before .before .before .loop .inv .1) (c .before .before .before .before .send-own .ensures))
 
 same-length : tie.Need-same-length Inv-loop μ-loop
 same-length c = same-lengths _ _ _ _ _ _ _ (c .before .before .loop .inv .1) .0
@@ -49,7 +49,7 @@ same-length-2 c = same-lengths _ _ _ _ _ _ _ (c .before .before .loop .inv .1) .
 returns : tie.Need-returns Inv-loop μ-loop
 returns c =
     let a = c .before .before .before .before .before .before .before .before .args in
-    turn-last (a .w .params) (own (a .w .params) (a .value .now) (a .w .me) (a .w .sequence)) (c .before .before .loop .j) _ _ (c .before .before .loop .inv .0) (c .if1 .left) (c .before .before .loop .inv .1)
+    turn-last (a .d .params) (own (a .d .params) (a .value .now) (a .d .write)) (c .before .before .loop .j) _ _ (c .before .before .loop .inv .0) (c .if1 .left) (c .before .before .loop .inv .1)
 
 pub own-blocks-spec : {M : Type 1} → statement M
 own-blocks-spec =

@@ -1,4 +1,4 @@
--- The largest time is the last, or the blocks and the time go out. Assumes nothing.
+-- The largest time is the last, or the blocks go out with it. Assumes nothing.
 use Rattle.client_deliver.proofs.WriteLaws.{out-of-stamps, write-sent}
 use borrow.Author.Needs.{needs}
 use Rattle.client_deliver.proofs.writing.gather.Statement.{statement}

@@ -1,5 +1,3 @@
-use mathlib.Core.List.{[]}
-use Rattle.frame.specs.Messages.{entry}
 use Rattle.frame.specs.Frames.{kindOf}
 use Rattle.frame.proofs.Writing.{kind-of-block}
 use native.Mathlib.Omega.{arith}
@@ -24,17 +22,17 @@ enum-told-3 c = search needs
 -- src/send.rt:113:1
 returns : tie.Need-returns
 unfolding kindOf
-returns c = kind-of-block _ _ (entry [] []) (c .enum-told .given .1)
+returns c = kind-of-block _ _ (c .enum-told .given .1)
 
 -- src/send.rt:113:1
 returns-2 : tie.Need-returns-2
 unfolding kindOf
-returns-2 c = kind-of-block _ _ (entry [] []) (c .enum-told2 .given .1)
+returns-2 c = kind-of-block _ _ (c .enum-told2 .given .1)
 
 -- src/send.rt:113:1
 returns-3 : tie.Need-returns-3
 unfolding kindOf
-returns-3 c = kind-of-block _ _ (entry [] []) (c .enum-told3 .given .1)
+returns-3 c = kind-of-block _ _ (c .enum-told3 .given .1)
 
 pub block-kind-spec : {M : Type 1} → statement M
 block-kind-spec =

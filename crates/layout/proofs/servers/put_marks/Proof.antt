@@ -4,43 +4,33 @@ use Rattle.layout.proofs.Puts.{marks-put}
 use Rattle.layout.proofs.servers.put_marks.Statement.{statement}
 use Rattle.layout.proofs.servers.put_marks.Tie as tie
 
--- src/servers.rt:28:14
 flag-byte-requires : tie.Need-flag-byte-requires
 flag-byte-requires c κs = search needs
 
--- src/servers.rt:28:5
 put-byte-requires : tie.Need-put-byte-requires
 put-byte-requires c κs = search needs
 
--- src/servers.rt:29:14
 flag-byte-requires-2 : tie.Need-flag-byte-requires-2
 flag-byte-requires-2 c κs = search needs
 
--- src/servers.rt:29:33
 add-put-byte : tie.Need-add-put-byte
 add-put-byte c = search needs
 
--- src/servers.rt:29:5
 put-byte-requires-2 : tie.Need-put-byte-requires-2
 put-byte-requires-2 c κs = search needs
 
--- src/servers.rt:30:14
 flag-byte-requires-3 : tie.Need-flag-byte-requires-3
 flag-byte-requires-3 c κs = search needs
 
--- src/servers.rt:30:33
 add-put-byte-2 : tie.Need-add-put-byte-2
 add-put-byte-2 c = search needs
 
--- src/servers.rt:30:5
 put-byte-requires-3 : tie.Need-put-byte-requires-3
 put-byte-requires-3 c κs = search needs
 
--- src/servers.rt:24:1
 same-length : tie.Need-same-length
 same-length c = search needs
 
--- src/servers.rt:24:1
 returns : tie.Need-returns
 returns c = marks-put _ _ _ _ _ _ _ _ _ _ _ (c .before .before .before .before .before .before .before .before .before .before .before .before .before .before .flag-byte .ensures) (c .before .before .before .before .before .before .before .before .before .flag-byte2 .ensures) (c .before .before .before .before .flag-byte3 .ensures) (c .before .before .before .before .before .before .before .before .before .before .before .before .put-byte .ensures) (c .before .before .before .before .before .before .before .put-byte2 .ensures) (c .before .before .put-byte3 .ensures)
 

@@ -4,35 +4,27 @@ use Rattle.layout.proofs.Puts.{reader-put}
 use Rattle.layout.proofs.servers.put_reader.Statement.{statement}
 use Rattle.layout.proofs.servers.put_reader.Tie as tie
 
--- src/servers.rt:167:5
 write4-requires : tie.Need-write4-requires
 write4-requires c κs = search needs
 
--- src/servers.rt:168:14
 flag-byte-requires : tie.Need-flag-byte-requires
 flag-byte-requires c κs = search needs
 
--- src/servers.rt:168:43
 add-put-byte : tie.Need-add-put-byte
 add-put-byte c = search needs
 
--- src/servers.rt:168:5
 put-byte-requires : tie.Need-put-byte-requires
 put-byte-requires c κs = search needs
 
--- src/servers.rt:169:27
 add-put-stamp : tie.Need-add-put-stamp
 add-put-stamp c = search needs
 
--- src/servers.rt:169:5
 put-stamp-requires : tie.Need-put-stamp-requires
 put-stamp-requires c κs = search needs
 
--- src/servers.rt:162:1
 same-length : tie.Need-same-length
 same-length c = search needs
 
--- src/servers.rt:162:1
 returns : tie.Need-returns
 returns c = reader-put _ _ _ _ _ (c .before .before .before .before .before .before .before .before .before .before .before .before .before .before .before .args .x) _ (c .before .before .before .before .before .before .before .before .flag-byte .ensures) (c .before .before .before .before .before .before .before .before .before .before .before .write4 .ensures) (c .before .before .before .before .before .before .put-byte .ensures) (c .before .before .put-stamp .ensures)
 

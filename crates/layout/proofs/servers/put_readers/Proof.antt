@@ -8,7 +8,7 @@ use borrow.Author.Needs.{needs}
 use Rattle.area.specs.Area.{joined}
 use Rattle.server_rules.specs.State.{noReader}
 use Rattle.layout.proofs.Lengths.{length-reader}
-use Rattle.layout.specs.Servers.{readerBytes, readersBytes}
+use Rattle.layout.specs.Servers.{readerSize, readerBytes, readersBytes}
 use Rattle.layout.proofs.Places.{put-turn, put-end}
 use Rattle.layout.specs.Fields.{rowBytes}
 use Rattle.layout.proofs.servers.put_readers.Statement.{statement}
@@ -20,53 +20,42 @@ Inv-loop out₀ at x j₀ out j = (out ≡ sets out₀ at (joined (λ (k : ℕ).
 abbrev μ-loop : tie.MeasureT-loop
 μ-loop out₀ at x j₀ out j = 9 - j
 
--- src/servers.rt:190:5
 loop-holds : tie.Need-loop-holds Inv-loop μ-loop
 unfolding joined
 loop-holds c = (refl, omega arith, refl)
 
--- src/servers.rt:191:20
 mul-put-reader : tie.Need-mul-put-reader Inv-loop μ-loop
 mul-put-reader c = search needs
 
--- src/servers.rt:191:20
 array-copy-out-put-reader : tie.Need-array-copy-out-put-reader Inv-loop μ-loop
 array-copy-out-put-reader c = search needs
 
--- src/servers.rt:191:36
 mul-put-reader-2 : tie.Need-mul-put-reader-2 Inv-loop μ-loop
 mul-put-reader-2 c = search needs
 
--- src/servers.rt:191:31
 add-put-reader : tie.Need-add-put-reader Inv-loop μ-loop
 add-put-reader c = search needs
 
--- src/servers.rt:191:9
 put-reader-requires : tie.Need-put-reader-requires Inv-loop μ-loop
 put-reader-requires c κs = omega arith
 
--- src/servers.rt:192:9
 add-j : tie.Need-add-j Inv-loop μ-loop
 add-j c = search needs
 
--- src/servers.rt:190:5
 loop-less : tie.Need-loop-less Inv-loop μ-loop
 loop-less c = omega arith
 
--- src/servers.rt:190:5
 loop-again : tie.Need-loop-again Inv-loop μ-loop
 loop-again c =
     let l = c .before .before .before .before .before .before .loop in
     let a = c .before .before .before .before .before .before .before .before .args in
-    let h : a .at + l .j * 18 ≡ a .at + l .j * 18 = refl in
-    let p = put-turn (λ (k : ℕ). readerBytes (getD (a .t1) k noReader)) 18 (a .out .now) (l .out) _ (a .at) (l .j) _ (λ k. length-reader (getD (a .t1) k noReader)) h (l .inv .0) (c .before .before .put-reader .ensures) in
+    let h : a .at + l .j * readerSize ≡ a .at + l .j * readerSize = refl in
+    let p = put-turn (λ (k : ℕ). readerBytes (getD (a .t1) k noReader)) readerSize (a .out .now) (l .out) _ (a .at) (l .j) _ (λ k. length-reader (getD (a .t1) k noReader)) h (l .inv .0) (c .before .before .put-reader .ensures) in
     (p, omega arith, search needs)
 
--- src/servers.rt:185:1
 same-length : tie.Need-same-length Inv-loop μ-loop
 same-length c = search needs
 
--- src/servers.rt:185:1
 returns : tie.Need-returns Inv-loop μ-loop
 unfolding readersBytes rowBytes
 returns c =

@@ -4,31 +4,24 @@ use Rattle.layout.proofs.Puts.{server-put}
 use Rattle.layout.proofs.servers.put_server.Statement.{statement}
 use Rattle.layout.proofs.servers.put_server.Tie as tie
 
--- src/servers.rt:221:5
 put-stamp-requires : tie.Need-put-stamp-requires
 put-stamp-requires c κs = search needs
 
--- src/servers.rt:222:27
 add-put-slots : tie.Need-add-put-slots
 add-put-slots c = search needs
 
--- src/servers.rt:222:5
 put-slots-requires : tie.Need-put-slots-requires
 put-slots-requires c κs = search needs
 
--- src/servers.rt:223:31
 add-put-readers : tie.Need-add-put-readers
 add-put-readers c = search needs
 
--- src/servers.rt:223:5
 put-readers-requires : tie.Need-put-readers-requires
 put-readers-requires c κs = search needs
 
--- src/servers.rt:214:1
 same-length : tie.Need-same-length
 same-length c = search needs
 
--- src/servers.rt:214:1
 returns : tie.Need-returns
 returns c = server-put _ _ _ _ _ (c .before .before .before .before .before .before .before .before .before .before .before .before .before .before .before .before .args .s) (c .before .before .before .before .before .before .before .before .before .before .put-stamp .ensures) (c .before .before .before .before .before .before .put-slots .ensures) (c .before .before .put-readers .ensures)
 

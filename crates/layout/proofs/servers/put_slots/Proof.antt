@@ -8,7 +8,7 @@ use borrow.Author.Needs.{needs}
 use Rattle.area.specs.Area.{joined}
 use Rattle.server_rules.specs.State.{noSlot}
 use Rattle.layout.proofs.Lengths.{length-slot}
-use Rattle.layout.specs.Servers.{slotBytes, slotsBytes}
+use Rattle.layout.specs.Servers.{slotSize, slotBytes, slotsBytes}
 use Rattle.layout.proofs.Places.{put-turn, put-end}
 use Rattle.layout.specs.Fields.{rowBytes}
 use Rattle.layout.proofs.servers.put_slots.Statement.{statement}
@@ -20,53 +20,42 @@ Inv-loop out₀ at x j₀ out j = (out ≡ sets out₀ at (joined (λ (k : ℕ).
 abbrev μ-loop : tie.MeasureT-loop
 μ-loop out₀ at x j₀ out j = 9 - j
 
--- src/servers.rt:140:5
 loop-holds : tie.Need-loop-holds Inv-loop μ-loop
 unfolding joined
 loop-holds c = (refl, omega arith, refl)
 
--- src/servers.rt:141:18
 mul-put-slot : tie.Need-mul-put-slot Inv-loop μ-loop
 mul-put-slot c = search needs
 
--- src/servers.rt:141:18
 array-copy-out-put-slot : tie.Need-array-copy-out-put-slot Inv-loop μ-loop
 array-copy-out-put-slot c = search needs
 
--- src/servers.rt:141:34
 mul-put-slot-2 : tie.Need-mul-put-slot-2 Inv-loop μ-loop
 mul-put-slot-2 c = search needs
 
--- src/servers.rt:141:29
 add-put-slot : tie.Need-add-put-slot Inv-loop μ-loop
 add-put-slot c = search needs
 
--- src/servers.rt:141:9
 put-slot-requires : tie.Need-put-slot-requires Inv-loop μ-loop
 put-slot-requires c κs = omega arith
 
--- src/servers.rt:142:9
 add-j : tie.Need-add-j Inv-loop μ-loop
 add-j c = search needs
 
--- src/servers.rt:140:5
 loop-less : tie.Need-loop-less Inv-loop μ-loop
 loop-less c = omega arith
 
--- src/servers.rt:140:5
 loop-again : tie.Need-loop-again Inv-loop μ-loop
 loop-again c =
     let l = c .before .before .before .before .before .before .loop in
     let a = c .before .before .before .before .before .before .before .before .args in
-    let h : a .at + l .j * 242 ≡ a .at + l .j * 242 = refl in
-    let p = put-turn (λ (k : ℕ). slotBytes (getD (a .t1) k noSlot)) 242 (a .out .now) (l .out) _ (a .at) (l .j) _ (λ k. length-slot (getD (a .t1) k noSlot)) h (l .inv .0) (c .before .before .put-slot .ensures) in
+    let h : a .at + l .j * slotSize ≡ a .at + l .j * slotSize = refl in
+    let p = put-turn (λ (k : ℕ). slotBytes (getD (a .t1) k noSlot)) slotSize (a .out .now) (l .out) _ (a .at) (l .j) _ (λ k. length-slot (getD (a .t1) k noSlot)) h (l .inv .0) (c .before .before .put-slot .ensures) in
     (p, omega arith, search needs)
 
--- src/servers.rt:135:1
 same-length : tie.Need-same-length Inv-loop μ-loop
 same-length c = search needs
 
--- src/servers.rt:135:1
 returns : tie.Need-returns Inv-loop μ-loop
 unfolding slotsBytes rowBytes
 returns c =

@@ -4,23 +4,18 @@ use Rattle.layout.proofs.Puts.{votes-put}
 use Rattle.layout.proofs.servers.put_votes.Statement.{statement}
 use Rattle.layout.proofs.servers.put_votes.Tie as tie
 
--- src/servers.rt:37:5
 put-flags-requires : tie.Need-put-flags-requires
 put-flags-requires c κs = search needs
 
--- src/servers.rt:38:29
 add-put-flags : tie.Need-add-put-flags
 add-put-flags c = search needs
 
--- src/servers.rt:38:5
 put-flags-requires-2 : tie.Need-put-flags-requires-2
 put-flags-requires-2 c κs = search needs
 
--- src/servers.rt:33:1
 same-length : tie.Need-same-length
 same-length c = search needs
 
--- src/servers.rt:33:1
 returns : tie.Need-returns
 returns c = votes-put _ _ _ _ _ _ (c .before .before .before .before .before .before .put-flags .ensures) (c .before .before .put-flags2 .ensures)
 

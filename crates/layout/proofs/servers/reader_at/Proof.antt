@@ -5,31 +5,24 @@ use Rattle.layout.specs.Servers.{readerAt}
 use Rattle.layout.proofs.servers.reader_at.Statement.{statement}
 use Rattle.layout.proofs.servers.reader_at.Tie as tie
 
--- src/servers.rt:175:9
 read4-requires : tie.Need-read4-requires
 read4-requires c κs = search needs
 
--- src/servers.rt:176:35
 add-flag-in : tie.Need-add-flag-in
 add-flag-in c = search needs
 
--- src/servers.rt:176:29
 shared-slice-read-flag-in : tie.Need-shared-slice-read-flag-in
 shared-slice-read-flag-in c = search needs
 
--- src/servers.rt:176:9
 flag-in-requires : tie.Need-flag-in-requires
 flag-in-requires c κs = search needs
 
--- src/servers.rt:177:33
 add-stamp-at : tie.Need-add-stamp-at
 add-stamp-at c = search needs
 
--- src/servers.rt:177:9
 stamp-at-requires : tie.Need-stamp-at-requires
 stamp-at-requires c κs = search needs
 
--- src/servers.rt:171:1
 returns : tie.Need-returns
 unfolding readerAt flagAt
 returns c = cc

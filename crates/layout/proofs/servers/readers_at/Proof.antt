@@ -6,70 +6,59 @@ use lib.Seq.{sets}
 use lib.ListN.{length}
 use borrow.Author.Needs.{needs}
 use Rattle.area.specs.Area.{tableFrom, table}
-use Rattle.layout.specs.Servers.{readerAt, readersAt}
+use Rattle.layout.specs.Servers.{readerSize, readerAt, readersAt}
 use Rattle.layout.proofs.Places.{get-turn, get-end}
 use Rattle.layout.specs.Fields.{rowAt}
 use Rattle.layout.proofs.servers.readers_at.Statement.{statement}
 use Rattle.layout.proofs.servers.readers_at.Tie as tie
 
 abbrev Inv-loop : tie.InvT-loop
-Inv-loop bytes at x₀ j₀ x j = (x ≡ sets x₀ 0 (table j (λ (k : ℕ). readerAt bytes (at + k * 18)))) × (j ≤ 9) × (length x₀ ≡ 9)
+Inv-loop bytes at x₀ j₀ x j = (x ≡ sets x₀ 0 (table j (λ (k : ℕ). readerAt bytes (at + k * readerSize)))) × (j ≤ 9) × (length x₀ ≡ 9)
 
 abbrev μ-loop : tie.MeasureT-loop
 μ-loop bytes at x₀ j₀ x j = 9 - j
 
--- src/servers.rt:200:9
 reader-at-requires : tie.Need-reader-at-requires Inv-loop μ-loop
 reader-at-requires c κs = search needs
 
--- src/servers.rt:203:5
 loop-holds : tie.Need-loop-holds Inv-loop μ-loop
 unfolding table tableFrom
 loop-holds c = (refl, omega arith, refl)
 
--- src/servers.rt:204:38
 mul-reader-at : tie.Need-mul-reader-at Inv-loop μ-loop
 mul-reader-at c = search needs
 
--- src/servers.rt:204:33
 add-reader-at : tie.Need-add-reader-at Inv-loop μ-loop
 add-reader-at c = search needs
 
--- src/servers.rt:204:16
 reader-at-requires-2 : tie.Need-reader-at-requires-2 Inv-loop μ-loop
 reader-at-requires-2 c κs = search needs
 
--- src/servers.rt:204:9
 mul-x : tie.Need-mul-x Inv-loop μ-loop
 mul-x c = search needs
 
--- src/servers.rt:204:9
 array-set-from-x : tie.Need-array-set-from-x Inv-loop μ-loop
 array-set-from-x c = search needs
 
--- src/servers.rt:205:9
 add-j : tie.Need-add-j Inv-loop μ-loop
 add-j c = search needs
 
--- src/servers.rt:203:5
 loop-less : tie.Need-loop-less Inv-loop μ-loop
 loop-less c = omega arith
 
--- src/servers.rt:203:5
 loop-again : tie.Need-loop-again Inv-loop μ-loop
 loop-again c =
     let l = c .before .before .loop in
     let a = c .before .before .before .before .before .args in
-    (get-turn (λ (k : ℕ). readerAt (a .bytes .now) (a .at + k * 18)) _ (l .x) (l .j) _ (l .inv .0) (c .reader-at2 .ensures), omega arith, l .inv .2)
+    (get-turn (λ (k : ℕ). readerAt (a .bytes .now) (a .at + k * readerSize)) _ (l .x) (l .j) _ (l .inv .0) (c .reader-at2 .ensures), omega arith, l .inv .2)
 
--- src/servers.rt:196:1
 returns : tie.Need-returns Inv-loop μ-loop
 unfolding readersAt rowAt
 returns c =
     let l = c .before .loop in
     let a = c .before .before .before .before .args in
     let e : l .j ≡ 9 = omega arith in
-    get-end (λ (k : ℕ). readerAt (a .bytes .now) (a .at + k * 18)) _ (l .x) (l .j) 9 e (l .inv .2) (l .inv .0)
+    get-end (λ (k : ℕ). readerAt (a .bytes .now) (a .at + k * readerSize)) _ (l .x) (l .j) 9 e (l .inv .2) (l .inv .0)
 
 pub readers-at-spec : {M : Type 1} → statement M
 readers-at-spec =

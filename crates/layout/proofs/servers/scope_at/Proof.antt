@@ -11,17 +11,17 @@ use Rattle.server_rules.specs.declared.Scope.{Scope}
 use Rattle.server_rules.specs.State.{noSlot, noReader}
 use Rattle.server_rules.specs.Scopes.{scopeOf}
 use Rattle.layout.specs.Fields.{stampAt}
-use Rattle.layout.specs.Servers.{slotAt, slotsAt, readerAt, readersAt, serverAt, serverIn}
+use Rattle.layout.specs.Servers.{slotSize, readerSize, slotsPlace, readersPlace, slotAt, slotsAt, readerAt, readersAt, serverAt, serverIn}
 use Rattle.layout.proofs.Reading.{row-entry}
 use Rattle.layout.proofs.servers.scope_at.Statement.{statement}
 use Rattle.layout.proofs.servers.scope_at.Tie as tie
 
-scope-read : (l : List ℕ) (c : ℕ) (s : Stamp) (x : Slot) (r : Reader) → c ≤ 8 → s ≡ stampAt l 0 → x ≡ slotAt l (13 + c * 242) → r ≡ readerAt l (2191 + c * 18)
+scope-read : (l : List ℕ) (c : ℕ) (s : Stamp) (x : Slot) (r : Reader) → c ≤ 8 → s ≡ stampAt l 0 → x ≡ slotAt l (slotsPlace + c * slotSize) → r ≡ readerAt l (readersPlace + c * readerSize)
     → _≡_ {A = Scope} (record { stamp = s; slot = x; reader = r }) (scopeOf (serverIn l) c)
 unfolding serverIn serverAt slotsAt readersAt
 scope-read l c s x r h p q e =
-    let f = q ∙ sym (row-entry slotAt 9 242 l 13 c noSlot (omega arith)) in
-    let g = e ∙ sym (row-entry readerAt 9 18 l 2191 c noReader (omega arith)) in
+    let f = q ∙ sym (row-entry slotAt 9 slotSize l slotsPlace c noSlot (omega arith)) in
+    let g = e ∙ sym (row-entry readerAt 9 readerSize l readersPlace c noReader (omega arith)) in
     λ k. record { stamp = p k; slot = f k; reader = g k }
 
 stamp-at-requires : tie.Need-stamp-at-requires

@@ -4,27 +4,15 @@ use Rattle.layout.specs.Servers.{slotAt}
 use Rattle.layout.proofs.servers.slot_at.Statement.{statement}
 use Rattle.layout.proofs.servers.slot_at.Tie as tie
 
--- src/servers.rt:125:9
 read8-requires : tie.Need-read8-requires
 read8-requires c κs = search needs
 
--- src/servers.rt:126:35
 add-blocks-at : tie.Need-add-blocks-at
 add-blocks-at c = search needs
 
--- src/servers.rt:126:9
 blocks-at-requires : tie.Need-blocks-at-requires
 blocks-at-requires c κs = search needs
 
--- src/servers.rt:127:33
-add-times-at : tie.Need-add-times-at
-add-times-at c = search needs
-
--- src/servers.rt:127:9
-times-at-requires : tie.Need-times-at-requires
-times-at-requires c κs = search needs
-
--- src/servers.rt:121:1
 returns : tie.Need-returns
 unfolding slotAt
 returns c = cc
@@ -36,6 +24,4 @@ slot-at-spec =
     read8-requires
     add-blocks-at
     blocks-at-requires
-    add-times-at
-    times-at-requires
     returns)

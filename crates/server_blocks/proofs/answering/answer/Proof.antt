@@ -1,8 +1,7 @@
 -- The parts of the stage one after the other. Assumes nothing.
 use Rattle.server_blocks.proofs.Rooms.{entry-fits, room-behind}
 use Rattle.server_blocks.proofs.Voting.{answered}
-use Rattle.frame.specs.Messages.{entry}
-use Rattle.frame.specs.Messages.{ready}
+use Rattle.frame.specs.Messages.{entry, ready}
 use borrow.Author.Needs.{needs}
 use Rattle.server_blocks.proofs.answering.answer.Statement.{statement}
 use Rattle.server_blocks.proofs.answering.answer.Tie as tie
@@ -37,7 +36,7 @@ returns c =
     let a = c .before .before .before .before .before .before .before .before .before .before .before .before .before .before .before .before .before .before .before .before .before .args in
     let k = a .k in record {
       leaves = answered k (a .area .now) _ (a .x) _ (a .d) (c .before .before .before .before .before .before .before .before .before .before .before .before .both .result) (entry (a .list .now) (a .block .now)) _ _ (c .before .before .before .before .before .before .before .before .before .before .before .before .both .ensures) (c .before .before .before .complete-if .ensures) (c .block-marks .ensures) (c .before .before .before .before .before .before .before .before .before .ready-if .ensures);
-      room = room-behind (k .params) _ _ (P .0 .room) (k .header .client) (k .header .sequence) ready (a .list .now) (a .block .now) (P .1) _ _ _ (a .d .ready) (c .before .before .before .before .before .before .before .before .before .ready-if .ensures);
+      room = room-behind (k .params) _ _ (P .0 .room) (k .header .client) (k .header .sequence) ready (a .d .time) (a .list .now) (a .block .now) (P .1) _ _ _ (a .d .ready) (c .before .before .before .before .before .before .before .before .before .ready-if .ensures);
     }
 
 pub answer-spec : {M : Type 1} → statement M

@@ -1,8 +1,7 @@
--- The frame of one kind: turned down as the tests say, or counted. Assumes nothing.
-use Rattle.frame.specs.Messages.{entry}
-use Rattle.frame.specs.Messages.{send, echo}
-use Rattle.server_blocks.proofs.Rooms.{entry-room, room-before, room-sent}
-use Rattle.server_blocks.proofs.BlockSteps.{sent-open, turned-down, let-in, block-echoed}
+-- The owner's frame: turned down as the tests say, or counted. Assumes nothing.
+use Rattle.frame.specs.Messages.{entry, offer, send, echo}
+use Rattle.server_blocks.proofs.Rooms.{offer-room, room-before, room-sent}
+use Rattle.server_blocks.proofs.BlockSteps.{sent-open, send-verdict, turned-down, let-in, block-echoed}
 use borrow.Author.Needs.{needs}
 use Rattle.server_blocks.proofs.storing.on_block_send.Statement.{statement}
 use Rattle.server_blocks.proofs.storing.on_block_send.Tie as tie
@@ -16,8 +15,9 @@ enum-known-v c = search needs
 returns : tie.Need-returns
 returns c =
     let a = c .before .before .before .before .before .before .before .before .args in
+    let o = offer (a .time) (entry (a .list .now) (a .block .now)) in
     λ w. record {
-      handles = turned-down (a .k) (a .x) (entry (a .list .now) (a .block .now)) _ send w _ _ _ (c .before .before .before .send-test .ensures) _ (c .before .v .given .1);
+      handles = turned-down (a .k) (a .x) _ o send w _ _ _ (send-verdict (a .k) (a .x) _ o (c .before .before .before .send-test .ensures)) _ (c .before .v .given .1);
       room = room-before _ _ _ (c .before .before .before .before .before .before .before .before .pre .1);
     }
 
@@ -25,7 +25,7 @@ enum-told : tie.Need-enum-told
 enum-told c = search needs
 
 block-all-requires : tie.Need-block-all-requires
-block-all-requires c κs = let P = c .before .before .before .before .before .before .before .before .before .before .before .pre in (P .0 .bounded, entry-room _ _ 9 _ _ _ _ (P .2) (P .1))
+block-all-requires c κs = let P = c .before .before .before .before .before .before .before .before .before .before .before .pre in (P .0 .bounded, offer-room _ _ 9 _ _ _ _ (P .2) (P .1))
 
 block-sent-requires : tie.Need-block-sent-requires
 block-sent-requires c κs = search needs
@@ -41,11 +41,11 @@ returns-2 c =
     let P = c .before .before .before .before .before .before .before .before .before .before .before .before .before .before .before .before .before .pre in
     let a = c .before .before .before .before .before .before .before .before .before .before .before .before .before .before .before .before .before .args in
     let k = a .k in
-    let e = entry (a .list .now) (a .block .now) in
+    let o = offer (a .time) (entry (a .list .now) (a .block .now)) in
     λ w. record {
-      handles = let-in k (a .x) e _ send w _ _ _ (c .before .before .before .before .before .before .before .before .before .before .before .before .send-test .ensures) _ _ _ (c .before .before .before .before .before .before .before .before .before .before .enum-told .given .1)
-          (block-echoed k w _ e (a .x) _ _ _ (sent-open k (a .x) e _ (c .before .before .before .before .before .before .before .before .before .before .before .before .send-test .ensures) (c .before .before .before .before .before .before .before .before .before .before .enum-told .given .1)) (c .block-sent .ensures) (c .before .before .before .before .before .block-all .ensures));
-      room = room-sent (k .params) _ _ (P .1) (k .header .client) (k .header .sequence) echo (a .list .now) (a .block .now) (P .2) _ _ _ (c .before .before .before .before .before .block-all .ensures);
+      handles = let-in k (a .x) _ o send w _ _ _ (send-verdict k (a .x) _ o (c .before .before .before .before .before .before .before .before .before .before .before .before .send-test .ensures)) _ _ _ (c .before .before .before .before .before .before .before .before .before .before .enum-told .given .1)
+          (block-echoed k w _ o (a .x) _ _ _ (sent-open k (a .x) _ (o .entry) (c .before .before .before .before .before .before .before .before .before .before .before .before .send-test .ensures) (c .before .before .before .before .before .before .before .before .before .before .enum-told .given .1)) (c .block-sent .ensures) (c .before .before .before .before .before .block-all .ensures));
+      room = room-sent (k .params) _ _ (P .1) (k .header .client) (k .header .sequence) echo (a .time) (a .list .now) (a .block .now) (P .2) _ _ _ (c .before .before .before .before .before .block-all .ensures);
     }
 
 pub on-block-send-spec : {M : Type 1} → statement M

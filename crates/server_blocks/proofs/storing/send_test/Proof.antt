@@ -1,4 +1,4 @@
--- The tests of the owner's blocks, one after the other. Assumes nothing.
+-- The tests of the owner's frame, one after the other. Assumes nothing.
 use Rattle.frame.specs.Messages.{entry}
 use Rattle.server_blocks.proofs.BlockSteps.{send-bad, send-fine}
 use borrow.Author.Needs.{needs}
@@ -12,7 +12,7 @@ enum-known-v : tie.Need-enum-known-v
 enum-known-v c = search needs
 
 returns : tie.Need-returns
-returns c = let a = c .before .before .before .before .before .before .before .before .args in send-bad (a .k) (a .x) (entry (a .list .now) (a .block .now)) _ (c .before .before .before .owner-test .ensures) _ (c .before .v .given .1)
+returns c = let a = c .before .before .before .before .before .before .before .before .args in send-bad (a .k) (a .x) _ (entry (a .list .now) (a .block .now)) (c .before .before .before .owner-test .ensures) _ (c .before .v .given .1)
 
 enum-told : tie.Need-enum-told
 enum-told c = search needs
@@ -21,7 +21,7 @@ fit-test-requires : tie.Need-fit-test-requires
 fit-test-requires c κs = let P = c .before .before .before .before .before .before .before .before .pre in (P .0 .bounded, P .1, P .0 .own-low, P .0 .own-high)
 
 returns-2 : tie.Need-returns-2
-returns-2 c = let a = c .before .before .before .before .before .before .before .before .before .args in send-fine (a .k) (a .x) (entry (a .list .now) (a .block .now)) _ (c .before .before .before .before .owner-test .ensures) _ (c .before .before .enum-told .given .1) (c .fit-test .ensures)
+returns-2 c = let a = c .before .before .before .before .before .before .before .before .before .args in send-fine (a .k) (a .x) _ (entry (a .list .now) (a .block .now)) (c .before .before .before .before .owner-test .ensures) _ (c .before .before .enum-told .given .1) (c .fit-test .ensures)
 
 pub send-test-spec : {M : Type 1} → statement M
 send-test-spec =

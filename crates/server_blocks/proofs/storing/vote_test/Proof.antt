@@ -7,6 +7,9 @@ use native.Mathlib.Omega.{arith}
 use Rattle.server_blocks.proofs.storing.vote_test.Statement.{statement}
 use Rattle.server_blocks.proofs.storing.vote_test.Tie as tie
 
+flags-of-requires : tie.Need-flags-of-requires
+flags-of-requires c κs = search needs
+
 server-test-requires : tie.Need-server-test-requires
 server-test-requires c κs = search needs
 
@@ -14,7 +17,9 @@ enum-known-v : tie.Need-enum-known-v
 enum-known-v c = search needs
 
 returns : tie.Need-returns
-returns c = let a = c .before .before .before .before .before .before .before .before .args in vote-bad (a .k) (a .x) (entry (a .list .now) (a .block .now)) _ _ (c .before .before .before .server-test .ensures) _ (c .before .v .given .1)
+returns c =
+    let a = c .before .before .before .before .before .before .before .before .before .before .before .before .before .args in
+    vote-bad (a .k) (a .x) _ (entry (a .list .now) (a .block .now)) _ (c .before .before .before .before .flags-of .ensures) (c .before .before .before .server-test .ensures) _ (c .before .v .given .1)
 
 enum-told : tie.Need-enum-told
 enum-told c = search needs
@@ -24,17 +29,20 @@ number-in-requires c κs = search needs
 
 fit-test-requires : tie.Need-fit-test-requires
 fit-test-requires c κs =
-    let k = c .before .before .before .before .before .before .before .before .args .k in
-    let W = voted (k .params) (k .from) (c .before .before .before .before .before .before .before .before .args .x) (k .header .sequence) _ _ (c .before .before .before .server-test .ensures) (c .before .enum-told .given .1) in
-    (c .before .before .before .before .before .before .before .before .pre .0, c .before .before .before .before .before .before .before .before .pre .1, omega (arith, W .low, c .number-in .ensures), omega (arith, W .high, c .number-in .ensures))
+    let k = c .before .before .before .before .before .before .before .before .before .before .before .before .before .args .k in
+    let W = voted (k .params) (k .from) (c .before .before .before .before .before .before .before .before .before .before .before .before .before .args .x) (k .header .sequence) _ _ (c .before .before .before .server-test .ensures) (c .before .enum-told .given .1) in
+    (c .before .before .before .before .before .before .before .before .before .before .before .before .before .pre .0, c .before .before .before .before .before .before .before .before .before .before .before .before .before .pre .1, omega (arith, W .low, c .number-in .ensures), omega (arith, W .high, c .number-in .ensures))
 
 returns-2 : tie.Need-returns-2
-returns-2 c = let a = c .before .before .before .before .before .before .before .before .before .args in vote-fine (a .k) (a .x) (entry (a .list .now) (a .block .now)) _ _ (c .before .before .before .before .server-test .ensures) _ _ (c .before .before .enum-told .given .1) (c .fit-test .ensures) (c .before .number-in .ensures)
+returns-2 c =
+    let a = c .before .before .before .before .before .before .before .before .before .before .before .before .before .before .args in
+    vote-fine (a .k) (a .x) _ (entry (a .list .now) (a .block .now)) _ (c .before .before .before .before .before .flags-of .ensures) (c .before .before .before .before .server-test .ensures) _ _ (c .before .before .enum-told .given .1) (c .fit-test .ensures) (c .before .number-in .ensures)
 
 pub vote-test-spec : {M : Type 1} → statement M
 vote-test-spec =
     tie.close
     (tie.spec
+    flags-of-requires
     server-test-requires
     enum-known-v
     returns

@@ -11,7 +11,7 @@ block-full-requires : tie.Need-block-full-requires
 block-full-requires c κs = search needs
 
 returns : tie.Need-returns
-returns c = let a = c .before .before .args in due-for (a .g) (a .b) (a .v) (a .supported) _ _ (c .before .block-due .ensures) (c .block-full .ensures)
+returns c = let a = c .before .before .args in due-for (a .g) (a .went) (a .v) (a .supported) (a .time) _ _ (c .before .block-due .ensures) (c .block-full .ensures)
 
 pub due-for-spec : {M : Type 1} → statement M
 due-for-spec = tie.close (tie.spec block-due-requires block-full-requires returns)

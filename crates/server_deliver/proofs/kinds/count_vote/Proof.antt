@@ -1,19 +1,64 @@
--- Each kind of servers' frames is handled as what the frame says. Assumes nothing.
-use mathlib.Core.Path.{_≡_, refl}
+-- An echo or a ready is handled as what the frame says. Assumes nothing.
+use mathlib.Core.Path.{ap, _∙_}
 use lib.ListN.{length}
 use Rattle.sha256.specs.Hash.{digestOf}
-use Rattle.area.specs.Area.{pick}
-use Rattle.frame.specs.Messages.{echo, ready}
-use Rattle.server_deliver.specs.Handed.{voteIn}
-use Rattle.server_deliver.proofs.KindSteps.{time-frame}
-use Rattle.server_deliver.proofs.Votes.{is-time}
+use Rattle.frame.specs.Messages.{Offer}
+use Rattle.frame.specs.Outbox.{outbox, firstPlace}
+use Rattle.server.specs.Stages.{blockFrame}
+use Rattle.server_blocks.specs.Stage.{voteStage}
+use Rattle.server_deliver.proofs.KindSteps.{offer-frame, carried-in, offer-is}
 use native.Mathlib.Omega.{arith}
 use borrow.Author.Needs.{needs}
 use Rattle.server_deliver.proofs.kinds.count_vote.Statement.{statement}
 use Rattle.server_deliver.proofs.kinds.count_vote.Tie as tie
 
-count-blocks-requires : tie.Need-count-blocks-requires
-count-blocks-requires c κs = search needs
+read8-requires : tie.Need-read8-requires
+read8-requires c κs =
+    let a = c .before .before .before .before .before .args in
+    let l = offer-frame (a .k .params) (a .k .header .kind) (length (a .f .now)) (omega (arith, c .before .before .before .before .before .pre .1)) (c .before .before .before .before .before .pre .2) (c .before .before .before .before .before .pre .0 .frame-is) in
+    omega (arith, l)
+
+mul-middle : tie.Need-mul-middle
+mul-middle c = search needs
+
+add-middle : tie.Need-add-middle
+add-middle c = search needs
+
+width-requires : tie.Need-width-requires
+width-requires c κs = search needs
+
+add-end : tie.Need-add-end
+add-end c = search needs
+
+sub-on-block-vote : tie.Need-sub-on-block-vote
+sub-on-block-vote c = search needs
+
+part-on-block-vote-start : tie.Need-part-on-block-vote-start
+part-on-block-vote-start c = search needs
+
+part-on-block-vote-end : tie.Need-part-on-block-vote-end
+part-on-block-vote-end c =
+    let a = c .before .before .before .before .before .before .before .before .args in
+    let l = offer-frame (a .k .params) (a .k .header .kind) (length (a .f .now)) (omega (arith, c .before .before .before .before .before .before .before .before .pre .1)) (c .before .before .before .before .before .before .before .before .pre .2) (c .before .before .before .before .before .before .before .before .pre .0 .frame-is) in
+    omega (arith, l)
+
+sub-on-block-vote-2 : tie.Need-sub-on-block-vote-2
+sub-on-block-vote-2 c = search needs
+
+part-on-block-vote-start-2 : tie.Need-part-on-block-vote-start-2
+part-on-block-vote-start-2 c = search needs
+
+part-on-block-vote-end-2 : tie.Need-part-on-block-vote-end-2
+part-on-block-vote-end-2 c =
+    let a = c .before .before .before .before .before .before .before .before .before .args in
+    let l = offer-frame (a .k .params) (a .k .header .kind) (length (a .f .now)) (omega (arith, c .before .before .before .before .before .before .before .before .before .pre .1)) (c .before .before .before .before .before .before .before .before .before .pre .2) (c .before .before .before .before .before .before .before .before .before .pre .0 .frame-is) in
+    omega (arith, l, c .before .width .ensures .0)
+
+on-block-vote-requires : tie.Need-on-block-vote-requires
+on-block-vote-requires c κs =
+    let a = c .before .before .before .before .before .before .before .before .before .before .before .before .before .args in
+    let l = offer-frame (a .k .params) (a .k .header .kind) (length (a .f .now)) (omega (arith, c .before .before .before .before .before .before .before .before .before .before .before .before .before .pre .1)) (c .before .before .before .before .before .before .before .before .before .before .before .before .before .pre .2) (c .before .before .before .before .before .before .before .before .before .before .before .before .before .pre .0 .frame-is) in
+    (c .before .before .before .before .before .before .before .before .before .before .before .before .before .pre .0 .lent, carried-in (a .k .params) (a .f .now) _ (c .before .before .before .before .before .width .ensures .0) l)
 
 same-length : tie.Need-same-length
 same-length c = search needs
@@ -25,65 +70,31 @@ same-length-3 : tie.Need-same-length-3
 same-length-3 c = search needs
 
 returns : tie.Need-returns
-returns c = search needs
-
-on-time-echo-requires : tie.Need-on-time-echo-requires
-on-time-echo-requires c κs =
-    let a = c .before .before .before .before .before .before .before .before .before .before .before .args in
-    let P = c .before .before .before .before .before .before .before .before .before .before .before .pre .0 in
-    (record { bounded = P .lent .bounded; room = P .lent .room }, time-frame (a .k .params) (a .k .header .kind) (length (a .f .now)) (omega (arith, c .before .before .before .before .if1 .left)) (c .before .before .before .before .before .before .before .before .before .before .before .pre .1 .high) (P .frame-is))
-
-same-length-4 : tie.Need-same-length-4
-same-length-4 c = search needs
-
-same-length-5 : tie.Need-same-length-5
-same-length-5 c = search needs
-
-returns-2 : tie.Need-returns-2
-unfolding voteIn pick
-returns-2 c =
-    let a = c .before .before .before .before .before .before .before .before .before .before .before .before .before .before .before .before .args in
+returns c =
+    let a = c .before .before .before .before .before .before .before .before .before .before .before .before .before .before .before .before .before .before .before .before .args in
     record {
-      handles = is-time digestOf (a .k) (a .x) (a .area .now) (a .f .now) _ _ 7 echo _ (c .before .before .before .before .before .before .before .if2 .taken) refl (c .before .before .before .before .on-time-echo .ensures .handles (a .area .now));
-      room = c .before .before .before .before .on-time-echo .ensures .room;
-    }
-
-on-time-ready-requires : tie.Need-on-time-ready-requires
-on-time-ready-requires c κs =
-    let a = c .before .before .before .before .before .before .before .before .before .before .before .args in
-    let P = c .before .before .before .before .before .before .before .before .before .before .before .pre .0 in
-    (record { bounded = P .lent .bounded; room = P .lent .room }, time-frame (a .k .params) (a .k .header .kind) (length (a .f .now)) (omega (arith, c .before .before .before .before .if1 .left)) (c .before .before .before .before .before .before .before .before .before .before .before .pre .1 .high) (P .frame-is))
-
-same-length-6 : tie.Need-same-length-6
-same-length-6 c = search needs
-
-same-length-7 : tie.Need-same-length-7
-same-length-7 c = search needs
-
-returns-3 : tie.Need-returns-3
-unfolding voteIn pick
-returns-3 c =
-    let a = c .before .before .before .before .before .before .before .before .before .before .before .before .before .before .before .before .args in
-    let e : a .k .header .kind ≡ 8 = omega (arith, c .before .before .before .before .before .before .before .before .before .before .before .before .before .before .before .before .pre .1 .high, c .before .before .before .before .before .before .before .before .before .before .before .before .before .before .before .before .pre .1 .other, c .before .before .before .before .before .before .before .before .before .if1 .left, c .before .before .before .before .before .before .before .if2 .left) in
-    record {
-      handles = is-time digestOf (a .k) (a .x) (a .area .now) (a .f .now) _ _ 8 ready _ e refl (c .before .before .before .before .on-time-ready .ensures .handles (a .area .now));
-      room = c .before .before .before .before .on-time-ready .ensures .room;
+      handles = c .before .before .before .before .before .before .on-block-vote .ensures .handles
+          ∙ ap (λ (o : Offer). blockFrame digestOf (a .k) (a .x) (a .area .now) (voteStage (a .k .header .kind)) o (outbox (a .out .now) (a .to .now) firstPlace)) (offer-is (a .k .params) (a .f .now) _ _ (c .before .before .before .before .before .before .before .before .before .before .before .before .before .before .read8 .ensures) (c .before .before .before .before .before .before .before .before .before .before .before .before .width .ensures .0));
+      room = c .before .before .before .before .before .before .on-block-vote .ensures .room;
     }
 
 pub count-vote-spec : {M : Type 1} → statement M
 count-vote-spec =
     tie.close
     (tie.spec
-    count-blocks-requires
+    read8-requires
+    mul-middle
+    add-middle
+    width-requires
+    add-end
+    sub-on-block-vote
+    part-on-block-vote-start
+    part-on-block-vote-end
+    sub-on-block-vote-2
+    part-on-block-vote-start-2
+    part-on-block-vote-end-2
+    on-block-vote-requires
     same-length
     same-length-2
     same-length-3
-    returns
-    on-time-echo-requires
-    same-length-4
-    same-length-5
-    returns-2
-    on-time-ready-requires
-    same-length-6
-    same-length-7
-    returns-3)
+    returns)

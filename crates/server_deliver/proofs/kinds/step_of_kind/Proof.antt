@@ -1,6 +1,6 @@
 -- Each kind's step is that of what the frame says. Assumes nothing.
 use Rattle.sha256.specs.Hash.{digestOf}
-use Rattle.server_deliver.proofs.KindSteps.{is-get-stamp, is-read, is-read-complete, is-stamp, to-client}
+use Rattle.server_deliver.proofs.KindSteps.{used-kind, is-get-stamp, is-read, is-read-complete, is-stamp, to-client}
 use native.Mathlib.Omega.{arith}
 use borrow.Author.Needs.{needs}
 use Rattle.server_deliver.proofs.kinds.step_of_kind.Statement.{statement}
@@ -58,7 +58,7 @@ returns-5 c =
 step-of-write-requires : tie.Need-step-of-write-requires
 step-of-write-requires c κs =
     let P = c .before .before .before .before .before .before .before .before .before .before .before .before .before .before .before .before .before .before .before .before .pre .0 in
-    (P, omega (arith, P .kind-low, c .before .before .before .before .before .before .before .before .before .before .before .if1 .left, c .before .before .before .before .before .if4 .left), omega (arith, c .before .before .before .if5 .left))
+    (P, omega (arith, P .kind-low, c .before .before .before .before .before .before .before .before .before .before .before .if1 .left, c .before .before .before .before .before .if4 .left), used-kind _ (P .kind-used) (omega (arith, c .before .before .before .if5 .left)))
 
 same-length-6 : tie.Need-same-length-6
 same-length-6 c = search needs

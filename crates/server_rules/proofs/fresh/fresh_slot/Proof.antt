@@ -7,15 +7,10 @@ use Rattle.server_rules.proofs.fresh.fresh_slot.Tie as tie
 use Rattle.server_rules.proofs.fresh.fresh_slot.Reads as reads
 use Rattle.server_rules.proofs.fresh.fresh_slot.Lts as lts
 use Rattle.server_rules.proofs.fresh.fresh_blocks.Reads as fresh-blocks-reads
-use Rattle.server_rules.proofs.fresh.fresh_times.Reads as fresh-times-reads
 
 -- src/fresh.rt
 fresh-blocks-requires : tie.Need-fresh-blocks-requires
 fresh-blocks-requires c κs = search needs
-
--- src/fresh.rt
-fresh-times-requires : tie.Need-fresh-times-requires
-fresh-times-requires c κs = search needs
 
 -- src/fresh.rt
 returns : tie.Need-returns
@@ -23,4 +18,4 @@ unfolding freshSlot
 returns c = cc
 
 pub fresh-slot-spec : {M : Type 1} → statement M
-fresh-slot-spec = tie.close (tie.spec fresh-blocks-requires fresh-times-requires returns)
+fresh-slot-spec = tie.close (tie.spec fresh-blocks-requires returns)

@@ -1,0 +1,27 @@
+-- Case by case. Assumes nothing.
+use mathlib.Core.Path.{sym, ap, _∙_}
+use borrow.Author.Needs.{needs}
+use Rattle.answers.specs.Answers.{codeAnswer}
+use Rattle.answers.proofs.calls.code_answer.Statement.{statement}
+use Rattle.answers.proofs.calls.code_answer.Tie as tie
+
+enum-told : tie.Need-enum-told
+enum-told c = search needs
+
+enum-known-c : tie.Need-enum-known-c
+enum-known-c c = search needs
+
+fault-number-requires : tie.Need-fault-number-requires
+fault-number-requires c κs = search needs
+
+returns : tie.Need-returns
+unfolding codeAnswer
+returns c = sym (ap codeAnswer (c .enum-told .given .1))
+
+returns-2 : tie.Need-returns-2
+unfolding codeAnswer
+returns-2 c = c .fault-number .ensures ∙ sym (ap codeAnswer (c .before .before .c .given .1))
+
+pub code-answer-spec : {M : Type 1} → statement M
+code-answer-spec =
+    tie.close (tie.spec enum-told enum-known-c fault-number-requires returns returns-2)

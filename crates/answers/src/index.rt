@@ -1,0 +1,24 @@
+// An insertion into an index of accession numbers, and a search in it.
+use accession_index::Found;
+use accession_index::Insertion;
+use accession_index::number_of;
+ghost use mathlib.Core.Path.{_≡_};
+ghost use Rattle.answers.specs.Answers.{insertionAnswer, searchAnswer};
+
+pub fn insertion_answer(a: Insertion) -> u64
+    ensures { λ r. ⌜ r ≡ insertionAnswer a ⌝ }
+{
+    match a {
+        Insertion::Place(p) => 65536 * (p as u64),
+        Insertion::Refused(r) => number_of(r),
+    }
+}
+
+pub fn search_answer(f: Found) -> u64
+    ensures { λ r. ⌜ r ≡ searchAnswer f ⌝ }
+{
+    match f {
+        Found::Place(p) => 65536 * (p as u64),
+        Found::Nothing => 0,
+    }
+}

@@ -1,0 +1,69 @@
+// Calls whose area for the record or for a stamp is short: 10, but a lower number first.
+use blocks::Params;
+use client::tests::length_test;
+use client::tests::value_test;
+use client_rules::Client;
+use frame::Opened;
+use frame::Refusal;
+use frame::Verdict;
+use frame::bounds::params_test;
+use frame::opener::open_frame;
+use frame::refusals::and_then;
+ghost use mathlib.Core.Path.{_≡_};
+ghost use Rattle.answers.specs.Short.{readShort, valueShort, openedShort, frameShort, stampShort};
+
+// 1 to 3 first.
+pub fn read_short(g: Params, me: u8) -> Verdict
+    ensures { λ r. ⌜ r ≡ readShort g me ⌝ }
+{
+    let params = params_test(g, me as usize, 8);
+    and_then(params, Verdict::Bad(Refusal::Room))
+}
+
+// 1 to 3 first, of party me of parties 1 to most; a value of this length is lent.
+pub fn value_short(g: Params, me: u8, most: usize, length: usize) -> Verdict
+    ensures { λ r. ⌜ r ≡ valueShort g me most length ⌝ }
+{
+    let params = params_test(g, me as usize, most);
+    let whole = length_test(g, length);
+    let rest = and_then(whole, Verdict::Bad(Refusal::Room));
+    and_then(params, rest)
+}
+
+fn opened_short(o: Opened) -> Verdict
+    ensures { λ r. ⌜ r ≡ openedShort o ⌝ }
+{
+    match o {
+        Opened::Frame(h) => Verdict::Bad(Refusal::Room),
+        Opened::Refused(r) => Verdict::Bad(r),
+    }
+}
+
+// 1 to 9 first; the frame f is handed in.
+pub fn frame_short(g: Params, me: u8, most: usize, f: &[u8]) -> Verdict
+    ensures { λ r. ⌜ r ≡ frameShort g me most (now (f .entry)) ⌝ }
+{
+    let params = params_test(g, me as usize, most);
+    if let Verdict::Bad(r) = params {
+        return Verdict::Bad(r);
+    }
+    let opened = open_frame(g, f);
+    opened_short(opened)
+}
+
+// 1 to 9 first; the frame f is handed to client s, with a value of this length.
+pub fn stamp_short(g: Params, me: u8, s: Client, length: usize, f: &[u8]) -> Verdict
+    ensures { λ r. ⌜ r ≡ stampShort g me s length (now (f .entry)) ⌝ }
+{
+    let p = s.phase;
+    let params = params_test(g, me as usize, 8);
+    if let Verdict::Bad(r) = params {
+        return Verdict::Bad(r);
+    }
+    let whole = value_test(g, p, length);
+    if let Verdict::Bad(r) = whole {
+        return Verdict::Bad(r);
+    }
+    let opened = open_frame(g, f);
+    opened_short(opened)
+}

@@ -1,2 +1,0 @@
-pub mod TimeVotes
-pub mod TimeStage

@@ -52,6 +52,29 @@ module _ {K P : Type 0} (W : Views K P) (n t few all : ℕ) (faultyServer faulty
     pub accepted-readies : (i c s : ℕ) (x : P) → Accepted ks i c s x → Readies ks c s x
     pub echo-valid : (i c s : ℕ) (x : P) → faultyClient c ≡ false → SentEcho ks i c s x → ClientSent ks c s x
 
+  -- ---- what the invariant gives
+
+  module _ (F : Faults n t faultyServer) {ks : List K} (I : Invariant ks) where
+    -- supports of one write are of one payload
+    pub supports-agree : (c s : ℕ) (x y : P) → Support ks c s x → Support ks c s y → x ≡ y
+    supports-agree c s x y a b =
+        let (h, is, g, f) = quorums-meet F a b in
+        I .echo-once h c s x y (f .0 g) (f .1 g)
+
+    module _ (most : t < all) where
+      pub readies-supported : (c s : ℕ) (x : P) → Readies ks c s x → Support ks c s x
+      readies-supported c s x e =
+          let (j, is, g, f) = honest-member F (at-least-fewer most e) in
+          I .ready-supported j c s x (f g)
+
+      pub accepted-supported : (i c s : ℕ) (x : P) → Accepted ks i c s x → Support ks c s x
+      accepted-supported i c s x u = readies-supported c s x (I .accepted-readies i c s x u)
+
+      pub accepted-agree : (i j c s : ℕ) (x y : P) → Accepted ks i c s x → Accepted ks j c s y → x ≡ y
+      accepted-agree i j c s x y u v = supports-agree c s x y (accepted-supported i c s x u) (accepted-supported j c s y v)
+
+  -- ---- the invariant holds of every run
+
   module _ (F : Faults n t faultyServer) (more : t < few) (ks : List K) (k : K) (M : Lawful ks k) (I : Invariant ks) where
     support-stays : (c s : ℕ) (x : P) → Support ks c s x → Support (k ∷ ks) c s x
     support-stays c s x = at-least-map (λ j i f g. M .echo-stays j c s x (f g))
@@ -146,16 +169,11 @@ module _ {K P : Type 0} (W : Views K P) (n t few all : ℕ) (faultyServer faulty
 
     -- what an honest server accepts is supported
     pub supported : {ks : List K} → Run ks → (i c s : ℕ) (x : P) → Accepted ks i c s x → Support ks c s x
-    supported r i c s x u =
-        let I = invariant r in
-        let (j, is, g, f) = honest-member F (at-least-fewer most (I .accepted-readies i c s x u)) in
-        I .ready-supported j c s x (f g)
+    supported r = accepted-supported F (invariant r) most
 
     -- all honest servers accept a write with one payload
     pub agreement : {ks : List K} → Run ks → (i j c s : ℕ) (x y : P) → Accepted ks i c s x → Accepted ks j c s y → x ≡ y
-    agreement r i j c s x y u v =
-        let (h, is, g, f) = quorums-meet F (supported r i c s x u) (supported r j c s y v) in
-        invariant r .echo-once h c s x y (f .0 g) (f .1 g)
+    agreement r = accepted-agree F (invariant r) most
 
     -- and an honest client's write with the payload that it sent
     pub validity : {ks : List K} → Run ks → (i c s : ℕ) (x : P) → faultyClient c ≡ false → Accepted ks i c s x → ClientSent ks c s x

@@ -2,6 +2,7 @@ pub mod Views
 pub mod Sends
 pub mod Shapes
 pub mod Quotas
+pub mod Enough
 pub mod Within
 pub mod Agreed
 pub mod CallFacts

@@ -56,7 +56,7 @@ module _ {K A S : Type 0} (Z : Stamps A S) (W : Views K A S) (n t : ℕ) (faulty
     written-mono ks k M j v w = (w .0, w .1, w .2, M .accepted-stays j (w .0) (w .1) (w .2) (w .3), w .4)
 
     -- a present stamp is the initial one or was accepted
-    present-of : (ks : List K) → Run ks → (j : ℕ) → (present ks j ≡ initial) ⊎ Written ks j (present ks j)
+    pub present-of : (ks : List K) → Run ks → (j : ℕ) → (present ks j ≡ initial) ⊎ Written ks j (present ks j)
     present-of [] a j = inl (E .initial-stamp j)
     present-of (k ∷ ks) a j = ⊎-elim
         (λ e. ⊎-elim (λ u. inl (e ∙ u)) (λ u. inr (rw e (written-mono ks k (a .0) j (present ks j) u))) (present-of ks (a .1) j))
@@ -72,7 +72,7 @@ module _ {K A S : Type 0} (Z : Stamps A S) (W : Views K A S) (n t : ℕ) (faulty
         (a .0 .ack-new j c q u)
 
     -- a value has the initial or an accepted stamp, which the server has reached
-    value-written : (ks : List K) → Run ks → (j c q : ℕ) (v : S) → SentValue ks j c q v → (key v ≤ key (present ks j)) × ((v ≡ initial) ⊎ Written ks j v)
+    pub value-written : (ks : List K) → Run ks → (j c q : ℕ) (v : S) → SentValue ks j c q v → (key v ≤ key (present ks j)) × ((v ≡ initial) ⊎ Written ks j v)
     value-written [] a j c q v u = absurd (E .no-value j c q v u)
     value-written (k ∷ ks) a j c q v u = ⊎-elim
         (λ o.
@@ -88,15 +88,15 @@ module _ {K A S : Type 0} (Z : Stamps A S) (W : Views K A S) (n t : ℕ) (faulty
 
     -- ---- nothing is said of an operation before it begins, so what is said later is not below the present stamps of before
 
-    asked-begun : (ks : List K) → Run ks → (c q : ℕ) → SentRead ks c q → q ≤ reads ks c
+    pub asked-begun : (ks : List K) → Run ks → (c q : ℕ) → SentRead ks c q → q ≤ reads ks c
     asked-begun [] a c q u = absurd (E .no-read c q u)
     asked-begun (k ∷ ks) a c q u = ⊎-elim (λ o. omega (arith, asked-begun ks (a .1) c q o, a .0 .reads-up c)) (λ w. w) (a .0 .read-new c q u)
 
-    get-stamp-begun : (ks : List K) → Run ks → (c q : ℕ) → SentGetStamp ks c q → q ≤ writes ks c
+    pub get-stamp-begun : (ks : List K) → Run ks → (c q : ℕ) → SentGetStamp ks c q → q ≤ writes ks c
     get-stamp-begun [] a c q u = absurd (E .no-get-stamp c q u)
     get-stamp-begun (k ∷ ks) a c q u = ⊎-elim (λ o. omega (arith, get-stamp-begun ks (a .1) c q o, a .0 .writes-up c)) (λ w. w) (a .0 .get-stamp-new c q u)
 
-    noted-begun : (ks : List K) → Run ks → (j c : ℕ) → faultyClient c ≡ false → listening ks j c ≡ true → newest ks j c ≤ reads ks c
+    pub noted-begun : (ks : List K) → Run ks → (j c : ℕ) → faultyClient c ≡ false → listening ks j c ≡ true → newest ks j c ≤ reads ks c
     noted-begun [] a j c h l = impossible (cc (E .no-listener j c))
     noted-begun (k ∷ ks) a j c h l = ⊎-elim
         (λ w. omega (arith, noted-begun ks (a .1) j c h (w .0), w .1, a .0 .reads-up c))
@@ -112,7 +112,7 @@ module _ {K A S : Type 0} (Z : Stamps A S) (W : Views K A S) (n t : ℕ) (faulty
         (λ w. omega (arith, present-mono ks₀ ks x (a .1) j, w .1))
         (a .0 .noting j c l)
 
-    value-begun : (ks : List K) → Run ks → (j c q : ℕ) (v : S) → faultyClient c ≡ false → SentValue ks j c q v → q ≤ reads ks c
+    pub value-begun : (ks : List K) → Run ks → (j c q : ℕ) (v : S) → faultyClient c ≡ false → SentValue ks j c q v → q ≤ reads ks c
     value-begun [] a j c q v h u = absurd (E .no-value j c q v u)
     value-begun (k ∷ ks) a j c q v h u = ⊎-elim
         (λ o. omega (arith, value-begun ks (a .1) j c q v h o, a .0 .reads-up c))
@@ -131,7 +131,7 @@ module _ {K A S : Type 0} (Z : Stamps A S) (W : Views K A S) (n t : ℕ) (faulty
         (λ w. omega (arith, noted-above ks₀ ks x (a .1) j c h (w .listens) (omega (arith, w .current)), w .above)))
         (a .0 .value-new j c q v u)
 
-    time-begun : (ks : List K) → Run ks → (j c q T : ℕ) → faultyClient c ≡ false → SentStamp ks j c q T → q ≤ writes ks c
+    pub time-begun : (ks : List K) → Run ks → (j c q T : ℕ) → faultyClient c ≡ false → SentStamp ks j c q T → q ≤ writes ks c
     time-begun [] a j c q T h u = absurd (E .no-stamp j c q T u)
     time-begun (k ∷ ks) a j c q T h u = ⊎-elim
         (λ o. omega (arith, time-begun ks (a .1) j c q T h o, a .0 .writes-up c))
@@ -148,19 +148,19 @@ module _ {K A S : Type 0} (Z : Stamps A S) (W : Views K A S) (n t : ℕ) (faulty
 
     -- ---- what a client has counted of honest servers was sent to it for the open operation
 
-    ack-from : (ks : List K) → Run ks → (c j : ℕ) → Among n j → faultyServer j ≡ false → KeptAck ks c j → SentAck ks j c (writes ks c)
+    pub ack-from : (ks : List K) → Run ks → (c j : ℕ) → Among n j → faultyServer j ≡ false → KeptAck ks c j → SentAck ks j c (writes ks c)
     ack-from [] a c j i g u = absurd (E .no-kept-ack c j u)
     ack-from (k ∷ ks) a c j i g u =
         let w = a .0 .ack-kept c j i g u in
         rw (w .0) (a .0 .ack-stays j c (writes ks c) (⊎-elim (ack-from ks (a .1) c j i g) (λ z. z) (w .1)))
 
-    stamp-from : (ks : List K) → Run ks → (c j T : ℕ) → Among n j → faultyServer j ≡ false → KeptStamp ks c j T → SentStamp ks j c (writes ks c) T
+    pub stamp-from : (ks : List K) → Run ks → (c j T : ℕ) → Among n j → faultyServer j ≡ false → KeptStamp ks c j T → SentStamp ks j c (writes ks c) T
     stamp-from [] a c j T i g u = absurd (E .no-kept-stamp c j T u)
     stamp-from (k ∷ ks) a c j T i g u =
         let w = a .0 .stamp-kept c j T i g u in
         rw (w .0) (a .0 .stamp-stays j c (writes ks c) T (⊎-elim (stamp-from ks (a .1) c j T i g) (λ z. z) (w .1)))
 
-    value-from : (ks : List K) → Run ks → (c j : ℕ) (v : S) → Among n j → faultyServer j ≡ false → KeptValue ks c j v → SentValue ks j c (reads ks c) v
+    pub value-from : (ks : List K) → Run ks → (c j : ℕ) (v : S) → Among n j → faultyServer j ≡ false → KeptValue ks c j v → SentValue ks j c (reads ks c) v
     value-from [] a c j v i g u = absurd (E .no-kept-value c j v u)
     value-from (k ∷ ks) a c j v i g u =
         let w = a .0 .value-kept c j v i g u in

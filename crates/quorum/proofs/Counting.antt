@@ -50,6 +50,19 @@ unfolding count
 count-both p q zero = zero-le
 count-both p q (suc k) = omega (arith, count-both p q k, bit-both (p (suc k)) (q (suc k)))
 
+-- ---- a larger set counts no less
+
+bit-mono : (a b : Bool) → (a ≡ true → b ≡ true) → bit a ≤ bit b
+bit-mono true b f = omega (arith, ap bit (f refl))
+bit-mono false b f = omega arith
+
+pub count-mono : (p q : ℕ → Bool) (n : ℕ) → ((j : ℕ) → Among n j → p j ≡ true → q j ≡ true) → count p n ≤ count q n
+unfolding count
+count-mono p q zero f = zero-le
+count-mono p q (suc k) f =
+    let below = count-mono p q k (λ j i e. f j (omega arith) e) in
+    omega (arith, below, bit-mono (p (suc k)) (q (suc k)) (f (suc k) (omega arith)))
+
 -- ---- a count above zero has a member
 
 pub record Passing (n : ℕ) (p : ℕ → Bool) : Type 0 where

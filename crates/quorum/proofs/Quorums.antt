@@ -1,7 +1,8 @@
 -- Quorums, where n > 3t and at most t of the servers 1 to n are false:
 --   more than t servers have an honest one among them;
---   two sets of n - t servers share an honest one.
--- All agreement in this register comes from these two. Assumes nothing.
+--   two sets of n - t servers share an honest one;
+--   the honest servers are n - t at least.
+-- All agreement in this register comes from the first two, and that all are served from the third. Assumes nothing.
 use Prim.Native.Nat.{ℕ, zero, suc, _+_, _*_, _-_, _≤_, _<_}
 use native.Mathlib.Omega.{arith}
 use mathlib.Core.Bool.{Bool, true, false, not, _&&_}
@@ -9,7 +10,7 @@ use mathlib.Core.Path.{_≡_}
 use borrow.Author.Tests.{not-true}
 use Rattle.quorum.specs.Quorum.{count, Among, Faults}
 use Rattle.quorum.proofs.Logic.{and-split}
-use Rattle.quorum.proofs.Counting.{count-both, count-not, Passing, some-passes}
+use Rattle.quorum.proofs.Counting.{count-both, count-not, count-mono, Passing, some-passes}
 
 -- At least m of the servers 1 to n, with Q for each. Q is mostly of the form "if j is honest, then ..", so that what a
 -- false server said needs no case of its own.
@@ -23,6 +24,10 @@ at-least-map f s = record { member = s .member; many = s .many; each = λ j i b.
 
 pub at-least-fewer : {n m k : ℕ} {Q : ℕ → Type 0} → k ≤ m → AtLeast n m Q → AtLeast n k Q
 at-least-fewer h s = record { member = s .member; many = omega (arith, s .many); each = s .each }
+
+-- if at least m pass, the count is m or more
+pub at-least-count : {n m : ℕ} (p : ℕ → Bool) → AtLeast n m (λ j. p j ≡ true) → m ≤ count p n
+at-least-count {n} p s = omega (arith, s .many, count-mono (s .member) p n (s .each))
 
 -- a server with Q that is honest
 abbrev pub HonestWith : ℕ → (ℕ → Bool) → (ℕ → Type 0) → Type 0
@@ -38,6 +43,25 @@ module _ {n t : ℕ} {faulty : ℕ → Bool} (F : Faults n t faulty) where
       let r = some-passes (λ j. p j && not (faulty j)) n (honest-count p 1 (omega arith)) in
       let w = and-split (p (r .at)) (not (faulty (r .at))) (r .passes) in
       (r .at, r .among, not-true (faulty (r .at)) (w .1), w .0)
+
+  -- what every honest server has, n - t servers have
+  pub honest-servers : {Q : ℕ → Type 0} → ((j : ℕ) → Among n j → faulty j ≡ false → Q j) → AtLeast n (n - t) Q
+  honest-servers f = record {
+    member = λ j. not (faulty j);
+    many = omega (arith, count-not faulty n, F .few);
+    each = λ j i e. f j i (not-true (faulty j) e);
+  }
+
+  -- of a + t servers that have Q if they are honest, a are honest and have it
+  pub honest-part : {a m : ℕ} {Q : ℕ → Type 0} → a + t ≤ m → AtLeast n m (λ j. faulty j ≡ false → Q j) → AtLeast n a (λ j. (faulty j ≡ false) × Q j)
+  honest-part {a} h s = record {
+    member = λ j. s .member j && not (faulty j);
+    many = honest-count (s .member) a (omega (arith, s .many));
+    each = λ j i e.
+        let w = and-split (s .member j) (not (faulty j)) e in
+        let g = not-true (faulty j) (w .1) in
+        (g, s .each j i (w .0) g);
+  }
 
   pub honest-member : {Q : ℕ → Type 0} → AtLeast n (suc t) Q → HonestWith n faulty Q
   honest-member s =

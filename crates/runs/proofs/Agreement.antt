@@ -59,10 +59,10 @@ module _ (Z : Setup) (G : Assumed Z)
   R = blockRules H g
 
   -- nothing is there at the start
-  start-part : (i c : ℕ) → Among 8 c → partAt g (serverAt Z G M [] i .server) (serverAt Z G M [] i .area) c ≡ noPart
+  pub start-part : (i c : ℕ) → Among 8 c → partAt g (serverAt Z G M [] i .server) (serverAt Z G M [] i .area) c ≡ noPart
   start-part i c is = ap (blockView g (serverAt Z G M [] i .area) c) (start-slot Z G i c is) ∙ fresh-block-view g (serverAt Z G M [] i .area) c 1
 
-  empty : BL.Fresh (views Z G M formed) (g .n) (g .t) (R .few) (R .all) faultyServer faultyClient
+  pub empty : BL.Fresh (views Z G M formed) (g .n) (g .t) (R .few) (R .all) faultyServer faultyClient
   empty = record {
     no-kept-echo = λ i c j x e. impossible (cc (ap (λ y. y .echoes j) (start-part i c (e .0)), e .3));
     no-kept-ready = λ i c j x e. impossible (cc (ap (λ y. y .readies j) (start-part i c (e .0)), e .3));

@@ -20,6 +20,7 @@ pub mod AcceptedFrom
 pub mod Written
 pub mod Begun
 pub mod KeptRows
+pub mod OneValue
 pub mod Values
 pub mod Theorem
 pub mod Answers

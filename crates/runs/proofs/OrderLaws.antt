@@ -45,7 +45,7 @@ present-digests : (a d : List ℕ) (w : ℕ) → length d ≡ w → w ≤ length
 present-digests a d w e h = subst (λ y. part (sets a 0 d) 0 y ≡ d) e (part-sets-same a 0 d (omega (arith, e)))
 
 -- parameters within their bounds pass
-params-fine : (g : Params) → Bounded g → (me most : ℕ) → Among most me → paramsTest g me most ≡ J.Fine
+pub params-fine : (g : Params) → Bounded g → (me most : ℕ) → Among most me → paramsTest g me most ≡ J.Fine
 unfolding paramsTest ownTest codeTest pick
 params-fine g B me most is = rw (
   ← parties-yes (g .n) (g .t) (B .servers-low) (B .servers-high) (B .faults-low) (omega (arith, B .faults-high)),

@@ -1,41 +1,29 @@
--- What reads give: equal bytes where the stamps are equal, or two different blocks of the run with one digest. By the facts of Known.antt, and since any k
--- blocks of a value decode to it. Assumes nothing.
-use Prim.Native.Nat.{ℕ, zero, _+_, _*_, _-_, _≤_, _<_}
+-- What reads give: equal bytes where the stamps are equal, or two different blocks of the run with one digest. By the facts of Known.antt
+-- and OneValue.antt. Assumes nothing.
+use Prim.Native.Nat.{ℕ, zero, _+_, _≤_}
 use native.Mathlib.Omega.{arith}
 use mathlib.Core.Path.{_≡_, refl, ap, sym, _∙_}
 use mathlib.Core.Logic.{_⊎_, inl, inr, ⊎-elim}
-use mathlib.Core.List.{List, [], _∷_, List·Memᴰ, List·Memᴰ·head, List·Memᴰ·tail, List·Memᴰ·cases-cons, List·Memᴰ·not-nil}
-use lib.ListN.{length, take, length-map}
-use lib.Seq.{length-take-le}
-use Rattle.quorum.specs.Quorum.{Among}
+use mathlib.Core.List.{List, [], _∷_}
+use lib.ListN.{length}
 use Rattle.quorum.proofs.Logic.{impossible}
-use Rattle.area.specs.Area.{Bytes, part}
-use Rattle.area.proofs.Same.{same-true}
-use Rattle.blocks.specs.Code.{valueOf}
-use Rattle.blocks.specs.Poly.{All}
-use Rattle.blocks.proofs.RoundTrip.{decoded as any-blocks}
 use Rattle.frame.specs.declared.Stamp.{Stamp}
 use Rattle.frame.specs.declared.Verdict.{Verdict}
 use Rattle.frame.specs.declared.Verdict.the-variants as J
-use Rattle.group_rules.specs.Coded.{Piece, pieces, numbers, blockAt, digestsOf, decoded, fits}
+use Rattle.group_rules.specs.Coded.{digestsOf}
 use Rattle.frame.specs.Stamps.{zeroStamp}
 use Rattle.frame.proofs.StampOrder.{three, total, less-not}
 use Rattle.server_rules.specs.Steps.{Write, stampOf}
 use Rattle.client_rules.specs.Rows.{Found}
 use Rattle.client_rules.specs.Beginning as CB
 use Rattle.client_rules.specs.Steps as C
-use Rattle.server_rules.proofs.Decoding.{all-pieces}
-use Rattle.runs.specs.Blocks.{Origin, in-frame, of-initial, of-written, of-decoded, Collision}
+use Rattle.runs.specs.Blocks.{of-initial, of-written, of-decoded, Collision}
 use Rattle.runs.specs.Demand.{Values}
 use Rattle.runs.specs.Events.{At, Accepts, CompletesRead, OpensWrite}
 use Rattle.runs.specs.World.{Setup, Call, toServer, toClient, beginRead, beginWrite, run, clientEffect}
 use Rattle.runs.proofs.Known.{Known, KnownValues, Rows}
-use Rattle.runs.proofs.Pieces.{pieces-in, all-numbers, pieces-apart, mem-take, apart-take, list-equal?, digest-of, joined-blocks}
+use Rattle.runs.proofs.OneValue as One
 use Rattle.runs.proofs.Assumed.{Assumed}
-
-numbers-bytes : (l : List ℕ) → All (λ z. z < 256) l → Bytes l
-numbers-bytes [] h = tt
-numbers-bytes (x ∷ l) h = (h .0, numbers-bytes l (h .1))
 
 -- ---- one outcome for all events of a run
 
@@ -105,74 +93,19 @@ write-number Z (k ∷ ks) d r p v (inl u) = go k (u .1)
 module _ (Z : Setup) (G : Assumed Z) (ks : List Call) (K : Known Z ks) (L : KnownValues Z ks) where
   open Setup Z using (H, g, initialValue)
 
-  -- a value of the run: its blocks are of it
-  record Source (v : List ℕ) : Type 0 where
-    pub size : length v ≡ g .size
-    pub bytes : Bytes v
-    pub from : (j : ℕ) → Among (g .n) j → Origin Z ks (blockAt H g v j)
+  abbrev Source : List ℕ → Type 0
+  Source = One.Source Z G ks
 
   initial : Source initialValue
   initial = record { size = G .initial-size; bytes = G .initial-bytes; from = λ j i. of-initial j i refl }
 
   -- ---- one read
 
-  record Same (v : List ℕ) (p : Piece) : Type 0 where
-    pub digest : H (p .bytes) ≡ H (blockAt H g v (p .number))
-    pub one : Origin Z ks (p .bytes)
-    pub other : Origin Z ks (blockAt H g v (p .number))
-
-  compare-all : (v : List ℕ) (l : List Piece) → ((p : Piece) → List·Memᴰ p l → Same v p)
-      → ((p : Piece) → List·Memᴰ p l → p .bytes ≡ blockAt H g v (p .number)) ⊎ Collision Z ks
-  compare-all v [] f = inl (λ p m. absurd (List·Memᴰ·not-nil m))
-  compare-all v (q ∷ l) f = go (compare-all v l (λ p m. f p (List·Memᴰ·tail m))) (list-equal? (q .bytes) (blockAt H g v (q .number)))
-    where
-      go : ((p : Piece) → List·Memᴰ p l → p .bytes ≡ blockAt H g v (p .number)) ⊎ Collision Z ks
-          → (q .bytes ≡ blockAt H g v (q .number)) ⊎ (q .bytes ≡ blockAt H g v (q .number) → ⊥)
-          → ((p : Piece) → List·Memᴰ p (q ∷ l) → p .bytes ≡ blockAt H g v (p .number)) ⊎ Collision Z ks
-      go (inr c) d = inr c
-      go (inl h) (inl e) = inl (λ p m. ⊎-elim (λ z. rw z e) (λ u. h p u) (List·Memᴰ·cases-cons m))
-      go (inl h) (inr e) =
-          let w = f q (List·Memᴰ·head refl) in
-          inr (record { left = q .bytes; right = blockAt H g v (q .number); differ = e; alike = w .digest; left-from = w .one; right-from = w .other })
-
-  module _ (x : Found) (R : Rows Z ks x) (v : List ℕ) (S : Source v) (same-list : digestsOf H g v ≡ x .digests) where
-    abbrev held : List Piece
-    held = pieces (R .at) (x .digests) 1 (g .n)
-
-    in-range : (p : Piece) → List·Memᴰ p (take (g .k) held) → Among (g .n) (p .number)
-    in-range p m = let h = pieces-in (R .at) (x .digests) 1 (g .n) p (mem-take (g .k) held p m) in (h .low, omega (arith, h .high))
-
-    each : (p : Piece) → List·Memᴰ p (take (g .k) held) → Same v p
-    unfolding fits
-    each p m =
-        let h = pieces-in (R .at) (x .digests) 1 (g .n) p (mem-take (g .k) held p m) in
-        let i = in-range p m in
-        let d : H (h .entry .block) ≡ part (h .entry .digests) (32 * p .number - 32) 32 = same-true _ _ (R .fit (p .number) (h .entry) i (h .is)) in
-        let c = R .carried (p .number) (h .entry) i (h .is) in
-        record {
-          digest = ap H (h .block) ∙ d ∙ ap (λ z. part z (32 * p .number - 32) 32) (h .list ∙ sym same-list) ∙ digest-of H g (G .digest-size) v (p .number) (i .0) (i .1);
-          one = rw (h .block) (in-frame (c .0) (c .1));
-          other = S .from (p .number) i;
-        }
-
-    enough : length (numbers (take (g .k) held)) ≡ g .k
-    enough =
-        let a = all-pieces (R .at) (x .digests) (g .n) in
-        length-map (take (g .k) held) (λ p. p .number) ∙ length-take-le (g .k) held (omega (arith, a, R .many, G .bounded .blocks-high))
-
-    decodes : ((p : Piece) → List·Memᴰ p (take (g .k) held) → p .bytes ≡ blockAt H g v (p .number)) → x .bytes ≡ v
-    unfolding decoded
-    decodes f =
-        let js = numbers (take (g .k) held) in
-        R .bytes
-        ∙ ap (λ w. valueOf js (g .size) w) (joined-blocks H g (G .digest-size) v (take (g .k) held) f)
-        ∙ any-blocks js v (g .k) (g .size) enough (S .size) (G .bounded .blocks-low)
-        (numbers-bytes js (all-numbers (λ z. z < 256) (take (g .k) held) (λ p m. omega (arith, in-range p m .1, G .bounded .servers-high))))
-        (apart-take (g .k) held (pieces-apart (R .at) (x .digests) 1 (g .n)))
-        (S .bytes)
-
-    gives : (x .bytes ≡ v) ⊎ Collision Z ks
-    gives = ⊎-elim (λ f. inl (decodes f)) (λ c. inr c) (compare-all v (take (g .k) held) each)
+  gives : (x : Found) → Rows Z ks x → (v : List ℕ) → Source v → digestsOf H g v ≡ x .digests → (x .bytes ≡ v) ⊎ Collision Z ks
+  gives x R v S e = ⊎-elim
+      (λ d. inl (R .bytes ∙ d))
+      (λ c. inr c)
+      (One.one-value Z G ks (R .at) (x .digests) (omega (arith, R .many, G .bounded .blocks-high)) (R .fit) (R .carried) v S e)
 
   -- ---- sources of what reads and writes have
 

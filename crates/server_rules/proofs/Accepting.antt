@@ -1,13 +1,14 @@
 -- What an acceptance sends, values to listeners and the ack: in which order, to whom, and how many. Assumes nothing.
 use Prim.Native.Nat.{ℕ, zero, suc, _+_, _≤_, _<_}
 use native.Mathlib.Omega.{arith}
+use native.Mathlib.Decide.{ℕ-discrete}
 use mathlib.Core.Bool.{Bool, true, false, _&&_}
-use mathlib.Core.Path.{_≡_, refl}
+use mathlib.Core.Path.{_≡_, refl, ap}
 use mathlib.Core.Logic.{_⊎_, inl, inr, ⊎-elim}
 use mathlib.Core.List.{List, [], _∷_, _++_, List·Memᴰ, List·Memᴰ·not-nil, List·Memᴰ·cases-cons, List·Memᴰ·append-cases, List·Memᴰ·eq-of-singleton}
-use mathlib.Core.List.{List·Memᴰ·head, Memᴰ·append-right}
+use mathlib.Core.List.{List·Memᴰ·head, List·Memᴰ·tail, Memᴰ·append-right}
 use lib.ListN.{length, length-append}
-use Rattle.quorum.proofs.Logic.{and-split}
+use Rattle.quorum.proofs.Logic.{impossible, and-split, and-true}
 use Rattle.area.specs.Area.{pick}
 use Rattle.frame.specs.declared.Stamp.{Stamp}
 use Rattle.frame.specs.declared.Party.the-variants as P
@@ -78,6 +79,25 @@ tell-mem rs x e c (suc m) y u = go (tell-mem rs x e (suc c) m y) (readerAt rs c 
         (λ w. later (f w))
         (List·Memᴰ·cases-cons v)
     go f false q v = later (f v)
+
+-- each of clients c to c + m - 1 that listens, with a smaller noted stamp, is told
+pub tell-all : (rs : List Reader) (x : Stamp) (e : Entry) (c m d : ℕ) → c ≤ d → d < c + m → readerAt rs d .listening ≡ true → older (readerAt rs d .noted) x ≡ true
+    → List·Memᴰ (sending (P.Client d) (message d (readerAt rs d .sequence) (valueIs x e))) (S.tellFrom rs x e c m)
+unfolding S.tellFrom pick
+tell-all rs x e c zero d l h u v = absurd (omega (arith, l, h))
+tell-all rs x e c (suc m) d l h u v = go (λ k. tell-all rs x e (suc c) m d k (omega (arith, h)) u v) (readerAt rs c .listening && older (readerAt rs c .noted) x) refl (ℕ-discrete d c)
+  where
+    word : ℕ → Sending
+    word c = sending (P.Client c) (message c (readerAt rs c .sequence) (valueIs x e))
+
+    go : (suc c ≤ d → List·Memᴰ (word d) (S.tellFrom rs x e (suc c) m)) → (b : Bool) → (readerAt rs c .listening && older (readerAt rs c .noted) x) ≡ b → Dec (d ≡ c)
+        → List·Memᴰ (word d) (pick b (word c ∷ S.tellFrom rs x e (suc c) m) (S.tellFrom rs x e (suc c) m))
+    go f true q (yes k) = List·Memᴰ·head (ap word k)
+    go f true q (no k) = List·Memᴰ·tail (f (omega (arith, l, k)))
+    go f false q (yes k) =
+        let t = and-true (readerAt rs d .listening) (older (readerAt rs d .noted) x) u v in
+        impossible (cc (q, ap (λ c. readerAt rs c .listening && older (readerAt rs c .noted) x) k, t))
+    go f false q (no k) = f (omega (arith, l, k))
 
 pub tell-length : (rs : List Reader) (x : Stamp) (e : Entry) (c m : ℕ) → length (S.tellFrom rs x e c m) ≤ m
 unfolding S.tellFrom pick

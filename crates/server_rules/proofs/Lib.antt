@@ -1,6 +1,7 @@
 pub mod Parts
 pub mod Casts
 pub mod Thresholds
+pub mod Enough
 pub mod AtTime
 pub mod Decoding
 pub mod Views

@@ -27,10 +27,12 @@ use Rattle.frame.specs.Chunks.{entryAt, areaBytes, rowsBytes}
 use Rattle.frame.proofs.Sizes.{Small, small}
 use Rattle.server_rules.specs.declared.Server.{Server}
 use Rattle.server_rules.specs.State.{freshServer}
+use Rattle.server_rules.specs.Tests as ST
 use Rattle.server_rules.specs.Delivery as SD
 use Rattle.client_rules.specs.declared.Client.{Client}
 use Rattle.client_rules.specs.State.{writing}
 use Rattle.client_rules.specs.Steps as C
+use Rattle.client_rules.specs.Tests as CT
 use Rattle.client_rules.specs.Delivery as CD
 use Rattle.client_rules.specs.Beginning as CB
 use Rattle.runs.specs.World.{Setup, Call, toServer, toClient, beginRead, beginWrite, caller, ServerSide, ClientSide, World, put, initialOf, start, lentBy, lentTo, step, run, sends, serverEffect, clientEffect}
@@ -54,7 +56,7 @@ put-both R f h i x y p q j = go (eqb j i)
     go true = p
     go false = q j
 
-party-same : (a b : Party) → sameParty a b ≡ true → a ≡ b
+pub party-same : (a b : Party) → sameParty a b ≡ true → a ≡ b
 unfolding sameParty
 party-same (P.Server i) (P.Server j) e = ap P.Server (eqb-true i j e)
 party-same (P.Server i) (P.Client d) e = impossible (cc)
@@ -179,7 +181,7 @@ module _ (Z : Setup) (G : Exact Z) where
 
   -- ---- what was sent
 
-  abbrev Logged : List Call → List Answer → Type 0
+  abbrev pub Logged : List Call → List Answer → Type 0
   Logged [] l = l ≡ []
   Logged (k ∷ ks) [] = ⊥
   Logged (k ∷ ks) (x ∷ l) = (caller k ≡ x .by) × (sends Z (run Z ks) k ≡ x .sends) × Logged ks l
@@ -191,12 +193,12 @@ module _ (Z : Setup) (G : Exact Z) where
   logged-by ks (beginRead c out to) h = (refl, ap (λ s. CB.readBegun g c s out to .sends) (depicts ks .clients c .client), h)
   logged-by ks (beginWrite c v out to) h = (refl, ap (λ s. CB.writeBegun g c s v out to .sends) (depicts ks .clients c .client), h)
 
-  logged : (ks : List Call) → Logged ks (image Z ks .log)
+  pub logged : (ks : List Call) → Logged ks (image Z ks .log)
   unfolding image
   logged [] = refl
   logged (k ∷ ks) = logged-by ks k (logged ks)
 
-  sent-by : (ks : List Call) (l : List Answer) → Logged ks l → (a b : Party) (f : List ℕ) → wasSent l a b f ≡ true → Sent Z ks a b f
+  pub sent-by : (ks : List Call) (l : List Answer) → Logged ks l → (a b : Party) (f : List ℕ) → wasSent l a b f ≡ true → Sent Z ks a b f
   unfolding wasSent
   sent-by [] [] h a b f e = impossible (cc)
   sent-by [] (x ∷ l) h a b f e = impossible (cc)
@@ -211,7 +213,7 @@ module _ (Z : Setup) (G : Exact Z) where
 
   -- ---- proper calls
 
-  honest-is : (a : Party) → honest Z a ≡ true → Honest Z a
+  pub honest-is : (a : Party) → honest Z a ≡ true → Honest Z a
   unfolding honest
   honest-is (P.Server j) e =
       let w = and-split (leb 1 j && leb j (g .n)) _ e in
@@ -222,7 +224,7 @@ module _ (Z : Setup) (G : Exact Z) where
       let y = and-split (leb 1 c) _ (w .0) in
       ((leb-true 1 c (y .0), leb-true c 8 (y .1)), not-true (faultyClient c) (w .1))
 
-  is-honest : (a : Party) → Honest Z a → honest Z a ≡ true
+  pub is-honest : (a : Party) → Honest Z a → honest Z a ≡ true
   unfolding honest
   is-honest (P.Server j) h = and-true _ _ (and-true _ _ (le-leb 1 j (h .0 .0)) (le-leb j (g .n) (h .0 .1))) (ap not (h .1))
   is-honest (P.Client c) h = and-true _ _ (and-true _ _ (le-leb 1 c (h .0 .0)) (le-leb c 8 (h .0 .1))) (ap not (h .1))
@@ -328,20 +330,31 @@ module _ (Z : Setup) (G : Exact Z) where
   verdict-bad (J.Bad x) r e = let h : x ≡ r = cc e in ap J.Bad h
   verdict-bad J.Fine r e = impossible (cc e)
 
+  -- what a frame is judged in the run, and in the pass
+  pub server-judged : (ks : List Call) (i : ℕ) (from : Party) (f out to : List ℕ)
+      → ST.judge H g i (run Z ks .servers i .server) (run Z ks .servers i .area) (initialOf Z i) from f out to
+      ≡ Served.judgeBy H g i (image Z ks .servers i .server) from f out to
+  server-judged ks i from f out to =
+      let D = depicts ks .servers i in
+      let p = run Z ks .servers i in
+      judge-server H g (G .bounded) M i (p .server) (p .area) (initialOf Z i) from f out to (D .area .long) (initial-is i)
+      ∙ ap (λ s. Served.judgeBy H g i s from f out to) (D .server)
+
+  pub client-judged : (ks : List Call) (c : ℕ) (from : Party) (f lent result out to : List ℕ)
+      → CT.judge H g c (run Z ks .clients c .client) (run Z ks .clients c .area) (lentTo Z (run Z ks) c lent) from f result out to
+      ≡ Asked.judgeBy H g c (image Z ks .clients c .client) (lentIn Z (image Z ks) c lent) from f result out to
+  client-judged ks c from f lent result out to =
+      let D = depicts ks .clients c in
+      let p = run Z ks .clients c in
+      judge-client H g (G .bounded) M c (p .client) (p .area) (lentTo Z (run Z ks) c lent) from f result out to (D .area .long)
+      ∙ (λ z. Asked.judgeBy H g c (D .client z) (lent-at (run Z ks) (image Z ks) (depicts ks) c lent z) from f result out to)
+
   pub refuses-by : (ks : List Call) (k : Call) (r : Refusal) → refusedIn Z (image Z ks) k ≡ some r → Refuses Z r ks k
   unfolding refusedIn SD.delivery SD.outcomeOf SD.replyOf CD.delivery CD.outcomeOf CD.answerOf CB.readBeginning CB.writeBeginning CB.begunOf CB.beginAnswer
   refuses-by ks (toServer i from f out to) r e =
-      let D = depicts ks .servers i in
-      let p = run Z ks .servers i in
-      let j = judge-server H g (G .bounded) M i (p .server) (p .area) (initialOf Z i) from f out to (D .area .long) (initial-is i) in
-      let b = j ∙ ap (λ s. Served.judgeBy H g i s from f out to) (D .server) ∙ judged-bad _ r e in
-      ap (λ x. SD.replyOf H g i x (length (serverEffect Z (run Z ks) i from f out to .sends))) b
+      ap (λ x. SD.replyOf H g i x (length (serverEffect Z (run Z ks) i from f out to .sends))) (server-judged ks i from f out to ∙ judged-bad _ r e)
   refuses-by ks (toClient c from f lent result out to) r e =
-      let D = depicts ks .clients c in
-      let p = run Z ks .clients c in
-      let j = judge-client H g (G .bounded) M c (p .client) (p .area) (lentTo Z (run Z ks) c lent) from f result out to (D .area .long) in
-      let b = j ∙ (λ z. Asked.judgeBy H g c (D .client z) (lent-at (run Z ks) (image Z ks) (depicts ks) c lent z) from f result out to) ∙ judged-bad _ r e in
-      ap (λ x. CD.answerOf x (clientEffect Z (run Z ks) c from f lent result out to)) b
+      ap (λ x. CD.answerOf x (clientEffect Z (run Z ks) c from f lent result out to)) (client-judged ks c from f lent result out to ∙ judged-bad _ r e)
   refuses-by ks (beginRead c out to) r e =
       ap (λ b. CB.beginAnswer g c b (CB.readBegun g c (run Z ks .clients c .client) out to))
       (ap (λ s. CB.readTest g c s out to) (depicts ks .clients c .client) ∙ verdict-bad _ r e)

@@ -1,0 +1,17 @@
+pub mod Clients
+pub mod ClientState
+pub mod ClientPast
+pub mod ClientWords
+pub mod ServerState
+pub mod ReaderState
+pub mod ServerKept
+pub mod ServerWords
+pub mod ServerPast
+pub mod ClientReached
+pub mod Everywhere
+pub mod TrueGroups
+pub mod Totality
+pub mod Presents
+pub mod Writers
+pub mod Readers
+pub mod Theorem

@@ -1,0 +1,1 @@
+// Theory only: computed runs, in proofs/.

@@ -1,0 +1,1 @@
+// Theory only: in a finished run what one honest server accepted all accepted, and so an honest client's write, in proofs/.

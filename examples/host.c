@@ -216,6 +216,19 @@ static void hand_get_stamp(const char *name, size_t sender_class, size_t sender,
     printf("get-stamp, %s: refusal %u, frames %u\n", name, SEMDUOLI_REFUSAL(answer), SEMDUOLI_COUNT(answer));
 }
 
+/* plays back, at server 3, so many bytes of a trace: client 2's get-stamp, the same as server 2's, and a malformed entry; the out area is so much short */
+static void play_back(size_t trace_length, size_t short_by)
+{
+    const uint8_t trace[] = {0, 12, 1, 0, 2, 0, 7, 1, 1, 2, 0, 0, 0, 5, 0, 12, 1, 1, 2, 0, 7, 1, 1, 2, 0, 0, 0, 5, 0, 2};
+    uint8_t out[SEMDUOLI_PLAYBACK_OUT(N, K, SIZE, 2)];
+    struct server *s = &servers[3];
+    uint64_t answer = semduoli_playback(N, T, K, SIZE, 3, (const uint8_t *)"first", SIZE, trace, trace_length, s->area, sizeof s->area, s->initial,
+                                        sizeof s->initial, s->state, sizeof s->state, out, sizeof out - short_by);
+    printf("playback: refusal %u, closed by %u, entries %u\n", SEMDUOLI_REFUSAL(answer), SEMDUOLI_OUTCOME(answer), (unsigned)SEMDUOLI_ENTRIES(answer));
+    if (!SEMDUOLI_REFUSAL(answer))
+        show("replies:", out, 22 + 3);
+}
+
 int main(void)
 {
     const uint8_t *value = (const uint8_t *)"hello";
@@ -271,5 +284,9 @@ int main(void)
     printf("open, record short: %u\n", (unsigned)semduoli_client_open(state, SEMDUOLI_CLIENT - 1));
     printf("stamp, area short: %u\n", (unsigned)semduoli_server_stamp(servers[1].state, SEMDUOLI_SERVER, digest, SEMDUOLI_STAMP - 1));
     printf("open of client 9: %u\n", (unsigned)semduoli_server_open(9, servers[1].state, SEMDUOLI_SERVER));
+    play_back(28, 0);
+    play_back(30, 0);
+    play_back(29, 0);
+    play_back(28, 1);
     return 0;
 }

@@ -24,6 +24,10 @@ mod semduoli {
                 area_len: usize, initial: *const u8, initial_len: usize, state: *mut u8, state_len: usize, out: *mut u8, out_len: usize, to: *mut u8,
                 to_len: usize,
             ) -> u64;
+            pub fn semduoli_playback(
+                n: usize, t: usize, k: usize, size: usize, me: usize, v: *const u8, v_len: usize, trace: *const u8, trace_len: usize, area: *mut u8,
+                area_len: usize, initial: *mut u8, initial_len: usize, state: *mut u8, state_len: usize, out: *mut u8, out_len: usize,
+            ) -> u64;
             pub fn semduoli_version() -> u64;
             pub fn semduoli_server_stamp(state: *const u8, state_len: usize, stamp: *mut u8, stamp_len: usize) -> u64;
             pub fn semduoli_server_open(client: usize, state: *const u8, state_len: usize) -> u64;
@@ -154,6 +158,18 @@ mod semduoli {
             raw::semduoli_server_deliver(
                 g.n, g.t, g.k, g.size, me, from.0, from.1, f.as_ptr(), f.len(), area.as_mut_ptr(), area.len(), initial.as_ptr(),
                 initial.len(), state.as_mut_ptr(), state.len(), out.as_mut_ptr(), out.len(), to.as_mut_ptr(), to.len(),
+            )
+        })
+    }
+
+    #[allow(clippy::too_many_arguments)]
+    pub fn playback(
+        g: &Params, me: usize, v: &[u8], trace: &[u8], area: &mut [u8], initial: &mut [u8], state: &mut [u8], out: &mut [u8],
+    ) -> Answer {
+        Answer(unsafe {
+            raw::semduoli_playback(
+                g.n, g.t, g.k, g.size, me, v.as_ptr(), v.len(), trace.as_ptr(), trace.len(), area.as_mut_ptr(), area.len(),
+                initial.as_mut_ptr(), initial.len(), state.as_mut_ptr(), state.len(), out.as_mut_ptr(), out.len(),
             )
         })
     }
@@ -416,6 +432,20 @@ impl Run {
         let answer = semduoli::server_deliver(&self.g, 1, from, &f[..frame], &mut s.area, &s.initial, &mut s.state[..state], &mut out, &mut to);
         println!("get-stamp, {name}: refusal {}, frames {}", answer.refusal(), answer.count());
     }
+
+    // Plays back, at server 3, so many bytes of a trace: client 2's get-stamp, the same as server 2's, and a malformed entry; the out area is so much short.
+    fn play_back(&mut self, trace: usize, short_by: usize) {
+        let asked = [0, 7, 1, 1, 2, 0, 0, 0, 5];
+        let whole = [&[0, 12, 1, 0, 2], &asked[..], &[0, 12, 1, 1, 2], &asked, &[0, 2]].concat();
+        let room = 2 * (3 + (self.g.n + 9) * (self.g.frame() + 2));
+        let (mut out, s) = (vec![0; room], &mut self.servers[3]);
+        let lent = &mut out[..room - short_by];
+        let answer = semduoli::playback(&self.g, 3, b"first", &whole[..trace], &mut s.area, &mut s.initial, &mut s.state, lent);
+        println!("playback: refusal {}, closed by {}, entries {}", answer.refusal(), answer.outcome(), answer.0 >> 24);
+        if answer.refusal() == 0 {
+            show("replies:", &out[..22 + 3]);
+        }
+    }
 }
 
 fn main() {
@@ -483,4 +513,8 @@ fn main() {
     println!("open, record short: {}", semduoli::client_open(&state[..semduoli::CLIENT - 1]).0);
     println!("stamp, area short: {}", semduoli::server_stamp(&run.servers[1].state, &mut digest[..semduoli::STAMP - 1]).0);
     println!("open of client 9: {}", semduoli::server_open(9, &run.servers[1].state).0);
+    run.play_back(28, 0);
+    run.play_back(30, 0);
+    run.play_back(29, 0);
+    run.play_back(28, 1);
 }

@@ -81,6 +81,8 @@ extern "C" {
 #define SEMDUOLI_CLIENT_TO(n) (2 * (n))
 #define SEMDUOLI_OUT_MOST SEMDUOLI_SERVER_OUT(SEMDUOLI_SERVERS_MOST, 1, SEMDUOLI_SIZE_MOST)
 #define SEMDUOLI_TO_MOST SEMDUOLI_SERVER_TO(SEMDUOLI_SERVERS_MOST)
+/* the area out of a playback of so many entries: 3 bytes for each, and a server's areas out and to */
+#define SEMDUOLI_PLAYBACK_OUT(n, k, size, entries) ((entries) * (3 + SEMDUOLI_SERVER_OUT(n, k, size) + SEMDUOLI_SERVER_TO(n)))
 /* a stamp: time (8), writer (1) and write sequence (4), high byte first */
 #define SEMDUOLI_STAMP 13
 /* line numbers of a history */
@@ -98,6 +100,7 @@ extern "C" {
 #define SEMDUOLI_OUTCOME(answer) ((unsigned)((answer) >> 8 & 0xff))
 #define SEMDUOLI_COUNT(answer) ((unsigned)((answer) >> 16 & 0xffff))
 #define SEMDUOLI_SEQUENCE(answer) ((uint64_t)((answer) >> 16))
+#define SEMDUOLI_ENTRIES(answer) ((uint64_t)((answer) >> 24))
 
 enum semduoli_refusal {
     SEMDUOLI_ACCEPTED = 0,            /* none */
@@ -139,6 +142,11 @@ enum semduoli_refusal {
 #define SEMDUOLI_OPEN_ASKING 1  /* a write that awaits stamps */
 #define SEMDUOLI_OPEN_ACKING 2  /* a write that awaits acks */
 #define SEMDUOLI_OPEN_READING 3 /* a read */
+
+/* how a trace closed that was played back */
+#define SEMDUOLI_TRACE_WHOLE 0
+#define SEMDUOLI_TRACE_MALFORMED 22 /* length under 3, version not 1 or class above 1, as far as the entry's bytes go */
+#define SEMDUOLI_TRACE_CUT 23       /* the trace ends inside an entry */
 
 /* what was judged of a history, also of one whose sheet is asked for */
 #define SEMDUOLI_ORDERED 0
@@ -242,6 +250,17 @@ uint64_t semduoli_server_stamp(const uint8_t *state, size_t state_length, uint8_
 /* The sequence of the write of a client (1 to 8) that the server works on: SEMDUOLI_SEQUENCE(answer), 2^32 where none is left. A frame of that client
  * that was answered 13 is handed in again when this has come to its sequence. Refusals: 7, 10. */
 uint64_t semduoli_server_open(size_t client, const uint8_t *state, size_t state_length);
+
+/* Plays back what server me was handed: makes it afresh, as semduoli_server_fresh does, and hands it the frames of a trace in their order. A trace is
+ * entries end to end: a length (2 bytes, high byte first) that counts what follows it, version 1, the class and the number of the sender, and the
+ * frame. The outcome is SEMDUOLI_TRACE_WHOLE, or where the trace closes before its end SEMDUOLI_TRACE_MALFORMED or .._CUT; SEMDUOLI_ENTRIES(answer) says how
+ * many entries were played, and it closed at the next one. From the start of out each of them has the number of its answer (1 byte, 0 for a step), the
+ * count of frames sent (2, high byte first), and each frame behind its receiver's class and number; what is behind stays as lent. A frame that is
+ * turned down does not end the playback. Record, area and initial block are then those of a server that took these steps; out has
+ * SEMDUOLI_PLAYBACK_OUT bytes at least for the entries that are played, whatever they send. Refusals: 1, 2, 3, 10. */
+uint64_t semduoli_playback(size_t n, size_t t, size_t k, size_t size, size_t me, const uint8_t *value, size_t value_length, const uint8_t *trace,
+                           size_t trace_length, uint8_t *area, size_t area_length, uint8_t *initial, size_t initial_length, uint8_t *state,
+                           size_t state_length, uint8_t *out, size_t out_length);
 
 /* ---- a client, of which the host keeps, beside the record, the area of SEMDUOLI_ROWS bytes, rows, of any content at first; out has
  * SEMDUOLI_CLIENT_OUT bytes at least, to has SEMDUOLI_CLIENT_TO */

@@ -1,5 +1,5 @@
 /* stack: the stack that the library's calls use, in a table of docs/PERFORMANCE.md. A whole write and then a whole read, all parties honest and
- * frames in the order sent. Each call is made on a thread of its own, whose stack is painted before; the lowest byte that is no longer paint says how
+ * frames in the order sent, and the playback of what server 1 was handed. Each call is made on a thread of its own, whose stack is painted before; the lowest byte that is no longer paint says how
  * deep the call went. What an empty thread uses is subtracted; it ends some 70 bytes deeper than it begins, and so much is missing from a figure, while
  * the frame that makes the call is in it. Bytes below the lowest written one that a call reserves are not seen, nor are paths that this run does not take.
  * Link with -z now: else the first calls of memcpy would count the linker's work. */
@@ -19,17 +19,17 @@ static const struct set {
 static struct set p; /* that is being measured */
 
 /* the rows of the table; rows 1 to 12 are a server's deliveries by the frame's kind, of which 2, 9 and 11 go to clients and 6 to 8 are retired */
-enum { SERVER_FRESH = 0, CLIENT_FRESH = 13, BEGIN_READ, BEGIN_WRITE, CLIENT_DELIVER, TABLE };
+enum { SERVER_FRESH = 0, CLIENT_FRESH = 13, BEGIN_READ, BEGIN_WRITE, CLIENT_DELIVER, PLAYBACK, TABLE };
 
 static const char *const names[TABLE] = {
     "server_fresh", "server_deliver, kind 1", NULL, "server_deliver, kind 3", "server_deliver, kind 4", "server_deliver, kind 5",
     NULL, NULL, NULL, NULL, "server_deliver, kind 10", NULL,
-    "server_deliver, kind 12", "client_fresh", "begin_read", "begin_write", "client_deliver"};
+    "server_deliver, kind 12", "client_fresh", "begin_read", "begin_write", "client_deliver", "playback"};
 static size_t deepest[TABLE];
 
 /* ---- the parties: servers 1 to n, client 1, and the frames under way, first in, first out */
 
-enum { ME = 1, WAITING = 1024 };
+enum { ME = 1, WAITING = 1024, ENTRIES = 64 };
 
 struct server {
     uint8_t state[SEMDUOLI_SERVER], area[SEMDUOLI_AREA], initial[SIZE];
@@ -45,6 +45,10 @@ static uint8_t state[SEMDUOLI_CLIENT], rows[SEMDUOLI_ROWS], first[SIZE], value[S
 static uint8_t out[SEMDUOLI_SERVER_OUT(N, K, SIZE) + SEMDUOLI_CLIENT_OUT(N, K, SIZE)], to[SEMDUOLI_SERVER_TO(N) + SEMDUOLI_CLIENT_TO(N)];
 static struct parcel waiting[WAITING];
 static size_t taken, added;
+/* what server 1 was handed, as a trace, and the server that it gives */
+static uint8_t trace[ENTRIES * (5 + SEMDUOLI_FRAME(N, K, SIZE))], told[SEMDUOLI_PLAYBACK_OUT(N, K, SIZE, ENTRIES)];
+static size_t trace_length;
+static struct server played;
 static uint64_t answer; /* of the last call */
 
 static void fail(const char *why)
@@ -100,6 +104,13 @@ static void *client_deliver(void *parcel)
     return NULL;
 }
 
+static void *playback(void *unused)
+{
+    answer = semduoli_playback(p.n, p.t, p.k, p.size, 1, first, p.size, trace, trace_length, played.area, sizeof played.area, played.initial,
+                               sizeof played.initial, played.state, sizeof played.state, told, sizeof told);
+    return unused;
+}
+
 /* ---- measuring */
 
 enum { STACK = 256 * 1024, PAINT = 0xa5 };
@@ -147,6 +158,20 @@ static void add_sent(const uint8_t *sender)
     }
 }
 
+/* puts a frame that was handed to server 1 behind its trace */
+static void record(const struct parcel *f)
+{
+    uint8_t *entry = trace + trace_length;
+    if (trace_length + 5 + f->length > sizeof trace)
+        fail("too many frames for a trace");
+    entry[0] = (uint8_t)((3 + f->length) >> 8);
+    entry[1] = (uint8_t)(3 + f->length);
+    entry[2] = 1;
+    memcpy(entry + 3, f->from, 2);
+    memcpy(entry + 5, f->frame, f->length);
+    trace_length += 5 + f->length;
+}
+
 /* an operation of the client, and the delivery of everything that it causes; it must end so */
 static void operate(size_t row, void *written, unsigned end)
 {
@@ -159,6 +184,8 @@ static void operate(size_t row, void *written, unsigned end)
         struct parcel f = waiting[taken++ % WAITING];
         int to_server = f.to[0] == SEMDUOLI_CLASS_SERVER;
         measure(to_server ? f.frame[3] : CLIENT_DELIVER, to_server ? server_deliver : client_deliver, &f);
+        if (to_server && f.to[1] == 1)
+            record(&f);
         if (SEMDUOLI_REFUSAL(answer) == 13)
             waiting[added++ % WAITING] = f;
         ended |= !to_server && SEMDUOLI_OUTCOME(answer) == end;
@@ -180,11 +207,15 @@ static void whole_run(void)
         if (answer)
             fail("a server is refused");
     }
+    trace_length = 0;
     measure(CLIENT_FRESH, client_fresh, NULL);
     operate(BEGIN_WRITE, value, SEMDUOLI_WRITTEN);
     operate(BEGIN_READ, NULL, SEMDUOLI_VALUE);
     if (memcmp(result, value, p.size))
         fail("the value read is not the value written");
+    measure(PLAYBACK, playback, NULL);
+    if (SEMDUOLI_REFUSAL(answer) || SEMDUOLI_OUTCOME(answer) || memcmp(played.state, servers[1].state, SEMDUOLI_SERVER))
+        fail("the trace played back gives another server");
 }
 
 int main(void)

@@ -1,5 +1,6 @@
 //! The calls of include/semduoli.h. Each passes a slice as its pointer and length and gives the answer as it is.
 
+use register::playback::Areas;
 use register::{Params, Party};
 
 mod raw {
@@ -120,6 +121,25 @@ mod raw {
             out_length: usize,
             to: *mut u8,
             to_length: usize,
+        ) -> u64;
+        pub fn semduoli_playback(
+            n: usize,
+            t: usize,
+            k: usize,
+            size: usize,
+            me: usize,
+            value: *const u8,
+            value_length: usize,
+            trace: *const u8,
+            trace_length: usize,
+            area: *mut u8,
+            area_length: usize,
+            initial: *mut u8,
+            initial_length: usize,
+            state: *mut u8,
+            state_length: usize,
+            out: *mut u8,
+            out_length: usize,
         ) -> u64;
         pub fn semduoli_client_deliver(
             n: usize,
@@ -304,6 +324,32 @@ impl From<Party> for Sender {
             Party::Client(number) => Sender { class: 0, number },
             Party::Server(number) => Sender { class: 1, number },
         }
+    }
+}
+
+/// A trace played back; `lent` are the areas that are written.
+pub fn playback(p: &Params, me: usize, value: &[u8], trace: &[u8], lent: &mut Areas) -> u64 {
+    let Areas { state, area, initial, out } = lent;
+    unsafe {
+        raw::semduoli_playback(
+            p.n,
+            p.t,
+            p.k,
+            p.l,
+            me,
+            value.as_ptr(),
+            value.len(),
+            trace.as_ptr(),
+            trace.len(),
+            area.as_mut_ptr(),
+            area.len(),
+            initial.as_mut_ptr(),
+            initial.len(),
+            state.as_mut_ptr(),
+            state.len(),
+            out.as_mut_ptr(),
+            out.len(),
+        )
     }
 }
 

@@ -5,6 +5,7 @@ mod accession;
 pub mod calls;
 mod coding;
 mod histories;
+mod playbacks;
 pub mod runs;
 mod single;
 
@@ -101,6 +102,14 @@ pub const KINDS: &[Kind] = &[
     Kind {
         name: "client", usual: 200_000, case: single::client,
         refusals: &[1, 2, 3, 4, 5, 6, 7, 8, 9, 10, 11, 12, 14, 15, 16, 17], outcomes: ENDS,
+    },
+    Kind {
+        name: "playback", usual: 20_000, case: playbacks::any,
+        refusals: &[1, 2, 3, 10], outcomes: &["traces to their end", "to a malformed entry", "to one that is cut"],
+    },
+    Kind {
+        name: "recorded", usual: 150, case: playbacks::recorded,
+        refusals: &[], outcomes: &["servers' traces of runs"],
     },
     Kind {
         name: "run", usual: 500, case: runs::lockstep,

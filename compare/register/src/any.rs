@@ -9,7 +9,7 @@ use crate::random::Random;
 use crate::server::digest_list;
 use crate::sha256::digest;
 
-fn some_params(random: &mut Random) -> Params {
+pub(crate) fn some_params(random: &mut Random) -> Params {
     let mut p = random.pick(&Params::all(5));
     p.l = random.range(1, 20);
     let wild = [0, 1, 2, 3, 5, 9, 10, 11, 12, 256, 257, usize::MAX];
@@ -37,7 +37,7 @@ pub fn bounds(p: &Params, own: usize, most: usize) -> Option<u8> {
     (p.l < 1 || p.l > 256).then_some(3)
 }
 
-fn some_frame(p: &Params, client: usize, random: &mut Random) -> Vec<u8> {
+pub(crate) fn some_frame(p: &Params, client: usize, random: &mut Random) -> Vec<u8> {
     let (list, block) = if bounds(p, 1, 1).is_none() { (p.list(), p.block()) } else { (128, 3) };
     let block = random.bytes(block);
     // In half of the frames the block fits its digest, whoever sends it.
@@ -69,7 +69,7 @@ fn some_frame(p: &Params, client: usize, random: &mut Random) -> Vec<u8> {
     frame
 }
 
-fn some_party(client: usize, random: &mut Random) -> Party {
+pub(crate) fn some_party(client: usize, random: &mut Random) -> Party {
     if random.chance(2, 3) {
         let server = Party::Server(random.range(1, 4));
         return random.pick(&[server, Party::Client(client)]);
@@ -83,7 +83,7 @@ fn some_party(client: usize, random: &mut Random) -> Party {
 }
 
 /// Enough, one too few, or none.
-fn some_size(enough: usize, random: &mut Random) -> usize {
+pub(crate) fn some_size(enough: usize, random: &mut Random) -> usize {
     match random.below(40) {
         0 => enough - 1,
         1 => 0,

@@ -14,10 +14,13 @@ pub mod history;
 pub mod layout;
 pub mod orders;
 pub mod params;
+pub mod playback;
 pub mod random;
 pub mod server;
 pub mod sha256;
 pub mod sheet;
+pub mod staff;
+pub mod traces;
 pub mod variant;
 
 pub use params::{Params, Party, Refusal, Send};

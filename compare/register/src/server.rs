@@ -84,7 +84,7 @@ pub struct Step {
     pub accepted: Option<Accepted>,
 }
 
-#[derive(Clone, Debug)]
+#[derive(Clone, Debug, PartialEq, Eq)]
 pub struct Server {
     p: Params,
     own: usize,

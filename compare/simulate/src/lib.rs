@@ -4,6 +4,7 @@ pub mod adversary;
 pub mod check;
 pub mod lockstep;
 pub mod progress;
+pub mod recorded;
 pub mod run;
 pub mod style;
 pub mod world;

@@ -54,16 +54,25 @@ pub struct ServerPair {
     other: Option<LentServer>,
 }
 
+/// The state area and the initial area that a run lends a server, as they are before its first call.
+pub fn server_areas(p: &Params, own: usize) -> (Vec<u8>, Vec<u8>) {
+    (pattern(STATE_AREA + own % 3, own), pattern(p.block() + own % 2, own))
+}
+
 impl ServerPair {
     pub fn fresh(p: Params, own: usize, value: &[u8], variant: Variant, style: Option<Style>) -> ServerPair {
         let clear = Server::fresh(p, own, value).unwrap().with_variant(variant);
         let other = style.map(|style| {
-            let mut area = pattern(STATE_AREA + own % 3, own);
-            let mut initial = pattern(p.block() + own % 2, own);
+            let (mut area, mut initial) = server_areas(&p, own);
             let server = (style.server)(&p, own, value, &mut initial, &mut area);
             LentServer { server, area, initial }
         });
         ServerPair { p, own, clear, other }
+    }
+
+    /// The other style's record, state area and initial area.
+    pub fn lent(&self) -> Option<(flat::Server, &[u8], &[u8])> {
+        self.other.as_ref().map(|lent| (lent.server.record(), &lent.area[..], &lent.initial[..]))
     }
 
     /// One call, with both answers compared.

@@ -1,15 +1,20 @@
-//! simulate [COUNT [SEED]] [--both] [--variant NAME] [--scripts FOLDER]: COUNT runs from SEED on. A
+//! simulate [COUNT [SEED]] [--both] [--variant NAME] [--scripts FOLDER] [--traces FOLDER]: COUNT runs from SEED on. A
 //! failure prints the seed that reproduces it: simulate 1 SEED. With --scripts each run is also
-//! written as input of the hall program with the expected output, SEED.in and SEED.out.
+//! written as input of the hall program with the expected output, SEED.in and SEED.out. With --traces
+//! each honest server's trace is written, SEED-J.trace, with the other arguments of the playback
+//! program and what it prints, SEED-J.args and SEED-J.out.
 
-use register::Variant;
+use hall::to_hex;
+use register::staff::report;
+use register::{Params, Variant};
 use simulate::progress::{refusal_lines, Progress};
+use simulate::recorded::Recorded;
 use simulate::run::{parameters_of, run, Options, Summary};
 use simulate::style::FLAT;
 use std::process::ExitCode;
 
 fn usage() -> ExitCode {
-    eprintln!("simulate [COUNT [SEED]] [--both] [--variant NAME] [--scripts FOLDER]");
+    eprintln!("simulate [COUNT [SEED]] [--both] [--variant NAME] [--scripts FOLDER] [--traces FOLDER]");
     ExitCode::from(2)
 }
 
@@ -34,10 +39,23 @@ fn write_script(folder: &str, seed: u64, lines: &[String]) -> std::io::Result<()
     std::fs::write(format!("{folder}/{seed:05}.out"), output)
 }
 
+fn write_traces(folder: &str, seed: u64, recorded: &[Recorded]) -> std::io::Result<()> {
+    std::fs::create_dir_all(folder)?;
+    for Recorded { p, own, initial, trace, .. } in recorded {
+        let name = |suffix| format!("{folder}/{seed:05}-{own}.{suffix}");
+        std::fs::write(name("trace"), trace)?;
+        std::fs::write(name("out"), report(*p, *own, initial, trace, false))?;
+        let Params { n, t, k, l } = p;
+        std::fs::write(name("args"), format!("{n} {t} {k} {l} {own} {}\n", to_hex(initial)))?;
+    }
+    Ok(())
+}
+
 fn main() -> ExitCode {
     let mut numbers = vec![];
     let mut options = Options::RIGHT;
     let mut folder = None;
+    let mut traces = None;
     let mut arguments = std::env::args().skip(1);
     while let Some(argument) = arguments.next() {
         if argument == "--both" {
@@ -52,6 +70,12 @@ fn main() -> ExitCode {
             folder = arguments.next();
             options.script = true;
             if folder.is_none() {
+                return usage();
+            }
+        } else if argument == "--traces" {
+            traces = arguments.next();
+            options.record = true;
+            if traces.is_none() {
                 return usage();
             }
         } else if let Ok(number) = argument.parse::<u64>() {
@@ -74,8 +98,12 @@ fn main() -> ExitCode {
         match run(seed, options) {
             Ok(summary) => {
                 total.add(&summary);
-                if let Some(folder) = &folder {
-                    if let Err(error) = write_script(folder, seed, &summary.script) {
+                let scripts =
+                    folder.as_ref().map(|folder| (folder, write_script(folder, seed, &summary.script)));
+                let traces =
+                    traces.as_ref().map(|folder| (folder, write_traces(folder, seed, &summary.recorded)));
+                for (folder, written) in scripts.into_iter().chain(traces) {
+                    if let Err(error) = written {
                         eprintln!("{folder}: {error}");
                         return ExitCode::FAILURE;
                     }

@@ -3,6 +3,7 @@
 
 use crate::adversary::{Adversary, Profile};
 use crate::check::{check_row, Violation};
+use crate::recorded::Recorded;
 use crate::style::Style;
 use crate::world::{Setup, World};
 use hall::to_hex;
@@ -17,10 +18,12 @@ pub struct Options {
     pub style: Option<Style>,
     /// Give the calls as a script of the hall program, where no area is short.
     pub script: bool,
+    /// Record the trace of each honest server.
+    pub record: bool,
 }
 
 impl Options {
-    pub const RIGHT: Options = Options { variant: Variant::Right, style: None, script: false };
+    pub const RIGHT: Options = Options { variant: Variant::Right, style: None, script: false, record: false };
 }
 
 /// What happened in a run or in many.
@@ -39,6 +42,8 @@ pub struct Summary {
     pub closed: u64,
     /// The script, if asked for.
     pub script: Vec<String>,
+    /// The honest servers' traces, if asked for.
+    pub recorded: Vec<Recorded>,
 }
 
 impl Summary {
@@ -316,6 +321,7 @@ pub fn run(seed: u64, options: Options) -> Result<Summary, Violation> {
         honest_clients: honest,
         variant: options.variant,
         style: options.style,
+        record: options.record,
     };
     let mut run = Run {
         world: World::new(&setup),
@@ -359,6 +365,7 @@ pub fn run(seed: u64, options: Options) -> Result<Summary, Violation> {
         refusals: run.world.refusals,
         overflows: run.world.overflows,
         closed: run.world.closed,
+        recorded: run.world.recorded(),
         script: run.world.script.unwrap_or_default(),
     })
 }

@@ -3,6 +3,7 @@
 
 use crate::check::{Acceptance, Observed, Read, Violation, Write};
 use crate::lockstep::{ClientPair, ServerPair};
+use crate::recorded::{Recorded, Recorder};
 use crate::style::Style;
 use hall::to_hex;
 use register::client::{Operation, Outcome, KEPT};
@@ -36,6 +37,8 @@ pub struct World {
     pub closed: u64,
     /// The calls as lines of the hall program, if asked for.
     pub script: Option<Vec<String>>,
+    /// What each server was handed, if asked for; place j is server j's.
+    recorders: Vec<Recorder>,
     calls: u64,
     /// When each client's open operation began.
     begun: [u64; 9],
@@ -48,6 +51,8 @@ pub struct Setup<'a> {
     pub honest_clients: &'a [usize],
     pub variant: Variant,
     pub style: Option<Style>,
+    /// Whether the servers' traces are recorded.
+    pub record: bool,
 }
 
 impl World {
@@ -74,6 +79,7 @@ impl World {
             overflows: 0,
             closed: 0,
             script: None,
+            recorders: if setup.record { vec![Recorder::default(); p.n + 1] } else { Vec::new() },
             calls: 0,
             begun: [0; 9],
         }
@@ -181,7 +187,11 @@ impl World {
         match to {
             Party::Server(j) => {
                 let server = self.servers[j].as_mut().expect("an honest server");
-                let step = match server.deliver(from, frame, room).map_err(Violation::Differ)? {
+                let answer = server.deliver(from, frame, room).map_err(Violation::Differ)?;
+                if let Some(recorder) = self.recorders.get_mut(j) {
+                    recorder.note(from, frame, &answer);
+                }
+                let step = match answer {
                     Ok(step) => step,
                     Err(refusal) => return self.refuse(refusal),
                 };
@@ -229,6 +239,16 @@ impl World {
             }
         }
         Ok(None)
+    }
+
+    /// The traces of the honest servers, with the servers as they are.
+    pub fn recorded(&self) -> Vec<Recorded> {
+        let (p, initial) = (self.p, &self.seen.initial);
+        let of = |(own, recorder): (usize, &Recorder)| {
+            let server = self.servers[own].as_ref()?;
+            Some(Recorded::new(p, own, initial, recorder, server))
+        };
+        self.recorders.iter().enumerate().filter_map(of).collect()
     }
 
     /// The room that a call on this party asks for.

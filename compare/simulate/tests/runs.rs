@@ -177,3 +177,37 @@ fn scripts_say_the_same() {
         }
     }
 }
+
+/// Each honest server's trace, played back, gives what the run did: replies, frames, and the server at the end with its areas.
+#[test]
+fn traces_play_back() {
+    let (mut entries, mut refused) = (0, 0);
+    for seed in 20_001..20_081 {
+        let style = (seed % 2 == 0).then_some(FLAT);
+        let summary = run(seed, Options { style, record: true, ..Options::RIGHT }).unwrap();
+        assert!(!summary.recorded.is_empty());
+        for recorded in &summary.recorded {
+            if let Err(difference) = recorded.play() {
+                panic!("seed {seed}, server {}: {difference}", recorded.own);
+            }
+            entries += recorded.replies.len();
+            refused += recorded.replies.iter().filter(|reply| reply.number != 0).count();
+        }
+    }
+    assert!(entries > 20_000 && refused > 1000, "{entries} entries, {refused} of them refused");
+}
+
+/// The trace of a run under a wrong rule does not play back to that run.
+#[test]
+fn playback_finds_wrong_servers() {
+    let wrong = [Variant::FewEchoes, Variant::ListAlone, Variant::NoListeners, Variant::LateSendSilent];
+    for variant in wrong {
+        let differs = |seed| match run(seed, Options { variant, record: true, ..Options::RIGHT }) {
+            Ok(summary) => {
+                summary.recorded.iter().any(|recorded| recorded.play() == Err("replies".to_string()))
+            }
+            Err(_) => false,
+        };
+        assert!((1..200).any(differs), "{variant:?} was not found");
+    }
+}

@@ -38,6 +38,9 @@ use Rattle.answers.specs.Answers.{testAnswer, isRefusal, clientAnswer, isTurned
 use Rattle.answers.specs.Short.{readShort, valueShort, frameShort, stampShort}
 use Rattle.register.specs.Calls.{began, stateAfter, beganOf, readCall, writeCall}
 use Rattle.register.specs.Handed.{stampAfter, clientGot, clientGotOf, clientCall}
+use Rattle.entries.specs.Entries.{traceOf}
+use Rattle.playback.specs.Playback.{playTest, playbackBy, playback}
+use Rattle.playback_bytes.specs.Calls.{playbackAnswer, isUnplayed, playedAfter, playedBack, playedBackOf, playbackCall}
 use Rattle.register.specs.ServerCalls.{freshAfter, scopeAfter, made, madeOf, makeCall, serverGot, serverGotOf, serverCall}
 
 -- ---- 1 is answered
@@ -125,6 +128,15 @@ module _ (g : Params) (me : ℕ) (h : 255 < me) where
       let p = no-server g me h in
       either (λ z. made 1 area initial state ≡ z) (ltb (length state) serverSize) _ _ (ap (λ x. made x area initial state) (told (paramsTest g me (g .n)) _ p))
       (ap (λ v. madeOf (constructBy digestOf g me v value area initial) state) (sym (stops (paramsTest g me (g .n)) _ p)))
+
+  pub playback-none : (value trace area initial state out : List ℕ) → playedBack 1 area initial state out ≡ playbackCall g me value trace area initial state out
+  unfolding playbackCall valueShort playedBackOf playback playTest playbackBy constructTest playbackAnswer numberOf playedAfter isUnplayed pick
+  playback-none value trace area initial state out =
+      let p = no-server g me h in
+      either (λ z. playedBack 1 area initial state out ≡ z) (ltb (length state) serverSize) _ _
+      (ap (λ x. playedBack x area initial state out) (told (paramsTest g me (g .n)) _ p))
+      (ap (λ v. playedBackOf (playbackBy digestOf g me v value (traceOf trace) area initial out) state)
+      (sym (stops (constructTest digestOf g me value (length area) (length initial)) _ (stops (paramsTest g me (g .n)) _ p))))
 
   module _ (from : Party) (f area initial state out to : List ℕ) where
     pub server-none : serverGot 1 area state out to ≡ serverCall g me from f area initial state out to

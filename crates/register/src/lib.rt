@@ -4,6 +4,7 @@ pub mod asked;
 pub mod clients;
 pub mod coding;
 pub mod histories;
+pub mod playbacks;
 pub mod senders;
 pub mod servers;
 pub mod sheets;

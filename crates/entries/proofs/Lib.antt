@@ -1,0 +1,4 @@
+pub mod Fronts
+pub mod Traces
+pub mod Writings
+pub mod Theorem

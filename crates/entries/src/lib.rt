@@ -1,0 +1,52 @@
+// Entries of a trace (document 02, F-8): a frame and its sender each.
+use frame::Party;
+ghost use mathlib.Core.Path.{_≡_};
+ghost use Rattle.entries.specs.Entries.{closingNumber};
+
+pub mod reader;
+pub mod writer;
+
+// Where an entry's frame begins: behind length (2), version, and the sender's class and number.
+pub const FRAME_AT: usize = 5;
+
+// The version of entries.
+pub const VERSION: u8 = 1;
+
+// The longest frame that an entry can have.
+pub const LONGEST: usize = 65532;
+
+// How a trace closes: whole, or at an entry that is malformed (22) or inside of which it ends (23).
+pub enum Closing {
+    Whole,
+    Malformed,
+    Cut,
+}
+
+// An entry at the front of some bytes: who sent its frame, and where it ends.
+pub struct Found {
+    pub sender: Party,
+    pub end: usize,
+}
+
+// What stands at the front of some bytes.
+pub enum Reading {
+    Entry(Found),
+    Closed(Closing),
+}
+
+// How many entries a trace has before it closes.
+pub struct Survey {
+    pub count: usize,
+    pub closing: Closing,
+}
+
+// 0, 22 or 23.
+pub fn closing_number(c: Closing) -> u8
+    ensures { λ r. ⌜ r ≡ closingNumber c ⌝ }
+{
+    match c {
+        Closing::Whole => 0,
+        Closing::Malformed => 22,
+        Closing::Cut => 23,
+    }
+}

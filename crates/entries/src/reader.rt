@@ -1,0 +1,95 @@
+// Entries read, one after the other.
+use crate::Closing;
+use crate::Found;
+use crate::Reading;
+use crate::Survey;
+use frame::Party;
+ghost use mathlib.Core.Path.{_≡_};
+ghost use Rattle.entries.specs.Entries.{malformed, cut, senderIn, readingOf, closingIn, traceOf, surveyOf};
+
+// 22: length under 3, version not 1 or class above 1, as far as the bytes go.
+fn is_malformed(l: &[u8]) -> bool
+    ensures { λ r. ⌜ r ≡ malformed (now (l .entry)) ⌝ }
+{
+    if l.len() < 2 {
+        return false;
+    }
+    if area::read2(l, 0) < 3 {
+        return true;
+    }
+    if l.len() < 3 {
+        return false;
+    }
+    if l[2] != 1 {
+        return true;
+    }
+    if l.len() < 4 {
+        return false;
+    }
+    1 < l[3]
+}
+
+// 23: the bytes end inside an entry.
+fn is_cut(l: &[u8]) -> bool
+    ensures { λ r. ⌜ r ≡ cut (now (l .entry)) ⌝ }
+{
+    if l.len() < 2 {
+        return true;
+    }
+    l.len() < 2 + area::read2(l, 0) as usize
+}
+
+// Class 0 is a client, any other a server.
+fn sender_in(class: u8, number: u8) -> Party
+    ensures { λ r. ⌜ r ≡ senderIn class number ⌝ }
+{
+    if class == 0 {
+        return Party::Client(number);
+    }
+    Party::Server(number)
+}
+
+// What stands at the front of l: an entry, or how the trace closes there.
+pub fn read_entry(l: &[u8]) -> Reading
+    ensures { λ r. ⌜ r ≡ readingOf (now (l .entry)) ⌝ }
+{
+    if l.len() == 0 {
+        return Reading::Closed(Closing::Whole);
+    }
+    if is_malformed(l) {
+        return Reading::Closed(Closing::Malformed);
+    }
+    if is_cut(l) {
+        return Reading::Closed(Closing::Cut);
+    }
+    let sender = sender_in(l[3], l[4]);
+    let end = 2 + area::read2(l, 0) as usize;
+    Reading::Entry(Found { sender, end })
+}
+
+// How a trace closes that has no entry there; of an entry it is not asked.
+fn closing_in(r: Reading) -> Closing
+    ensures { λ x. ⌜ x ≡ closingIn r ⌝ }
+{
+    match r {
+        Reading::Entry(_) => Closing::Whole,
+        Reading::Closed(c) => c,
+    }
+}
+
+// Counts the entries of a trace.
+pub fn survey(trace: &[u8]) -> Survey
+    ensures { λ r. ⌜ r ≡ surveyOf (traceOf (now (trace .entry))) ⌝ }
+{
+    let mut count: usize = 0;
+    let mut at: usize = 0;
+    loop {
+        let reading = read_entry(&trace[at..]);
+        let Reading::Entry(found) = reading else {
+            let closing = closing_in(reading);
+            return Survey { count, closing };
+        };
+        count += 1;
+        at += found.end;
+    }
+}

@@ -1,0 +1,38 @@
+// Entries written.
+use crate::FRAME_AT;
+use crate::LONGEST;
+use crate::VERSION;
+use frame::Party;
+ghost use mathlib.Core.Path.{_≡_};
+ghost use Prim.Native.Nat.{_<_};
+ghost use Rattle.entries.specs.Entries.{leadBytes};
+ghost use Rattle.entries.specs.Writing.{written, writing};
+
+// What stands before a frame of an entry, of which size bytes follow the length.
+fn lead_bytes(sender: Party, size: usize) -> [u8; 5]
+    ensures { λ r. ⌜ r ≡ leadBytes size sender ⌝ }
+{
+    let high = (size / 256 % 256) as u8;
+    let low = (size % 256) as u8;
+    match sender {
+        Party::Client(c) => [high, low, VERSION, 0, c],
+        Party::Server(j) => [high, low, VERSION, 1, j],
+    }
+}
+
+// Writes an entry at the front of out. The answer is how many bytes it takes: 0 if the frame is too long for an entry, or out too short.
+pub fn write_entry(sender: Party, f: &[u8], out: &mut [u8]) -> usize
+    ensures { λ r. ⌜ written r (now (out .exit)) ≡ writing sender (now (f .entry)) (now (out .entry)) ⌝ }
+{
+    if LONGEST < f.len() {
+        return 0;
+    }
+    let size = FRAME_AT + f.len();
+    if out.len() < size {
+        return 0;
+    }
+    let lead = lead_bytes(sender, size - 2);
+    area::put(out, 0, &lead);
+    area::put(out, FRAME_AT, f);
+    size
+}

@@ -1,0 +1,10 @@
+pub mod Copies
+pub mod Needs
+pub mod Outcomes
+pub mod Rooms
+pub mod Sends
+pub mod Sound
+pub mod Turns
+pub mod Steps
+pub mod Telling
+pub mod Theorem

@@ -1,0 +1,36 @@
+-- By how the trace closes. Assumes nothing.
+use Rattle.playback.proofs.Outcomes.{malformed-ending, cut-ending}
+use Rattle.playback.specs.Playback.{endingOf}
+use borrow.Author.Needs.{needs}
+use Rattle.playback.proofs.ending_of.Statement.{statement}
+use Rattle.playback.proofs.ending_of.Tie as tie
+
+enum-told : tie.Need-enum-told
+enum-told c = search needs
+
+enum-told-2 : tie.Need-enum-told-2
+enum-told-2 c = search needs
+
+add-t4 : tie.Need-add-t4
+add-t4 c = search needs
+
+enum-told-3 : tie.Need-enum-told-3
+enum-told-3 c = search needs
+
+add-t5 : tie.Need-add-t5
+add-t5 c = search needs
+
+returns : tie.Need-returns
+unfolding endingOf
+returns c = search needs
+
+returns-2 : tie.Need-returns-2
+returns-2 c = malformed-ending _ _ (c .enum-told2 .given .1)
+
+returns-3 : tie.Need-returns-3
+returns-3 c = cut-ending _ _ (c .enum-told3 .given .1)
+
+pub ending-of-spec : {M : Type 1} → statement M
+ending-of-spec =
+    tie.close
+    (tie.spec enum-told enum-told-2 add-t4 enum-told-3 add-t5 returns returns-2 returns-3)

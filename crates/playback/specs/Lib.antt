@@ -1,0 +1,4 @@
+pub mod Reports
+pub mod Playback
+pub mod Stages
+pub mod Theorem

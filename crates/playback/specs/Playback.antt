@@ -1,0 +1,131 @@
+-- The playback of a trace. Document 02, F-8: "From a fresh server the playback gives every reply, every frame sent and the final state. They must
+-- equal the steps taken one after another, each with room enough." H is the digest, g the parameters, me the server's number. These are definitions.
+use Prim.Native.Nat.{ℕ, _+_, _*_}
+use mathlib.Core.List.{List, [], _∷_}
+use lib.ListN.{length, replicate}
+use lib.Seq.{sets}
+use lib.Dec.{ltb}
+use Rattle.area.specs.Area.{pick}
+use Rattle.blocks.specs.declared.Params.{Params}
+use Rattle.frame.specs.declared.Refusal.{Refusal}
+use Rattle.frame.specs.declared.Refusal.the-variants as R
+use Rattle.frame.specs.declared.Verdict.{Verdict}
+use Rattle.frame.specs.declared.Verdict.the-variants as J
+use Rattle.frame.specs.Refusals.{andThen}
+use Rattle.frame.specs.Params.{largestFrame, serverFrames, outRoom, toRoom}
+use Rattle.server_rules.specs.declared.Server.{Server}
+use Rattle.server_rules.specs.State.{freshServer}
+use Rattle.server_rules.specs.Delivery.{Constructed, constructTest, construction, delivered, delivery}
+use Rattle.entries.specs.declared.Closing.{Closing}
+use Rattle.entries.specs.declared.Closing.the-variants as C
+use Rattle.entries.specs.Entries.{TraceEntry, Trace, traceOf}
+use Rattle.playback.specs.declared.Ending.{Ending}
+use Rattle.playback.specs.declared.Ending.the-variants as E
+use Rattle.playback.specs.declared.Summary.{Summary}
+use Rattle.playback.specs.declared.Answer.{Answer}
+use Rattle.playback.specs.declared.Answer.the-variants as A
+use Rattle.playback.specs.declared.Playback.{Playback}
+use Rattle.playback.specs.Reports.{Report, reportsBytes}
+
+-- ---- the room
+
+-- areas that have room enough for a step
+unfoldable pub spareOut : Params → List ℕ
+spareOut g = replicate (outRoom g (serverFrames g)) 0
+
+unfoldable pub spareTo : Params → List ℕ
+spareTo g = replicate (toRoom (serverFrames g)) 0
+
+-- "3 bytes and, at 2 bytes more a frame, a step's full need each"
+unfoldable pub entryNeed : Params → ℕ
+entryNeed g = 3 + serverFrames g * (largestFrame g + 2)
+
+-- 10: "summed over them it must hold" this; count entries are played, and the one at which the trace closes is not counted
+unfoldable pub outTest : Params → ℕ → ℕ → Verdict
+outTest g count out = pick (ltb out (count * entryNeed g)) (J.Bad R.Room) J.Fine
+
+-- ---- the entries, one after the other
+
+-- the server and its state area behind the last entry, and what is reported of each
+pub record Played : Type 0 where
+  pub server : Server
+  pub area : List ℕ
+  pub reports : List Report
+
+module _ (H : List ℕ → List ℕ) (g : Params) (me : ℕ) where
+  -- the reply to an entry and what it sends
+  unfoldable pub reportOf : List ℕ → Server → List ℕ → TraceEntry → Report
+  reportOf initial s a e = record {
+    reply = delivery H g me s a initial (e .sender) (e .frame) (spareOut g) (spareTo g) .reply;
+    sends = delivered H g me s a initial (e .sender) (e .frame) (spareOut g) (spareTo g) .sends;
+  }
+
+  -- the server and the area behind it
+  unfoldable pub serverAfter : List ℕ → Server → List ℕ → TraceEntry → Server
+  serverAfter initial s a e = delivery H g me s a initial (e .sender) (e .frame) (spareOut g) (spareTo g) .server
+
+  unfoldable pub areaAfter : List ℕ → Server → List ℕ → TraceEntry → List ℕ
+  areaAfter initial s a e = delivery H g me s a initial (e .sender) (e .frame) (spareOut g) (spareTo g) .area
+
+  -- every frame is handed to the server that the one before it left, whatever the reply was: "A turned-down frame doesn't end the playback"
+  unfoldable pub played : List ℕ → Server → List ℕ → List TraceEntry → Played
+  played initial s a [] = record { server = s; area = a; reports = [] }
+  played initial s a (e ∷ es) =
+      let p = played initial (serverAfter initial s a e) (areaAfter initial s a e) es in
+      record { server = p .server; area = p .area; reports = reportOf initial s a e ∷ p .reports }
+
+  -- ---- the whole outcome
+
+  -- 1, 2, 3, 10
+  unfoldable pub playTest : List ℕ → Trace → ℕ → ℕ → ℕ → Verdict
+  playTest v t area initial out = andThen (constructTest H g me v area initial) (outTest g (length (t .entries)) out)
+
+  -- "From a fresh server"
+  unfoldable pub playedFrom : Constructed → List TraceEntry → Played
+  playedFrom x es = played (x .initial) (x .server) (x .area) es
+
+-- "Both close a result, name the entry counted from 1": behind count entries that were played
+unfoldable pub endingOf : Closing → ℕ → Ending
+endingOf C.Whole count = E.Whole
+endingOf C.Malformed count = E.Malformed (count + 1)
+endingOf C.Cut count = E.Cut (count + 1)
+
+-- the answer, the server, and every byte of the lent areas
+pub record Outcome : Type 0 where
+  pub answer : Answer
+  pub server : Server
+  pub area : List ℕ
+  pub initial : List ℕ
+  pub out : List ℕ
+
+abbrev pub outcome : Playback → List ℕ → List ℕ → List ℕ → Outcome
+outcome r area initial out = record { answer = r .answer; server = r .server; area = area; initial = initial; out = out }
+
+abbrev pub refused : Refusal → Playback
+refused r = record { answer = A.Refused r; server = freshServer }
+
+abbrev pub summaryOf : Trace → List Report → Summary
+summaryOf t rs = record { entries = length (t .entries); bytes = length (reportsBytes rs); ending = endingOf (t .closing) (length (t .entries)) }
+
+-- reports lie end to end from the start of the out area; other bytes stay as lent
+abbrev pub outcomeOf : Trace → Played → List ℕ → List ℕ → Outcome
+outcomeOf t p initial out = record {
+  answer = A.Played (summaryOf t (p .reports));
+  server = p .server;
+  area = p .area;
+  initial = initial;
+  out = sets out 0 (reportsBytes (p .reports));
+}
+
+module _ (H : List ℕ → List ℕ) (g : Params) (me : ℕ) where
+  -- a refusal changes nothing
+  unfoldable pub playbackBy : Verdict → List ℕ → Trace → List ℕ → List ℕ → List ℕ → Outcome
+  playbackBy (J.Bad r) v t a initial out = outcome (refused r) a initial out
+  playbackBy J.Fine v t a initial out =
+      let x = construction H g me v a initial in
+      outcomeOf t (playedFrom H g me x (t .entries)) (x .initial) out
+
+  -- the entry point: the server's initial value is v
+  unfoldable pub playback : List ℕ → List ℕ → List ℕ → List ℕ → List ℕ → Outcome
+  playback v trace a initial out =
+      playbackBy (playTest H g me v (traceOf trace) (length a) (length initial) (length out)) v (traceOf trace) a initial out

@@ -169,10 +169,13 @@ static int to_client(struct party *c, const struct parcel *q)
     if (SEMDUOLI_OUTCOME(answer) == SEMDUOLI_SENT && SEMDUOLI_COUNT(answer) == N)
         note_stamp(c);
     store(c);
-    if (SEMDUOLI_OUTCOME(answer) != SEMDUOLI_SENT)
+    /* a read without a value has no stamp: it is no line of the history */
+    if (SEMDUOLI_OUTCOME(answer) != SEMDUOLI_SENT && SEMDUOLI_OUTCOME(answer) != SEMDUOLI_DISAGREEMENT)
         note(c);
     if (SEMDUOLI_OUTCOME(answer) == SEMDUOLI_VALUE)
         printf("client %u has read %.*s\n", c->number, SIZE, (const char *)result);
+    if (SEMDUOLI_OUTCOME(answer) == SEMDUOLI_DISAGREEMENT)
+        printf("client %u: the blocks of its read disagree\n", c->number);
     return 1;
 }
 

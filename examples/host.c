@@ -233,7 +233,7 @@ int main(void)
 {
     const uint8_t *value = (const uint8_t *)"hello";
     uint8_t digest[SEMDUOLI_DIGEST], blocks[N * B], chosen[K * B], back[SIZE];
-    const uint8_t numbers[K] = {4, 2};
+    const uint8_t numbers[K] = {4, 2}, all[N] = {1, 2, 3, 4};
 
     printf("digest: %u\n", (unsigned)semduoli_digest((const uint8_t *)"abc", 3, digest, sizeof digest));
     show("digest:", digest, sizeof digest);
@@ -248,6 +248,9 @@ int main(void)
     printf("decode: %u\n", (unsigned)semduoli_decode(N, T, K, SIZE, numbers, K, chosen, sizeof chosen, back, sizeof back));
     printf("value: %.*s\n", SIZE, (const char *)back);
     printf("decode of one block: %u\n", (unsigned)semduoli_decode(N, T, K, SIZE, numbers, 1, chosen, B, back, sizeof back));
+    printf("decode of all blocks: %u\n", (unsigned)semduoli_decode(N, T, K, SIZE, all, N, blocks, sizeof blocks, back, sizeof back));
+    blocks[0] ^= 1;
+    printf("decode with a foreign block: %u\n", (unsigned)semduoli_decode(N, T, K, SIZE, all, N, blocks, sizeof blocks, back, sizeof back));
 
     judge("R 5 6 1 1 1 0\nW 1 2 1 1 1 0\n");
     judge("W 1 2 5 1 1 0\nW 3 4 4 2 1 0\n");

@@ -82,7 +82,7 @@ mod semduoli {
     pub const PAGE: usize = 4380;
     pub const INDEX: usize = 577;
     pub const STAMP: usize = 13;
-    pub const VERSION: u64 = 2;
+    pub const VERSION: u64 = 3;
 
     // What happened at a client.
     pub const WRITTEN: u64 = 1;
@@ -468,6 +468,9 @@ fn main() {
     println!("decode: {}", semduoli::decode(&g, &numbers, &chosen, &mut back).0);
     println!("value: {}", String::from_utf8_lossy(&back));
     println!("decode of one block: {}", semduoli::decode(&g, &numbers[..1], &chosen[..3], &mut back).0);
+    println!("decode of all blocks: {}", semduoli::decode(&g, &[1, 2, 3, 4], &blocks, &mut back).0);
+    blocks[0] ^= 1;
+    println!("decode with a foreign block: {}", semduoli::decode(&g, &[1, 2, 3, 4], &blocks, &mut back).0);
 
     judge("R 5 6 1 1 1 0\nW 1 2 1 1 1 0\n");
     judge("W 1 2 5 1 1 0\nW 3 4 4 2 1 0\n");

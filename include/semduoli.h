@@ -30,8 +30,8 @@
  *    four, for each sender and client; what is beyond is dropped and not confirmed, and comes again by its sender's resending.
  * 4. Authenticate the links. What is proved takes it that the class and number of a frame's sender are true: a frame is handed in as that party's
  *    whose key or connection it came by, never as the party's that the frame itself names.
- * 5. Call a party's record from one thread at a time, and give a call stack enough: up to 11,000 bytes were measured (docs/PERFORMANCE.md has them
- *    for each call), which is no bound; 64 KB is ample.
+ * 5. Call a party's record from one thread at a time, and give a call stack enough: up to 11,500 bytes were measured, of semduoli_playback 29,900
+ *    (docs/PERFORMANCE.md has them for each call), which is no bound; 64 KB is ample.
  * 6. Lend areas of the sizes below. The largest frame there can be has SEMDUOLI_FRAME_MOST bytes, and SEMDUOLI_OUT_MOST and SEMDUOLI_TO_MOST bytes
  *    are enough as out and to for every party of every register.
  *
@@ -47,10 +47,11 @@
 extern "C" {
 #endif
 
-/* The version of this header. It rises when a call, the meaning of an answer or of a kept byte changes; semduoli_version answers that of the linked
- * library. Version 2 carries a write's time with its blocks: records and frames of version 1 mean something else to it, so all parties of a register
- * change together, and start afresh. */
-#define SEMDUOLI_VERSION 2
+/* The version of this header. It rises when a call, the meaning of an answer or of a kept byte changes, not when a call is added; semduoli_version
+ * answers that of the linked library. Version 2 carries a write's time with its blocks: records and frames of version 1 mean something else to it,
+ * so all parties of a register change together, and start afresh. Version 3 looks at every block: a decode takes k to n of them and answers 21 where
+ * they disagree, and a read may end with SEMDUOLI_DISAGREEMENT; records and frames are those of version 2. */
+#define SEMDUOLI_VERSION 3
 
 /* ---- bounds */
 
@@ -123,6 +124,7 @@ enum semduoli_refusal {
     SEMDUOLI_REFUSED_CLOSED = 17,     /* a write after one that closed as out of stamps */
     SEMDUOLI_REFUSED_RECORD = 18,     /* history malformed */
     SEMDUOLI_REFUSED_UNLISTED = 19,   /* history reads a stamp that is not listed */
+    SEMDUOLI_REFUSED_DISAGREEMENT = 21, /* blocks to decode that are not all of one value */
     SEMDUOLI_REFUSED_FULL = 25,       /* index full */
     SEMDUOLI_REFUSED_SHORT = 26       /* value under 8 bytes for the index, tested before 25 */
 };
@@ -136,6 +138,7 @@ enum semduoli_refusal {
 #define SEMDUOLI_WRITTEN 1
 #define SEMDUOLI_OUT_OF_STAMPS 2
 #define SEMDUOLI_VALUE 3
+#define SEMDUOLI_DISAGREEMENT 4
 
 /* what is open at a client */
 #define SEMDUOLI_OPEN_NOTHING 0
@@ -182,8 +185,8 @@ uint64_t semduoli_digest(const uint8_t *message, size_t message_length, uint8_t 
 /* The n blocks of a value, end to end from the start of out: n * SEMDUOLI_BLOCK(k, size) bytes. */
 uint64_t semduoli_encode(size_t n, size_t t, size_t k, size_t size, const uint8_t *value, size_t value_length, uint8_t *out, size_t out_length);
 
-/* The value of k blocks, which lie end to end in blocks; numbers has the number of each, 1 to n, none twice. The value goes to the first size
- * bytes of out. */
+/* The value of k to n blocks, which lie end to end in blocks; numbers has the number of each, 1 to n, none twice, in any order. The value goes to the first
+ * size bytes of out. 21: the blocks disagree, they are not all blocks of one value; then, as with any refusal, out stays as lent. */
 uint64_t semduoli_decode(size_t n, size_t t, size_t k, size_t size, const uint8_t *numbers, size_t numbers_length, const uint8_t *blocks,
                          size_t blocks_length, uint8_t *out, size_t out_length);
 
@@ -288,7 +291,8 @@ uint64_t semduoli_begin_write(size_t n, size_t t, size_t k, size_t size, size_t 
  *   SEMDUOLI_OUT_OF_STAMPS   the write has closed as out of stamps; nothing is sent, and the client writes no more
  *   SEMDUOLI_VALUE           the read has ended; its value is in the first size bytes of result, its stamp in the first SEMDUOLI_STAMP bytes of stamp,
  *                            and n frames are sent, as the count says
- * result has size bytes at least, stamp SEMDUOLI_STAMP; they stay as they were unless a read ends. Refusals: 1 to 12, 14. */
+ *   SEMDUOLI_DISAGREEMENT    the read has ended without a value: the blocks that it found do not lie on one encoding. n frames are sent, as the count says
+ * result has size bytes at least, stamp SEMDUOLI_STAMP; they stay as they were unless a read ends with a value. Refusals: 1 to 12, 14. */
 uint64_t semduoli_client_deliver(size_t n, size_t t, size_t k, size_t size, size_t me, size_t sender_class, size_t sender, const uint8_t *value,
                                  size_t value_length, const uint8_t *frame, size_t frame_length, uint8_t *rows, size_t rows_length,
                                  uint8_t *result, size_t result_length, uint8_t *stamp, size_t stamp_length, uint8_t *state, size_t state_length,

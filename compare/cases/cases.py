@@ -1,6 +1,7 @@
 # Writes the scripts of this folder for the hall program, NAME.in, with what must be answered, NAME.out: single calls at a client and at a server, each
 # expected answer worked out here from the specification. Run it in this folder.
-from frames import (ECHO, READY, RETIRED, SEND, SERVERS, Code, ack, block, complete, entry, frame, get_stamp, read, stamp, time, value)
+from frames import (ECHO, READY, RETIRED, SEND, SERVERS, Code, ack, block, block_of, blocks, complete, entry, frame, get_stamp, read, stamp, time, value,
+                    value_of)
 
 VALUE, OTHER, THIRD = bytes([1, 2, 3]), bytes([10, 11, 12]), bytes([1, 2, 4])
 LAST = 2**64 - 1
@@ -350,7 +351,81 @@ def thresholds(name, n, t, k, v):
     script.write()
 
 
+# ---- blocks that disagree: each has its digest in the list, but they are not all of one value
+
+# the blocks of VALUE with one foreign at place j; those of four bytes, whose last is the padding of a value of three; the first two of one value and
+# the others of another
+def foreign(j): return [b'\x08\3' if i == j else b for i, b in enumerate(blocks(VALUE), 1)]
+
+
+PADDED = blocks(bytes([1, 2, 3, 4]))
+MIXED = blocks(VALUE)[:2] + blocks(OTHER)[2:]
+
+
+def disagreeing_reads(s):
+    """Reads of client 6 that end with a disagreement, whichever block is foreign and whichever servers are found; then nothing is open."""
+    def got(c, j, q, t, row, sent=(), last=None):
+        s.step(f'C {c} s {j} {value_of(c, q, t, 2, 1, row, j).hex()}', sent, last)
+
+    def ends(c, j, q, t, row):
+        got(c, j, q, t, row, to_all(lambda i: complete(c, q)), 'disagreement')
+
+    q = 0
+    for row, found in ((foreign(1), (1, 2, 3)), (foreign(3), (1, 2, 3)), (foreign(3), (3, 2, 1)), (foreign(4), (2, 3, 4)), (PADDED, (1, 2, 3)),
+                       (PADDED, (4, 3, 2)), (MIXED, (1, 2, 4)), (MIXED, (4, 3, 1))):
+        q += 1
+        s.step('C 6 read', to_all(lambda j: read(6, q)))
+        for j in found[:-1]:
+            got(6, j, q, 5, row)
+        ends(6, found[-1], q, 5, row)
+        # closed: a further value, the same, and one that would end it otherwise are 12
+        late, = set(SERVERS) - set(found)
+        for f in (value_of(6, q, 5, 2, 1, row, late), value(6, q, 9, 2, 1, VALUE, late)):
+            s.refused(f'C 6 s {late} {f.hex()}', 12)
+    # its next operation is begun as ever
+    s.step('C 6 write 010203', to_all(lambda j: get_stamp(6, 1)))
+    s.refused('C 6 read', 15)
+    # at client 7: a foreign block whose server is not found does not matter
+    s.step('C 7 read', to_all(lambda j: read(7, 1)))
+    for j in (1, 2):
+        got(7, j, 1, 5, foreign(3))
+    got(7, 4, 1, 5, foreign(3), to_all(lambda i: complete(7, 1)), 'value 010203 5 2 1')
+    s.refused(f'C 7 s 3 {value_of(7, 1, 5, 2, 1, foreign(3), 3).hex()}', 12)
+    # a block against its digest is 14, and leaves the read open; other lists of the stamp and other stamps of the list are not of the group
+    s.step('C 7 read', to_all(lambda j: read(7, 2)))
+    got(7, 1, 2, 5, blocks(VALUE))
+    s.refused(f'C 7 s 2 {value(7, 2, 5, 2, 1, VALUE, 2)[:-1].hex()}09', 14)
+    got(7, 2, 2, 5, foreign(2))
+    got(7, 3, 2, 5, blocks(VALUE))
+    got(7, 2, 2, 6, blocks(VALUE))
+    got(7, 4, 2, 5, blocks(VALUE), to_all(lambda i: complete(7, 2)), 'value 010203 5 2 1')
+    # two stamps of one list: the group is the servers that have both alike
+    s.step('C 7 read', to_all(lambda j: read(7, 3)))
+    for j, t in ((1, 5), (2, 6), (3, 6), (4, 5)):
+        got(7, j, 3, t, foreign(1))
+    ends(7, 1, 3, 6, foreign(1))
+
+
+def disagreeing_groups(s):
+    """Echoes and readies whose blocks have their digests and are of no one value: counted, and nothing is sent."""
+    for c, row in ((1, foreign(4)), (2, PADDED), (3, MIXED)):
+        s.got(f'c {c}', block_of(SEND, c, 1, 5, row, 2), to_all(lambda j: block_of(ECHO, c, 1, 5, row, 2)))
+        for stage in (ECHO, READY):
+            for j in SERVERS:
+                s.got(f's {j}', block_of(stage, c, 1, 5, row, j), [])
+                s.got(f's {j}', block_of(stage, c, 1, 5, row, j), 12)
+    s.got('c 8', get_stamp(8, 1), [('c 8', stamp(8, 1, 0))])
+
+
+def disagreement():
+    script = opened('disagreement')
+    disagreeing_reads(script)
+    disagreeing_groups(Server(script, 2))
+    script.write()
+
+
 bounds()
+disagreement()
 client = opened('client')
 for part in (busy, turned_down, writes, closes, reads):
     part(client)

@@ -34,7 +34,12 @@ class Code:
 
     def entry(self, value, j):
         """The digest list of a value, and server j's block."""
-        return b''.join(hashlib.sha256(b).digest() for b in self.blocks(value)) + self.blocks(value)[j - 1]
+        return entry_of(self.blocks(value), j)
+
+
+def entry_of(row, j):
+    """The digest list of a row of blocks, of a value or of none, and block j."""
+    return b''.join(hashlib.sha256(b).digest() for b in row) + row[j - 1]
 
 
 # what is used where nothing else is said: values of three bytes for n = 4, k = 2
@@ -59,14 +64,20 @@ def time(t):
 
 def get_stamp(c, q): return frame(1, c, q)
 def stamp(c, q, t): return frame(2, c, q, time(t))
-def block(stage, c, q, t, value, j, code=SMALL): return frame(3 + stage, c, q, time(t) + code.entry(value, j))
+def block(stage, c, q, t, value, j, code=SMALL): return block_of(stage, c, q, t, code.blocks(value), j)
+def block_of(stage, c, q, t, row, j): return frame(3 + stage, c, q, time(t) + entry_of(row, j))
 def ack(c, q): return frame(9, c, q)
 def read(c, q): return frame(10, c, q)
 def complete(c, q): return frame(12, c, q)
 
 
 def value(c, q, t, writer, sequence, v, j):
-    return frame(11, c, q, time(t) + bytes([writer]) + sequence.to_bytes(4, 'big') + entry(v, j))
+    return value_of(c, q, t, writer, sequence, blocks(v), j)
+
+
+def value_of(c, q, t, writer, sequence, row, j):
+    """A value whose digest list is that of a row of blocks, of a value or of none."""
+    return frame(11, c, q, time(t) + bytes([writer]) + sequence.to_bytes(4, 'big') + entry_of(row, j))
 
 
 assert get_stamp(2, 5).hex() == '000701010200000005'

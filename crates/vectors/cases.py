@@ -111,12 +111,34 @@ def encode(n, t, k, length, room, value):
     case('encode', [str(x) for x in (n, t, k, length, room)] + [text(value)], answer(number, room, result))
 
 
+def candidate(k, length, numbers, lent):
+    """The value that the first k blocks give, by Lagrange's polynomials."""
+    size = block_length(k, length)
+    value = bytearray()
+    for r in range(size):
+        stripe = [0] * k
+        for i in range(k):
+            polynomial, scale = [1], 1
+            for j in (j for j in range(k) if j != i):
+                polynomial = [mul(a, numbers[j]) ^ b for a, b in zip(polynomial + [0], [0] + polynomial)]
+                scale = mul(scale, numbers[i] ^ numbers[j])
+            factor = mul(lent[i * size + r], power(scale, 254))
+            stripe = [a ^ mul(factor, b) for a, b in zip(stripe, polynomial)]
+        value += bytes(stripe)
+    return bytes(value[:length])
+
+
 def decode(n, t, k, length, room, numbers, lent, value=b''):
     number = parameters(n, t, k, length)
-    if not number and (len(numbers) != k or len(lent) != k * block_length(k, length) or len(set(numbers)) != k or not all(1 <= j <= n for j in numbers)):
+    m = len(numbers)
+    if not number and (not k <= m <= n or len(lent) != m * block_length(k, length) or len(set(numbers)) != m or not all(1 <= j <= n for j in numbers)):
         number = 9
     if not number and length > room:
         number = 10
+    if not number:
+        given = candidate(k, length, numbers, lent)
+        number = 0 if group(n, k, given, numbers) == lent else 21
+        assert number or given == value
     case('decode', [str(x) for x in (n, t, k, length, room)] + [text(bytes(numbers)), text(lent)], answer(number, room, value))
 
 
@@ -169,6 +191,27 @@ for n, t, k, length, room, numbers, these in (
     (4, 1, 2, 3, 3, (0, 2), lent), (4, 1, 2, 3, 3, (1, 5), lent), (4, 1, 2, 3, 2, (1, 2), lent), (4, 1, 2, 3, 0, (2, 2), lent), (6, 2, 3, 0, 0, (2, 2), lent),
 ):
     decode(n, t, k, length, room, numbers, these)
+
+comment('Decoding looks at every block: more than k blocks in any order, a foreign block at each place, padding that is not zero, and 9 and 10 before 21')
+value = bytes([1, 2, 3])
+for numbers in ((1, 2, 3), (4, 1, 3), (4, 3, 2, 1), (1, 2, 3, 4)):
+    decode(4, 1, 2, 3, 4, numbers, group(4, 2, value, numbers), value)
+for place in range(6):
+    foreign = bytearray(group(4, 2, value, (1, 2, 3)))
+    foreign[place] ^= 0x0f
+    decode(4, 1, 2, 3, 4, (1, 2, 3), bytes(foreign))
+decode(4, 1, 2, 3, 3, (1, 2), bytes.fromhex('03030504'))
+decode(4, 1, 2, 4, 4, (1, 2), bytes.fromhex('03030504'), candidate(2, 4, (1, 2), bytes.fromhex('03030504')))
+foreign = bytes.fromhex('030305030803')
+for length, room, numbers, these in ((3, 2, (1, 2, 3), foreign), (3, 3, (1, 2, 2), foreign), (3, 3, (1, 2, 3, 4, 4), foreign + foreign[:4]), (3, 3, (1, 2, 3), foreign[:4])):
+    decode(4, 1, 2, length, room, numbers, these)
+for n, t, k, length, numbers in ((7, 2, 3, 64, (7, 1, 6, 2, 5, 3, 4)), (10, 3, 4, 256, range(1, 11)), (10, 1, 8, 256, (10, 2, 3, 4, 5, 6, 7, 8, 9))):
+    value = hashlib.shake_128(f'all {n} {k} {length}'.encode()).digest(length)
+    numbers = tuple(numbers)
+    these = group(n, k, value, numbers)
+    decode(n, t, k, length, length, numbers, these, value)
+    decode(n, t, k, length, length, numbers, these[:-1] + bytes([these[-1] ^ 1]))
+    decode(n, t, k, length, length, numbers, bytes([these[0] ^ 0x80]) + these[1:])
 
 
 # ---- frames

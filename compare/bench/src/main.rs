@@ -4,6 +4,7 @@
 //! runs' ratios is at most the bound. With TEXT only rows whose name has it. `bench --turns EARLIER LATER [--quick]` is what bench/whole runs: whole
 //! operations of two such programs, each linked with a library of its own.
 
+mod lean;
 mod rows;
 mod side;
 mod system;
@@ -11,7 +12,7 @@ mod turns;
 
 use register::Params;
 use rows::{
-    decode, decode_by_basis, digest, encode, fill, insert, search, server_steps, whole_read, whole_write, Row,
+    decode, digest, encode, fill, insert, least_decode, search, server_steps, whole_read, whole_write, Row,
 };
 use side::{Bytes, Plain, Proved, Side};
 use std::time::Duration;
@@ -66,20 +67,29 @@ fn ratios(runs: &[Vec<f64>], other: usize, bound: f64) -> (f64, f64, usize) {
     (median(runs.iter().map(ratio)), runs.iter().map(ratio).fold(0.0, f64::max), above)
 }
 
-/// A table of rows in two sides, or in three with the plain one in both forms. A median above the bound is bold.
-fn table(title: &str, rows: Vec<Vec<Row>>, bound: f64, plan: &Plan) {
+/// The names of the sides in their order: plain Rust with its records in memory, then it in another form if there is one, the proved library last.
+const TWO: [&str; 2] = [Plain::NAME, Proved::NAME];
+const RECORDS: [&str; 3] = [Plain::NAME, Bytes::NAME, Proved::NAME];
+const DECODERS: [&str; 3] = [Plain::NAME, lean::NAME, Proved::NAME];
+
+/// A table of rows in two sides or in three. A median above the bound is bold.
+fn table(title: &str, names: &[&str], rows: Vec<Vec<Row>>, bound: f64, plan: &Plan) {
     let rows: Vec<Vec<Row>> = rows.into_iter().filter(|sides| sides[0].name.contains(&plan.only)).collect();
-    let Some(first) = rows.first() else { return };
-    println!("\n### {title}\n");
-    let wide = first.len() == 3;
-    let note = format!("of {} runs above {bound:.1}", plan.runs);
-    if wide {
-        println!("| what | {}, ns | {}, ns | {}, ns | ratio to bytes | worst | {note} | ratio to plain | worst | {note} |", Plain::NAME, Bytes::NAME, Proved::NAME);
-        println!("|---|---|---|---|---|---|---|---|---|---|");
-    } else {
-        println!("| what | {}, ns | {}, ns | ratio | worst | {note} |", Plain::NAME, Proved::NAME);
-        println!("|---|---|---|---|---|---|");
+    if rows.is_empty() {
+        return;
     }
+    println!("\n### {title}\n");
+    print!("| what |");
+    names.iter().for_each(|name| print!(" {name}, ns |"));
+    for name in names[..names.len() - 1].iter().rev() {
+        let of = if names.len() == 2 {
+            String::new()
+        } else {
+            format!(" to {}", name.trim_start_matches("plain, "))
+        };
+        print!(" ratio{of} | worst | of {} runs above {bound:.1} |", plan.runs);
+    }
+    println!("\n|---{}|", "|---".repeat(4 * names.len() - 3));
     for mut sides in rows {
         let runs = measure(&mut sides, plan);
         print!("| {} |", sides[0].name);
@@ -124,44 +134,53 @@ fn main() {
     }
 }
 
+/// Decoding of k blocks, or of all n, by three decoders.
+fn decoders(sets: &[Params], all: bool) -> Vec<Vec<Row>> {
+    let three =
+        |&p: &Params| vec![decode::<Plain>((p, all)), least_decode((p, all)), decode::<Proved>((p, all))];
+    sets.iter().map(three).collect()
+}
+
 /// The proved library beside plain Rust.
 fn tables(plan: &Plan) {
     let p = Params::new;
-    table("Digests", sides!([32, 64, 256], digest, [Plain, Proved]), 1.0, plan);
+    table("Digests", &TWO, sides!([32, 64, 256], digest, [Plain, Proved]), 1.0, plan);
     let base = [p(4, 1, 2, 32), p(4, 1, 2, 256), p(10, 3, 4, 256), p(10, 1, 8, 256)];
-    table("Encoding", sides!(base, encode, [Plain, Proved]), 1.0, plan);
-    table("Decoding", sides!(base, decode, [Plain, Proved]), 1.3, plan);
-    let by_basis = base.iter().map(|set| vec![decode_by_basis(*set), decode::<Proved>(*set)]).collect();
-    table("Decoding, against another algorithm in plain Rust", by_basis, 1.3, plan);
+    table("Encoding", &TWO, sides!(base, encode, [Plain, Proved]), 1.0, plan);
+    for (title, all) in [("Decoding, of k blocks", false), ("Decoding, of n blocks", true)] {
+        table(title, &DECODERS, decoders(&base, all), 1.3, plan);
+    }
     let mut index = sides!([()], insert, [Plain, Proved]);
     index.extend(sides!([()], fill, [Plain, Proved]));
     index.extend(sides!([true, false], search, [Plain, Proved]));
-    table("The index of accession numbers", index, 1.0, plan);
+    table("The index of accession numbers", &TWO, index, 1.0, plan);
     for set in [p(4, 1, 2, 64), p(10, 3, 4, 256)] {
         let steps = server_steps::<Plain>(set)
             .into_iter()
             .zip(server_steps::<Bytes>(set))
             .zip(server_steps::<Proved>(set));
         let title = format!("Steps of a server, n = {}", set.n);
-        table(&title, steps.map(|((a, b), c)| vec![a, b, c]).collect(), 1.3, plan);
+        table(&title, &RECORDS, steps.map(|((a, b), c)| vec![a, b, c]).collect(), 1.3, plan);
     }
     let whole = [p(4, 1, 2, 64), p(10, 3, 4, 64)];
-    table("A whole write", sides!(whole, whole_write, [Plain, Bytes, Proved]), 1.3, plan);
-    table("A whole read", sides!(whole, whole_read, [Plain, Bytes, Proved]), 1.3, plan);
+    table("A whole write", &RECORDS, sides!(whole, whole_write, [Plain, Bytes, Proved]), 1.3, plan);
+    table("A whole read", &RECORDS, sides!(whole, whole_read, [Plain, Bytes, Proved]), 1.3, plan);
     let by_n = [p(4, 1, 2, 64), p(6, 1, 2, 64), p(8, 1, 2, 64), p(10, 1, 2, 64)];
     let by_k = [p(10, 1, 1, 64), p(10, 1, 2, 64), p(10, 1, 4, 64), p(10, 1, 8, 64)];
     let by_l = [p(7, 2, 3, 1), p(7, 2, 3, 16), p(7, 2, 3, 64), p(7, 2, 3, 256)];
     for (what, sets) in [("n", by_n), ("k", by_k), ("L", by_l)] {
-        table(&format!("Encoding, by {what}"), sides!(sets, encode, [Plain, Proved]), 1.0, plan);
-        table(&format!("Decoding, by {what}"), sides!(sets, decode, [Plain, Proved]), 1.3, plan);
+        table(&format!("Encoding, by {what}"), &TWO, sides!(sets, encode, [Plain, Proved]), 1.0, plan);
+        table(&format!("Decoding of n blocks, by {what}"), &DECODERS, decoders(&sets, true), 1.3, plan);
         table(
             &format!("A whole write, by {what}"),
+            &RECORDS,
             sides!(sets, whole_write, [Plain, Bytes, Proved]),
             1.3,
             plan,
         );
         table(
             &format!("A whole read, by {what}"),
+            &RECORDS,
             sides!(sets, whole_read, [Plain, Bytes, Proved]),
             1.3,
             plan,

@@ -1,9 +1,10 @@
 //! The rows of the benchmark, for any side.
 
+use crate::lean;
 use crate::side::{Handed, Plain, Side};
 use crate::system::{fresh, Host, System, CLIENT};
 use register::accession::{self, INDEX, VALUES};
-use register::blocks::{self, encoded};
+use register::blocks::encoded;
 use register::flat::{Outcome, Server};
 use register::frame::{build, Body};
 use register::random::Random;
@@ -48,30 +49,27 @@ pub fn encode<S: Side>(p: Params) -> Row {
     })
 }
 
-/// Decoding from the last k blocks.
-pub fn decode<S: Side>(p: Params) -> Row {
+/// Decoding from the last m blocks, by the decoder of a side.
+fn decode_by(p: Params, m: usize, decode: fn(&Params, &[u8], &[u8], &mut [u8])) -> Row {
     let value = Random::new(1).bytes(p.l);
-    let parts = encoded(&p, &value)[p.n - p.k..].concat();
-    let numbers: Vec<u8> = (p.n - p.k + 1..=p.n).map(|j| j as u8).collect();
+    let parts = encoded(&p, &value)[p.n - m..].concat();
+    let numbers: Vec<u8> = (p.n - m + 1..=p.n).map(|j| j as u8).collect();
     let mut out = vec![0; p.l];
-    row(name("decode", &p), move || {
-        S::decode(black_box(&p), black_box(&numbers), black_box(&parts), &mut out);
+    decode(&p, &numbers, &parts, &mut out);
+    assert_eq!(out, value);
+    row(name(&format!("decode of {m} blocks"), &p), move || {
+        decode(black_box(&p), black_box(&numbers), black_box(&parts), &mut out);
         black_box(&out);
     })
 }
 
-/// Plain Rust by another algorithm: Lagrange's basis polynomials, computed once for all stripes. It checks nothing.
-pub fn decode_by_basis(p: Params) -> Row {
-    let value = Random::new(1).bytes(p.l);
-    let blocks = encoded(&p, &value);
-    let numbers: Vec<u8> = (p.n - p.k + 1..=p.n).map(|j| j as u8).collect();
-    let mut out = vec![0; p.l];
-    row(name("decode", &p), move || {
-        let mut parts: [&[u8]; 8] = [&[]; 8];
-        parts.iter_mut().zip(&blocks[p.n - p.k..]).for_each(|(part, block)| *part = block);
-        blocks::decode_by_basis(black_box(&p), black_box(&numbers), black_box(&parts[..p.k]), &mut out);
-        black_box(&out);
-    })
+/// Of as few blocks as there may be, or of all n.
+pub fn decode<S: Side>((p, all): (Params, bool)) -> Row {
+    decode_by(p, if all { p.n } else { p.k }, S::decode)
+}
+
+pub fn least_decode((p, all): (Params, bool)) -> Row {
+    decode_by(p, if all { p.n } else { p.k }, lean::decode)
 }
 
 /// So many numbers, and the index of as many values of them as are named.

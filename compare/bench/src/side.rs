@@ -5,6 +5,7 @@ use crate::system::{fresh, Host};
 use linked::calls;
 use register::flat::{Client, Done, Outcome, Server, STATE_AREA};
 use register::layout::{client_in, put_client, put_scope, put_server, scope_in, CLIENT, SERVER, STAMP};
+use register::params::MAX_SERVERS;
 use register::{accession, blocks, sha256, Params, Party, Refusal};
 
 /// A frame handed to a party, and the areas lent for what it sends.
@@ -78,11 +79,11 @@ pub trait Side: 'static {
 
     /// Blocks lie end to end.
     fn decode(p: &Params, numbers: &[u8], parts: &[u8], out: &mut [u8]) {
-        let mut given: [(usize, &[u8]); 8] = [(0, &[]); 8];
+        let mut given: [(usize, &[u8]); MAX_SERVERS] = [(0, &[]); MAX_SERVERS];
         for (i, part) in parts.chunks(p.block()).enumerate() {
             given[i] = (numbers[i] as usize, part);
         }
-        blocks::decode(p, &given[..p.k], out).unwrap();
+        blocks::decode(p, &given[..numbers.len()], out).unwrap();
     }
 }
 

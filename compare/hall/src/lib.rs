@@ -1,6 +1,7 @@
 //! The hall program's text protocol: all parties of a register on one machine.
 
 pub mod accession;
+pub mod decode;
 
 use register::client::{Client, Outcome};
 use register::server::Server;
@@ -91,6 +92,7 @@ fn print_client(out: &mut dyn Write, step: Result<register::client::Step, Refusa
             let register::frame::Stamp { time, writer, sequence } = stamp;
             writeln!(out, "value {} {time} {writer} {sequence}", to_hex(&value))
         }
+        Outcome::Disagreement => writeln!(out, "disagreement"),
         Outcome::Written => writeln!(out, "written"),
         Outcome::OutOfStamps => writeln!(out, "out of stamps"),
     }

@@ -1,5 +1,5 @@
 //! The proved programs on inputs that cannot be read and outputs that cannot be written: they say so and answer nothing. They are taken from
-//! target/bin, where `rt check history sheet hall accession` puts them.
+//! target/bin, where `rt check history sheet hall accession decode` puts them.
 
 use std::fs::{read, File};
 use std::io::{Read, Write};
@@ -13,7 +13,7 @@ fn at(path: &str) -> PathBuf {
     Path::new(env!("CARGO_MANIFEST_DIR")).join("../..").join(path)
 }
 
-const PROGRAMS: [&str; 4] = ["history", "sheet", "hall", "accession"];
+const PROGRAMS: [&str; 5] = ["history", "sheet", "hall", "accession", "decode"];
 
 fn example(name: &str, file: &str) -> PathBuf {
     at(&format!("crates/{name}/{file}"))

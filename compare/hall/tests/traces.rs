@@ -35,15 +35,16 @@ fn scripts(folder: &str) -> Vec<String> {
 #[test]
 fn traces() {
     let names = scripts("../traces");
-    assert_eq!(names.len(), 16);
-    for laid_out in ["late-send", "half-done", "two-groups", "echo-again"] {
+    assert_eq!(names.len(), 24);
+    let disagreements = ["disagreement-1", "disagreement-2", "disagreement-3", "many-false"];
+    for laid_out in ["late-send", "half-done", "two-groups", "echo-again"].into_iter().chain(disagreements) {
         assert!(names.iter().any(|name| name == laid_out), "no {laid_out}");
     }
 }
 
 #[test]
 fn cases() {
-    assert_eq!(scripts("../cases").len(), 6);
+    assert_eq!(scripts("../cases").len(), 7);
 }
 
 /// What a script shows: parties that are wrong in this do not answer it as it asks.
@@ -58,6 +59,15 @@ fn wrong_variants_differ() {
         (Variant::FewReadies, "cases/k3"),
         (Variant::FewReadies, "cases/k8"),
         (Variant::FewEchoes, "cases/k8"),
+        (Variant::LowestAlone, "traces/disagreement-1"),
+        (Variant::LowestAlone, "traces/disagreement-3"),
+        (Variant::LowestAlone, "cases/disagreement"),
+        (Variant::AnyPadding, "traces/disagreement-2"),
+        (Variant::AnyPadding, "cases/disagreement"),
+        (Variant::DisagreementOpen, "traces/many-false"),
+        (Variant::DisagreementOpen, "cases/disagreement"),
+        (Variant::NoDigest, "cases/disagreement"),
+        (Variant::StampAlone, "cases/disagreement"),
     ] {
         let path = Path::new(env!("CARGO_MANIFEST_DIR")).join("..").join(script);
         let input = std::fs::read(path.with_extension("in")).unwrap();

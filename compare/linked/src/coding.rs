@@ -1,6 +1,7 @@
 //! Digests, encoding and decoding.
 
 use crate::{calls, pattern, same_answer, same_bytes, Difference, Seen};
+use register::params::MAX_VALUE;
 use register::random::Random;
 use register::{blocks, sha256, Params, Refusal};
 
@@ -33,21 +34,6 @@ pub fn digest(seed: u64) -> Result<Seen, Difference> {
     Ok(Seen::of(answer))
 }
 
-/// The second implementation's decoding of blocks that lie end to end.
-fn plain_decode(p: &Params, numbers: &[u8], blocks: &[u8], out: &mut [u8]) -> Result<usize, Refusal> {
-    // The last block gets what remains, so that a wrong length shows in it.
-    let size = if p.check_parties().is_ok() && p.check_sizes().is_ok() { p.block() } else { 1 };
-    let mut rest = blocks;
-    let mut given = Vec::new();
-    for (i, &number) in numbers.iter().enumerate() {
-        let length = if i + 1 == numbers.len() { rest.len() } else { size.min(rest.len()) };
-        let (block, behind) = rest.split_at(length);
-        given.push((number as usize, block));
-        rest = behind;
-    }
-    blocks::decode(p, &given, out)
-}
-
 fn compare_encode(p: &Params, value: &[u8], room: usize, seed: u64) -> Result<Seen, Difference> {
     let (mut out, mut expected) = (pattern(room, seed), pattern(room, seed));
     let answer = number(blocks::encode(p, value, &mut expected));
@@ -59,28 +45,28 @@ fn compare_encode(p: &Params, value: &[u8], room: usize, seed: u64) -> Result<Se
 fn compare_decode(
     p: &Params,
     numbers: &[u8],
-    blocks: &[u8],
+    given: &[u8],
     room: usize,
     seed: u64,
 ) -> Result<Seen, Difference> {
     let (mut out, mut expected) = (pattern(room, seed), pattern(room, seed));
-    let answer = number(plain_decode(p, numbers, blocks, &mut expected));
-    same_answer(calls::decode(p, numbers, blocks, &mut out), answer)?;
+    let answer = number(blocks::decode_joined(p, numbers, given, &mut expected));
+    same_answer(calls::decode(p, numbers, given, &mut out), answer)?;
     same_bytes("value", &out, &expected)?;
     Ok(Seen::of(answer))
 }
 
-/// k different numbers of 1 to n, in any order.
+/// k to n different numbers of 1 to n, in any order.
 fn some_numbers(p: &Params, random: &mut Random) -> Vec<u8> {
     let mut numbers: Vec<u8> = (1..=p.n as u8).collect();
     for i in (1..numbers.len()).rev() {
         numbers.swap(i, random.below(i + 1));
     }
-    numbers.truncate(p.k);
+    numbers.truncate(random.range(p.k, p.n));
     numbers
 }
 
-/// All parameter sets, each with L = 1 to 256 in turn: a value's blocks, and the value of k of them, which must be the value.
+/// All parameter sets, each with L = 1 to 256 in turn: a value's blocks, and the value of k to n of them, which must be the value.
 pub fn coding(seed: u64) -> Result<Seen, Difference> {
     let mut random = Random::new(seed);
     let sets = Params::all(1 + (seed as usize / 57) % 256);
@@ -136,18 +122,37 @@ pub fn any_encode(seed: u64) -> Result<Seen, Difference> {
     compare_encode(&p, &value, room, seed).map_err(|difference| format!("{p:?}: {difference}"))
 }
 
+/// Blocks of a value, of which one is foreign in a third of the cases, or whose padding is not zero in another; or any bytes.
+fn some_blocks(p: &Params, numbers: &[u8], random: &mut Random) -> Vec<u8> {
+    let whole = Params { l: (p.k * p.block()).min(MAX_VALUE), ..*p };
+    let encoded = match random.below(3) {
+        0 => blocks::encoded(&whole, &random.bytes(whole.l)),
+        _ => blocks::encoded(p, &random.bytes(p.l)),
+    };
+    let mut chosen: Vec<u8> = numbers.iter().flat_map(|&j| encoded[j as usize - 1].clone()).collect();
+    if random.chance(1, 3) {
+        let at = random.below(chosen.len());
+        chosen[at] ^= random.range(1, 255) as u8;
+    }
+    if random.chance(1, 8) {
+        chosen = random.bytes(chosen.len());
+    }
+    chosen
+}
+
 /// Decoding with any parameters, lengths, numbers and blocks.
 pub fn any_decode(seed: u64) -> Result<Seen, Difference> {
     let mut random = Random::new(seed);
     let (sane, p) = some_params(&mut random);
     let mut numbers = some_numbers(&sane, &mut random);
+    let mut blocks = some_blocks(&sane, &numbers, &mut random);
     if random.chance(1, 3) {
         let i = random.below(numbers.len());
         numbers[i] = random.pick(&[0, 1, 2, 3, 10, 11, 255]);
     }
-    numbers.resize(near(sane.k, &mut random), 1);
-    let length = near(sane.k * sane.block(), &mut random);
-    let blocks = random.bytes(length);
+    numbers.resize(near(numbers.len(), &mut random), 1);
+    let length = (numbers.len() * sane.block()).max(1);
+    blocks.resize(near(length, &mut random), 1);
     let room = near(sane.l, &mut random);
     compare_decode(&p, &numbers, &blocks, room, seed).map_err(|difference| format!("{p:?}: {difference}"))
 }

@@ -20,7 +20,7 @@ pub type Difference = String;
 #[derive(Clone, Copy, Debug, Default, PartialEq, Eq)]
 pub struct Seen {
     pub refusals: [u64; 27],
-    pub outcomes: [u64; 4],
+    pub outcomes: [u64; 5],
 }
 
 impl Seen {
@@ -71,8 +71,13 @@ impl Kind {
     }
 }
 
-const ENDS: &[&str] =
-    &["steps that end nothing", "that end a write", "that close one as out of stamps", "that end a read"];
+const ENDS: &[&str] = &[
+    "steps that end nothing",
+    "that end a write",
+    "that close one as out of stamps",
+    "that end a read",
+    "that end one since its blocks disagree",
+];
 
 /// Seeds from 0 on: `usual` cases of digest and of coding go through all lengths and all parameter sets.
 #[rustfmt::skip]
@@ -80,7 +85,7 @@ pub const KINDS: &[Kind] = &[
     Kind { name: "digest", usual: 4 * 260, refusals: &[3, 10], outcomes: &["digests"], case: coding::digest },
     Kind { name: "coding", usual: 57 * 256, refusals: &[], outcomes: &["values cut and rebuilt"], case: coding::coding },
     Kind { name: "encode", usual: 20_000, refusals: &[1, 2, 3, 10], outcomes: &["encoded"], case: coding::any_encode },
-    Kind { name: "decode", usual: 20_000, refusals: &[1, 2, 3, 9, 10], outcomes: &["decoded"], case: coding::any_decode },
+    Kind { name: "decode", usual: 20_000, refusals: &[1, 2, 3, 9, 10, 21], outcomes: &["decoded"], case: coding::any_decode },
     Kind {
         name: "history", usual: 20_000, case: histories::history,
         refusals: &[10, 18, 19], outcomes: &["with an order", "with an offending pair"],
@@ -114,7 +119,7 @@ pub const KINDS: &[Kind] = &[
     Kind {
         name: "run", usual: 500, case: runs::lockstep,
         refusals: &[3, 4, 5, 6, 7, 8, 9, 10, 11, 12, 13, 14, 15, 17],
-        outcomes: &["steps", "writes ended", "writes out of stamps", "reads ended"],
+        outcomes: &["steps", "writes ended", "writes out of stamps", "reads ended", "disagreements"],
     },
 ];
 
@@ -171,6 +176,7 @@ fn bits(answer: Result<Done, Refusal>) -> u64 {
                 Outcome::Written => 1,
                 Outcome::OutOfStamps => 2,
                 Outcome::Value(_) => 3,
+                Outcome::Disagreement => 4,
             };
             outcome << 8 | (done.frames as u64) << 16
         }

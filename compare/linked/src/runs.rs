@@ -9,7 +9,7 @@ use register::layout::{
     client_in, put_client, put_scope, put_server, put_stamp, server_in, stamp_in, CLIENT, SERVER, STAMP,
 };
 use register::{Params, Refusal};
-use simulate::run::{parameters_of, run, Options};
+use simulate::run::{parameters_of, run, Options, Summary};
 use simulate::style::{Answer, Ended, Handed, OtherClient, OtherServer, Sending, Style, Told};
 
 pub const LINKED: Style = Style { name: "linked", server: fresh_server, client: fresh_client };
@@ -24,6 +24,7 @@ fn told(answer: u64, twin: Result<Done, Refusal>, stamp: &[u8]) -> Answer {
         1 => Ended::Written,
         2 => Ended::OutOfStamps,
         3 => Ended::Value(stamp_in(stamp)),
+        4 => Ended::Disagreement,
         _ => Ended::Nothing,
     };
     Ok(Ok(Told { frames: (answer >> 16) as usize, ended }))
@@ -181,12 +182,13 @@ impl OtherClient for Client {
     }
 }
 
-/// The run of a seed, as simulate makes it.
+/// The run of a seed, as simulate makes it; one in eight with n − t or more false servers.
 pub fn lockstep(seed: u64) -> Result<Seen, Difference> {
-    let options = Options { style: Some(LINKED), ..Options::RIGHT };
+    let options = Options { style: Some(LINKED), many: seed % 8 == 7, ..Options::RIGHT };
     let summary =
         run(seed, options).map_err(|violation| format!("{:?}: {violation}", parameters_of(seed)))?;
     let mut refusals = Seen::default().refusals;
     refusals[..summary.refusals.len()].copy_from_slice(&summary.refusals);
-    Ok(Seen { refusals, outcomes: [summary.steps, summary.writes, summary.closed, summary.reads] })
+    let Summary { steps, writes, closed, reads, disagreements, .. } = summary;
+    Ok(Seen { refusals, outcomes: [steps, writes, closed, reads, disagreements] })
 }

@@ -13,7 +13,7 @@ use register::{Party, Refusal};
 use std::sync::LazyLock;
 
 /// SEMDUOLI_VERSION of include/semduoli.h.
-const VERSION: u64 = 2;
+const VERSION: u64 = 3;
 
 /// How long the record's area is: sometimes short, sometimes longer.
 fn record_length(size: usize, random: &mut Random) -> usize {

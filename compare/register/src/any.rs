@@ -2,9 +2,11 @@
 
 use crate::blocks::encoded;
 use crate::client::KEPT;
-use crate::flat::{self, Client, Operation, Reader, Server, Slot, CHUNK, ROWS_AREA, SEATS, STATE_AREA};
+use crate::flat::{
+    self, Client, Operation, Reader, Server, Slot, BLOCK_AT, CHUNK, ROWS_AREA, SEATS, STATE_AREA,
+};
 use crate::frame::{build, Body, Stage, Stamp};
-use crate::params::{Params, Party, CLIENTS, DIGEST};
+use crate::params::{Params, Party, CLIENTS, DIGEST, MAX_VALUE};
 use crate::random::Random;
 use crate::server::digest_list;
 use crate::sha256::digest;
@@ -136,21 +138,25 @@ fn scramble_client(client: &mut Client, random: &mut Random) {
     }
 }
 
-/// A rows area: one list and block in all chunks, or one of two in each.
+/// A rows area: one list and block in all chunks, which are blocks of one value, or one of two lists or of two blocks in each.
 fn some_rows(length: usize, random: &mut Random) -> Vec<u8> {
-    let differ = random.chance(1, 2);
+    let (differ, foreign) = (random.chance(1, 2), random.chance(1, 4));
     let mut rows = vec![2; length];
     for chunk in rows.chunks_mut(CHUNK) {
         if differ && random.chance(1, 3) {
             let at = random.below(chunk.len());
             chunk[at] = 7;
         }
+        if foreign && random.chance(1, 8) && chunk.len() == CHUNK {
+            chunk[BLOCK_AT] = 7;
+        }
     }
     rows
 }
 
 /// Lays echoes and readies of a value's blocks in a client's slot and chunks, at the places of most servers, some of another value's
-/// or of another time, and gives an echo or a ready of that value and time with its sender.
+/// or of another time, in a quarter of the cases one server's with the block of the other value, and gives an echo or a ready of that
+/// value and time with its sender.
 fn lay_group(
     p: &Params,
     client: usize,
@@ -162,10 +168,12 @@ fn lay_group(
     let lists = [digest_list(&values[0]), digest_list(&values[1])];
     let time = random.pick(&[0, 1, 2, u64::MAX - 1, u64::MAX]);
     slot.complete = random.chance(1, 4);
+    let foreign = if random.chance(1, 4) { random.range(1, p.n) } else { 0 };
     for j in 1..=p.n {
         for chunk in [flat::echo_chunk(client, j), flat::ready_chunk(client, j)] {
             let v = random.chance(1, 8) as usize;
-            flat::store(area, chunk, &lists[v], &values[v][j - 1]);
+            let block = if j == foreign { 1 - v } else { v };
+            flat::store(area, chunk, &lists[v], &values[block][j - 1]);
         }
         (slot.echoes[j], slot.readies[j]) = (random.chance(3, 4), random.chance(3, 4));
         let mut kept = || if random.chance(7, 8) { time } else { time ^ 1 };
@@ -223,6 +231,41 @@ pub fn server_call(random: &mut Random) -> ServerCall {
     ServerCall { p, own, from, frame, server, initial, area, out, to, bounds, short }
 }
 
+/// Opens a client's read and lays values of one stamp and list in the rows of most servers, their blocks those of one value, or with one of
+/// another value or with a padding that is not zero; and gives that value from a further server.
+fn lay_rows(
+    p: &Params,
+    own: usize,
+    client: &mut Client,
+    rows: &mut [u8],
+    random: &mut Random,
+) -> (Party, Vec<u8>) {
+    let mut blocks = encoded(p, &random.bytes(p.l));
+    match random.below(4) {
+        0 => {
+            let j = random.below(p.n);
+            blocks[j] = random.bytes(p.block());
+        }
+        1 if p.k * p.block() <= MAX_VALUE => {
+            let padded = Params { l: p.k * p.block(), ..*p };
+            blocks = encoded(&padded, &random.bytes(padded.l));
+        }
+        _ => {}
+    }
+    let digests = digest_list(&blocks);
+    let stamp = Stamp { time: random.range(1, 3) as u64, writer: 1, sequence: 1 };
+    let from = random.range(1, p.n);
+    client.operation = Operation::Read;
+    client.reads = 1;
+    for j in 1..=p.n {
+        client.kept[j] = (j != from && random.chance(7, 8)) as u64;
+        client.stamps[j][0] = stamp;
+        flat::store(rows, flat::row_chunk(j, 0), &digests, &blocks[j - 1]);
+    }
+    let body = Body::Value { stamp, digests: &digests, block: &blocks[from - 1] };
+    (Party::Server(from), build(own as u8, 1, body))
+}
+
 /// What a client is to do.
 #[derive(Clone, Copy, Debug, PartialEq, Eq)]
 pub enum ClientAct {
@@ -265,12 +308,16 @@ pub fn client_call(random: &mut Random) -> ClientCall {
     }
     let length = if random.chance(1, 8) { some_size(sane.l, random) } else { sane.l };
     let written = vec![1; length];
-    let rows = some_rows(some_size(ROWS_AREA, random), random);
+    let mut rows = some_rows(some_size(ROWS_AREA, random), random);
     let out = vec![3; some_size(sane.client_room(), random)];
     let to = vec![4; some_size(2 * sane.n, random)];
     let value = vec![5; some_size(sane.l, random)];
     let act = random.pick(&[ClientAct::Read, ClientAct::Write, ClientAct::Deliver, ClientAct::Deliver]);
-    let (from, frame) = (some_party(3, random), some_frame(&p, 3, random));
+    let (from, frame) = if bounds.is_none() && rows.len() >= ROWS_AREA && random.chance(1, 16) {
+        lay_rows(&p, own, &mut client, &mut rows, random)
+    } else {
+        (some_party(3, random), some_frame(&p, 3, random))
+    };
     if random.chance(1, 4) {
         // All servers are counted but the sender: a stamp or an ack may end something.
         client.counted = std::array::from_fn(|j| from != Party::Server(j));

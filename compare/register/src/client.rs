@@ -1,9 +1,10 @@
-//! The client, written for clarity: write and read of Figures 1 and 2 with document 01's steps.
+//! The client, written for clarity: write and read of Figures 1 and 2 with document 01's steps, and the end of a read as request F-7
+//! has it.
 
-use crate::blocks::{decode, encoded};
+use crate::blocks::encoded;
 use crate::frame::{build, open, Body, Frame, Stage, Stamp};
 use crate::params::{Params, Party, Refusal, Send, DIGEST};
-use crate::server::digest_list;
+use crate::server::{digest_list, value_of_group};
 use crate::sha256::digest;
 use crate::variant::Variant;
 use std::collections::{BTreeMap, BTreeSet};
@@ -34,6 +35,8 @@ pub enum Outcome {
     Going,
     /// The read ended with this stamp and value.
     Value(Stamp, Vec<u8>),
+    /// The read ended, the blocks of its group being not all of one value.
+    Disagreement,
     Written,
     OutOfStamps,
 }
@@ -221,13 +224,16 @@ impl Client {
         let Some((stamp, chosen)) = settled(&p, rows, variant) else {
             return Ok(Step { sends: Vec::new(), outcome: Outcome::Going });
         };
-        let lowest: Vec<(usize, &[u8])> =
-            chosen.iter().take(p.k).map(|(j, block)| (*j, &block[..])).collect();
-        let mut value = vec![0; p.l];
-        decode(&p, &lowest, &mut value).expect("k different servers");
+        let outcome = match value_of_group(&p, &chosen, variant) {
+            Some(value) => Outcome::Value(stamp, value),
+            None if variant == Variant::DisagreementOpen => {
+                return Ok(Step { sends: Vec::new(), outcome: Outcome::Going });
+            }
+            None => Outcome::Disagreement,
+        };
         self.operation = Operation::None;
         let sends = self.to_all(self.reads, Body::ReadComplete);
-        Ok(Step { sends, outcome: Outcome::Value(stamp, value) })
+        Ok(Step { sends, outcome })
     }
 }
 
@@ -251,7 +257,10 @@ type Chosen = Vec<(usize, Vec<u8>)>;
 fn settled(p: &Params, rows: &[Vec<Kept>], variant: Variant) -> Option<(Stamp, Chosen)> {
     let most = if variant == Variant::FewRows { p.most() - 1 } else { p.most() };
     for candidate in rows.iter().flatten() {
-        let same = |kept: &&Kept| kept.stamp == candidate.stamp && kept.digests == candidate.digests;
+        let same = |kept: &&Kept| {
+            kept.stamp == candidate.stamp
+                && (kept.digests == candidate.digests || variant == Variant::StampAlone)
+        };
         let mut values = 0;
         let mut chosen = Vec::new();
         for (i, row) in rows.iter().enumerate() {

@@ -1,6 +1,6 @@
-//! Parameters and their bounds, parties, and the refusals of document 01's table.
+//! Parameters and their bounds, parties, and the refusals: document 01's table, and 21 of request F-7.
 
-/// The refusals, numbered as in document 01.
+/// The refusals, by their numbers.
 #[derive(Clone, Copy, Debug, PartialEq, Eq, PartialOrd, Ord)]
 #[repr(u8)]
 pub enum Refusal {
@@ -23,6 +23,7 @@ pub enum Refusal {
     OutOfStamps = 17,
     Record = 18,
     Unlisted = 19,
+    Disagreement = 21,
 }
 
 impl Refusal {
@@ -52,6 +53,7 @@ impl Refusal {
             OutOfStamps,
             Record,
             Unlisted,
+            Disagreement,
         ];
         all.into_iter().find(|refusal| refusal.number() == number)
     }
@@ -77,6 +79,7 @@ impl Refusal {
             Refusal::OutOfStamps => "a write after one that closed as out of stamps",
             Refusal::Record => "a history's record malformed",
             Refusal::Unlisted => "a history reads a stamp that is not listed",
+            Refusal::Disagreement => "blocks that are not all of one value",
         }
     }
 }

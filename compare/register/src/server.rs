@@ -1,7 +1,7 @@
-//! The server, written for clarity: what document 01, "Steps", and request F-4 say, with ordinary
+//! The server, written for clarity: what document 01, "Steps", and requests F-4 and F-7 say, with ordinary
 //! collections.
 
-use crate::blocks::{decode, encoded};
+use crate::blocks::{decode, decode_into, encoded};
 use crate::frame::{build, open, Body, Frame, Stage, Stamp};
 use crate::params::{Params, Party, Refusal, Send, CLIENTS, DIGEST};
 use crate::sha256::digest;
@@ -99,6 +99,34 @@ pub struct Server {
 /// The digests of all blocks, end to end.
 pub fn digest_list(blocks: &[Vec<u8>]) -> Vec<u8> {
     blocks.iter().flat_map(|block| digest(block)).collect()
+}
+
+/// The value whose blocks a group's are, all of them at their servers' numbers, or none if they disagree.
+pub fn value_of_group(p: &Params, group: &[(usize, Vec<u8>)], variant: Variant) -> Option<Vec<u8>> {
+    let looked_at = if variant == Variant::LowestAlone { p.k } else { group.len() };
+    let given: Vec<(usize, &[u8])> = group[..looked_at].iter().map(|(j, block)| (*j, &block[..])).collect();
+    let mut value = vec![0; p.l];
+    match decode(p, &given, &mut value) {
+        Ok(_) => return Some(value),
+        Err(refusal) => assert_eq!(refusal, Refusal::Disagreement, "k or more different senders"),
+    }
+    match variant {
+        // What the lowest give, with any padding.
+        Variant::LowestAlone => {
+            let numbers: Vec<u8> = given.iter().map(|(j, _)| *j as u8).collect();
+            let blocks: Vec<&[u8]> = given.iter().map(|(_, block)| *block).collect();
+            decode_into(p, &numbers, &blocks, &mut value);
+            Some(value)
+        }
+        Variant::AnyPadding => {
+            let padded = Params { l: p.k * p.block(), ..*p };
+            let mut whole = vec![0; padded.l];
+            decode(&padded, &given, &mut whole).ok()?;
+            whole.truncate(p.l);
+            Some(whole)
+        }
+        _ => None,
+    }
 }
 
 fn digest_at(digests: &[u8], j: usize) -> &[u8] {
@@ -250,12 +278,11 @@ impl Server {
             return Step::default();
         }
         let chosen = if readies.len() >= p.q() { &readies } else { &echoes };
-        let lowest: Vec<(usize, &[u8])> =
-            chosen.iter().take(p.k).map(|(j, block)| (*j, &block[..])).collect();
-        let mut value = vec![0; p.l];
-        decode(&p, &lowest, &mut value).expect("k different senders");
+        let looked_at = if variant == Variant::NoCompare { Variant::LowestAlone } else { variant };
+        let Some(value) = value_of_group(&p, chosen, looked_at) else { return Step::default() };
         let blocks = encoded(&p, &value);
-        if digest_list(&blocks) != digests && variant != Variant::NoCompare {
+        let compared = !matches!(variant, Variant::NoCompare | Variant::AgreementAlone);
+        if compared && digest_list(&blocks) != digests {
             return Step::default();
         }
         let mut block = blocks[self.own - 1].clone();

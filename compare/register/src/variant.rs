@@ -17,10 +17,20 @@ pub enum Variant {
     AckTwice,
     /// Client: the block of a value is not compared with its digest.
     NoDigest,
+    /// Client: a read settles on n − t rows with one stamp, whatever their lists.
+    StampAlone,
+    /// Client: a read whose blocks disagree stays open.
+    DisagreementOpen,
+    /// Client and server: the k lowest blocks of a group are decoded, and no others looked at.
+    LowestAlone,
+    /// Client and server: the padding of a group's blocks is not looked at.
+    AnyPadding,
     /// Server: a frame above the open sequence opens that sequence, before acceptance.
     EarlyOpen,
-    /// Server: ready without comparing the digests of the fresh encoding.
+    /// Server: ready without comparing blocks or digests with the fresh encoding.
     NoCompare,
+    /// Server: ready where the blocks of a group agree, without comparing the digests of the fresh encoding.
+    AgreementAlone,
     /// Server: ready at n − 2t echoes of a group.
     FewEchoes,
     /// Server: complete at q readies of a group.
@@ -40,15 +50,20 @@ pub enum Variant {
 }
 
 impl Variant {
-    pub const WRONG: [Variant; 16] = [
+    pub const WRONG: [Variant; 21] = [
         Variant::SmallerTime,
         Variant::StaleStamp,
         Variant::FewRows,
         Variant::ValueTwice,
         Variant::AckTwice,
         Variant::NoDigest,
+        Variant::StampAlone,
+        Variant::DisagreementOpen,
+        Variant::LowestAlone,
+        Variant::AnyPadding,
         Variant::EarlyOpen,
         Variant::NoCompare,
+        Variant::AgreementAlone,
         Variant::FewEchoes,
         Variant::FewReadies,
         Variant::ListAlone,

@@ -130,6 +130,9 @@ impl Adversary {
             let cut = self.stock.len() - STOCK / 2;
             self.stock.drain(..cut);
         }
+        if self.servers.len() >= self.p.most() && random.chance(1, 8) {
+            return self.hand_group(world, random);
+        }
         if self.profile != Profile::Noisy {
             return self.act_cunning(world, random);
         }
@@ -401,12 +404,12 @@ impl Adversary {
         }
     }
 
-    /// Blocks of a value, or such that no value has; always with their right digests.
-    fn some_blocks(&self, random: &mut Random) -> Vec<Vec<u8>> {
+    /// Blocks of a value, or, three times in so many, such that no value has.
+    fn some_blocks(&self, times: usize, random: &mut Random) -> Vec<Vec<u8>> {
         let p = &self.p;
         let value = random.bytes(p.l);
         let mut blocks = encoded(p, &value);
-        match random.below(8) {
+        match random.below(times) {
             0 => {
                 for block in &mut blocks {
                     *block = random.bytes(p.block());
@@ -443,7 +446,7 @@ impl Adversary {
         let versions = if splitting { 2 } else { random.range(1, 2) };
         let aligned = splitting || random.chance(1, 2);
         let split = if aligned { self.halves } else { random.word() as u32 };
-        let blocks: Vec<Vec<Vec<u8>>> = (0..versions).map(|_| self.some_blocks(random)).collect();
+        let blocks: Vec<Vec<Vec<u8>>> = (0..versions).map(|_| self.some_blocks(8, random)).collect();
         let lists: Vec<Vec<u8>> = blocks.iter().map(|b| digest_list(b)).collect();
         let times: Vec<u64> = (0..versions).map(|_| self.some_time(world, random)).collect();
         // Two versions differ in value and time, in one of both, or not at all.
@@ -491,6 +494,31 @@ impl Adversary {
                 self.stock.push(Sent { from: Party::Client(client), to: Party::Server(j), frame });
             }
         }
+    }
+
+    /// n − t or more false servers answer an honest client's read with one stamp and list; each block has its digest, and in most
+    /// groups they are blocks of no value.
+    fn hand_group(&mut self, world: &mut World, random: &mut Random) -> Result<(), Violation> {
+        let asked = |sent: &&Sent| sent.frame[3] == 10 && world.honest(sent.from);
+        let Some(Sent { from: to, frame, .. }) = world.log.iter().rev().find(asked).cloned() else {
+            return Ok(());
+        };
+        let Ok(frame) = open(&self.p, &frame) else { return Ok(()) };
+        let blocks = self.some_blocks(5, random);
+        let digests = digest_list(&blocks);
+        let time = self.some_time(world, random).max(1);
+        let stamp = Stamp { time, writer: random.range(1, 8) as u8, sequence: random.range(1, 9) as u32 };
+        let mut servers = self.servers.clone();
+        for i in (1..servers.len()).rev() {
+            servers.swap(i, random.below(i + 1));
+        }
+        for j in servers {
+            let body = Body::Value { stamp, digests: &digests, block: &blocks[j - 1] };
+            let bytes = build(frame.client, frame.sequence, body);
+            let room = world.room(to);
+            world.hand_false(to, Party::Server(j), &bytes, room)?;
+        }
+        Ok(())
     }
 
     /// False servers echo and confirm one version of a write to some servers.

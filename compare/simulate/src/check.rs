@@ -1,5 +1,5 @@
 //! Demand 3 on what was observed of a run: all completed reads and all accepted writes stand in
-//! one row.
+//! one row; and no read ended since its blocks disagree.
 
 use register::frame::Stamp;
 use std::collections::BTreeMap;
@@ -41,6 +41,8 @@ pub struct Observed {
     pub writes: BTreeMap<(usize, u32), Write>,
     pub reads: Vec<Read>,
     pub accepted: Vec<Acceptance>,
+    /// Reads of honest clients that ended with a disagreement: client and number.
+    pub disagreements: Vec<(usize, u32)>,
 }
 
 #[derive(Clone, Debug, PartialEq, Eq)]
@@ -55,6 +57,8 @@ pub enum Violation {
     Time(String),
     /// Wrong bytes.
     Bytes(String),
+    /// An honest client saw a disagreement, where no two blocks share a digest.
+    Disagreement(String),
     /// An honest operation is open though every frame was delivered.
     StillOpen(String),
     /// The two implementations differ.
@@ -133,8 +137,11 @@ fn check_bytes(seen: &Observed, writes: &BTreeMap<(usize, u32), Stamp>) -> Resul
     Ok(())
 }
 
-/// Demand 3, apart from its escape of two blocks with one digest.
+/// Demand 3, and that honest clients see no disagreement, apart from the escape of two blocks with one digest.
 pub fn check_row(seen: &Observed) -> Result<(), Violation> {
+    if let Some((client, sequence)) = seen.disagreements.first() {
+        return Err(Violation::Disagreement(format!("read {sequence} of client {client}")));
+    }
     let writes = accepted_writes(seen)?;
     for (name, write) in &seen.writes {
         if write.ended.is_some() && !writes.contains_key(name) {
@@ -221,6 +228,8 @@ mod tests {
         assert!(matches!(time, Violation::Time(_)));
         let time = found(&|seen| seen.writes.get_mut(&(1, 1)).unwrap().begun = 10);
         assert!(matches!(time, Violation::Time(_)));
+        let disagreement = found(&|seen| seen.disagreements.push((2, 1)));
+        assert!(matches!(disagreement, Violation::Disagreement(_)));
         let bytes = found(&|seen| seen.reads[0].value = vec![2]);
         assert!(matches!(bytes, Violation::Bytes(_)));
         let bytes = found(&|seen| {

@@ -221,6 +221,7 @@ impl ClientPair {
                     Outcome::Going => Ended::Nothing,
                     Outcome::Written => Ended::Written,
                     Outcome::OutOfStamps => Ended::OutOfStamps,
+                    Outcome::Disagreement => Ended::Disagreement,
                     Outcome::Value(stamp, bytes) => {
                         expected_value[..bytes.len()].copy_from_slice(bytes);
                         Ended::Value(*stamp)

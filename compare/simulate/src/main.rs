@@ -1,8 +1,8 @@
-//! simulate [COUNT [SEED]] [--both] [--variant NAME] [--scripts FOLDER] [--traces FOLDER]: COUNT runs from SEED on. A
-//! failure prints the seed that reproduces it: simulate 1 SEED. With --scripts each run is also
-//! written as input of the hall program with the expected output, SEED.in and SEED.out. With --traces
-//! each honest server's trace is written, SEED-J.trace, with the other arguments of the playback
-//! program and what it prints, SEED-J.args and SEED-J.out.
+//! simulate [COUNT [SEED]] [--both] [--many] [--variant NAME] [--scripts FOLDER] [--traces FOLDER]: COUNT runs from SEED
+//! on. A failure prints the seed that reproduces it: simulate 1 SEED. With --many n − t or more servers are
+//! false, and only the styles are compared. With --scripts each run is also written as input of the hall program
+//! with the expected output, SEED.in and SEED.out. With --traces each honest server's trace is written,
+//! SEED-J.trace, with the other arguments of the playback program and what it prints, SEED-J.args and SEED-J.out.
 
 use hall::to_hex;
 use register::staff::report;
@@ -14,7 +14,9 @@ use simulate::style::FLAT;
 use std::process::ExitCode;
 
 fn usage() -> ExitCode {
-    eprintln!("simulate [COUNT [SEED]] [--both] [--variant NAME] [--scripts FOLDER] [--traces FOLDER]");
+    eprintln!(
+        "simulate [COUNT [SEED]] [--both] [--many] [--variant NAME] [--scripts FOLDER] [--traces FOLDER]"
+    );
     ExitCode::from(2)
 }
 
@@ -23,6 +25,9 @@ fn in_words(options: &Options) -> String {
     let mut words = String::new();
     if let Some(style) = options.style {
         words += &format!(", {style:?} beside the clear style");
+    }
+    if options.many {
+        words += ", with n − t or more false servers";
     }
     if options.variant != Variant::Right {
         words += &format!(", with a wrong rule: {:?}", options.variant);
@@ -60,6 +65,8 @@ fn main() -> ExitCode {
     while let Some(argument) = arguments.next() {
         if argument == "--both" {
             options.style = Some(FLAT);
+        } else if argument == "--many" {
+            options.many = true;
         } else if argument == "--variant" {
             let name = arguments.next().unwrap_or_default();
             match Variant::WRONG.iter().find(|v| format!("{v:?}") == name) {
@@ -119,8 +126,11 @@ fn main() -> ExitCode {
             }
         }
     }
-    let Summary { reads, writes, foreign, steps, refusals, overflows, closed, .. } = total;
+    let Summary { reads, writes, foreign, steps, refusals, overflows, closed, disagreements, .. } = total;
     println!("{steps} steps; honest clients ended {reads} reads and {writes} writes");
+    if options.many {
+        println!("{disagreements} reads ended since their blocks disagree");
+    }
     println!("{foreign} writes of false clients accepted; {overflows} values came to a row that had four; {closed} writes out of stamps");
     print!("{}", refusal_lines(&refusals));
     println!("simulate: {failures} of {count} runs fail, {:.1} s", progress.seconds());

@@ -18,12 +18,15 @@ pub struct Options {
     pub style: Option<Style>,
     /// Give the calls as a script of the hall program, where no area is short.
     pub script: bool,
+    /// Have n − t or more false servers: nothing is asked of what such a run shows, but that the styles say the same.
+    pub many: bool,
     /// Record the trace of each honest server.
     pub record: bool,
 }
 
 impl Options {
-    pub const RIGHT: Options = Options { variant: Variant::Right, style: None, script: false, record: false };
+    pub const RIGHT: Options =
+        Options { variant: Variant::Right, style: None, script: false, many: false, record: false };
 }
 
 /// What happened in a run or in many.
@@ -40,6 +43,8 @@ pub struct Summary {
     pub overflows: u64,
     /// Writes that closed as out of stamps.
     pub closed: u64,
+    /// Reads that ended since their blocks disagree.
+    pub disagreements: u64,
     /// The script, if asked for.
     pub script: Vec<String>,
     /// The honest servers' traces, if asked for.
@@ -54,6 +59,7 @@ impl Summary {
         self.steps += other.steps;
         self.overflows += other.overflows;
         self.closed += other.closed;
+        self.disagreements += other.disagreements;
         for (a, b) in self.refusals.iter_mut().zip(other.refusals) {
             *a += b;
         }
@@ -279,6 +285,19 @@ impl Run {
         Ok(())
     }
 
+    /// The delivery of everything, while the false parties go on for a while.
+    fn deliver_all(&mut self, random: &mut Random) -> Result<(), Violation> {
+        let Run { world, adversary, .. } = self;
+        let mut actions = random.range(0, 200);
+        world.flush(|world| {
+            if actions > 0 && adversary.present() && random.chance(1, 4) {
+                actions -= 1;
+                adversary.act(world, random)?;
+            }
+            Ok(())
+        })
+    }
+
     fn step(&mut self, phase: &mut Phase, random: &mut Random) -> Result<(), Violation> {
         let waiting = |c: usize| self.world.is_open(c) && phase.starved != Some(c);
         let open = self.clients.iter().filter(|&&c| waiting(c)).count();
@@ -309,7 +328,13 @@ pub fn run(seed: u64, options: Options) -> Result<Summary, Violation> {
     let initial = random.bytes(p.l);
     let profile = random.pick(&[Profile::Noisy, Profile::Cunning, Profile::Cunning, Profile::Splitting]);
     let splitting = profile == Profile::Splitting;
-    let false_count = if splitting || random.chance(4, 5) { p.t } else { random.range(0, p.t) };
+    let false_count = if options.many {
+        random.range(p.most(), p.n)
+    } else if splitting || random.chance(4, 5) {
+        p.t
+    } else {
+        random.range(0, p.t)
+    };
     let false_servers = some(1..=p.n, false_count, random);
     let honest_count = random.range(1, 4);
     let clients = some(1..=8, honest_count + random.range(splitting as usize, 3), random);
@@ -344,17 +369,11 @@ pub fn run(seed: u64, options: Options) -> Result<Summary, Violation> {
         }
         run.step(&mut phase, random)?;
     }
-    check_row(&run.world.seen)?;
-    let Run { world, adversary, .. } = &mut run;
-    let mut actions = random.range(0, 200);
-    world.flush(|world| {
-        if actions > 0 && adversary.present() && random.chance(1, 4) {
-            actions -= 1;
-            adversary.act(world, random)?;
-        }
-        Ok(())
-    })?;
-    check_row(&run.world.seen)?;
+    if !options.many {
+        check_row(&run.world.seen)?;
+        run.deliver_all(random)?;
+        check_row(&run.world.seen)?;
+    }
     let seen = &run.world.seen;
     let accepted: BTreeSet<(usize, u32)> = seen.accepted.iter().map(|a| (a.client, a.sequence)).collect();
     Ok(Summary {
@@ -365,6 +384,7 @@ pub fn run(seed: u64, options: Options) -> Result<Summary, Violation> {
         refusals: run.world.refusals,
         overflows: run.world.overflows,
         closed: run.world.closed,
+        disagreements: seen.disagreements.len() as u64,
         recorded: run.world.recorded(),
         script: run.world.script.unwrap_or_default(),
     })

@@ -11,6 +11,7 @@ pub enum Ended {
     Written,
     OutOfStamps,
     Value(Stamp),
+    Disagreement,
 }
 
 /// What an answer tells: how many frames were sent, and what ended.
@@ -100,6 +101,7 @@ fn told(answer: Result<flat::Done, Refusal>, out: &[u8]) -> Answer {
         Outcome::Written => Ended::Written,
         Outcome::OutOfStamps => Ended::OutOfStamps,
         Outcome::Value(stamp) => Ended::Value(stamp),
+        Outcome::Disagreement => Ended::Disagreement,
     };
     Ok(Ok(Told { frames: done.frames, ended }))
 }

@@ -232,6 +232,7 @@ impl World {
                         let name = (c, client.clear.writes);
                         self.seen.writes.get_mut(&name).expect("a begun write").ended = Some(self.calls);
                     }
+                    Outcome::Disagreement => self.seen.disagreements.push((c, client.clear.reads)),
                     Outcome::OutOfStamps => self.closed += 1,
                     Outcome::Going => {}
                 }

@@ -31,6 +31,21 @@ fn both_styles_agree() {
     all(10_001..10_061, Some(FLAT));
 }
 
+/// With n − t or more false servers reads end with a disagreement, in both styles.
+#[test]
+fn both_styles_disagree() {
+    let mut total = Summary::default();
+    for seed in 20_001..20_101 {
+        match run(seed, Options { style: Some(FLAT), many: true, ..Options::RIGHT }) {
+            Ok(summary) => total.add(&summary),
+            Err(violation) => {
+                panic!("seed {seed}: {violation}; reproduce with: simulate 1 {seed} --both --many")
+            }
+        }
+    }
+    assert!(total.disagreements > 100 && total.reads > 100, "{total:?}");
+}
+
 /// The first violation that fits within 500 runs of a wrong variant. The first seed of a rare
 /// one is chosen near a find, to keep the test short.
 fn must_find(variant: Variant, first: u64, fits: fn(&Violation) -> bool) {
@@ -57,8 +72,8 @@ fn agreement(violation: &Violation) -> bool {
     matches!(violation, Violation::Agreement(_))
 }
 
-fn bytes(violation: &Violation) -> bool {
-    matches!(violation, Violation::Bytes(_))
+fn disagreement(violation: &Violation) -> bool {
+    matches!(violation, Violation::Disagreement(_))
 }
 
 #[test]
@@ -88,7 +103,13 @@ fn finds_an_ack_counted_twice() {
 
 #[test]
 fn finds_a_block_against_its_digest() {
-    must_find(Variant::NoDigest, 200, bytes);
+    must_find(Variant::NoDigest, 200, disagreement);
+}
+
+/// A read by the stamp alone: its blocks are of two lists.
+#[test]
+fn finds_rows_by_stamp_alone() {
+    must_find(Variant::StampAlone, 1, disagreement);
 }
 
 #[test]
@@ -98,7 +119,13 @@ fn finds_early_opening() {
 
 #[test]
 fn finds_missing_comparison() {
-    must_find(Variant::NoCompare, 5900, bytes);
+    must_find(Variant::NoCompare, 5900, disagreement);
+}
+
+/// Digests not compared where the blocks agree: a server keeps a block that does not fit its list, and readers turn it down.
+#[test]
+fn finds_agreement_alone() {
+    must_find(Variant::AgreementAlone, 800, still_open);
 }
 
 #[test]
@@ -117,11 +144,10 @@ fn finds_groups_by_list_alone() {
     must_find(Variant::ListAlone, 1, agreement);
 }
 
-/// A group without the list: one write gets several lists, or operations hang.
+/// A group without the list: blocks of two lists disagree, and operations hang.
 #[test]
 fn finds_groups_by_time_alone() {
-    must_find(Variant::TimeAlone, 400, agreement);
-    must_find(Variant::TimeAlone, 600, still_open);
+    must_find(Variant::TimeAlone, 1500, still_open);
 }
 
 #[test]
@@ -144,12 +170,14 @@ fn finds_silence_after_ready() {
     must_find(Variant::LateSendSilent, 600, still_open);
 }
 
-/// A wrong variant beside the right flat style: the comparison finds every one.
+/// A wrong variant beside the right flat style: the comparison finds every one. Those of blocks that disagree show only where more than t
+/// servers are false.
 #[test]
 fn comparison_finds_differences() {
     for variant in Variant::WRONG {
+        let many = matches!(variant, Variant::LowestAlone | Variant::AnyPadding | Variant::DisagreementOpen);
         let differs = |seed| {
-            let found = run(seed, Options { variant, style: Some(FLAT), ..Options::RIGHT });
+            let found = run(seed, Options { variant, style: Some(FLAT), many, ..Options::RIGHT });
             matches!(found, Err(Violation::Differ(_)))
         };
         assert!((1..200).any(differs), "{variant:?} was not found");
@@ -159,8 +187,8 @@ fn comparison_finds_differences() {
 /// A run as a script of the hall program gives the same steps, refusals and values there.
 #[test]
 fn scripts_say_the_same() {
-    for seed in 1..20 {
-        let summary = run(seed, Options { script: true, ..Options::RIGHT }).unwrap();
+    for (seed, many) in (1..20).map(|seed| (seed, seed % 4 == 0)) {
+        let summary = run(seed, Options { script: true, many, ..Options::RIGHT }).unwrap();
         let input = summary.script.join("\n");
         let mut output = Vec::new();
         hall::run(&mut input.as_bytes(), &mut output).unwrap();
@@ -170,6 +198,7 @@ fn scripts_say_the_same() {
         assert_eq!(count("what?"), 0);
         assert_eq!(count("step"), summary.steps);
         assert_eq!(count("value "), summary.reads);
+        assert_eq!(count("disagreement"), summary.disagreements);
         assert_eq!(count("written"), summary.writes);
         for number in 1..20 {
             let refused = output.lines().filter(|line| *line == format!("refused {number}")).count();

@@ -41,15 +41,17 @@ isRefusal (Y.Sent m) = false
 isRefusal Y.Written = false
 isRefusal Y.OutOfStamps = false
 isRefusal (Y.Value x) = false
+isRefusal Y.Disagreement = false
 isRefusal (Y.Refused r) = true
 
 -- its call, where there are n servers: 0, nothing has ended; 1, the write has ended; 2, it closed as out of stamps; 3, the read has
--- ended, and a read-complete went to each server. The bytes above say how many frames were sent.
+-- ended with a value, 4, since its blocks disagree, and a read-complete went to each server. The bytes above say how many frames were sent.
 unfoldable pub clientAnswer : ℕ → Answer → ℕ
 clientAnswer n (Y.Sent m) = 65536 * (m % 65536)
 clientAnswer n Y.Written = 256
 clientAnswer n Y.OutOfStamps = 512
 clientAnswer n (Y.Value x) = 768 + 65536 * (n % 65536)
+clientAnswer n Y.Disagreement = 1024 + 65536 * (n % 65536)
 clientAnswer n (Y.Refused r) = numberOf r
 
 -- what is open: 0, nothing; 1, a write that awaits stamps; 2, a write that awaits acks; 3, a read. The bytes above say its number: w of a write, r of a read

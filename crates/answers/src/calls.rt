@@ -19,6 +19,7 @@ fn fault_number(f: Fault) -> u64
         Fault::Length => 3,
         Fault::Blocks => 9,
         Fault::Room => 10,
+        Fault::Disagreement => 21,
     }
 }
 
@@ -51,6 +52,7 @@ pub fn is_refusal(a: Answer) -> bool
         Answer::Written => false,
         Answer::OutOfStamps => false,
         Answer::Value(x) => false,
+        Answer::Disagreement => false,
         Answer::Refused(r) => true,
     }
 }
@@ -64,6 +66,7 @@ pub fn client_answer(a: Answer, n: usize) -> u64
         Answer::Written => 256,
         Answer::OutOfStamps => 512,
         Answer::Value(x) => 768 + 65536 * (n as u64 % 65536),
+        Answer::Disagreement => 1024 + 65536 * (n as u64 % 65536),
         Answer::Refused(r) => number_of(r) as u64,
     }
 }

@@ -1,7 +1,7 @@
 -- The calls: what a passed test tells, and the outcome by the answer of the tests. Assumes nothing.
 use Prim.Native.Nat.{ℕ, _*_, _≤_}
 use mathlib.Core.Path.{_≡_, refl, sym, ap, _∙_}
-use mathlib.Core.Bool.{true}
+use mathlib.Core.Bool.{Bool, true, false, not}
 use mathlib.Core.List.{List}
 use native.Mathlib.Omega.{arith}
 use lib.ListN.{length}
@@ -9,12 +9,13 @@ use lib.Seq.{sets}
 use borrow.Author.Tests.{eqb-true, leb-true}
 use Rattle.blocks.specs.declared.Params.{Params}
 use Rattle.blocks.specs.declared.Fault.{Fault}
+use Rattle.blocks.specs.declared.Fault.the-variants.{Disagreement}
 use Rattle.blocks.specs.declared.Coded.{Coded}
 use Rattle.blocks.specs.declared.Coded.the-variants.{Done, Refused}
-use Rattle.blocks.specs.Params.{andThen, Bounds}
-use Rattle.blocks.specs.Code.{blockLength}
-use Rattle.blocks.specs.Calls.{outcome, written, encodeTest, decodeTest, numbersFit}
-use Rattle.blocks.proofs.Parameters.{demand-done, bounds}
+use Rattle.blocks.specs.Params.{andThen, demand, Bounds}
+use Rattle.blocks.specs.Code.{blockLength, candidate, agree}
+use Rattle.blocks.specs.Calls.{outcome, written, encodeTest, decodeTest, agreeTest, decoding, numbersFit}
+use Rattle.blocks.proofs.Parameters.{demand-done, bounds, refuses, passes, then-refused, then-done}
 
 then-both : (p rest : Coded) → andThen p rest ≡ Done → (p ≡ Done) × (rest ≡ Done)
 unfolding andThen
@@ -40,8 +41,9 @@ encodes g len room e =
 -- what `decode` has when its tests are passed
 pub record Decodes (g : Params) (numbers : List ℕ) (len room : ℕ) : Type 0 where
   pub within : Bounds g
-  pub count : length numbers ≡ g .k
-  pub whole : len ≡ length numbers * blockLength (g .size) (length numbers)
+  pub enough : g .k ≤ length numbers
+  pub most : length numbers ≤ g .n
+  pub whole : len ≡ length numbers * blockLength (g .size) (g .k)
   pub numbered : numbersFit (g .n) numbers ≡ true
   pub fits : g .size ≤ room
 
@@ -53,14 +55,14 @@ decodes g numbers len room e =
     let c = demand-done _ _ _ (b .1) in
     let d = demand-done _ _ _ (c .1) in
     let f = demand-done _ _ _ (d .1) in
-    let k : length numbers ≡ g .k = eqb-true (length numbers) (g .k) (b .0) in
-    let w : len ≡ g .k * blockLength (g .size) (g .k) = eqb-true len (g .k * blockLength (g .size) (g .k)) (c .0) in
+    let h = demand-done _ _ _ (f .1) in
     record {
       within = bounds g (a .0);
-      count = k;
-      whole = w ∙ ap (λ x. x * blockLength (g .size) x) (sym k);
-      numbered = d .0;
-      fits = leb-true (g .size) room (f .0);
+      enough = leb-true (g .k) (length numbers) (b .0);
+      most = leb-true (length numbers) (g .n) (c .0);
+      whole = eqb-true len (length numbers * blockLength (g .size) (g .k)) (d .0);
+      numbered = f .0;
+      fits = leb-true (g .size) room (h .0);
     }
 
 -- the outcome of a call whose tests answer r
@@ -71,3 +73,25 @@ turned-down p r f o bytes e h = ap (λ x. outcome x o) h ∙ ap (λ x. written x
 pub carried-out : (p r : Coded) (o l bytes : List ℕ) → r ≡ p → r ≡ Done → l ≡ sets o 0 bytes → outcome Done l ≡ written p o bytes
 unfolding written
 carried-out p r o l bytes e h q = ap (outcome Done) q ∙ ap (λ x. written x o bytes) (sym h ∙ e)
+
+-- ---- the outcome of `decode`, whose first tests answer t and whose comparison answers r
+
+pub decode-refused : (g : Params) (js w out : List ℕ) (t : Coded) (f : Fault) → t ≡ decodeTest g js (length w) (length out) → t ≡ Refused f
+    → outcome t out ≡ decoding g js w out
+unfolding decoding
+decode-refused g js w out t f e h = turned-down _ _ f _ _ (then-refused _ _ _ f e h) h
+
+module _ (g : Params) (js w out : List ℕ) (L : ℕ) (t : Coded) (r : Bool) (e : t ≡ decodeTest g js (length w) (length out)) (h : t ≡ Done) (z : L ≡ g .size)
+    (a : r ≡ agree (g .k) L js w) where
+  pub disagreed : not r ≡ true → outcome (Refused Disagreement) out ≡ decoding g js w out
+  unfolding decoding agreeTest written
+  disagreed n =
+      sym (ap (λ x. written x out (candidate (g .k) (g .size) js w))
+      (then-done _ t _ e h ∙ refuses r _ _ _ (a ∙ ap (λ (m : ℕ). agree (g .k) m js w) z) n))
+
+  pub agreed : (l v : List ℕ) → not r ≡ false → l ≡ sets out 0 v → v ≡ candidate (g .k) L js w → outcome Done l ≡ decoding g js w out
+  unfolding decoding agreeTest written
+  agreed l v n p q =
+      ap (outcome Done) (p ∙ ap (sets out 0) (q ∙ ap (λ (m : ℕ). candidate (g .k) m js w) z))
+      ∙ sym (ap (λ x. written x out (candidate (g .k) (g .size) js w))
+      (then-done _ t _ e h ∙ passes r _ _ _ (a ∙ ap (λ (m : ℕ). agree (g .k) m js w) z) n))

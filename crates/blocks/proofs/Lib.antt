@@ -3,9 +3,13 @@ pub mod Numbers
 pub mod CallLaws
 pub mod Polynomials
 pub mod Interpolation
+pub mod Linear
 pub mod Turns
 pub mod Point
 pub mod Stripes
 pub mod Values
 pub mod ByteLists
 pub mod RoundTrip
+pub mod Exactly
+pub mod Standing
+pub mod Candidate

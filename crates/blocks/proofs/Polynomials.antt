@@ -61,6 +61,23 @@ through-bytes [] ys = tt
 through-bytes (x ∷ xs) [] = tt
 through-bytes (x ∷ xs) (y ∷ ys) = plus-bytes (through xs ys) (scale _ (vanishing xs)) (through-bytes xs ys) (scale-bytes _ (vanishing xs))
 
+-- nothing is added where the value is right already
+plus-nothing : (p m : List ℕ) → length p ≡ length m → plus p (scale 0 m) ≡ p
+unfolding plus scale
+plus-nothing [] [] e = refl
+plus-nothing [] (b ∷ m) e = absurd (omega (arith, e))
+plus-nothing (a ∷ p) [] e = refl
+plus-nothing (a ∷ p) (b ∷ m) e =
+    ap (λ z. (a ⊕ z) ∷ plus p (scale 0 m)) (R.zero-left b)
+    ∙ ap (λ z. z ∷ plus p (scale 0 m)) (X.zero-r a)
+    ∙ ap (λ l. a ∷ l) (plus-nothing p m (omega (arith, e)))
+
+pub no-step : (p m : List ℕ) (x y : ℕ) → length p ≡ length m → y ⊕ eval p x ≡ 0 → newtonStep p m x y ≡ p
+unfolding newtonStep
+no-step p m x y l e = ap (λ z. plus p (scale (z ⊗ powerOf (eval m x) 254) m)) e
+    ∙ ap (λ z. plus p (scale z m)) (R.zero-left (powerOf (eval m x) 254))
+    ∙ plus-nothing p m l
+
 pub plus-length : (p q : List ℕ) → length (plus p q) ≡ max (length p) (length q)
 unfolding plus
 plus-length [] q = omega arith

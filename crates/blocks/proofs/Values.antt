@@ -3,12 +3,12 @@ use mathlib.Core.Path.{_≡_, refl, sym, ap, ap₂, _∙_}
 use mathlib.Core.Bool.{Bool, true, false}
 use lib.Dec.{leb}
 use borrow.Author.Tests.{leb-true, leb-false}
-use mathlib.Core.List.{List, _++_}
+use mathlib.Core.List.{List, _++_, append-nil}
 use Prim.Native.Nat.{ℕ, suc, _+_, _-_, _*_, _<_, _≤_, min}
 use native.Mathlib.Nat.{suc-mul, mul-le-mul-right, mul-comm}
 use native.Mathlib.Omega.{arith}
-use lib.ListN.{length, getD, take, drop, replicate, length-append}
-use lib.Seq.{take-nil, take-append-le, sets, take-all, take-at, take-append-add, length-take-le}
+use lib.ListN.{length, getD, take, drop, replicate, length-append, drop-of-length-le}
+use lib.Seq.{take-nil, take-append-le, sets, sets-eq, take-all, take-at, take-append-add, length-take-le}
 use Rattle.area.specs.Area.{joined}
 use Rattle.area.proofs.Fills.{length-table, getD-table, joined-snoc, length-joined}
 use Rattle.area.proofs.Sets.{sets-append}
@@ -32,6 +32,13 @@ row-length k b w r = length-table k _
 pub row-at : (k b : ℕ) (w : List ℕ) (r i : ℕ) → i < k → getD (row k b w r) i 0 ≡ getD w (i * b + r) 0
 unfolding row
 row-at k b w r i h = getD-table k _ i 0 h
+
+-- a list that fills the whole
+pub sets-whole : {A : Type 0} (l vs : List A) → length vs ≡ length l → sets l 0 vs ≡ vs
+sets-whole l vs e =
+    let h : 0 + length vs ≤ length l = omega arith in
+    let k : length l ≤ 0 + length vs = omega arith in
+    sets-eq vs l 0 h ∙ ap (λ t. vs ++ t) (drop-of-length-le l k) ∙ append-nil vs
 
 -- a list in whose front e was written, read back
 pub front-back : (d e : List ℕ) (n : ℕ) → n ≤ length d → length e ≡ length (take n d) → take n (e ++ drop n d) ≡ e
@@ -70,14 +77,14 @@ take-all-joined : (f : ℕ → List ℕ) (k L r : ℕ) → ((j : ℕ) → length
 take-all-joined f k L r e h = take-all L (joined f 0 r) (omega (arith, length-joined f k 0 r e))
 
 -- the turn r of a loop that stores the stripes of a value of L bytes
-pub stripe-turn : (f : ℕ → List ℕ) (k L r at : ℕ) (d l : List ℕ) → ((j : ℕ) → length (f j) ≡ k) → r * k ≤ L → l ≡ sets d at (take L (joined f 0 r))
-    → sets l (at + r * k) (take (L - r * k) (f r)) ≡ sets d at (take L (joined f 0 (r + 1)))
-stripe-turn f k L r at d l e h p =
-    let n : at + r * k ≡ at + length (joined f 0 r) = omega (arith, length-joined f k 0 r e) in
+pub stripe-turn : (f : ℕ → List ℕ) (k L r : ℕ) (d l : List ℕ) → ((j : ℕ) → length (f j) ≡ k) → r * k ≤ L → l ≡ sets d 0 (take L (joined f 0 r))
+    → sets l (r * k) (take (L - r * k) (f r)) ≡ sets d 0 (take L (joined f 0 (r + 1)))
+stripe-turn f k L r d l e h p =
+    let n : r * k ≡ 0 + length (joined f 0 r) = omega (arith, length-joined f k 0 r e) in
     let s : List ℕ = take (L - r * k) (f r) in
-    ap (λ u. sets u (at + r * k) s) (p ∙ ap (sets d at) (take-all-joined f k L r e h))
-    ∙ ap (λ m. sets (sets d at (joined f 0 r)) m s) n
-    ∙ sym (ap (sets d at) (take-joined f k L r e h) ∙ sets-append d at (joined f 0 r) s)
+    ap (λ u. sets u (r * k) s) (p ∙ ap (sets d 0) (take-all-joined f k L r e h))
+    ∙ ap (λ m. sets (sets d 0 (joined f 0 r)) m s) n
+    ∙ sym (ap (sets d 0) (take-joined f k L r e h) ∙ sets-append d 0 (joined f 0 r) s)
 
 -- as many bytes of a stripe as the value has left
 pub stripe-part : (p : List ℕ) (k m : ℕ) → length p ≡ k → take (min k m) p ≡ take m p
@@ -93,9 +100,9 @@ stripe-part p k m e = cases (leb k m) refl
         ap (λ x. take x p) n
 
 -- no stripe is stored yet
-pub value-start : (f : ℕ → List ℕ) (L at : ℕ) (d : List ℕ) → d ≡ sets d at (take L (joined f 0 0))
+pub value-start : (f : ℕ → List ℕ) (L : ℕ) (d : List ℕ) → d ≡ sets d 0 (take L (joined f 0 0))
 unfolding joined
-value-start f L at d = sym (ap (sets d at) (take-nil L))
+value-start f L d = sym (ap (sets d 0) (take-nil L))
 
 -- the front of a local array d into which e was written, as far as the value has bytes left
 pub part-read : (d e : List ℕ) (k m n : ℕ) → k ≤ length d → length e ≡ length (take k d) → n ≡ min k m → take n (e ++ drop k d) ≡ take m e

@@ -6,11 +6,11 @@ use lib.Dec.{eqb, leb}
 use lib.ListN.{length}
 use lib.Seq.{sets}
 use Rattle.blocks.specs.declared.Params.{Params}
-use Rattle.blocks.specs.declared.Fault.the-variants.{Length, Blocks, Room}
+use Rattle.blocks.specs.declared.Fault.the-variants.{Length, Blocks, Room, Disagreement}
 use Rattle.blocks.specs.declared.Coded.{Coded}
 use Rattle.blocks.specs.declared.Coded.the-variants.{Done, Refused}
 use Rattle.blocks.specs.Params.{paramsTest, demand, andThen}
-use Rattle.blocks.specs.Code.{blockLength, encoded, valueOf}
+use Rattle.blocks.specs.Code.{blockLength, encoded, candidate, agree}
 
 -- a call's answer and the lent area after it
 pub record Outcome : Type 0 where
@@ -53,14 +53,21 @@ unfoldable pub numbersFit : ℕ → List ℕ → Bool
 numbersFit n [] = true
 numbersFit n (j ∷ js) = numberFits n j && absent j js && numbersFit n js
 
--- 9: "blocks to decode not k in number, not b long, or numbers repeated or not 1 to n"; 10: "lent area short". For blocks of len bytes in all
+-- 9: "blocks to decode not" k to n "in number" (request F-7), "not b long, or numbers repeated or not 1 to n"; 10: "lent area short". For blocks of len bytes
+-- in all
 unfoldable pub decodeTest : Params → List ℕ → ℕ → ℕ → Coded
 decodeTest g numbers len room =
     andThen (paramsTest g)
-    (demand (eqb (length numbers) (g .k)) Blocks
-    (demand (eqb len (g .k * blockLength (g .size) (g .k))) Blocks
+    (demand (leb (g .k) (length numbers)) Blocks
+    (demand (leb (length numbers) (g .n)) Blocks
+    (demand (eqb len (length numbers * blockLength (g .size) (g .k))) Blocks
     (demand (numbersFit (g .n) numbers) Blocks
-    (demand (leb (g .size) room) Room Done))))
+    (demand (leb (g .size) room) Room Done)))))
+
+-- 21, request F-7: "a direct decode whose blocks disagree"
+unfoldable pub agreeTest : Params → List ℕ → List ℕ → Coded
+agreeTest g numbers blocks = demand (agree (g .k) (g .size) numbers blocks) Disagreement Done
 
 unfoldable pub decoding : Params → List ℕ → List ℕ → List ℕ → Outcome
-decoding g numbers blocks out = written (decodeTest g numbers (length blocks) (length out)) out (valueOf numbers (g .size) blocks)
+decoding g numbers blocks out =
+    written (andThen (decodeTest g numbers (length blocks) (length out)) (agreeTest g numbers blocks)) out (candidate (g .k) (g .size) numbers blocks)

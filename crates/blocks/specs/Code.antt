@@ -1,8 +1,10 @@
 -- The block code of document 01, "Blocks", in its order. Assumes nothing: these are definitions.
 use Prim.Native.Nat.{ℕ, _+_, _*_, _-_, _/_}
 use mathlib.Core.List.{List, [], _∷_, _++_}
+use mathlib.Core.Bool.{Bool}
+use mathlib.Core.Option.{Option, none, some}
 use lib.ListN.{length, getD, take, replicate}
-use Rattle.area.specs.Area.{part, table, joined}
+use Rattle.area.specs.Area.{pick, part, same, table, joined}
 use Rattle.blocks.specs.Poly.{eval, through}
 
 -- "b = L / k bytes, rounded up"
@@ -42,3 +44,17 @@ valueOf js L w =
 unfoldable pub blocksOf : ℕ → List ℕ → List ℕ → List ℕ
 blocksOf k v [] = []
 blocksOf k v (j ∷ js) = blockOf k v j ++ blocksOf k v js
+
+-- ---- request F-7: any number of blocks from k on, with the numbers js, end to end in w
+
+-- the value of L bytes that the first k of them give
+unfoldable pub candidate : ℕ → ℕ → List ℕ → List ℕ → List ℕ
+candidate k L js w = valueOf (take k js) L (take (k * blockLength L k) w)
+
+-- whether every one of them is that value's: "all lie on one encoding with zero padding"
+unfoldable pub agree : ℕ → ℕ → List ℕ → List ℕ → Bool
+agree k L js w = same (blocksOf k (candidate k L js w) js) w
+
+-- "gives the value exactly if" they agree; "otherwise they disagree"
+unfoldable pub decodedAll : ℕ → ℕ → List ℕ → List ℕ → Option (List ℕ)
+decodedAll k L js w = pick (agree k L js w) (some (candidate k L js w)) none

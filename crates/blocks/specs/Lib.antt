@@ -2,3 +2,4 @@ pub mod Params
 pub mod Poly
 pub mod Code
 pub mod Calls
+pub mod Exact

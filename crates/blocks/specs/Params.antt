@@ -5,7 +5,7 @@ use mathlib.Core.Bool.{Bool, true, false, _&&_}
 use lib.Dec.{leb, ltb}
 use Rattle.blocks.specs.declared.Params.{Params}
 use Rattle.blocks.specs.declared.Fault.{Fault}
-use Rattle.blocks.specs.declared.Fault.the-variants.{Parties, Threshold, Length, Blocks, Room}
+use Rattle.blocks.specs.declared.Fault.the-variants.{Parties, Threshold, Length, Blocks, Room, Disagreement}
 use Rattle.blocks.specs.declared.Coded.{Coded}
 use Rattle.blocks.specs.declared.Coded.the-variants.{Done, Refused}
 
@@ -16,6 +16,7 @@ numberOf Threshold = 2
 numberOf Length = 3
 numberOf Blocks = 9
 numberOf Room = 10
+numberOf Disagreement = 21
 
 -- "n from 4 to 10; t is at least 1 with n > 3t"
 unfoldable pub partiesFit : ℕ → ℕ → Bool

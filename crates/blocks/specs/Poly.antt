@@ -1,8 +1,10 @@
 -- Polynomials over the byte field as lists of coefficients, constant first. In this field a sum is also a difference.
 -- Assumes nothing: these are definitions.
-use Prim.Native.Nat.{ℕ}
+use Prim.Native.Nat.{ℕ, _*_, _<_, _≤_}
 use mathlib.Core.Path.{_≡_}
 use mathlib.Core.List.{List, [], _∷_}
+use lib.ListN.{length, set, replicate}
+use Rattle.area.specs.Area.{part}
 use Rattle.field.specs.Field.{_⊕_, _⊗_, powerOf}
 
 -- the value at x, by Horner's rule
@@ -39,6 +41,19 @@ unfoldable pub through : List ℕ → List ℕ → List ℕ
 through [] ys = []
 through (x ∷ xs) [] = []
 through (x ∷ xs) (y ∷ ys) = newtonStep (through xs ys) (vanishing xs) x y
+
+-- 1 at index i of k, and 0 elsewhere
+unfoldable pub unit : ℕ → ℕ → List ℕ
+unit k i = set (replicate k 0) i 1
+
+-- the polynomial that is 1 at the i-th of the points xs and 0 at the others
+unfoldable pub basis : List ℕ → ℕ → List ℕ
+basis xs i = through xs (unit (length xs) i)
+
+-- a table whose rows are these polynomials
+pub record Basis (xs t : List ℕ) : Type 0 where
+  pub room : length xs * length xs ≤ length t
+  pub rows : (i : ℕ) → i < length xs → part t (i * length xs) (length xs) ≡ basis xs i
 
 -- P of each entry
 abbrev pub All : (ℕ → Type 0) → List ℕ → Type 0

@@ -161,10 +161,14 @@ pub fn decode_test(g: Params, numbers: &[u8], length: usize, room: usize) -> Cod
     let n = g.n;
     let k = g.k;
     let size = g.size;
-    if numbers.len() != k {
+    let m = numbers.len();
+    if m < k {
         return Coded::Refused(Fault::Blocks);
     }
-    if length != k * block_length(size, k) {
+    if n < m {
+        return Coded::Refused(Fault::Blocks);
+    }
+    if length != m * block_length(size, k) {
         return Coded::Refused(Fault::Blocks);
     }
     if !numbers_fit(n, numbers) {

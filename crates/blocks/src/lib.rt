@@ -1,7 +1,7 @@
 // The block code of document 01: a value as n blocks, any k of which give it back. This crate ships by itself to partners who only decode.
 ghost use mathlib.Core.Path.{_≡_};
 ghost use Rattle.blocks.specs.Calls.{outcome, encoding, decoding};
-use decoder::decode_into;
+use decoder::decode_all;
 use encoder::encode_blocks;
 
 pub mod bounds;
@@ -24,6 +24,7 @@ pub enum Fault {
     Length,
     Blocks,
     Room,
+    Disagreement,
 }
 
 // What a call answers.
@@ -48,7 +49,7 @@ pub fn encode(g: Params, value: &[u8], out: &mut [u8]) -> Coded
     Coded::Done
 }
 
-// The value from k blocks, which lie end to end in blocks, with their numbers, into the front of out.
+// The value from k to n blocks, which lie end to end in blocks, with their numbers, into the front of out, if they are all blocks of one value.
 pub fn decode(g: Params, numbers: &[u8], blocks: &[u8], out: &mut [u8]) -> Coded
     ensures { λ r. ⌜ outcome r (now (out .exit)) ≡ decoding g (now (numbers .entry)) (now (blocks .entry)) (now (out .entry)) ⌝ }
 {
@@ -58,7 +59,12 @@ pub fn decode(g: Params, numbers: &[u8], blocks: &[u8], out: &mut [u8]) -> Coded
     };
     let ps = field::powers();
     let ls = field::logs();
+    let k = g.k;
     let size = g.size;
-    decode_into(numbers, blocks, size, out, 0, &ps, &ls);
+    let mut value = [0u8; 256];
+    if !decode_all(numbers, blocks, k, &mut value[..size], &ps, &ls) {
+        return Coded::Refused(Fault::Disagreement);
+    }
+    area::put(out, 0, &value[..size]);
     Coded::Done
 }

@@ -20,7 +20,7 @@ pub fn value_at(p: &[u8], x: u8, ps: &[u8; 255], ls: &[u8; 256]) -> u8
 }
 
 // Adds c times m to p.
-fn add_scaled(p: &mut [u8], m: &[u8], c: u8, ps: &[u8; 255], ls: &[u8; 256])
+pub fn add_scaled(p: &mut [u8], m: &[u8], c: u8, ps: &[u8; 255], ls: &[u8; 256])
     requires { ⌜ (length (now p) ≡ length (now m)) × Tables (now ps) (now ls) ⌝ }
     ensures { λ _. ⌜ now (p .exit) ≡ plus (now (p .entry)) (scale c (now (m .entry))) ⌝ }
 {
@@ -37,6 +37,10 @@ fn newton_step(p: &mut [u8], m: &[u8], x: u8, y: u8, ps: &[u8; 255], ls: &[u8; 2
     ensures { λ _. ⌜ now (p .exit) ≡ newtonStep (now (p .entry)) (now (m .entry)) x y ⌝ }
 {
     let gap = y ^ value_at(p, x, ps, ls);
+    // as at the points of a unit vector behind its one: then no inverse is needed
+    if gap == 0 {
+        return;
+    }
     let inverse = field::inverse(value_at(m, x, ps, ls), ps, ls);
     let c = field::mul(gap, inverse, ps, ls);
     add_scaled(p, m, c, ps, ls);

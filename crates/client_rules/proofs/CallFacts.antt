@@ -155,7 +155,7 @@ module _ (H : List ℕ → List ℕ) (g : Params) (M : Small g) (few : g .n ≤ 
       pub g-sent : (b : Party) (d q : ℕ) → List·Memᴰ (sending b (message d q getStamp)) l → q ≤ s′ .writes
       pub r-sent : (b : Party) (d q : ℕ) → List·Memᴰ (sending b (message d q askRead)) l → q ≤ s′ .reads
       pub write-why : ev ≡ C.written → AtLeast (g .n) (g .n - g .t) KnowsA
-      pub read-why : (v : Found) → ev ≡ C.completed v → AtLeast (g .n) (g .n - g .t) (λ j. (k : Kept) × (k .stamp ≡ v .stamp) × (k .entry .digests ≡ v .digests) × KnowsV j k)
+      pub read-why : (v : Found) → ev ≡ C.stopped v → AtLeast (g .n) (g .n - g .t) (λ j. (k : Kept) × (k .stamp ≡ v .stamp) × (k .entry .digests ≡ v .digests) × KnowsV j k)
 
     -- a move that sends nothing and ends nothing
     turn-facts : (s′ : Client) (a′ : List ℕ) → ClientShape s′ a′ → s′ .writes ≡ s .writes → s′ .reads ≡ s .reads
@@ -308,7 +308,7 @@ module _ (H : List ℕ → List ℕ) (g : Params) (M : Small g) (few : g .n ≤ 
       wait-facts Y = turn-facts s′ a′ Y ew er (λ i T′ is q z. impossible (cc)) (λ i is q z. impossible (cc)) (λ i k is q z. f i k is z)
 
       complete-facts : ClientShape (inPhase s′ F.Idle (s′ .heard) (s′ .times)) a′ → (y : Found) → search g (rowView g s′ a′) ≡ some y
-          → ClientFacts (inPhase s′ F.Idle (s′ .heard) (s′ .times)) a′ (toAll g (λ i. message me (s′ .reads) readComplete)) (C.completed y)
+          → ClientFacts (inPhase s′ F.Idle (s′ .heard) (s′ .times)) a′ (toAll g (λ i. message me (s′ .reads) readComplete)) (C.stopped y)
       complete-facts Y y e = record {
         client-shape = Y;
         writes-up = omega (arith, ew);

@@ -63,7 +63,7 @@ module _ (H : List ℕ → List ℕ) (g : Params) (me : ℕ) (s : Client) (a v :
       client = inPhase s′ F.Idle (s′ .heard) (s′ .times);
       area = a′;
       sends = toAll g (λ i. message me (s′ .reads) readComplete);
-      event = C.completed y;
+      event = C.stopped y;
     })
 
   on-stamp : (T : ℕ) → Shape (stampIs T) (C.onStamp H g me s a v j T)

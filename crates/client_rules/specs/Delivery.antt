@@ -1,9 +1,11 @@
 -- A client's delivery: the whole outcome. H is the digest, g the parameters, me the client's number. These are definitions.
 use Prim.Native.Nat.{ℕ}
+use mathlib.Core.Option.{Option, none, some}
 use mathlib.Core.List.{List}
 use lib.ListN.{length}
 use lib.Seq.{sets}
 use Rattle.blocks.specs.declared.Params.{Params}
+use Rattle.frame.specs.declared.Stamp.{Stamp}
 use Rattle.frame.specs.declared.Party.{Party}
 use Rattle.frame.specs.Messages.{Judged, bad, good}
 use Rattle.frame.specs.Outbox.{frames, receivers}
@@ -12,7 +14,7 @@ use Rattle.client_rules.specs.declared.Answer.{Answer}
 use Rattle.client_rules.specs.declared.Answered.{Answered}
 use Rattle.client_rules.specs.declared.Answer.the-variants as Y
 use Rattle.client_rules.specs.Tests.{judge}
-use Rattle.client_rules.specs.Steps.{Event, nothing, written, outOfStamps, completed, Effect, quiet, effect}
+use Rattle.client_rules.specs.Steps.{Event, nothing, written, outOfStamps, stopped, Effect, quiet, effect}
 
 -- the whole outcome: the answer, the client, and every byte of the lent areas
 pub record Outcome : Type 0 where
@@ -26,22 +28,31 @@ pub record Outcome : Type 0 where
 abbrev pub outcome : Answered → List ℕ → List ℕ → List ℕ → List ℕ → Outcome
 outcome r area result out to = record { answer = r .answer; client = r .client; area = area; result = result; out = out; to = to }
 
+-- the end of a read at a stamp: its value, or the disagreement of its blocks, which is a result and no refusal (request F-7)
+abbrev pub readAnswer : Stamp → Option (List ℕ) → Answer
+readAnswer x none = Y.Disagreement
+readAnswer x (some v) = Y.Value x
+
 unfoldable pub eventAnswer : Event → ℕ → Answer
 eventAnswer nothing c = Y.Sent c
 eventAnswer written c = Y.Written
 eventAnswer outOfStamps c = Y.OutOfStamps
-eventAnswer (completed x) c = Y.Value (x .stamp)
+eventAnswer (stopped x) c = readAnswer (x .stamp) (x .bytes)
 
 unfoldable pub answerOf : Judged → Effect → Answer
 answerOf (bad r) x = Y.Refused r
 answerOf (good m) x = eventAnswer (x .event) (length (x .sends))
 
--- a completed read writes its value at the start of the result area
+-- a completed read writes its value at the start of the result area; otherwise it stays as lent
+abbrev pub readResult : Option (List ℕ) → List ℕ → List ℕ
+readResult none l = l
+readResult (some v) l = sets l 0 v
+
 unfoldable pub resultOf : Event → List ℕ → List ℕ
 resultOf nothing l = l
 resultOf written l = l
 resultOf outOfStamps l = l
-resultOf (completed x) l = sets l 0 (x .bytes)
+resultOf (stopped x) l = readResult (x .bytes) l
 
 -- frames lie end to end from the start of the out area, two bytes for the receiver of each in the to area; other bytes stay as lent
 unfoldable pub outcomeOf : Judged → Effect → List ℕ → List ℕ → List ℕ → Outcome

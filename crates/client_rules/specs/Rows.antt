@@ -72,11 +72,11 @@ unfoldable pub rowsFrom : (ℕ → List Kept) → ℕ → ℕ → List Kept
 rowsFrom f j zero = []
 rowsFrom f j (suc m) = f j ++ rowsFrom f (suc j) m
 
--- where the search stopped, and the value
+-- where the search stopped, and the value, if the blocks found there agree
 pub record Found : Type 0 where
   pub stamp : Stamp
   pub digests : List ℕ
-  pub bytes : List ℕ
+  pub bytes : Option (List ℕ)
 
 module _ (g : Params) (f : ℕ → List Kept) where
   -- whether a stamp and digest list are in n - t rows
@@ -92,7 +92,7 @@ module _ (g : Params) (f : ℕ → List Kept) where
   firstAgreed [] = none
   firstAgreed (k ∷ l) = firstBy (agreed k) k (firstAgreed l)
 
-  -- "the value is decoded from the k lowest of those servers"
+  -- "the value is decoded", "with all blocks" of those servers (request F-7)
   unfoldable pub foundOf : Kept → Found
   foundOf k = record {
     stamp = k .stamp;

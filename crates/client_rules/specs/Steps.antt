@@ -19,10 +19,10 @@ use Rattle.client_rules.specs.declared.Phase.the-variants as F
 use Rattle.client_rules.specs.State.{rowOf, largest, inPhase, shut, withRow}
 use Rattle.client_rules.specs.Rows.{rowView, placeFor, rowWith, Found, search}
 
--- what a call ends: nothing; the write; the write, as out of stamps; the read
+-- what a call ends: nothing; the write; the write, as out of stamps; the read, where its search stopped
 pub data Event : Type 0 where
   nothing written outOfStamps : Event
-  completed : Found → Event
+  stopped : Found → Event
 
 -- What a step does: the client and its rows area afterwards, the frames it sends, and what it ends.
 pub record Effect : Type 0 where
@@ -70,14 +70,15 @@ module _ (H : List ℕ → List ℕ) (g : Params) (me : ℕ) where
 
   -- ---- Read
 
-  -- "Then read-complete goes to all and the value is decoded"
+  -- "Then read-complete goes to all and the value is decoded"; a reader whose blocks disagree also "closes its read, sends read-complete to all and reports
+  -- the disagreement" (request F-7)
   unfoldable pub completeBy : Option Found → Client → List ℕ → Effect
   completeBy none s a = quiet s a
   completeBy (some x) s a = record {
     client = inPhase s F.Idle (s .heard) (s .times);
     area = a;
     sends = toAll g (λ j. message me (s .reads) readComplete);
-    event = completed x;
+    event = stopped x;
   }
 
   unfoldable pub settle : Client → List ℕ → Effect

@@ -29,12 +29,14 @@ pub struct Client {
 }
 
 // So many frames were sent; the write has ended; it closed as out of stamps; the read has ended with this stamp, its value is in the result area,
-// and a read-complete went to each server; or the reason why there is no step.
+// and a read-complete went to each server; the read is closed since its blocks disagree, and a read-complete went to each server; or the reason why there
+// is no step.
 pub enum Answer {
     Sent(usize),
     Written,
     OutOfStamps,
     Value(Stamp),
+    Disagreement,
     Refused(Refusal),
 }
 

@@ -1,13 +1,14 @@
 -- The end of a read: the decoding's needs, what the search tells, and the whole outcome. Assumes nothing.
 use Prim.Native.Nat.{ℕ, _+_, _≤_}
 use native.Mathlib.Omega.{arith}
-use mathlib.Core.Bool.{Bool, true, false}
-use mathlib.Core.Path.{_≡_, refl, ap, sym, _∙_}
-use mathlib.Core.Option.{Option, some}
+use mathlib.Core.Bool.{Bool, true, false, not}
+use mathlib.Core.Path.{_≡_, refl, ap, ap₂, sym, _∙_}
+use mathlib.Core.Option.{Option, none, some}
 use mathlib.Core.List.{List, [], _∷_}
 use lib.ListN.{length}
 use lib.Seq.{sets}
-use borrow.Author.Tests.{leb-true}
+use borrow.Author.Tests.{leb-true, not-true, not-false}
+use Rattle.area.specs.Area.{pick}
 use Rattle.quorum.specs.Quorum.{count}
 use Rattle.quorum.proofs.Logic.{impossible}
 use Rattle.field.specs.Field.{Powers, Logs}
@@ -16,29 +17,32 @@ use Rattle.sha256.specs.Hash.{digestOf}
 use Rattle.frame.specs.declared.Stamp.{Stamp}
 use Rattle.frame.specs.declared.Place.{Place}
 use Rattle.frame.specs.Params.{largestFrame}
-use Rattle.frame.specs.Messages.{message, readComplete, toAll}
+use Rattle.frame.specs.Messages.{Entry, message, readComplete, toAll}
 use Rattle.frame.specs.Chunks.{entryAt, placeAt}
-use Rattle.group_rules.specs.Coded.{hasList, decoded}
+use Rattle.group_rules.specs.Coded.{hasList, lowestValue, agreeing, decoded}
 use Rattle.frame.specs.Outbox.{frames, receivers, Outbox, outbox, firstPlace, sent, Room}
-use Rattle.group.specs.Entries.{marked}
-use Rattle.group.specs.Choice.{valueFrom}
-use Rattle.group.specs.Needs.{Decoding}
+use Rattle.group.specs.Entries.{marked, Within}
+use Rattle.group.specs.Choice.{valueFrom, allOf}
+use Rattle.group.specs.Needs.{Decoding, Valued}
+use Rattle.group.proofs.Regaining.{length-value}
+use Rattle.group.proofs.Matched.{decoded-by}
 use Rattle.client_rules.specs.declared.Row.{Row}
 use Rattle.client_rules.specs.declared.Client.{Client}
+use Rattle.client_rules.specs.declared.Answer.{Answer}
 use Rattle.client_rules.specs.declared.Answer.the-variants as Y
 use Rattle.client_rules.specs.declared.Phase.the-variants as F
 use Rattle.client_rules.specs.Rows.{Kept, atStamp, rowView, rowsFrom, agreed, firstBy, firstAgreed, foundOf, foundBy, search}
 use Rattle.client_rules.specs.Steps.{completeBy, settle}
 use Rattle.client.specs.Stages.{Lent, stepped}
 use Rattle.client.proofs.SendRooms.{room-smaller}
-use Rattle.client_rules.specs.Delivery.{Outcome, eventAnswer, resultOf}
+use Rattle.client_rules.specs.Delivery.{Outcome, readAnswer, readResult, eventAnswer, resultOf}
 use Rattle.client_search.specs.declared.Hits.{Hits}
 use Rattle.client_search.specs.declared.Stop.{Stop}
 use Rattle.client_search.specs.declared.Stop.the-variants.{At, Nowhere}
 use Rattle.client_search.specs.AtStamp.{hitsOf}
 use Rattle.client_search.specs.Search.{view, holdersOf, keptAt, standing, Inside, Searching, Regaining, Finishing}
 use Rattle.client_search.proofs.Firsts.{hits-within}
-use Rattle.client_search.proofs.Searches.{holders-count, holders-value}
+use Rattle.client_search.proofs.Searches.{holders-count, holders-value, holders-all}
 
 -- ---- decoding
 
@@ -56,19 +60,56 @@ module _ (g : Params) (rows : List Row) (a : List ℕ) (x : Stamp) (p result : �
       let l : g .n ≤ count (λ j. hasList (atStamp (view g rows a j) x) (entryAt g a p .digests)) (g .n) + g .t = leb-true _ _ (q .held) in
       omega (arith, c, l, q .searching .bounded .blocks-high)
 
-  pub regaining : (ps ls : List ℕ) → Powers ps → Logs ls → Decoding g (k .on) (k .at) a result ps ls
+  within : Within (k .at) a
   unfolding holdersOf
-  regaining ps ls u v = record {
+  within = rw all (hits-within rows x a (q .searching .whole))
+
+  pub regaining : (out : ℕ) (ps ls : List ℕ) → out ≡ g .size → Powers ps → Logs ls → Decoding g (k .on) (k .at) a out ps ls
+  regaining out ps ls o u v = record {
     bounded = q .searching .bounded;
-    within = rw all (hits-within rows x a (q .searching .whole));
+    within = within;
     enough = enough;
-    room = q .value-room;
+    whole = o;
     tables = record { powers = u; logs = v };
   }
 
-  pub regained : (l r : List ℕ) → r ≡ sets l 0 (valueFrom g (k .on) (k .at) a)
-      → r ≡ sets l 0 (decoded g (λ j. atStamp (view g rows a j) x) (entryAt g a p .digests))
-  regained l r d = d ∙ ap (sets l 0) (ap (λ (z : Hits). valueFrom g (z .on) (z .at) a) all ∙ holders-value g rows a x p (q .searching))
+  -- what the k lowest give
+  module _ (l : List ℕ) (l-is : l ≡ valueFrom g (k .on) (k .at) a) (ps ls : List ℕ) (pw : Powers ps) (lg : Logs ls) where
+    abbrev at-row : ℕ → Option Entry
+    at-row j = atStamp (view g rows a j) x
+
+    pub value-length : length l ≡ g .size
+    value-length = ap length l-is ∙ length-value g (k .on) (k .at) a (g .size) ps ls (regaining (g .size) ps ls refl pw lg)
+
+    pub valued : Valued g l ps ls × Within (k .at) a
+    valued = (record { bounded = q .searching .bounded; whole = value-length; tables = record { powers = pw; logs = lg } }, within)
+
+    lowest-is : l ≡ lowestValue g at-row (entryAt g a p .digests)
+    lowest-is = l-is ∙ ap (λ (z : Hits). valueFrom g (z .on) (z .at) a) all ∙ holders-value g rows a x p (q .searching)
+
+    module _ (r : Bool) (r-is : r ≡ allOf g (k .on) (k .at) a l) where
+      agree-is : r ≡ agreeing g at-row (entryAt g a p .digests)
+      agree-is =
+          r-is ∙ ap (allOf g (k .on) (k .at) a) l-is
+          ∙ ap (λ (z : Hits). allOf g (z .on) (z .at) a (valueFrom g (z .on) (z .at) a)) all ∙ holders-all g rows a x p (q .searching)
+
+      decoded-is : (b : Bool) → r ≡ b → decoded g at-row (entryAt g a p .digests) ≡ pick b (some l) none
+      decoded-is b e =
+          decoded-by g at-row (entryAt g a p .digests)
+          ∙ ap₂ (λ (t : Bool) (w : List ℕ). pick t (some w) none) (sym agree-is ∙ e) (sym lowest-is)
+
+      pub disagreed : (o : List ℕ) → not r ≡ true → (false ≡ agreeing g at-row (entryAt g a p .digests)) × (o ≡ readResult (decoded g at-row (entryAt g a p .digests)) o)
+      unfolding pick
+      disagreed o t =
+          let e : r ≡ false = not-true r t in
+          (sym e ∙ agree-is, sym (ap (λ (z : Option (List ℕ)). readResult z o) (decoded-is false e)))
+
+      pub unanimous : (o o′ : List ℕ) → not r ≡ false → o′ ≡ sets o 0 l
+          → (true ≡ agreeing g at-row (entryAt g a p .digests)) × (o′ ≡ readResult (decoded g at-row (entryAt g a p .digests)) o)
+      unfolding pick
+      unanimous o o′ t d =
+          let e : r ≡ true = not-false r t in
+          (sym e ∙ agree-is, d ∙ sym (ap (λ (z : Option (List ℕ)). readResult z o) (decoded-is true e)))
 
 -- ---- what the search tells
 
@@ -112,13 +153,28 @@ module _ (g : Params) (rows : List Row) (a : List ℕ) (result out to : ℕ) (le
 
 -- ---- the outcome
 
+pub read-yes : (b : Bool) (x : Stamp) → b ≡ true → Y.Value x ≡ pick b (Y.Value x) Y.Disagreement
+unfolding pick
+read-yes b x e = sym (ap (λ (t : Bool). pick t (Y.Value x) Y.Disagreement) e)
+
+pub read-no : (b : Bool) (x : Stamp) → b ≡ false → Y.Disagreement ≡ pick b (Y.Value x) Y.Disagreement
+unfolding pick
+read-no b x e = sym (ap (λ (t : Bool). pick t (Y.Value x) Y.Disagreement) e)
+
+answer-by : (b : Bool) (x : Stamp) (v : List ℕ) → pick b (Y.Value x) Y.Disagreement ≡ readAnswer x (pick b (some v) none)
+unfolding pick
+answer-by true x v = refl
+answer-by false x v = refl
+
 module _ (g : Params) (me : ℕ) (s : Client) (a result out to : List ℕ) where
-  pub finish-law : (j i : ℕ) (r o t : List ℕ) (q : Place)
-      → r ≡ sets result 0 (decoded g (λ m. atStamp (view g (s .rows) a m) (keptAt g (s .rows) a j i .stamp)) (entryAt g a (placeAt j i) .digests))
+  pub finish-law : (j i : ℕ) (r o t : List ℕ) (q : Place) (b : Bool) (y : Answer)
+      → b ≡ agreeing g (λ m. atStamp (view g (s .rows) a m) (keptAt g (s .rows) a j i .stamp)) (entryAt g a (placeAt j i) .digests)
+      → r ≡ readResult (decoded g (λ m. atStamp (view g (s .rows) a m) (keptAt g (s .rows) a j i .stamp)) (entryAt g a (placeAt j i) .digests)) result
+      → y ≡ pick b (Y.Value (keptAt g (s .rows) a j i .stamp)) Y.Disagreement
       → outbox o t q ≡ sent (outbox out to firstPlace) (toAll g (λ m. message me (s .reads) readComplete))
       → _≡_ {A = Outcome}
       (record {
-        answer = Y.Value (keptAt g (s .rows) a j i .stamp);
+        answer = y;
         client = record { writes = s .writes; reads = s .reads; closed = s .closed; phase = F.Idle; heard = s .heard; times = s .times; rows = s .rows };
         area = a;
         result = r;
@@ -127,11 +183,15 @@ module _ (g : Params) (me : ℕ) (s : Client) (a result out to : List ℕ) where
       })
       (stepped (completeBy digestOf g me (some (foundOf g (view g (s .rows) a) (keptAt g (s .rows) a j i))) s a) result out to)
   unfolding stepped completeBy foundOf eventAnswer resultOf sent
-  finish-law j i r o t q d e =
+  finish-law j i r o t q b y p d n e =
+      let f : ℕ → Option Entry = λ m. atStamp (view g (s .rows) a m) (keptAt g (s .rows) a j i .stamp) in
+      let h = n ∙ ap (λ (c : Bool). pick c (Y.Value (keptAt g (s .rows) a j i .stamp)) Y.Disagreement) p
+      ∙ answer-by (agreeing g f (entryAt g a (placeAt j i) .digests)) (keptAt g (s .rows) a j i .stamp) (lowestValue g f (entryAt g a (placeAt j i) .digests))
+      ∙ sym (ap (readAnswer (keptAt g (s .rows) a j i .stamp)) (decoded-by g f (entryAt g a (placeAt j i) .digests))) in
       let u : o ≡ sets out 0 (frames (toAll g (λ m. message me (s .reads) readComplete))) = ap (λ (b : Outbox). b .out) e in
       let w : t ≡ sets to 0 (receivers (toAll g (λ m. message me (s .reads) readComplete))) = ap (λ (b : Outbox). b .to) e in
       λ z. record {
-        answer = Y.Value (keptAt g (s .rows) a j i .stamp);
+        answer = h z;
         client = record { writes = s .writes; reads = s .reads; closed = s .closed; phase = F.Idle; heard = s .heard; times = s .times; rows = s .rows };
         area = a;
         result = d z;

@@ -14,11 +14,11 @@ use Rattle.blocks.specs.declared.Params.{Params}
 use Rattle.frame.specs.declared.Stamp.{Stamp}
 use Rattle.frame.specs.Messages.{Entry}
 use Rattle.frame.specs.Chunks.{chunkAt, entryAt, rowsBytes}
-use Rattle.group_rules.specs.Coded.{hasList, decoded}
+use Rattle.group_rules.specs.Coded.{hasList, lowestValue, agreeing}
 use Rattle.group.specs.Entries.{kept, marked, entries, sentList, flags}
-use Rattle.group.specs.Choice.{valueFrom}
+use Rattle.group.specs.Choice.{valueFrom, allOf}
 use Rattle.group.specs.Needs.{Comparing}
-use Rattle.group.proofs.Matched.{count-flags, matched-count, matched-value}
+use Rattle.group.proofs.Matched.{count-flags, matched-count, matched-value, matched-all}
 use Rattle.client_rules.specs.declared.Row.{Row}
 use Rattle.client_rules.specs.State.{noRow}
 use Rattle.client_rules.specs.Rows.{Kept, used, placesFrom, atStamp, rowsFrom, agreed, firstBy, firstAgreed}
@@ -78,10 +78,19 @@ module _ (g : Params) (rows : List Row) (a : List ℕ) (x : Stamp) (p : ℕ) (q 
   unfolding holdersOf
   holders-count = matched-count g (hitsOf rows x .on) (hitsOf rows x .at) a (entryAt g a p .digests) at-row agree (q .bounded .servers-high)
 
-  -- "the value is decoded from the k lowest of those servers"
-  pub holders-value : valueFrom g (holdersOf g a (hitsOf rows x) p .on) (holdersOf g a (hitsOf rows x) p .at) a ≡ decoded g at-row (entryAt g a p .digests)
+  -- the value that the k lowest of those servers give, and whether all have its blocks
+  pub holders-value : valueFrom g (holdersOf g a (hitsOf rows x) p .on) (holdersOf g a (hitsOf rows x) p .at) a ≡ lowestValue g at-row (entryAt g a p .digests)
   unfolding holdersOf
-  holders-value = matched-value g (hitsOf rows x .on) (hitsOf rows x .at) a (entryAt g a p .digests) at-row agree (q .bounded .servers-high)
+  holders-value =
+      matched-value g (hitsOf rows x .on) (hitsOf rows x .at) a (entryAt g a p .digests) at-row agree (q .bounded .servers-high) (q .bounded)
+      (hits-within rows x a (q .whole))
+
+  pub holders-all : allOf g (holdersOf g a (hitsOf rows x) p .on) (holdersOf g a (hitsOf rows x) p .at) a
+      (valueFrom g (holdersOf g a (hitsOf rows x) p .on) (holdersOf g a (hitsOf rows x) p .at) a) ≡ agreeing g at-row (entryAt g a p .digests)
+  unfolding holdersOf
+  holders-all =
+      matched-all g (hitsOf rows x .on) (hitsOf rows x .at) a (entryAt g a p .digests) at-row agree (q .bounded .servers-high) (q .bounded)
+      (hits-within rows x a (q .whole))
 
   -- at most as many as have the stamp
   with-list-le : with-list ≤ count (marked (hitsOf rows x .on)) (g .n)

@@ -109,10 +109,6 @@ lowest-below p k n i =
     let z = below-take k (chosen p 1 n) (1 + n) (omega arith) (chosen-below p 1 n (omega arith)) i in
     omega arith
 
-pub lowest-agree : (p q : ℕ → Bool) (k n : ℕ) → ((j : ℕ) → 1 ≤ j → j ≤ n → p j ≡ q j) → lowest p k n ≡ lowest q k n
-unfolding lowest
-lowest-agree p q k n h = ap (take k) (chosen-agree p q 1 n (λ i a b. h i a (omega arith)))
-
 -- ---- a turn of the loop that stores them
 
 stored : (b : Bool) (d l : List ℕ) (x : ℕ) → pick b (set (sets d 0 l) (length l) x) (sets d 0 l) ≡ sets d 0 (pick b (l ++ (x ∷ [])) l)

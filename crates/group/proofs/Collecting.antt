@@ -28,7 +28,7 @@ unfolding entryAt
 length-block g a p B h = length-part a (blockPlace p) (width g) (omega (arith, small g B .block-room))
 
 module _ (g : Params) (at a : List ℕ) (B : Bounded g) (w : Within at a) where
-  length-blockIn : (j : ℕ) → length (blockIn g at a j) ≡ width g
+  pub length-blockIn : (j : ℕ) → length (blockIn g at a j) ≡ width g
   unfolding Within
   length-blockIn j = length-block g a (getD at j 0) B (w j)
 

@@ -17,7 +17,7 @@ use Rattle.sha256.specs.Hash.{digestOf}
 use Rattle.sha256.proofs.Bytes.{length-digest}
 use Rattle.frame.specs.Params.{listed}
 use Rattle.group_rules.specs.Coded.{digestsOf}
-use Rattle.group.proofs.Lists.{take-front, same-comm, same-split}
+use Rattle.group.proofs.Lists.{take-front, same-split}
 
 module _ (f : ℕ → List ℕ) (sized : (j : ℕ) → length (f j) ≡ 32) where
   -- f (j + 1) was stored behind f 1 to f j
@@ -41,7 +41,7 @@ module _ (f : ℕ → List ℕ) (sized : (j : ℕ) → length (f j) ≡ 32) wher
     pub rest-start : same (joined f 1 n) list ≡ rest 0
     rest-start = let e : n ≡ n - 0 = omega arith in ap (λ m. same (joined f 1 m) list) e
 
-    rest-split : (j : ℕ) → j < n → rest j ≡ same (f (j + 1)) (part list (32 * j) 32) && rest (j + 1)
+    pub rest-split : (j : ℕ) → j < n → rest j ≡ same (f (j + 1)) (part list (32 * j) 32) && rest (j + 1)
     unfolding joined
     rest-split j h =
         let e : n - j ≡ suc (n - (j + 1)) = omega arith in
@@ -53,32 +53,12 @@ module _ (f : ℕ → List ℕ) (sized : (j : ℕ) → length (f j) ≡ 32) wher
         ∙ ap (λ w. same (f (j + 1)) (take w (drop (32 * j) list)) && same (joined f (suc (j + 1)) (n - (j + 1))) (drop w (drop (32 * j) list))) (sized (j + 1))
         ∙ ap₂ (λ i l. same (f (j + 1)) (part list (32 * j) 32) && same (joined f i (n - (j + 1))) l) u (drop-drop 32 (32 * j) list ∙ ap (λ i. drop i list) v)
 
-    compared-at : (j : ℕ) (x : List ℕ) (r : Bool) → x ≡ f (j + 1) → r ≡ same (part list (32 * j) (length x)) x
-        → r ≡ same (f (j + 1)) (part list (32 * j) 32)
-    compared-at j x r e q =
-        q ∙ ap (λ y. same (part list (32 * j) (length y)) y) e
-        ∙ ap (λ w. same (part list (32 * j) w) (f (j + 1))) (sized (j + 1))
-        ∙ same-comm (part list (32 * j) 32) (f (j + 1))
-
-    -- x, the digest j + 1, was found in its place
-    pub rest-turn : (j : ℕ) (x : List ℕ) (r : Bool) → j < n → x ≡ f (j + 1) → r ≡ same (part list (32 * j) (length x)) x → r ≡ true
-        → same (joined f 1 n) list ≡ rest j → same (joined f 1 n) list ≡ rest (j + 1)
-    rest-turn j x r h e q t i =
-        i ∙ rest-split j h ∙ ap (λ b. b && rest (j + 1)) (sym (compared-at j x r e q) ∙ t)
-
-    -- it was not
-    pub rest-differ : (j : ℕ) (x : List ℕ) (r : Bool) → j < n → x ≡ f (j + 1) → r ≡ same (part list (32 * j) (length x)) x → r ≡ false
-        → same (joined f 1 n) list ≡ rest j → same (joined f 1 n) list ≡ false
-    rest-differ j x r h e q t i =
-        i ∙ rest-split j h ∙ ap (λ b. b && rest (j + 1)) (sym (compared-at j x r e q) ∙ t)
-
-    -- all were
-    pub rest-end : (j : ℕ) → n ≤ j → same (joined f 1 n) list ≡ rest j → same (joined f 1 n) list ≡ true
+    pub rest-end : (j : ℕ) → n ≤ j → rest j ≡ true
     unfolding joined same
-    rest-end j h i =
+    rest-end j h =
         let e : n - j ≡ 0 = omega arith in
         let k : length list ≤ 32 * j = omega arith in
-        i ∙ ap₂ (λ m l. same (joined f (j + 1) m) l) e (drop-of-length-le list k)
+        ap₂ (λ m l. same (joined f (j + 1) m) l) e (drop-of-length-le list k)
 
 -- ---- the digest of one block
 

@@ -2,6 +2,8 @@ pub mod DigestLaws
 pub mod Lists
 pub mod Choosing
 pub mod Collecting
+pub mod Unanimous
 pub mod Digests
+pub mod Comparing
 pub mod Regaining
 pub mod Matched

@@ -1,27 +1,21 @@
 -- Lists: stores at the front, and equality of lists piece by piece. Assumes nothing.
 use mathlib.Core.Path.{_≡_, refl, sym, ap, ap₂, _∙_}
 use mathlib.Core.Bool.{Bool, true, false, _&&_}
-use mathlib.Core.List.{List, [], _∷_, _++_, append-nil}
+use mathlib.Core.List.{List, [], _∷_, _++_}
 use Prim.Native.Nat.{ℕ, zero, suc, _+_, _≤_, _<_}
 use native.Mathlib.Nat.{zero-add}
 use native.Mathlib.Omega.{arith}
 use native.Mathlib.Decide.{decLe}
-use lib.ListN.{length, getD, take, drop, set, length-append, drop-of-length-le}
-use lib.Seq.{sets, sets-eq, take-all, take-append-le, length-take-le}
+use lib.ListN.{length, getD, take, drop, set, length-append}
+use lib.Seq.{sets, take-all, take-append-le, length-take-le}
 use lib.Dec.{eqb, ltb}
 use borrow.Author.Tests.{eqb-true, eqb-false, eq-eqb, ne-eqb, lt-ltb, le-ltb}
 use Rattle.area.specs.Area.{pick, same, table}
 use Rattle.area.proofs.Sets.{part-sets-same}
 use Rattle.area.proofs.Fills.{length-table, sets-table}
+use Rattle.blocks.proofs.Values.{sets-whole}
 
 -- ---- stores at the front
-
--- a list that fills the whole
-pub sets-whole : {A : Type 0} (l vs : List A) → length vs ≡ length l → sets l 0 vs ≡ vs
-sets-whole l vs e =
-    let h : 0 + length vs ≤ length l = omega arith in
-    let k : length l ≤ 0 + length vs = omega arith in
-    sets-eq vs l 0 h ∙ ap (λ t. vs ++ t) (drop-of-length-le l k) ∙ append-nil vs
 
 -- a turn of a loop that stores a table from the front on, and its end
 pub table-turn : {A : Type 0} (f : ℕ → A) (d r : List A) (j : ℕ) (x : A) → r ≡ sets d 0 (table j f) → x ≡ f j → set r j x ≡ sets d 0 (table (j + 1) f)

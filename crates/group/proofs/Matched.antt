@@ -4,7 +4,7 @@ use mathlib.Core.Path.{_≡_, refl, sym, ap, ap₂, _∙_}
 use mathlib.Core.Bool.{Bool, true, false, _&&_}
 use mathlib.Core.Option.{Option, none, some}
 use mathlib.Core.List.{List, [], _∷_, _++_}
-use Prim.Native.Nat.{ℕ, zero, suc, _+_, _≤_, _<_}
+use Prim.Native.Nat.{ℕ, zero, suc, _+_, _*_, _≤_, _<_}
 use native.Mathlib.Omega.{arith}
 use native.Mathlib.Decide.{decLe}
 use native.Mathlib.Numerals.{add-one}
@@ -16,13 +16,16 @@ use Rattle.area.proofs.Fills.{getD-table, length-table}
 use Rattle.quorum.specs.Quorum.{bit, count}
 use Rattle.quorum.proofs.Counting.{count-suc}
 use Rattle.blocks.specs.declared.Params.{Params}
-use Rattle.blocks.specs.Code.{valueOf}
+use Rattle.blocks.specs.Code as Code
+use Rattle.blocks.specs.Code.{valueOf, blocksOf, candidate, decodedAll}
+use Rattle.frame.specs.Params.{width, Bounded}
 use Rattle.frame.specs.Messages.{Entry}
 use Rattle.frame.specs.Chunks.{chunkAt, entryAt}
-use Rattle.group_rules.specs.Coded.{Piece, hasList, pieceOf, pieces, numbers, joinedBytes, decoded}
+use Rattle.group_rules.specs.Coded.{Piece, hasList, pieceOf, pieces, numbers, joinedBytes, lowestValue, agreeing, decoded}
 use Rattle.group.specs.Entries.{kept, marked, timed, entries, sentList, passing, flags, placesFrom, Within}
-use Rattle.group.specs.Choice.{chosen, lowest, blockIn, blocksIn, valueFrom}
-use Rattle.group.proofs.Choosing.{lowest-agree}
+use Rattle.group.specs.Choice.{chosen, lowest, blockIn, blocksIn, valueFrom, allOf}
+use Rattle.group.proofs.Choosing.{chosen-agree}
+use Rattle.group.proofs.Unanimous.{blocksIn-take}
 
 -- ---- tests and entries that agree
 
@@ -38,11 +41,13 @@ pieces-agree f h d j zero e = refl
 pieces-agree f h d j (suc m) e =
     ap₂ (λ o l. pieceOf o d j l) (e j (omega arith) (omega arith)) (pieces-agree f h d (suc j) m (λ i a b. e i (omega arith) (omega arith)))
 
-pub decoded-agree : (g : Params) (f h : ℕ → Option Entry) (d : List ℕ) → ((j : ℕ) → 1 ≤ j → j ≤ g .n → f j ≡ h j) → decoded g f d ≡ decoded g h d
-unfolding decoded
-decoded-agree g f h d e =
-    ap (λ l. valueOf (numbers (take (g .k) l)) (g .size) (joinedBytes (take (g .k) l)))
-    (pieces-agree f h d 1 (g .n) (λ i a b. e i a (omega arith)))
+-- the value, if all blocks agree
+pub decoded-by : (g : Params) (f : ℕ → Option Entry) (d : List ℕ) → decoded g f d ≡ pick (agreeing g f d) (some (lowestValue g f d)) none
+unfolding decoded agreeing lowestValue decodedAll
+decoded-by g f d = refl
+
+all-agree : (g : Params) (f h : ℕ → Option Entry) (d : List ℕ) → ((j : ℕ) → 1 ≤ j → j ≤ g .n → f j ≡ h j) → pieces f d 1 (g .n) ≡ pieces h d 1 (g .n)
+all-agree g f h d e = pieces-agree f h d 1 (g .n) (λ i a b. e i a (omega arith))
 
 -- ---- flags
 
@@ -99,11 +104,6 @@ within-places p a h j = go (decLe j 10)
 
 -- ---- pieces
 
-numbers-take : (k : ℕ) (l : List Piece) → numbers (take k l) ≡ take k (numbers l)
-numbers-take zero l = refl
-numbers-take (suc k) [] = refl
-numbers-take (suc k) (x ∷ l) = ap (λ t. x .number ∷ t) (numbers-take k l)
-
 numbers-of : (o : Option Entry) (d : List ℕ) (j : ℕ) (l : List Piece) (ns : List ℕ) → numbers l ≡ ns
     → numbers (pieceOf o d j l) ≡ pick (hasList o d) (j ∷ ns) ns
 unfolding pick
@@ -136,38 +136,47 @@ module _ (g : Params) (on : List Bool) (at a d : List ℕ) where
       go true = refl
       go false = refl
 
-  bytes-of : (b : Bool) (j : ℕ) (l : List Piece) (ns : List ℕ) → ((k : ℕ) → joinedBytes (take k l) ≡ blocksIn g at a (take k ns))
-      → (k : ℕ) → joinedBytes (take k (pieceOf (kept b (entryAt g a (getD at j 0))) d j l))
-      ≡ blocksIn g at a (take k (pick (hasList (kept b (entryAt g a (getD at j 0))) d) (j ∷ ns) ns))
+  bytes-of : (b : Bool) (j : ℕ) (l : List Piece) (ns : List ℕ) → joinedBytes l ≡ blocksIn g at a ns
+      → joinedBytes (pieceOf (kept b (entryAt g a (getD at j 0))) d j l) ≡ blocksIn g at a (pick (hasList (kept b (entryAt g a (getD at j 0))) d) (j ∷ ns) ns)
   unfolding pick blocksIn
-  bytes-of false j l ns h k = h k
-  bytes-of true j l ns h k = go (same (entryAt g a (getD at j 0) .digests) d) k
+  bytes-of false j l ns h = h
+  bytes-of true j l ns h = go (same (entryAt g a (getD at j 0) .digests) d)
     where
-      go : (s : Bool) (i : ℕ) → joinedBytes (take i (pick s (record { number = j; bytes = blockIn g at a j } ∷ l) l))
-          ≡ blocksIn g at a (take i (pick s (j ∷ ns) ns))
-      go false i = h i
-      go true zero = refl
-      go true (suc i) = ap (λ t. blockIn g at a j ++ t) (h i)
+      go : (s : Bool) → joinedBytes (pick s (record { number = j; bytes = blockIn g at a j } ∷ l) l) ≡ blocksIn g at a (pick s (j ∷ ns) ns)
+      go false = h
+      go true = ap (λ t. blockIn g at a j ++ t) h
 
-  bytes-pieces : (j m k : ℕ) → joinedBytes (take k (pieces (entries g on at a) d j m)) ≡ blocksIn g at a (take k (chosen (sentList g on at a d) j m))
+  bytes-pieces : (j m : ℕ) → joinedBytes (pieces (entries g on at a) d j m) ≡ blocksIn g at a (chosen (sentList g on at a d) j m)
   unfolding pieces chosen sentList entries blocksIn
-  bytes-pieces j zero zero = refl
-  bytes-pieces j zero (suc k) = refl
-  bytes-pieces j (suc m) k =
-      bytes-of (marked on j) j (pieces (entries g on at a) d (suc j) m) (chosen (sentList g on at a d) (suc j) m) (bytes-pieces (suc j) m) k
+  bytes-pieces j zero = refl
+  bytes-pieces j (suc m) =
+      bytes-of (marked on j) j (pieces (entries g on at a) d (suc j) m) (chosen (sentList g on at a d) (suc j) m) (bytes-pieces (suc j) m)
 
-  value-law : g .n ≤ 10 → valueFrom g (flags (sentList g on at a d) (g .n)) at a ≡ decoded g (entries g on at a) d
-  unfolding valueFrom decoded lowest sentList
-  value-law m =
-      let P = pieces (entries g on at a) d 1 (g .n) in
-      let L = lowest (sentList g on at a d) (g .k) (g .n) in
-      let e : lowest (marked (flags (sentList g on at a d) (g .n))) (g .k) (g .n) ≡ L =
-      lowest-agree (marked (flags (sentList g on at a d) (g .n))) (sentList g on at a d) (g .k) (g .n) (marked-flags (sentList g on at a d) (g .n) m) in
-      let ns : numbers (take (g .k) P) ≡ L = numbers-take (g .k) P ∙ ap (take (g .k)) (numbers-pieces (entries g on at a) d 1 (g .n)) in
-      let bs : joinedBytes (take (g .k) P) ≡ blocksIn g at a L = bytes-pieces 1 (g .n) (g .k) in
-      ap (λ l. valueOf l (g .size) (blocksIn g at a l)) e ∙ sym (ap₂ (λ l w. valueOf l (g .size) w) ns bs)
+  -- the flagged servers
+  flagged : g .n ≤ 10 → chosen (marked (flags (sentList g on at a d) (g .n))) 1 (g .n) ≡ chosen (sentList g on at a d) 1 (g .n)
+  flagged m =
+      chosen-agree (marked (flags (sentList g on at a d) (g .n))) (sentList g on at a d) 1 (g .n) (λ i l h. marked-flags (sentList g on at a d) (g .n) m i l (omega arith))
 
-  -- ---- the two laws for the crates above
+  numbered : numbers (pieces (entries g on at a) d 1 (g .n)) ≡ chosen (sentList g on at a d) 1 (g .n)
+  unfolding sentList
+  numbered = numbers-pieces (entries g on at a) d 1 (g .n)
+
+  value-law : Bounded g → Within at a → valueFrom g (flags (sentList g on at a d) (g .n)) at a ≡ lowestValue g (entries g on at a) d
+  unfolding valueFrom lowestValue candidate lowest width
+  value-law B W =
+      let J = chosen (sentList g on at a d) 1 (g .n) in
+      ap (λ l. valueOf (take (g .k) l) (g .size) (blocksIn g at a (take (g .k) l))) (flagged (B .servers-high))
+      ∙ ap (valueOf (take (g .k) J) (g .size)) (sym (blocksIn-take g at a B W (g .k) J))
+      ∙ sym (ap₂ (λ l w. valueOf (take (g .k) l) (g .size) (take (g .k * width g) w)) numbered (bytes-pieces 1 (g .n)))
+
+  all-law : g .n ≤ 10 → (v : List ℕ) → allOf g (flags (sentList g on at a d) (g .n)) at a v
+      ≡ same (blocksOf (g .k) v (numbers (pieces (entries g on at a) d 1 (g .n)))) (joinedBytes (pieces (entries g on at a) d 1 (g .n)))
+  unfolding allOf
+  all-law m v =
+      ap (λ l. same (blocksOf (g .k) v l) (blocksIn g at a l)) (flagged m)
+      ∙ sym (ap₂ (λ l w. same (blocksOf (g .k) v l) w) numbered (bytes-pieces 1 (g .n)))
+
+  -- ---- the laws for the crates above
 
   module _ (f : ℕ → Option Entry) (agree : (j : ℕ) → 1 ≤ j → j ≤ g .n → entries g on at a j ≡ f j) (most : g .n ≤ 10) where
     -- how many sent the list d
@@ -177,6 +186,17 @@ module _ (g : Params) (on : List Bool) (at a d : List ℕ) where
         count-flags (sentList g on at a d) (g .n) most
         ∙ count-agree (sentList g on at a d) (λ j. hasList (f j) d) (g .n) (λ j l h. ap (λ o. hasList o d) (agree j l h))
 
-    -- "decode from the k lowest senders with that list"
-    pub matched-value : valueFrom g (flags (sentList g on at a d) (g .n)) at a ≡ decoded g f d
-    matched-value = value-law most ∙ decoded-agree g (entries g on at a) f d agree
+    module _ (B : Bounded g) (W : Within at a) where
+      -- the value that the k lowest senders of that list give
+      pub matched-value : valueFrom g (flags (sentList g on at a d) (g .n)) at a ≡ lowestValue g f d
+      unfolding lowestValue
+      matched-value =
+          value-law B W
+          ∙ ap (λ l. candidate (g .k) (g .size) (numbers l) (joinedBytes l)) (all-agree g (entries g on at a) f d agree)
+
+      -- whether all blocks are its blocks
+      pub matched-all : allOf g (flags (sentList g on at a d) (g .n)) at a (valueFrom g (flags (sentList g on at a d) (g .n)) at a) ≡ agreeing g f d
+      unfolding agreeing Code.agree lowestValue
+      matched-all =
+          all-law most (valueFrom g (flags (sentList g on at a d) (g .n)) at a)
+          ∙ ap₂ (λ v l. same (blocksOf (g .k) v (numbers l)) (joinedBytes l)) matched-value (all-agree g (entries g on at a) f d agree)

@@ -37,18 +37,13 @@ module _ (g : Params) (on : List Bool) (at a : List ℕ) (out : ℕ) (ps ls : Li
       let h = all-blocks (g .size) (g .k) in
       rw e (omega (arith, few, D .bounded .blocks-low, D .bounded .size-high))
 
-  -- the value has its length, and is the front of an area in which it was stored
+  -- the value has its length
   pub length-value : length (valueFrom g on at a) ≡ g .size
   unfolding valueFrom
   length-value =
       let n = length-lowest (marked on) (g .k) (g .n) (D .enough) in
       let h : 0 < length (lowest (marked on) (g .k) (g .n)) = omega (arith, D .bounded .blocks-low) in
       length-valueOf (lowest (marked on) (g .k) (g .n)) (blocksIn g at a (lowest (marked on) (g .k) (g .n))) (g .size) h
-
-  pub value-front : (v r : List ℕ) → length v ≡ out → r ≡ sets v 0 (valueFrom g on at a) → take (g .size) r ≡ valueFrom g on at a
-  value-front v r q e =
-      let h : g .size ≤ length v = omega (arith, D .room) in
-      ap (take (g .size)) e ∙ take-front v (valueFrom g on at a) (g .size) length-value h
 
   module _ (d l : List ℕ) (chosen : l ≡ sets d 0 (lowest (marked on) (g .k) (g .n))) (eight : length d ≡ 8) where
     -- the front of the array of numbers
@@ -85,8 +80,10 @@ module _ (g : Params) (on : List Bool) (at a : List ℕ) (out : ℕ) (ps ls : Li
       pub back-length : g .k * b ≡ length (take (g .k * b) m)
       back-length = sym (length-take-le (g .k * b) m back-room)
 
-      pub back-is : length (take (g .k * b) m) ≡ length (take (g .k) l) * blockLength (g .size) (length (take (g .k) l))
-      back-is = rw (← front-length, ← back-length, ← width-is)
+      pub back-is : length (take (g .k * b) m) ≡ length (take (g .k) l) * blockLength out (length (take (g .k) l))
+      back-is =
+          sym back-length ∙ ap (λ (n : ℕ). g .k * n) (width-is ∙ ap (λ (n : ℕ). blockLength n (g .k)) (sym (D .whole)))
+          ∙ ap (λ (n : ℕ). n * blockLength out n) front-length
 
       back : take (g .k * b) m ≡ blocksIn g at a (lowest (marked on) (g .k) (g .n))
       back =
@@ -100,6 +97,6 @@ module _ (g : Params) (on : List Bool) (at a : List ℕ) (out : ℕ) (ps ls : Li
           ∙ take-front x (blocksIn g at a (lowest (marked on) (g .k) (g .n))) (g .k * b) n h
 
       -- what is decoded
-      pub regained : (v r : List ℕ) → r ≡ sets v 0 (valueOf (take (g .k) l) (g .size) (take (g .k * b) m)) → r ≡ sets v 0 (valueFrom g on at a)
+      pub regained : (r : List ℕ) → r ≡ valueOf (take (g .k) l) out (take (g .k * b) m) → r ≡ valueFrom g on at a
       unfolding valueFrom
-      regained v r e = e ∙ ap₂ (λ js w. sets v 0 (valueOf js (g .size) w)) front back
+      regained r e = e ∙ ap (λ (n : ℕ). valueOf (take (g .k) l) n (take (g .k * b) m)) (D .whole) ∙ ap₂ (λ js w. valueOf js (g .size) w) front back

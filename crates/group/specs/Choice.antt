@@ -1,11 +1,11 @@
--- The group from which a value is decoded: "the k lowest" of the servers that are flagged, and their blocks. Assumes nothing: these are definitions.
+-- The group from which a value is decoded: the servers that are flagged, the k lowest of them, and their blocks. Assumes nothing: these are definitions.
 use Prim.Native.Nat.{ℕ, zero, suc}
 use mathlib.Core.Bool.{Bool}
 use mathlib.Core.List.{List, [], _∷_, _++_}
 use lib.ListN.{getD, take}
-use Rattle.area.specs.Area.{pick}
+use Rattle.area.specs.Area.{pick, same}
 use Rattle.blocks.specs.declared.Params.{Params}
-use Rattle.blocks.specs.Code.{valueOf}
+use Rattle.blocks.specs.Code.{valueOf, blocksOf}
 use Rattle.frame.specs.Messages.{Entry}
 use Rattle.frame.specs.Chunks.{entryAt}
 use Rattle.group.specs.Entries.{marked}
@@ -32,3 +32,7 @@ blocksIn g at a (j ∷ js) = blockIn g at a j ++ blocksIn g at a js
 unfoldable pub valueFrom : Params → List Bool → List ℕ → List ℕ → List ℕ
 valueFrom g on at a =
     valueOf (lowest (marked on) (g .k) (g .n)) (g .size) (blocksIn g at a (lowest (marked on) (g .k) (g .n)))
+
+-- whether the blocks of all flagged servers are those of the value v
+unfoldable pub allOf : Params → List Bool → List ℕ → List ℕ → List ℕ → Bool
+allOf g on at a v = same (blocksOf (g .k) v (chosen (marked on) 1 (g .n))) (blocksIn g at a (chosen (marked on) 1 (g .n)))

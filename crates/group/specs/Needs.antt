@@ -24,16 +24,22 @@ pub record Collecting (g : Params) (js at a : List ℕ) (b out : ℕ) : Type 0 w
   pub few : length js ≤ 8
   pub room : length js * b ≤ out
 
--- k servers are flagged, and the value has room
+-- k servers are flagged, and the value fills an area
 pub record Decoding (g : Params) (on : List Bool) (at a : List ℕ) (out : ℕ) (ps ls : List ℕ) : Type 0 where
   pub bounded : Bounded g
   pub within : Within at a
   pub enough : g .k ≤ count (marked on) (g .n)
-  pub room : g .size ≤ out
+  pub whole : out ≡ g .size
   pub tables : Tables ps ls
 
 -- a value is encoded
 pub record Encoding (g : Params) (v ps ls : List ℕ) : Type 0 where
   pub bounded : Bounded g
   pub short : length v ≤ 256
+  pub tables : Tables ps ls
+
+-- a value of its full length
+pub record Valued (g : Params) (v ps ls : List ℕ) : Type 0 where
+  pub bounded : Bounded g
+  pub whole : length v ≡ g .size
   pub tables : Tables ps ls

@@ -1,21 +1,24 @@
-// The value from the blocks of the k lowest servers of a group.
+// The value from the blocks of the k lowest servers of a group, and whether all blocks of the group are its blocks.
 use blocks::Params;
 use blocks::bounds::block_length;
 use blocks::decoder::decode_into;
+use blocks::encoder::block_stands;
 use frame::entries::block_at;
 ghost use mathlib.Core.Path.{_≡_};
-ghost use mathlib.Core.Bool.{_&&_};
+ghost use mathlib.Core.Bool.{true, _&&_};
 ghost use Prim.Native.Nat.{_+_, _*_, _≤_, _<_};
 ghost use lib.ListN.{length, set};
 ghost use lib.Seq.{sets};
 ghost use lib.Dec.{ltb};
-ghost use Rattle.area.specs.Area.{pick};
+ghost use Rattle.area.specs.Area.{pick, same};
+ghost use Rattle.field.specs.Field.{Tables};
+ghost use Rattle.blocks.specs.Code.{blockLength, blockOf};
 ghost use Rattle.frame.specs.Params.{width, Bounded};
 ghost use Rattle.frame.specs.Messages.{Entry};
 ghost use Rattle.frame.specs.Chunks.{chunkAt, entryAt};
-ghost use Rattle.group.specs.Entries.{marked};
-ghost use Rattle.group.specs.Choice.{lowest, blocksIn, valueFrom};
-ghost use Rattle.group.specs.Needs.{Collecting, Decoding};
+ghost use Rattle.group.specs.Entries.{marked, Within};
+ghost use Rattle.group.specs.Choice.{lowest, blocksIn, valueFrom, allOf};
+ghost use Rattle.group.specs.Needs.{Collecting, Decoding, Valued};
 
 // Server j as the next number behind the c before it, if it is flagged and these are fewer than k; the answer is how many there are then.
 fn add_number(mark: bool, j: u8, c: usize, k: usize, numbers: &mut [u8; 8]) -> usize
@@ -77,7 +80,7 @@ pub fn regain(
     ls: &[u8; 256],
 )
     requires { ⌜ Decoding g on at (now area) (length (now value)) (now ps) (now ls) ⌝ }
-    ensures { λ _. ⌜ now (value .exit) ≡ sets (now (value .entry)) 0 (valueFrom g on at (now (area .entry))) ⌝ }
+    ensures { λ _. ⌜ now (value .exit) ≡ valueFrom g on at (now (area .entry)) ⌝ }
 {
     let n = g.n;
     let k = g.k;
@@ -88,5 +91,50 @@ pub fn regain(
     let mut w = [0u8; 264];
     choose(on, n, k, &mut js);
     collect(&js[..k], at, area, g, b, &mut w);
-    decode_into(&js[..k], &w[..end], size, value, 0, ps, ls);
+    decode_into(&js[..k], &w[..end], value, ps, ls);
+}
+
+// Whether own, a server's block, is block j of the value; so it is where the server is not flagged.
+fn is_block(
+    mark: bool,
+    own: &[u8],
+    value: &[u8],
+    k: usize,
+    j: u8,
+    ps: &[u8; 255],
+    ls: &[u8; 256],
+) -> bool
+    requires { ⌜ (0 < k) × (k ≤ 8) × (length (now value) ≤ 256) × (length (now own) ≡ blockLength (length (now value)) k) × Tables (now ps) (now ls) ⌝ }
+    ensures { λ r. ⌜ r ≡ pick mark (same (now (own .entry)) (blockOf k (now (value .entry)) j)) true ⌝ }
+{
+    if !mark {
+        return true;
+    }
+    block_stands(value, k, j, own, 0, ps, ls)
+}
+
+// Whether the blocks of all flagged servers of 1 to n are those of the value.
+pub fn unanimous(
+    value: &[u8],
+    on: [bool; 11],
+    at: [usize; 11],
+    area: &[u8],
+    g: Params,
+    ps: &[u8; 255],
+    ls: &[u8; 256],
+) -> bool
+    requires { ⌜ Valued g (now value) (now ps) (now ls) × Within at (now area) ⌝ }
+    ensures { λ r. ⌜ r ≡ allOf g on at (now (area .entry)) (now (value .entry)) ⌝ }
+{
+    let n = g.n;
+    let k = g.k;
+    let mut j = 0;
+    while j < n {
+        let own = block_at(area, at[j + 1], g);
+        if !is_block(on[j + 1], own, value, k, (j + 1) as u8, ps, ls) {
+            return false;
+        }
+        j += 1;
+    }
+    true
 }

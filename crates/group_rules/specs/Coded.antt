@@ -3,10 +3,9 @@ use Prim.Native.Nat.{ℕ, zero, suc, _*_, _-_}
 use mathlib.Core.Bool.{Bool, true, false}
 use mathlib.Core.Option.{Option, none, some}
 use mathlib.Core.List.{List, [], _∷_, _++_, map}
-use lib.ListN.{take}
 use Rattle.area.specs.Area.{pick, part, same, joined}
 use Rattle.blocks.specs.declared.Params.{Params}
-use Rattle.blocks.specs.Code.{blockOf, valueOf}
+use Rattle.blocks.specs.Code.{blockOf, candidate, agree, decodedAll}
 use Rattle.frame.specs.Messages.{Entry, entry}
 
 -- a block with its number
@@ -35,11 +34,25 @@ abbrev pub joinedBytes : List Piece → List ℕ
 joinedBytes [] = []
 joinedBytes (p ∷ l) = p .bytes ++ joinedBytes l
 
--- the value from the k lowest servers that sent the list d
-unfoldable pub decoded : Params → (ℕ → Option Entry) → List ℕ → List ℕ
+-- ---- request F-7: "with all blocks of the chosen group", those of the servers that sent the list d
+
+-- the value that the k lowest of them give
+unfoldable pub lowestValue : Params → (ℕ → Option Entry) → List ℕ → List ℕ
+lowestValue g f d =
+    let l = pieces f d 1 (g .n) in
+    candidate (g .k) (g .size) (numbers l) (joinedBytes l)
+
+-- whether all are blocks of that value
+unfoldable pub agreeing : Params → (ℕ → Option Entry) → List ℕ → Bool
+agreeing g f d =
+    let l = pieces f d 1 (g .n) in
+    agree (g .k) (g .size) (numbers l) (joinedBytes l)
+
+-- the value, if they agree
+unfoldable pub decoded : Params → (ℕ → Option Entry) → List ℕ → Option (List ℕ)
 decoded g f d =
-    let l = take (g .k) (pieces f d 1 (g .n)) in
-    valueOf (numbers l) (g .size) (joinedBytes l)
+    let l = pieces f d 1 (g .n) in
+    decodedAll (g .k) (g .size) (numbers l) (joinedBytes l)
 
 module _ (H : List ℕ → List ℕ) (g : Params) where
   -- block j of a value

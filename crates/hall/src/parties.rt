@@ -1,5 +1,6 @@
 // The parties of one register on one machine. Place j belongs to server or client j; place 0 serves a number that is nobody's, and stays as it is.
 use crate::asks::byte_of;
+use crate::print::put_disagreement;
 use crate::print::put_out_of_stamps;
 use crate::print::put_refused;
 use crate::print::put_step;
@@ -169,6 +170,10 @@ fn put_answered(
         Answer::Value(stamp) => {
             let y = put_step(o, text, out, to, n);
             put_value(y, text, value, stamp)
+        }
+        Answer::Disagreement => {
+            let y = put_step(o, text, out, to, n);
+            put_disagreement(y, text)
         }
         Answer::Refused(x) => put_refused(o, text, x),
     }

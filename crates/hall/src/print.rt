@@ -87,6 +87,10 @@ pub fn put_out_of_stamps(o: Out, text: &mut [u8]) -> Out {
     put(o, text, b"out of stamps\n")
 }
 
+pub fn put_disagreement(o: Out, text: &mut [u8]) -> Out {
+    put(o, text, b"disagreement\n")
+}
+
 fn put_class(o: Out, text: &mut [u8], class: u8) -> Out {
     if class == 0 {
         return put(o, text, b"> c ");

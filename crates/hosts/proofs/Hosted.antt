@@ -185,6 +185,7 @@ kept-is Z w n (Y.Sent m) v old = let h : 65536 * (m % 65536) % 65536 ≡ 0 = ome
 kept-is Z w n Y.Written v old = refl
 kept-is Z w n Y.OutOfStamps v old = refl
 kept-is Z w n (Y.Value x) v old = ap (λ x. pick (eqb x 0) v old) (low 768 (n % 65536) (omega arith))
+kept-is Z w n Y.Disagreement v old = ap (λ x. pick (eqb x 0) v old) (low 1024 (n % 65536) (omega arith))
 kept-is Z w n (Y.Refused r) v old = ap (λ b. pick b v old) (refused-low r)
 
 -- ---- what is kept of a party

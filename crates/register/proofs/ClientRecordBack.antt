@@ -2,6 +2,7 @@
 use Prim.Native.Nat.{ℕ, _≤_, _<_}
 use mathlib.Core.Path.{_≡_, refl, sym, ap, _∙_}
 use mathlib.Core.Bool.{Bool, true, false}
+use mathlib.Core.Option.{Option, none, some}
 use mathlib.Core.List.{List}
 use lib.ListN.{length}
 use lib.Seq.{sets}
@@ -22,9 +23,9 @@ use Rattle.client_rules.specs.declared.Answer.the-variants as Y
 use Rattle.client_rules.specs.declared.Client.{Client}
 use Rattle.client_rules.specs.State.{freshClient}
 use Rattle.client_rules.specs.Tests.{judge}
-use Rattle.client_rules.specs.Steps.{Event, nothing, written, outOfStamps, completed, Effect}
+use Rattle.client_rules.specs.Steps.{Event, nothing, written, outOfStamps, stopped, Effect}
 use Rattle.client_rules.specs.Beginning.{Begun, readTest, writeTest, openRead, openWrite, beginBy, readBegun, writeBegun, beginAnswer, begunOf, readBeginning, writeBeginning}
-use Rattle.client_rules.specs.Delivery.{Outcome, eventAnswer, answerOf, effectBy, delivered, outcomeOf, delivery}
+use Rattle.client_rules.specs.Delivery.{Outcome, readAnswer, eventAnswer, answerOf, effectBy, delivered, outcomeOf, delivery}
 use Rattle.layout.specs.Clients.{clientSize, clientBytes, clientIn}
 use Rattle.layout.specs.Typed.{TypedClient}
 use Rattle.layout.proofs.ClientBack.{client-stored}
@@ -82,7 +83,11 @@ unfolding isRefusal eventAnswer
 event-is nothing m = refl
 event-is written m = refl
 event-is outOfStamps m = refl
-event-is (completed x) m = refl
+event-is (stopped x) m = of-read (x .bytes)
+  where
+    of-read : (o : Option (List ℕ)) → isRefusal (readAnswer (x .stamp) o) ≡ false
+    of-read none = refl
+    of-read (some v) = refl
 
 module _ (H : List ℕ → List ℕ) (g : Params) (me : ℕ) (s : Client) (a value : List ℕ) (from : Party) where
   stays-by : (j : Judged) (x : Effect) → isRefusal (answerOf j x) ≡ true → effectBy H g me j s a value from .client ≡ s

@@ -18,7 +18,7 @@ use Rattle.register.specs.Handed.{stampSize}
 
 -- the version of include/semduoli.h that these calls are those of
 abbrev pub headerVersion : ℕ
-headerVersion = 2
+headerVersion = 3
 
 unfoldable pub openOf : Client → ℕ
 openOf s = openAnswer (s .phase) (s .writes) (s .reads)

@@ -36,6 +36,7 @@ stampAfter (Y.Sent m) l = l
 stampAfter Y.Written l = l
 stampAfter Y.OutOfStamps l = l
 stampAfter (Y.Value x) l = sets l 0 (stampBytes x)
+stampAfter Y.Disagreement l = l
 stampAfter (Y.Refused r) l = l
 
 pub record ClientGot : Type 0 where

@@ -15,7 +15,7 @@ ghost use Rattle.register.specs.Asked.{headerVersion, clientOpenCall, se
 pub extern "C" fn semduoli_version() -> u64
     ensures { λ r. ⌜ r ≡ headerVersion ⌝ }
 {
-    2
+    3
 }
 
 // Which operation is open at a client.

@@ -125,6 +125,7 @@ fn put_read(a: Answer, stamp: &mut [u8])
         Answer::Written => {}
         Answer::OutOfStamps => {}
         Answer::Value(x) => put_stamp(x, stamp, 0),
+        Answer::Disagreement => {}
         Answer::Refused(r) => {}
     }
 }

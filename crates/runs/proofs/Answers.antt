@@ -3,6 +3,7 @@ use Prim.Native.Nat.{ℕ, _+_, _*_, _≤_}
 use native.Mathlib.Omega.{arith}
 use native.Mathlib.Nat.{suc-mul, mul-le-mul-right}
 use mathlib.Core.Path.{_≡_, refl, ap, sym, _∙_, subst}
+use mathlib.Core.Option.{Option, none, some}
 use mathlib.Core.List.{List, [], _∷_, _++_, map, append-assoc, List·Memᴰ, List·Memᴰ·head, List·Memᴰ·tail}
 use mathlib.Core.Logic.{inl}
 use lib.ListN.{length, getD, take, drop, length-append, List·getD-append}
@@ -182,7 +183,11 @@ module _ (H : List ℕ → List ℕ) (g : Params) (me : ℕ) where
   count-is C.nothing m = refl
   count-is C.written m = refl
   count-is C.outOfStamps m = refl
-  count-is (C.completed x) m = refl
+  count-is (C.stopped x) m = of-read (x .bytes)
+    where
+      of-read : (o : Option (List ℕ)) → answerCount g (CD.readAnswer (x .stamp) o) ≡ g .n
+      of-read none = refl
+      of-read (some v) = refl
 
 -- ---- in a run
 

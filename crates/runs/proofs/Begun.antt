@@ -16,7 +16,7 @@ use Rattle.client_rules.specs.Rows.{Found}
 use Rattle.client_rules.specs.State.{freshClient}
 use Rattle.client_rules.specs.Beginning as CB
 use Rattle.runs.specs.Admissible.{Admissible}
-use Rattle.runs.specs.Events.{Event, At, Accepts, CompletesRead, OpensRead, OpensWrite}
+use Rattle.runs.specs.Events.{Event, At, Accepts, StopsRead, OpensRead, OpensWrite}
 use Rattle.runs.specs.World.{Setup, Call, toServer, toClient, beginRead, beginWrite, ClientSide, clientLeft, lentBy, lentTo, readEffect, writeEffect, start, run, step, put}
 use Rattle.runs.proofs.Agreement.{small}
 use Rattle.runs.proofs.Formation.{validity, accepted-in-bounds}
@@ -141,7 +141,7 @@ module _ (Z : Setup) where
 
   -- ---- a completed read
 
-  pub read-begun : (ks : List Call) (c q p : ℕ) (x : Found) → At (CompletesRead Z c q x) ks p → (p′ : ℕ) × At (OpensRead Z c q) ks p′
+  pub read-begun : (ks : List Call) (c q p : ℕ) (x : Found) → At (StopsRead Z c q x) ks p → (p′ : ℕ) × At (OpensRead Z c q) ks p′
   read-begun [] c q p x u = absurd u
   read-begun (k ∷ ks) c q p x (inr u) = let w = read-begun ks c q p x u in (w .0, inr (w .1))
   read-begun (k ∷ ks) c q p x (inl u) =

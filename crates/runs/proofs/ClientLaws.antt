@@ -252,7 +252,7 @@ module _ (Z : Setup) (G : Assumed Z) (M : Small (Z .g)) where
     wrote-ev (beginRead d out to) c q u = absurd u
     wrote-ev (beginWrite d v out to) c q u = absurd u
 
-    read-ev : (k′ : Call) (c q : ℕ) (x : Found) → Rn.CompletesRead Z c q x ks k′ → (caller k′ ≡ A.Client c) × (home ks c .client .reads ≡ q) × (ended ks k′ ≡ C.completed x)
+    read-ev : (k′ : Call) (c q : ℕ) (x : Found) → Rn.StopsRead Z c q x ks k′ → (caller k′ ≡ A.Client c) × (home ks c .client .reads ≡ q) × (ended ks k′ ≡ C.stopped x)
     read-ev (toServer i from f out to) c q x u = absurd u
     read-ev (toClient d from f lent result out to) c q x u = (ap A.Client (sym (u .0)), ap (λ y. home ks y .client .reads) (u .0) ∙ u .1, u .2)
     read-ev (beginRead d out to) c q x u = absurd u

@@ -40,7 +40,7 @@ use Rattle.server_rules.proofs.Passing.{SizedIn, is-server}
 use Rattle.server_rules.proofs.Taking.{message-sized}
 use Rattle.runs.specs.Admissible.{Admissible}
 use Rattle.runs.specs.Blocks.{InFrame}
-use Rattle.runs.specs.Events.{At, CompletesRead}
+use Rattle.runs.specs.Events.{At, StopsRead}
 use Rattle.runs.specs.World.{Setup, Call, toServer, toClient, beginRead, beginWrite, ClientSide, clientDone, clientLeft, lentBy, start, run, step, put, lentTo, clientEffect, readEffect, writeEffect}
 use Rattle.runs.proofs.Agreement.{small}
 use Rattle.runs.proofs.Assumed.{Assumed}
@@ -191,12 +191,12 @@ module _ (Z : Setup) (G : Assumed Z) where
   homes (k ∷ ks) c = homes-next ks k (λ d. weaken g (Came ks) (Came (k ∷ ks)) _ _ (came-later ks k) (homes ks d)) c
 
   -- What a client's rows hold as its read ends fits.
-  pub rows-fit : (ks : List Call) (k : Call) → Admissible Z (k ∷ ks) → (c q : ℕ) (x : Found) → CompletesRead Z c q x ks k → (j : ℕ) → Among (Z .g .n) j
+  pub rows-fit : (ks : List Call) (k : Call) → Admissible Z (k ∷ ks) → (c q : ℕ) (x : Found) → StopsRead Z c q x ks k → (j : ℕ) → Among (Z .g .n) j
       → (e : Kept) → List·Memᴰ e (rowView (Z .g) (run Z (k ∷ ks) .clients c .client) (run Z (k ∷ ks) .clients c .area) j) → fits (Z .H) (e .entry) j ≡ true
   rows-fit ks k a c q x u j i e h = homes (k ∷ ks) c .each j (i .0) e h .0
 
   -- Its blocks came in frames.
-  pub rows-carried : (ks : List Call) (k : Call) → Admissible Z (k ∷ ks) → (c q : ℕ) (x : Found) → CompletesRead Z c q x ks k → (j : ℕ) → Among (Z .g .n) j
+  pub rows-carried : (ks : List Call) (k : Call) → Admissible Z (k ∷ ks) → (c q : ℕ) (x : Found) → StopsRead Z c q x ks k → (j : ℕ) → Among (Z .g .n) j
       → (e : Kept) → List·Memᴰ e (rowView (Z .g) (run Z (k ∷ ks) .clients c .client) (run Z (k ∷ ks) .clients c .area) j)
       → (p : ℕ) × At (InFrame Z (e .entry .block)) (k ∷ ks) p
   rows-carried ks k a c q x u j i e h = let w = homes (k ∷ ks) c .each j (i .0) e h in (w .1, w .2)

@@ -14,7 +14,7 @@ use Rattle.frame.specs.Stamps.{older, zeroStamp}
 use Rattle.server_rules.specs.Steps.{Write, stampOf}
 use Rattle.client_rules.specs.Rows.{Found}
 use Rattle.runs.specs.Blocks.{InFrame}
-use Rattle.runs.specs.Events.{At, Accepts, CompletesRead, EndsWrite, OpensRead, OpensWrite, Decodes}
+use Rattle.runs.specs.Events.{At, Accepts, StopsRead, EndsWrite, OpensRead, OpensWrite, Decodes}
 use Rattle.runs.specs.World.{Setup, Call}
 
 module _ (Z : Setup) (ks : List Call) where
@@ -34,15 +34,15 @@ module _ (Z : Setup) (ks : List Call) where
         → y .client ≡ d → y .sequence ≡ r → digestsOf (Z .H) (Z .g) v ≡ y .entry .digests
     pub written-sized : (d r p : ℕ) (v : List ℕ) → At (OpensWrite Z d r v) ks p → (length v ≡ Z .g .size) × Bytes v
     -- a read decodes what n - t rows have at its stamp, entries that fit and were in frames
-    pub read-rows : (c q p : ℕ) (x : Found) → At (CompletesRead Z c q x) ks p → Rows x
+    pub read-rows : (c q p : ℕ) (x : Found) → At (StopsRead Z c q x) ks p → Rows x
 
   -- for the row
   pub record Known : Type 0 where
     -- a read completes once, and after it began
-    pub read-once : (c q p p′ : ℕ) (x y : Found) → At (CompletesRead Z c q x) ks p → At (CompletesRead Z c q y) ks p′ → p ≡ p′
-    pub read-after : (c q p p′ : ℕ) (x : Found) → At (OpensRead Z c q) ks p → At (CompletesRead Z c q x) ks p′ → p < p′
+    pub read-once : (c q p p′ : ℕ) (x y : Found) → At (StopsRead Z c q x) ks p → At (StopsRead Z c q y) ks p′ → p ≡ p′
+    pub read-after : (c q p p′ : ℕ) (x : Found) → At (OpensRead Z c q) ks p → At (StopsRead Z c q x) ks p′ → p < p′
     -- its stamp and digest list are the initial ones or those of an accepted write
-    pub read-from : (c q p : ℕ) (x : Found) → At (CompletesRead Z c q x) ks p
+    pub read-from : (c q p : ℕ) (x : Found) → At (StopsRead Z c q x) ks p
         → ((x .stamp ≡ zeroStamp) × (x .digests ≡ digestsOf (Z .H) (Z .g) (Z .initialValue)))
         ⊎ ((i p′ : ℕ) × (y : Write) × At (Accepts Z i y) ks p′ × (stampOf y ≡ x .stamp) × (y .entry .digests ≡ x .digests))
     -- one stamp and one digest list a write; a write that ended was accepted
@@ -53,13 +53,13 @@ module _ (Z : Setup) (ks : List Call) where
     -- an accepted write of an honest client was begun by it, and a completed read by its client
     pub write-begun : (i p : ℕ) (y : Write) → At (Accepts Z i y) ks p → Z .faultyClient (y .client) ≡ false
         → (p′ : ℕ) × (v : List ℕ) × At (OpensWrite Z (y .client) (y .sequence) v) ks p′
-    pub read-begun : (c q p : ℕ) (x : Found) → At (CompletesRead Z c q x) ks p → (p′ : ℕ) × At (OpensRead Z c q) ks p′
+    pub read-begun : (c q p : ℕ) (x : Found) → At (StopsRead Z c q x) ks p → (p′ : ℕ) × At (OpensRead Z c q) ks p′
     -- order in time: what ended at p, before what began at p′
-    pub read-read : (c q p : ℕ) (x : Found) (d r p′ p″ : ℕ) (y : Found) → At (CompletesRead Z c q x) ks p → At (OpensRead Z d r) ks p′ → p < p′
-        → At (CompletesRead Z d r y) ks p″ → older (y .stamp) (x .stamp) ≡ false
+    pub read-read : (c q p : ℕ) (x : Found) (d r p′ p″ : ℕ) (y : Found) → At (StopsRead Z c q x) ks p → At (OpensRead Z d r) ks p′ → p < p′
+        → At (StopsRead Z d r y) ks p″ → older (y .stamp) (x .stamp) ≡ false
     pub write-read : (c q p i e : ℕ) (x : Write) (d r p′ p″ : ℕ) (y : Found) → At (EndsWrite Z c q) ks p → At (Accepts Z i x) ks e
-        → x .client ≡ c → x .sequence ≡ q → At (OpensRead Z d r) ks p′ → p < p′ → At (CompletesRead Z d r y) ks p″ → older (y .stamp) (stampOf x) ≡ false
-    pub read-write : (c q p : ℕ) (x : Found) (d r p′ i e : ℕ) (v : List ℕ) (y : Write) → At (CompletesRead Z c q x) ks p → At (OpensWrite Z d r v) ks p′ → p < p′
+        → x .client ≡ c → x .sequence ≡ q → At (OpensRead Z d r) ks p′ → p < p′ → At (StopsRead Z d r y) ks p″ → older (y .stamp) (stampOf x) ≡ false
+    pub read-write : (c q p : ℕ) (x : Found) (d r p′ i e : ℕ) (v : List ℕ) (y : Write) → At (StopsRead Z c q x) ks p → At (OpensWrite Z d r v) ks p′ → p < p′
         → At (Accepts Z i y) ks e → y .client ≡ d → y .sequence ≡ r → older (x .stamp) (stampOf y) ≡ true
     pub write-write : (c q p i e : ℕ) (x : Write) (d r p′ j e′ : ℕ) (v : List ℕ) (y : Write) → At (EndsWrite Z c q) ks p → At (Accepts Z i x) ks e
         → x .client ≡ c → x .sequence ≡ q → At (OpensWrite Z d r v) ks p′ → p < p′ → At (Accepts Z j y) ks e′

@@ -1,7 +1,8 @@
 -- The completed reads and the accepted writes of a run, as a list. Assumes nothing.
 use Prim.Native.Nat.{ℕ}
 use mathlib.Core.Bool.{true, false}
-use mathlib.Core.Path.{_≡_, refl, sym}
+use mathlib.Core.Path.{_≡_, refl, sym, ap, _∙_}
+use mathlib.Core.Option.{Option, none, some}
 use mathlib.Core.Logic.{inl, inr, ⊎-elim}
 use mathlib.Core.List.{List, [], _∷_, _++_, map, Memᴰ·map, Memᴰ·of-map, List·Memᴰ·head, List·Memᴰ·not-nil, List·Memᴰ·append-cases, Memᴰ·append-left, Memᴰ·append-right, List·Memᴰ·eq-of-singleton}
 use lib.ListN.{length}
@@ -40,7 +41,7 @@ module _ (Z : Setup) where
   news ks (toServer j from f out to) = record {
     list = map writeItem (serverEffect Z (run Z ks) j from f out to .accepted);
     sound = λ y m. let (x, u, e) = Memᴰ·of-map writeItem (serverEffect Z (run Z ks) j from f out to .accepted) m in rw (← e) (by-accept j (length ks) x (refl, (refl, u)));
-    reads = λ c q p x u. absurd (u .1);
+    reads = λ c q p x u. absurd (u .1 .0);
     accepts = λ i p x u. Memᴰ·map writeItem (u .1 .1);
   }
   news ks (toClient d from f lent result out to) = go (clientEffect Z (run Z ks) d from f lent result out to .event) refl
@@ -49,39 +50,50 @@ module _ (Z : Setup) where
       go C.nothing e = record {
         list = [];
         sound = λ y m. absurd (List·Memᴰ·not-nil m);
-        reads = λ c q p x u. impossible (cc (u .1 .2, e));
+        reads = λ c q p x u. impossible (cc (u .1 .0 .2, e));
         accepts = λ i p x u. absurd (u .1);
       }
       go C.written e = record {
         list = [];
         sound = λ y m. absurd (List·Memᴰ·not-nil m);
-        reads = λ c q p x u. impossible (cc (u .1 .2, e));
+        reads = λ c q p x u. impossible (cc (u .1 .0 .2, e));
         accepts = λ i p x u. absurd (u .1);
       }
       go C.outOfStamps e = record {
         list = [];
         sound = λ y m. absurd (List·Memᴰ·not-nil m);
-        reads = λ c q p x u. impossible (cc (u .1 .2, e));
+        reads = λ c q p x u. impossible (cc (u .1 .0 .2, e));
         accepts = λ i p x u. absurd (u .1);
       }
-      go (C.completed y) e = record {
-        list = readItem d (run Z ks .clients d .client .reads) (y .stamp) (length ks) ∷ [];
-        sound = λ z m. rw (List·Memᴰ·eq-of-singleton m) (by-read d (run Z ks .clients d .client .reads) (length ks) y (refl, (refl, refl, e)));
-        reads = λ c q p x u.
-            let h : x ≡ y = cc (u .1 .2, e) in
-            List·Memᴰ·head (λ a. readItem (u .1 .0 a) (sym (u .1 .1) a) (h a .stamp) (u .0 a));
-        accepts = λ i p x u. absurd (u .1);
-      }
+      go (C.stopped y) e = by (y .bytes) refl
+        where
+          by : (o : Option (List ℕ)) → y .bytes ≡ o → Items (Now ks (toClient d from f lent result out to))
+          by none b = record {
+            list = [];
+            sound = λ y m. absurd (List·Memᴰ·not-nil m);
+            reads = λ c q p x u.
+                let h : x ≡ y = cc (u .1 .0 .2, e) in
+                impossible (cc (sym (u .1 .1 .1) ∙ ap (λ z. z .bytes) h ∙ b));
+            accepts = λ i p x u. absurd (u .1);
+          }
+          by (some v) b = record {
+            list = readItem d (run Z ks .clients d .client .reads) (y .stamp) (length ks) ∷ [];
+            sound = λ z m. rw (List·Memᴰ·eq-of-singleton m) (by-read d (run Z ks .clients d .client .reads) (length ks) y (refl, ((refl, refl, e), (v, b))));
+            reads = λ c q p x u.
+                let h : x ≡ y = cc (u .1 .0 .2, e) in
+                List·Memᴰ·head (λ a. readItem (u .1 .0 .0 a) (sym (u .1 .0 .1) a) (h a .stamp) (u .0 a));
+            accepts = λ i p x u. absurd (u .1);
+          }
   news ks (beginRead d out to) = record {
     list = [];
     sound = λ y m. absurd (List·Memᴰ·not-nil m);
-    reads = λ c q p x u. absurd (u .1);
+    reads = λ c q p x u. absurd (u .1 .0);
     accepts = λ i p x u. absurd (u .1);
   }
   news ks (beginWrite d v out to) = record {
     list = [];
     sound = λ y m. absurd (List·Memᴰ·not-nil m);
-    reads = λ c q p x u. absurd (u .1);
+    reads = λ c q p x u. absurd (u .1 .0);
     accepts = λ i p x u. absurd (u .1);
   }
 

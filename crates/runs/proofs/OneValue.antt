@@ -1,5 +1,5 @@
--- Blocks that were in frames and have the digests of a value's list decode to that value, or two different blocks of the run with one digest are shown: any k
--- blocks of a value decode to it. Assumes nothing.
+-- Blocks that were in frames and have the digests of a value's list decode to that value, or two different blocks of the run with one digest are shown: k or
+-- more blocks of a value decode to it. Assumes nothing.
 use Prim.Native.Nat.{ℕ, _*_, _-_, _≤_, _<_}
 use native.Mathlib.Omega.{arith}
 use mathlib.Core.Bool.{true}
@@ -7,21 +7,20 @@ use mathlib.Core.Path.{_≡_, refl, ap, sym, _∙_}
 use mathlib.Core.Logic.{_⊎_, inl, inr, ⊎-elim}
 use mathlib.Core.Option.{Option, some}
 use mathlib.Core.List.{List, [], _∷_, List·Memᴰ, List·Memᴰ·head, List·Memᴰ·tail, List·Memᴰ·cases-cons, List·Memᴰ·not-nil}
-use lib.ListN.{length, take, length-map}
-use lib.Seq.{length-take-le}
+use lib.ListN.{length, length-map}
 use Rattle.quorum.specs.Quorum.{count, Among}
 use Rattle.area.specs.Area.{Bytes, part}
 use Rattle.area.proofs.Same.{same-true}
-use Rattle.blocks.specs.Code.{valueOf}
+use Rattle.blocks.specs.Code.{blockLength}
 use Rattle.blocks.specs.Poly.{All}
-use Rattle.blocks.proofs.RoundTrip.{decoded as any-blocks}
+use Rattle.blocks.proofs.Exactly.{is-given, length-blocksOf}
 use Rattle.frame.specs.Messages.{Entry}
-use Rattle.group_rules.specs.Coded.{Piece, hasList, pieces, numbers, blockAt, digestsOf, decoded, fits}
+use Rattle.group_rules.specs.Coded.{Piece, hasList, pieces, numbers, joinedBytes, blockAt, digestsOf, decoded, fits}
 use Rattle.server_rules.proofs.Decoding.{all-pieces}
 use Rattle.runs.specs.Blocks.{InFrame, Origin, in-frame, Collision}
 use Rattle.runs.specs.Events.{At}
 use Rattle.runs.specs.World.{Setup, Call}
-use Rattle.runs.proofs.Pieces.{pieces-in, all-numbers, pieces-apart, mem-take, apart-take, list-equal?, digest-of, joined-blocks}
+use Rattle.runs.proofs.Pieces.{pieces-in, all-numbers, pieces-apart, list-equal?, digest-of, joined-blocks}
 use Rattle.runs.proofs.Assumed.{Assumed}
 
 numbers-bytes : (l : List ℕ) → All (λ z. z < 256) l → Bytes l
@@ -67,13 +66,13 @@ module _ (Z : Setup) (G : Assumed Z) (ks : List Call) where
     abbrev held : List Piece
     held = pieces f d 1 (g .n)
 
-    in-range : (p : Piece) → List·Memᴰ p (take (g .k) held) → Among (g .n) (p .number)
-    in-range p m = let h = pieces-in f d 1 (g .n) p (mem-take (g .k) held p m) in (h .low, omega (arith, h .high))
+    in-range : (p : Piece) → List·Memᴰ p held → Among (g .n) (p .number)
+    in-range p m = let h = pieces-in f d 1 (g .n) p m in (h .low, omega (arith, h .high))
 
-    each : (p : Piece) → List·Memᴰ p (take (g .k) held) → Same v p
+    each : (p : Piece) → List·Memᴰ p held → Same v p
     unfolding fits
     each p m =
-        let h = pieces-in f d 1 (g .n) p (mem-take (g .k) held p m) in
+        let h = pieces-in f d 1 (g .n) p m in
         let i = in-range p m in
         let e : H (h .entry .block) ≡ part (h .entry .digests) (32 * p .number - 32) 32 = same-true _ _ (fit (p .number) (h .entry) i (h .is)) in
         let c = carried (p .number) (h .entry) i (h .is) in
@@ -83,20 +82,25 @@ module _ (Z : Setup) (G : Assumed Z) (ks : List Call) where
           other = S .from (p .number) i;
         }
 
-    enough : length (numbers (take (g .k) held)) ≡ g .k
+    enough : g .k ≤ length (numbers held)
     enough =
         let a = all-pieces f d (g .n) in
-        length-map (take (g .k) held) (λ p. p .number) ∙ length-take-le (g .k) held (omega (arith, a, many))
+        omega (arith, a, length-map held (λ p. p .number), many)
 
-    decodes : ((p : Piece) → List·Memᴰ p (take (g .k) held) → p .bytes ≡ blockAt H g v (p .number)) → decoded g f d ≡ v
+    decodes : ((p : Piece) → List·Memᴰ p held → p .bytes ≡ blockAt H g v (p .number)) → decoded g f d ≡ some v
     unfolding decoded
     decodes e =
-        let js = numbers (take (g .k) held) in
-        ap (λ w. valueOf js (g .size) w) (joined-blocks H g (G .digest-size) v (take (g .k) held) e)
-        ∙ any-blocks js v (g .k) (g .size) enough (S .size) (G .bounded .blocks-low)
-        (numbers-bytes js (all-numbers (λ z. z < 256) (take (g .k) held) (λ p m. omega (arith, in-range p m .1, G .bounded .servers-high))))
-        (apart-take (g .k) held (pieces-apart f d 1 (g .n)))
-        (S .bytes)
+        let js = numbers held in
+        let w = joined-blocks H g (G .digest-size) v held e in
+        is-given (g .k) (g .size) js (joinedBytes held) v
+        (record {
+          one = G .bounded .blocks-low;
+          enough = enough;
+          numbers = numbers-bytes js (all-numbers (λ z. z < 256) held (λ p m. omega (arith, in-range p m .1, G .bounded .servers-high)));
+          different = pieces-apart f d 1 (g .n);
+          whole = ap length w ∙ length-blocksOf (g .k) v js ∙ ap (λ n. length js * blockLength n (g .k)) (S .size);
+        })
+        (record { long = S .size; bytes = S .bytes; blocks = sym w })
 
-    pub one-value : (decoded g f d ≡ v) ⊎ Collision Z ks
-    one-value = ⊎-elim (λ e. inl (decodes e)) (λ c. inr c) (compare-all v (take (g .k) held) each)
+    pub one-value : (decoded g f d ≡ some v) ⊎ Collision Z ks
+    one-value = ⊎-elim (λ e. inl (decodes e)) (λ c. inr c) (compare-all v held each)

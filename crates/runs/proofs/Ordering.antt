@@ -19,7 +19,7 @@ use Rattle.client_rules.specs.Rows.{Found}
 use Rattle.steps.proofs.Keys.{key, key-older, key-not-older}
 use Rattle.steps.proofs.ServerRanges.{StampInBounds, write-stamp-in-bounds, zero-in-bounds}
 use Rattle.runs.specs.Admissible.{Admissible}
-use Rattle.runs.specs.Events.{At, Accepts, CompletesRead, EndsWrite, OpensRead, OpensWrite}
+use Rattle.runs.specs.Events.{At, Accepts, StopsRead, EndsWrite, OpensRead, OpensWrite}
 use Rattle.runs.specs.World.{Setup, Call, toServer, toClient, beginRead, beginWrite, run}
 use Rattle.runs.proofs.Agreement.{small}
 use Rattle.runs.proofs.ReadOnce.{read-once}
@@ -67,10 +67,10 @@ module _ (Z : Setup) (G : Assumed Z) where
     accepted : (i p : ℕ) (x : Write) → At (Accepts Z i x) ks p → W .Accepted ks i (x .client) (x .sequence) (x .time, x .entry .digests)
     accepted i p x u = (x, p, u, refl, refl, refl, refl)
 
-    read : (ls : List Call) (c q p : ℕ) (x : Found) → At (CompletesRead Z c q x) ls p → W .ReadEnded ls c q (x .stamp, x .digests)
+    read : (ls : List Call) (c q p : ℕ) (x : Found) → At (StopsRead Z c q x) ls p → W .ReadEnded ls c q (x .stamp, x .digests)
     read ls c q p x u = (x, p, u, refl, refl)
 
-    from : (c q p : ℕ) (x : Found) → At (CompletesRead Z c q x) ks p
+    from : (c q p : ℕ) (x : Found) → At (StopsRead Z c q x) ks p
         → ((x .stamp ≡ zeroStamp) × (x .digests ≡ digestsOf H g initialValue))
         ⊎ ((i p′ : ℕ) × (y : Write) × At (Accepts Z i y) ks p′ × (stampOf y ≡ x .stamp) × (y .entry .digests ≡ x .digests))
     from c q p x u = ⊎-elim
@@ -82,7 +82,7 @@ module _ (Z : Setup) (G : Assumed Z) where
         inr (j, p′, y, v, s ∙ sym (ap (λ z. z .0) e), ed ∙ sym (ap (λ z. z .1) e)))
         (PP.read-from Θ W (g .n) (g .t) faultyServer faultyClient (fresh Z G M) (G .faults) ks (lawful-run Z G M ks a) c q (x .stamp, x .digests) (read ks c q p x u))
 
-    read-ranged : (c q p : ℕ) (x : Found) → At (CompletesRead Z c q x) ks p → StampInBounds (x .stamp)
+    read-ranged : (c q p : ℕ) (x : Found) → At (StopsRead Z c q x) ks p → StampInBounds (x .stamp)
     read-ranged c q p x u = ⊎-elim
         (λ z. rw (z .0) zero-in-bounds)
         (λ z. rw (z .4) at (ranged (z .0) (z .1) (z .2) (z .3)))
@@ -96,28 +96,28 @@ module _ (Z : Setup) (G : Assumed Z) where
     rose ks₀ (k ∷ ls) (inl e) r c = rw e (omega arith)
     rose ks₀ (k ∷ ls) (inr x) r c = omega (arith, rose ks₀ ls x (r .1) c, r .0 .reads-up c)
 
-    read-number : (ls : List Call) (k : Call) (c q : ℕ) (x : Found) → CompletesRead Z c q x ls k → run Z ls .clients c .client .reads ≡ q
+    read-number : (ls : List Call) (k : Call) (c q : ℕ) (x : Found) → StopsRead Z c q x ls k → run Z ls .clients c .client .reads ≡ q
     read-number ls (toServer j f b out to) c q x u = absurd u
     read-number ls (toClient d f b lent result out to) c q x u = rw (u .0) (u .1)
     read-number ls (beginRead d out to) c q x u = absurd u
     read-number ls (beginWrite d v out to) c q x u = absurd u
 
     -- at one place: a call that begins a read completes none
-    not-both : (ls : List Call) (k : Call) (c q d r : ℕ) (x : Found) → OpensRead Z c q ls k → CompletesRead Z d r x ls k → ⊥
+    not-both : (ls : List Call) (k : Call) (c q d r : ℕ) (x : Found) → OpensRead Z c q ls k → StopsRead Z d r x ls k → ⊥
     not-both ls (toServer j f b out to) c q d r x u w = u
     not-both ls (toClient j f b lent result out to) c q d r x u w = u
     not-both ls (beginRead j out to) c q d r x u w = w
     not-both ls (beginWrite j v out to) c q d r x u w = u
 
-    after : (c q p p′ : ℕ) (x : Found) → At (OpensRead Z c q) ks p → At (CompletesRead Z c q x) ks p′ → p < p′
+    after : (c q p p′ : ℕ) (x : Found) → At (OpensRead Z c q) ks p → At (StopsRead Z c q x) ks p′ → p < p′
     after c q p p′ x u w = go (three p p′)
       where
         go : (p < p′) ⊎ ((p ≡ p′) ⊎ (p′ < p)) → p < p′
         go (inl h) = h
-        go (inr (inl e)) = let (ls, k, y, z) = at-both (OpensRead Z c q) (CompletesRead Z c q x) ks p′ (rw e at u) w in absurd (not-both ls k c q c q x y z)
+        go (inr (inl e)) = let (ls, k, y, z) = at-both (OpensRead Z c q) (StopsRead Z c q x) ks p′ (rw e at u) w in absurd (not-both ls k c q c q x y z)
         go (inr (inr h)) =
             let o = cut (OpensRead Z c q) ks p u in
-            let e = cut (CompletesRead Z c q x) (o .before) p′ (o .earlier (CompletesRead Z c q x) p′ h w) in
+            let e = cut (StopsRead Z c q x) (o .before) p′ (o .earlier (StopsRead Z c q x) p′ h w) in
             absurd (omega (
               arith,
               opens-read Z (o .before) (o .call) c q (o .event),
@@ -141,7 +141,7 @@ module _ (Z : Setup) (G : Assumed Z) where
           let b = cut (OpensRead Z d r) ks p′ o in
           key-not-older (x .stamp) (y .stamp) (read-ranged c q p x u) (read-ranged d r p″ y w)
           (PP.read-read Θ W (g .n) (g .t) faultyServer faultyClient (fresh Z G M) (G .faults) (b .before) ks (b .ext) (lawful-run Z G M ks a) c q (x .stamp, x .digests) d r (y .stamp, y .digests)
-          (reader-honest Z ks a d r p′ o) (read (b .before) c q p x (b .earlier (CompletesRead Z c q x) p l u)) (opens-read Z (b .before) (b .call) d r (b .event)) (read ks d r p″ y w));
+          (reader-honest Z ks a d r p′ o) (read (b .before) c q p x (b .earlier (StopsRead Z c q x) p l u)) (opens-read Z (b .before) (b .call) d r (b .event)) (read ks d r p″ y w));
       write-read = λ c q p i e x d r p′ p″ y u v ec eq o l w.
           let b = cut (OpensRead Z d r) ks p′ o in
           let h : key (record { time = suc (x .time); writer = x .client; sequence = x .sequence }) ≤ key (y .stamp) =
@@ -152,7 +152,7 @@ module _ (Z : Setup) (G : Assumed Z) where
           let b = cut (OpensWrite Z d r v) ks p′ o in
           let h : key (x .stamp) < key (record { time = suc (y .time); writer = y .client; sequence = y .sequence }) =
           PP.read-write Θ W (g .n) (g .t) faultyServer faultyClient (fresh Z G M) (G .faults) (Admissible Z) agree valid (b .before) ks (b .ext) (lawful-run Z G M ks a) a c q (x .stamp, x .digests) i (y .client) (y .sequence) (y .time, y .entry .digests)
-          (rw ec (writer-honest Z ks a d r p′ v o)) (read (b .before) c q p x (b .earlier (CompletesRead Z c q x) p l u)) (rw (ec, eq) (opens-write Z (b .before) (b .call) d r v (b .event))) (accepted i e y w) in
+          (rw ec (writer-honest Z ks a d r p′ v o)) (read (b .before) c q p x (b .earlier (StopsRead Z c q x) p l u)) (rw (ec, eq) (opens-write Z (b .before) (b .call) d r v (b .event))) (accepted i e y w) in
           key-older (x .stamp) (stampOf y) (read-ranged c q p x u) (ranged i e y w) (omega (arith, h, key-of y));
       write-write = λ c q p i e x d r p′ j e′ v y u s ec eq o l w fc fq.
           let b = cut (OpensWrite Z d r v) ks p′ o in

@@ -76,21 +76,6 @@ pieces-apart f d j (suc m) = go (f j) (pieces-apart f d (suc j) m)
         by false = h
         by true = (all-numbers (λ z. z ≡ j → ⊥) (pieces f d (suc j) m) (λ p u e. omega (arith, pieces-in f d (suc j) m p u .low, e)), h)
 
-pub mem-take : (n : ℕ) (l : List Piece) (p : Piece) → List·Memᴰ p (take n l) → List·Memᴰ p l
-mem-take zero l p m = absurd (List·Memᴰ·not-nil m)
-mem-take (suc n) [] p m = m
-mem-take (suc n) (x ∷ l) p m = ⊎-elim (λ e. List·Memᴰ·head e) (λ u. List·Memᴰ·tail (mem-take n l p u)) (List·Memᴰ·cases-cons m)
-
-all-take : (P : ℕ → Type 0) (n : ℕ) (l : List Piece) → All P (numbers l) → All P (numbers (take n l))
-all-take P zero l h = tt
-all-take P (suc n) [] h = tt
-all-take P (suc n) (x ∷ l) h = (h .0, all-take P n l (h .1))
-
-pub apart-take : (n : ℕ) (l : List Piece) → Distinct (numbers l) → Distinct (numbers (take n l))
-apart-take zero l h = tt
-apart-take (suc n) [] h = tt
-apart-take (suc n) (x ∷ l) h = (all-take _ n l (h .0), apart-take n l (h .1))
-
 -- ---- two lists are equal or not
 
 pub list-equal? : (a b : List ℕ) → (a ≡ b) ⊎ (a ≡ b → ⊥)

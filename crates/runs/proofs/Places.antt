@@ -9,13 +9,24 @@ use lib.ListN.{length}
 use Rattle.precedence.specs.Laws as PL
 use Rattle.runs.specs.World.{Setup, Call, toServer, toClient, beginRead, beginWrite, run}
 use Rattle.runs.specs.Admissible.{Admissible}
-use Rattle.runs.specs.Events.{Event, At, OpensRead, OpensWrite}
+use Rattle.runs.specs.Events.{Event, At, StopsRead, CompletesRead, OpensRead, OpensWrite}
+use Rattle.client_rules.specs.Rows.{Found}
 
 -- what stands at one place of a run is one call
 pub at-low : (E : Event) (ks : List Call) (p : ℕ) → At E ks p → p < length ks
 at-low E [] p u = absurd u
 at-low E (k ∷ ks) p (inl u) = omega (arith, u .0)
 at-low E (k ∷ ks) p (inr u) = omega (arith, at-low E ks p u)
+
+-- what happens where something does that brings it along
+pub at-map : (E F : Event) → ((ks : List Call) (k : Call) → E ks k → F ks k) → (ks : List Call) (p : ℕ) → At E ks p → At F ks p
+at-map E F f [] p u = absurd u
+at-map E F f (k ∷ ks) p (inl u) = inl (u .0, f ks k (u .1))
+at-map E F f (k ∷ ks) p (inr u) = inr (at-map E F f ks p u)
+
+-- a completed read was closed where its search stopped
+pub stops : (Z : Setup) (ks : List Call) (c q p : ℕ) (x : Found) → At (CompletesRead Z c q x) ks p → At (StopsRead Z c q x) ks p
+stops Z ks c q p x u = at-map (CompletesRead Z c q x) (StopsRead Z c q x) (λ ls k w. w .0) ks p u
 
 pub at-both : (E F : Event) (ks : List Call) (p : ℕ) → At E ks p → At F ks p → (ls : List Call) × (k : Call) × E ls k × F ls k
 at-both E F [] p u v = absurd u

@@ -32,7 +32,7 @@ use Rattle.client_rules.specs.Tests as CT
 use Rattle.steps.proofs.ClientTaken.{awaited-true, took}
 use Rattle.steps.proofs.ClientTaken as Passing
 use Rattle.runs.specs.Admissible.{Admissible}
-use Rattle.runs.specs.Events.{At, CompletesRead, OpensWrite}
+use Rattle.runs.specs.Events.{At, StopsRead, OpensWrite}
 use Rattle.runs.specs.World.{Setup, Call, toServer, toClient, beginRead, beginWrite, ClientSide, clientDone, clientLeft, lentBy, start, run, step, put, lentTo, clientEffect, readEffect, writeEffect}
 
 module _ (H : List ℕ → List ℕ) (g : Params) (me : ℕ) where
@@ -47,14 +47,14 @@ module _ (H : List ℕ → List ℕ) (g : Params) (me : ℕ) where
   pub record Does (s : Client) (r : C.Effect) : Type 0 where
     pub number : r .client .reads ≡ s .reads
     pub still : CS.reading (r .client .phase) ≡ true → CS.reading (s .phase) ≡ true
-    pub gives : (x : Found) → r .event ≡ C.completed x → (CS.reading (s .phase) ≡ true) × (CS.reading (r .client .phase) ≡ false)
-    pub found : (x : Found) → r .event ≡ C.completed x → search g (rowView g (r .client) (r .area)) ≡ some x
+    pub gives : (x : Found) → r .event ≡ C.stopped x → (CS.reading (s .phase) ≡ true) × (CS.reading (r .client .phase) ≡ false)
+    pub found : (x : Found) → r .event ≡ C.stopped x → search g (rowView g (r .client) (r .area)) ≡ some x
 
   quiet-does : (s : Client) (a : List ℕ) → Does s (C.quiet s a)
   quiet-does s a = record { number = refl; still = λ h. h; gives = λ x e. impossible (cc e); found = λ x e. impossible (cc e) }
 
   -- nothing of a read
-  none-does : (s : Client) (r : C.Effect) → r .client .reads ≡ s .reads → CS.reading (r .client .phase) ≡ false → ((x : Found) → r .event ≡ C.completed x → ⊥) → Does s r
+  none-does : (s : Client) (r : C.Effect) → r .client .reads ≡ s .reads → CS.reading (r .client .phase) ≡ false → ((x : Found) → r .event ≡ C.stopped x → ⊥) → Does s r
   none-does s r e p n = record { number = e; still = λ h. impossible (cc (p, h)); gives = λ x z. absurd (n x z); found = λ x z. absurd (n x z) }
 
   keeps-number : (s : Client) (a v : List ℕ) (j : ℕ) {x : Stamp} {e : Entry} {s′ : Client} {a′ : List ℕ} → Keeps H g me s a v j x e s′ a′ → s′ .reads ≡ s .reads
@@ -154,7 +154,7 @@ module _ (Z : Setup) where
     pub number : s .reads ≡ q
     pub number′ : s′ .reads ≡ q
 
-  ended : (ks : List Call) (k : Call) (c q : ℕ) (x : Found) → CompletesRead Z c q x ks k → Ended (clientAt ks c) (clientAt (k ∷ ks) c) q
+  ended : (ks : List Call) (k : Call) (c q : ℕ) (x : Found) → StopsRead Z c q x ks k → Ended (clientAt ks c) (clientAt (k ∷ ks) c) q
   unfolding run step
   ended ks (toServer j from f out to) c q x u = absurd u
   ended ks (beginRead d out to) c q x u = absurd u
@@ -174,7 +174,7 @@ module _ (Z : Setup) where
       let n = next ks k c in
       ⊎-elim (λ o. let w = open-number ks c o in omega (arith, w, n .up)) (λ l. omega (arith, l)) (n .still h)
 
-  pub completed-number : (ks : List Call) (k : Call) (c q : ℕ) (x : Found) → CompletesRead Z c q x ks k → (1 ≤ q) × (q ≡ clientAt ks c .reads)
+  pub completed-number : (ks : List Call) (k : Call) (c q : ℕ) (x : Found) → StopsRead Z c q x ks k → (1 ≤ q) × (q ≡ clientAt ks c .reads)
   completed-number ks k c q x u =
       let w = ended ks k c q x u in
       let l = open-number ks c (w .was) in
@@ -184,7 +184,7 @@ module _ (Z : Setup) where
   abbrev Finds : ClientSide → Found → Type 0
   Finds h x = search g (rowView g (h .client) (h .area)) ≡ some x
 
-  pub read-found : (ks : List Call) (k : Call) (c q : ℕ) (x : Found) → CompletesRead Z c q x ks k → Finds (run Z (k ∷ ks) .clients c) x
+  pub read-found : (ks : List Call) (k : Call) (c q : ℕ) (x : Found) → StopsRead Z c q x ks k → Finds (run Z (k ∷ ks) .clients c) x
   unfolding run step
   read-found ks (toServer j from f out to) c q x u = absurd u
   read-found ks (beginRead d out to) c q x u = absurd u
@@ -208,20 +208,20 @@ module _ (Z : Setup) where
       go (yes z) false r = inr (omega (arith, z, e, n .up), r)
       go (yes z) true r = ⊎-elim (λ y. impossible (cc (y, h))) (λ y. inl (omega (arith, y, e))) (n .still r)
 
-  behind : (ks : List Call) (c q p : ℕ) (x : Found) → At (CompletesRead Z c q x) ks p → Behind (clientAt ks c) q
+  behind : (ks : List Call) (c q p : ℕ) (x : Found) → At (StopsRead Z c q x) ks p → Behind (clientAt ks c) q
   unfolding Behind
   behind [] c q p x u = absurd u
   behind (k ∷ ks) c q p x (inl u) = let w = ended ks k c q x (u .1) in inr (sym (w .number′), w .is)
   behind (k ∷ ks) c q p x (inr u) = behind-next (clientAt ks c) (clientAt (k ∷ ks) c) q (next ks k c) (behind ks c q p x u)
 
-  not-again : (ks : List Call) (k : Call) (c q p : ℕ) (x y : Found) → CompletesRead Z c q x ks k → At (CompletesRead Z c q y) ks p → ⊥
+  not-again : (ks : List Call) (k : Call) (c q p : ℕ) (x y : Found) → StopsRead Z c q x ks k → At (StopsRead Z c q y) ks p → ⊥
   unfolding Behind
   not-again ks k c q p x y u v =
       let w = ended ks k c q x u in
       ⊎-elim (λ h. omega (arith, h, w .number)) (λ h. impossible (cc (h .1, w .was))) (behind ks c q p y v)
 
   -- A read completes once.
-  pub read-once : (ks : List Call) (c q p p′ : ℕ) (x y : Found) → At (CompletesRead Z c q x) ks p → At (CompletesRead Z c q y) ks p′ → p ≡ p′
+  pub read-once : (ks : List Call) (c q p p′ : ℕ) (x y : Found) → At (StopsRead Z c q x) ks p → At (StopsRead Z c q y) ks p′ → p ≡ p′
   read-once [] c q p p′ x y u v = absurd u
   read-once (k ∷ ks) c q p p′ x y (inl u) (inl v) = u .0 ∙ sym (v .0)
   read-once (k ∷ ks) c q p p′ x y (inl u) (inr v) = absurd (not-again ks k c q p′ x y (u .1) v)

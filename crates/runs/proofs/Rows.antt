@@ -13,12 +13,12 @@ use Rattle.server_rules.specs.Steps.{stampOf}
 use Rattle.client_rules.specs.Rows.{Found}
 use Rattle.runs.specs.Blocks.{Collision}
 use Rattle.runs.specs.Demand.{Operation, Stands, SameOperation, lastOf, BearsLast, NoWrite, Happened, Begins, Ends, InOrder, by-stamp, write-first, as-ended, Values, Demand3}
-use Rattle.runs.specs.Events.{At, CompletesRead, EndsWrite, OpensRead, OpensWrite}
+use Rattle.runs.specs.Events.{At, StopsRead, CompletesRead, EndsWrite, OpensRead, OpensWrite}
 use Rattle.runs.specs.World.{Setup, Call, toServer, toClient, beginRead, beginWrite}
 use Rattle.runs.proofs.Listing.{readItem, writeItem, Cause, by-read, by-accept, In, items}
 use Rattle.runs.proofs.Sorting.{Item, Mem, Before, Alike, before-trans, Sorted, Put, sort, ops, in-ops, of-ops, stands-of, orders}
 use Rattle.runs.proofs.Known.{Known}
-use Rattle.runs.proofs.Places.{at-both}
+use Rattle.runs.proofs.Places.{at-both, stops}
 
 at-most-before : (x y : Item) → Before x y → AtMost (x .op .stamp) (y .op .stamp)
 at-most-before x y (inl h) = inr h
@@ -108,8 +108,8 @@ before-not x (inl h) = less-not _ _ refl h
 before-not x (inr (e, inl (p, q))) = impossible (cc (p, q))
 before-not x (inr (e, inr (p, q, h))) = omega arith
 
--- a call completes one read at most
-pub reads-one : (Z : Setup) (ls : List Call) (k : Call) (c q d r : ℕ) (x y : Found) → CompletesRead Z c q x ls k → CompletesRead Z d r y ls k → (c ≡ d) × (q ≡ r) × (x ≡ y)
+-- a call closes one read at most
+reads-one : (Z : Setup) (ls : List Call) (k : Call) (c q d r : ℕ) (x y : Found) → StopsRead Z c q x ls k → StopsRead Z d r y ls k → (c ≡ d) × (q ≡ r) × (x ≡ y)
 reads-one Z ls (toServer j from f out to) c q d r x y u v = absurd u
 reads-one Z ls (toClient j from f lent result out to) c q d r x y u v = (u .0 ∙ sym (v .0), sym (u .1) ∙ v .1, cc (u .2, v .2))
 reads-one Z ls (beginRead j out to) c q d r x y u v = absurd u
@@ -119,10 +119,10 @@ module _ (Z : Setup) (ks : List Call) (K : Known Z ks) where
   abbrev Why : Item → Type 0
   Why x = Cause Z (In Z ks) x
 
-  pub reads-at : (c q d r p p′ : ℕ) (x y : Found) → At (CompletesRead Z c q x) ks p → At (CompletesRead Z d r y) ks p′ → p ≡ p′ → (c ≡ d) × (q ≡ r) × (x ≡ y)
+  reads-at : (c q d r p p′ : ℕ) (x y : Found) → At (CompletesRead Z c q x) ks p → At (CompletesRead Z d r y) ks p′ → p ≡ p′ → (c ≡ d) × (q ≡ r) × (x ≡ y)
   reads-at c q d r p p′ x y u v e =
       let w = at-both (CompletesRead Z c q x) (CompletesRead Z d r y) ks p′ (rw e at u) v in
-      reads-one Z (w .0) (w .1) c q d r x y (w .2) (w .3)
+      reads-one Z (w .0) (w .1) c q d r x y (w .2 .0) (w .3 .0)
 
   one-op : (x y : Item) → Why x → Why y → Alike x y → x .op ≡ y .op
   one-op x y (by-read c q e f u) (by-read d r e′ f′ v) (a, inl (p, p′)) = impossible (cc p)
@@ -138,7 +138,7 @@ module _ (Z : Setup) (ks : List Call) (K : Known Z ks) where
 
   no-twin : (x y : Item) → Why x → Why y → Before x y → SameOperation (x .op) (y .op) → ⊥
   no-twin x y (by-read c q e f u) (by-read d r e′ f′ v) b s =
-      let h : e ≡ e′ = K .read-once d r e e′ f f′ (rw (s .client, s .sequence) at u) v in
+      let h : e ≡ e′ = K .read-once d r e e′ f f′ (stops Z ks d r e f (rw (s .client, s .sequence) at u)) (stops Z ks d r e′ f′ v) in
       let w = reads-at c q d r e e′ f f′ u v h in
       go h (ap (λ z. z .stamp) (w .2)) b
     where
@@ -157,7 +157,7 @@ module _ (Z : Setup) (ks : List Call) (K : Known Z ks) where
       go h (inr (a, inr (p, p′, z))) = impossible (cc p)
 
   ends-at : (x : Item) → Why x → x .op .reading ≡ true → (p : ℕ) → Ends Z ks (x .op) p → p ≡ x .end
-  ends-at x (by-read c q e f u) r p (inl (z, y, v)) = K .read-once c q p e y f v u
+  ends-at x (by-read c q e f u) r p (inl (z, y, v)) = K .read-once c q p e y f (stops Z ks c q p y v) (stops Z ks c q e f u)
   ends-at x (by-read c q e f u) r p (inr (z, v)) = impossible (cc z)
   ends-at x (by-accept i e k u) r p h = impossible (cc r)
 
@@ -186,18 +186,18 @@ module _ (Z : Setup) (ks : List Call) (K : Known Z ks) where
   in-time-of x y (by-read c q e f u) (by-read d r e′ f′ v) p p′ s t l =
       let (f″, w) = end-read (readItem Z c q (f .stamp) e .op) refl p s in
       let w′ = begin-read (readItem Z d r (f′ .stamp) e′ .op) refl p′ t in
-      let h : p ≡ e = K .read-once c q p e f″ f w u in
+      let h : p ≡ e = K .read-once c q p e f″ f (stops Z ks c q p f″ w) (stops Z ks c q e f u) in
       let k : e < p′ = omega (arith, h, l) in
-      let m : e < e′ = omega (arith, k, K .read-after d r p′ e′ f′ w′ v) in
-      ⊎-elim (λ s. inr (s, inr (refl, refl, m))) (λ s. inl s) (at-most-of _ _ (K .read-read c q e f d r p′ e′ f′ u w′ k v))
+      let m : e < e′ = omega (arith, k, K .read-after d r p′ e′ f′ w′ (stops Z ks d r e′ f′ v)) in
+      ⊎-elim (λ s. inr (s, inr (refl, refl, m))) (λ s. inl s) (at-most-of _ _ (K .read-read c q e f d r p′ e′ f′ (stops Z ks c q e f u) w′ k (stops Z ks d r e′ f′ v)))
   in-time-of x y (by-read c q e f u) (by-accept j e′ k v) p p′ s t l =
       let (f″, w) = end-read (readItem Z c q (f .stamp) e .op) refl p s in
       let (val, w′) = begin-write (writeItem Z k .op) refl p′ t in
-      let h : p ≡ e = K .read-once c q p e f″ f w u in
-      inl (less-of _ _ (K .read-write c q e f (k .client) (k .sequence) p′ j e′ val k u w′ (omega (arith, h, l)) v refl refl))
+      let h : p ≡ e = K .read-once c q p e f″ f (stops Z ks c q p f″ w) (stops Z ks c q e f u) in
+      inl (less-of _ _ (K .read-write c q e f (k .client) (k .sequence) p′ j e′ val k (stops Z ks c q e f u) w′ (omega (arith, h, l)) v refl refl))
   in-time-of x y (by-accept i e k u) (by-read d r e′ f′ v) p p′ s t l =
       ⊎-elim (λ s. inr (s, inl (refl, refl))) (λ s. inl s)
-      (at-most-of _ _ (K .write-read (k .client) (k .sequence) p i e k d r p′ e′ f′ (end-write (writeItem Z k .op) refl p s) u refl refl (begin-read (readItem Z d r (f′ .stamp) e′ .op) refl p′ t) l v))
+      (at-most-of _ _ (K .write-read (k .client) (k .sequence) p i e k d r p′ e′ f′ (end-write (writeItem Z k .op) refl p s) u refl refl (begin-read (readItem Z d r (f′ .stamp) e′ .op) refl p′ t) l (stops Z ks d r e′ f′ v)))
   in-time-of x y (by-accept i e k u) (by-accept j e′ k′ v) p p′ s t l =
       let (val, w′) = begin-write (writeItem Z k′ .op) refl p′ t in
       inl (less-of _ _ (K .write-write (k .client) (k .sequence) p i e k (k′ .client) (k′ .sequence) p′ j e′ val k′ (end-write (writeItem Z k .op) refl p s) u refl refl w′ l v refl refl))
@@ -237,7 +237,7 @@ module _ (Z : Setup) (ks : List Call) (K : Known Z ks) where
       let (i, p, y, v, s, g) = z in
       let (w, m, a) = made .whole (writeItem Z y) (items Z ks .accepts i p y v) in
       inr (w, m, sym (ap (λ o. o .reading) (one-op (writeItem Z y) w (by-accept i p y v) (why w m) a)), sym (a .0) ∙ s))
-      (K .read-from c q e f u)
+      (K .read-from c q e f (stops Z ks c q e f u))
   from-writes x (by-accept i e k u) r = impossible (cc r)
 
   bears : BearsLast zeroStamp (ops line)
@@ -294,7 +294,7 @@ module _ (Z : Setup) (ks : List Call) (K : Known Z ks) where
       h .0 ra ∙ sym (bears-through s ys (b ∷ zs) n (bears-next s a (ys ++ (b ∷ zs)) ra h) .0 rb)
 
   begun : (x : Item) → Why x → Z .faultyClient (x .op .client) ≡ false → (p : ℕ) × Begins Z ks (x .op) p
-  begun x (by-read c q e f u) h = let w = K .read-begun c q e f u in (w .0, inl (refl, w .1))
+  begun x (by-read c q e f u) h = let w = K .read-begun c q e f (stops Z ks c q e f u) in (w .0, inl (refl, w .1))
   begun x (by-accept i e k u) h = let w = K .write-begun i e k u h in (w .0, inr (refl, w .1, w .2))
 
   -- All of demand 3 but the values.

@@ -22,7 +22,7 @@ use Rattle.client_rules.specs.Rows.{Found, Kept, rowView}
 use Rattle.client_rules.specs.State.{heardOf}
 use Rattle.client_rules.proofs.CallFacts.{timeOf}
 use Rattle.steps.proofs.Keys.{key, key-time}
-use Rattle.runs.specs.Events.{At, Accepts, CompletesRead, EndsWrite}
+use Rattle.runs.specs.Events.{At, Accepts, StopsRead, EndsWrite}
 use Rattle.runs.specs.World.{Setup, Call, ClientSide, initialOf, run}
 use Rattle.runs.proofs.Broadcasts.{Agreed, serverAt, SentMessage}
 use Rattle.runs.proofs.Roomy.{roomy}
@@ -73,5 +73,5 @@ module _ (Z : Setup) (G : Assumed Z) (M : Small (Z .g)) where
     KeptStamp = λ ks c j T. (clientAt ks c .client .phase ≡ F.Asking) × (timeOf (clientAt ks c .client) j ≡ some T);
     Accepted = λ ks j c q a. (x : S.Write) × (p : ℕ) × At (Accepts Z j x) ks p × (x .client ≡ c) × (x .sequence ≡ q) × (x .time ≡ a .0) × (x .entry .digests ≡ a .1);
     WriteEnded = λ ks c q. (p : ℕ) × At (EndsWrite Z c q) ks p;
-    ReadEnded = λ ks c q v. (x : Found) × (p : ℕ) × At (CompletesRead Z c q x) ks p × (x .stamp ≡ v .0) × (x .digests ≡ v .1);
+    ReadEnded = λ ks c q v. (x : Found) × (p : ℕ) × At (StopsRead Z c q x) ks p × (x .stamp ≡ v .0) × (x .digests ≡ v .1);
   }

@@ -9,8 +9,8 @@ use Rattle.sha256.proofs.Bytes.{length-digest}
 use Rattle.client_rules.specs.Rows.{Found, rowView}
 use Rattle.runs.specs.World.{Setup, Call, run, DigestSize}
 use Rattle.runs.specs.Admissible.{Admissible}
-use Rattle.runs.specs.Events.{At, CompletesRead}
-use Rattle.runs.specs.Demand.{Theorem, TheoremSha256}
+use Rattle.runs.specs.Events.{At, StopsRead}
+use Rattle.runs.specs.Demand.{Theorem, TheoremSha256, DisagreementShown}
 use Rattle.runs.proofs.Known.{KnownValues, Rows}
 use Rattle.runs.proofs.Ordering.{known}
 use Rattle.runs.proofs.ReadOnce.{read-found, written-sized}
@@ -19,11 +19,11 @@ use Rattle.runs.proofs.AcceptedFrom.{accepted-from}
 use Rattle.runs.proofs.Written.{written-from}
 use Rattle.runs.proofs.KeptRows.{rows-fit, rows-carried}
 use Rattle.runs.proofs.Rows.{one-row}
-use Rattle.runs.proofs.Values.{values}
+use Rattle.runs.proofs.Values.{values, shown}
 use Rattle.runs.proofs.Assumed.{Assumed, assumed}
 
 module _ (Z : Setup) (G : Assumed Z) where
-  -- what a completed read decoded stays as it was
+  -- what a read found stays as it was
   later : (ks : List Call) (k : Call) (x : Found) → Rows Z ks x → Rows Z (k ∷ ks) x
   later ks k x R = record {
     at = R .at;
@@ -33,7 +33,7 @@ module _ (Z : Setup) (G : Assumed Z) where
     carried = λ j e i h. let w = R .carried j e i h in (w .0, inr (w .1));
   }
 
-  read-rows : (ks : List Call) → Admissible Z ks → (c q p : ℕ) (x : Found) → At (CompletesRead Z c q x) ks p → Rows Z ks x
+  read-rows : (ks : List Call) → Admissible Z ks → (c q p : ℕ) (x : Found) → At (StopsRead Z c q x) ks p → Rows Z ks x
   read-rows [] a c q p x u = absurd u
   read-rows (k ∷ ks) a c q p x (inr u) = later ks k x (read-rows ks (a .1) c q p x u)
   read-rows (k ∷ ks) a c q p x (inl u) =
@@ -54,6 +54,12 @@ theorem Z S D ks a =
     let G = assumed Z S D in
     let K = known Z G ks a in
     one-row Z ks K (values Z G ks K (known-values Z G ks a))
+
+pub disagreement-shown : DisagreementShown
+unfolding DisagreementShown
+disagreement-shown Z S D ks a c q p x u =
+    let G = assumed Z S D in
+    shown Z G ks (known Z G ks a) (known-values Z G ks a) c q p x u
 
 -- ---- at SHA-256
 

@@ -2,6 +2,7 @@
 -- length in front; the to area has two bytes for the receiver of each. These are definitions.
 use Prim.Native.Nat.{ℕ, zero, suc, _+_}
 use mathlib.Core.Path.{_≡_}
+use mathlib.Core.Option.{none, some}
 use mathlib.Core.List.{List, [], _∷_, map}
 use lib.ListN.{getD, take, drop}
 use lib.Seq.{sets}
@@ -37,7 +38,7 @@ unfoldable pub receiversIn : ℕ → List ℕ → List Party
 receiversIn zero l = []
 receiversIn (suc m) l = partyIn (getD l 0 0) (getD l 1 0) ∷ receiversIn m (drop 2 l)
 
--- how many frames a reply, an answer says went out; a completed read sends read-complete to all
+-- how many frames a reply, an answer says went out; a read that ends sends read-complete to all
 abbrev pub replyCount : Reply → ℕ
 replyCount (R.Step m) = m
 replyCount (R.Refused r) = 0
@@ -47,6 +48,7 @@ answerCount g (A.Sent m) = m
 answerCount g A.Written = 0
 answerCount g A.OutOfStamps = 0
 answerCount g (A.Value s) = g .n
+answerCount g A.Disagreement = g .n
 answerCount g (A.Refused r) = 0
 
 -- an answer: the count, and the out and to areas as the call leaves them
@@ -86,8 +88,11 @@ AnswersReadBack = (Z : Setup) → Sound Z → DigestSize (Z .H) → (k : Call) (
 -- "A read is completed by the call that answers its value": the event ev of a delivery to a client, its answer, and the result area before and after
 pub record Tells (ev : C.Event) (answer : Answer) (result left : List ℕ) : Type 0 where
   -- a completed read is answered with its stamp, and its bytes lie at the start of the result area
-  pub completes : (x : Found) → ev ≡ C.completed x → (answer ≡ A.Value (x .stamp)) × (left ≡ sets result 0 (x .bytes))
-  pub completed-only : (s : Stamp) → answer ≡ A.Value s → (x : Found) × (ev ≡ C.completed x) × (x .stamp ≡ s)
+  pub completes : (x : Found) (v : List ℕ) → ev ≡ C.stopped x → x .bytes ≡ some v → (answer ≡ A.Value (x .stamp)) × (left ≡ sets result 0 v)
+  pub completed-only : (s : Stamp) → answer ≡ A.Value s → (x : Found) × (v : List ℕ) × (ev ≡ C.stopped x) × (x .stamp ≡ s) × (x .bytes ≡ some v)
+  -- one whose blocks disagree is answered so, and the result area stays as lent (request F-7)
+  pub disagrees : (x : Found) → ev ≡ C.stopped x → x .bytes ≡ none → (answer ≡ A.Disagreement) × (left ≡ result)
+  pub disagreed-only : answer ≡ A.Disagreement → (x : Found) × (ev ≡ C.stopped x) × (x .bytes ≡ none)
   -- a write that ends is answered so
   pub ends : ev ≡ C.written → answer ≡ A.Written
   pub ended-only : answer ≡ A.Written → ev ≡ C.written

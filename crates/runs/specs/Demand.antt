@@ -3,6 +3,7 @@ use Prim.Native.Nat.{ℕ, _<_}
 use mathlib.Core.Bool.{Bool, true, false}
 use mathlib.Core.Path.{_≡_}
 use mathlib.Core.Logic.{_⊎_}
+use mathlib.Core.Option.{some}
 use mathlib.Core.List.{List, [], _∷_, _++_, List·Memᴰ}
 use Rattle.sha256.specs.Hash.{digestOf}
 use Rattle.frame.specs.declared.Stamp.{Stamp}
@@ -11,7 +12,7 @@ use Rattle.server_rules.specs.Steps.{Write, stampOf}
 use Rattle.client_rules.specs.Rows.{Found}
 use Rattle.runs.specs.World.{Setup, Sound, DigestSize, Call}
 use Rattle.runs.specs.Admissible.{Admissible}
-use Rattle.runs.specs.Events.{At, Accepts, CompletesRead, EndsWrite, OpensRead, OpensWrite}
+use Rattle.runs.specs.Events.{At, Accepts, CompletesRead, Disagrees, EndsWrite, OpensRead, OpensWrite}
 use Rattle.runs.specs.Blocks.{Collision}
 
 -- ---- rows of operations
@@ -83,9 +84,9 @@ module _ (Z : Setup) (ks : List Call) where
     pub same : (c q d r p p′ : ℕ) (x y : Found) → At (CompletesRead Z c q x) ks p → At (CompletesRead Z d r y) ks p′ → x .stamp ≡ y .stamp → x .bytes ≡ y .bytes
     -- an honest writer's own
     pub own : (c q d r p p′ : ℕ) (x : Found) (v : List ℕ) → At (CompletesRead Z c q x) ks p → At (OpensWrite Z d r v) ks p′
-        → x .stamp .writer ≡ d → x .stamp .sequence ≡ r → x .bytes ≡ v
+        → x .stamp .writer ≡ d → x .stamp .sequence ≡ r → x .bytes ≡ some v
     -- and at zero the initial value"
-    pub zero : (c q p : ℕ) (x : Found) → At (CompletesRead Z c q x) ks p → x .stamp ≡ zeroStamp → x .bytes ≡ Z .initialValue
+    pub zero : (c q p : ℕ) (x : Found) → At (CompletesRead Z c q x) ks p → x .stamp ≡ zeroStamp → x .bytes ≡ some (Z .initialValue)
 
   -- ---- the demand
 
@@ -124,3 +125,10 @@ Theorem = (Z : Setup) → Sound Z → DigestSize (Z .H) → (ks : List Call) →
 -- and so for SHA-256, with which the servers and clients of this register compute.
 unfoldable pub TheoremSha256 : Type 0
 TheoremSha256 = (Z : Setup) → Sound Z → Z .H ≡ digestOf → (ks : List Call) → Admissible Z ks → Demand3 Z ks
+
+-- ---- request F-7
+
+-- "an honest client in a run with at most t false servers sees this only where two different blocks of that run share a digest": only honest parties are called
+unfoldable pub DisagreementShown : Type 0
+DisagreementShown = (Z : Setup) → Sound Z → DigestSize (Z .H) → (ks : List Call) → Admissible Z ks
+    → (c q p : ℕ) (x : Found) → At (Disagrees Z c q x) ks p → Collision Z ks

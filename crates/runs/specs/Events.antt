@@ -2,6 +2,7 @@
 use Prim.Native.Nat.{ℕ, _+_}
 use mathlib.Core.Path.{_≡_}
 use mathlib.Core.Logic.{_⊎_}
+use mathlib.Core.Option.{none, some}
 use mathlib.Core.List.{List, [], _∷_, List·Memᴰ}
 use lib.ListN.{length}
 use Rattle.frame.specs.declared.Verdict.the-variants as J
@@ -30,13 +31,21 @@ module _ (Z : Setup) where
   Accepts i x ks (beginRead c out to) = ⊥
   Accepts i x ks (beginWrite c v out to) = ⊥
 
-  -- "A read is completed by the call that answers its value; its stamp is where its search stopped": client c's read q
+  -- the search of client c's read q stops at x, which closes the read
+  abbrev pub StopsRead : ℕ → ℕ → Found → Event
+  StopsRead c q x ks (toServer j from f out to) = ⊥
+  StopsRead c q x ks (toClient d from f lent result out to) =
+      (c ≡ d) × (run Z ks .clients d .client .reads ≡ q) × (clientEffect Z (run Z ks) d from f lent result out to .event ≡ C.stopped x)
+  StopsRead c q x ks (beginRead d out to) = ⊥
+  StopsRead c q x ks (beginWrite d v out to) = ⊥
+
+  -- "A read is completed by the call that answers its value; its stamp is where its search stopped"
   abbrev pub CompletesRead : ℕ → ℕ → Found → Event
-  CompletesRead c q x ks (toServer j from f out to) = ⊥
-  CompletesRead c q x ks (toClient d from f lent result out to) =
-      (c ≡ d) × (run Z ks .clients d .client .reads ≡ q) × (clientEffect Z (run Z ks) d from f lent result out to .event ≡ C.completed x)
-  CompletesRead c q x ks (beginRead d out to) = ⊥
-  CompletesRead c q x ks (beginWrite d v out to) = ⊥
+  CompletesRead c q x ks k = StopsRead c q x ks k × ((v : List ℕ) × (x .bytes ≡ some v))
+
+  -- request F-7: the read is closed by the call that reports the disagreement of its blocks
+  abbrev pub Disagrees : ℕ → ℕ → Found → Event
+  Disagrees c q x ks k = StopsRead c q x ks k × (x .bytes ≡ none)
 
   -- "a write [ends] at its (n - t)th counted ack": client c's write q
   abbrev pub EndsWrite : ℕ → ℕ → Event
@@ -65,6 +74,6 @@ module _ (Z : Setup) where
   abbrev pub Decodes : List ℕ → Event
   Decodes v ks (toServer i from f out to) = List·Memᴰ v (serverEffect Z (run Z ks) i from f out to .decodes)
   Decodes v ks (toClient c from f lent result out to) =
-      (x : Found) × (clientEffect Z (run Z ks) c from f lent result out to .event ≡ C.completed x) × (x .bytes ≡ v)
+      (x : Found) × (clientEffect Z (run Z ks) c from f lent result out to .event ≡ C.stopped x) × (x .bytes ≡ some v)
   Decodes v ks (beginRead c out to) = ⊥
   Decodes v ks (beginWrite c u out to) = ⊥

@@ -46,6 +46,7 @@ module _ (Z : Setup) (w : World) where
   valueBy A.Written v old = old
   valueBy A.OutOfStamps v old = old
   valueBy (A.Value s) v old = old
+  valueBy A.Disagreement v old = old
   valueBy (A.Refused r) v old = old
 
   abbrev pub writePromised : ℕ → List ℕ → List ℕ → List ℕ → ClientSide

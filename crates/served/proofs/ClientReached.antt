@@ -25,6 +25,7 @@ use Rattle.frame.specs.declared.Refusal.the-variants as X
 use Rattle.frame.specs.declared.Verdict.the-variants as J
 use Rattle.frame.specs.Chunks.{rowsBytes}
 use Rattle.frame.specs.Frames.{build, opened, messageIn, headerFor}
+use Rattle.frame.specs.declared.Stamp.{Stamp}
 use Rattle.frame.specs.Messages.{send, echo, ready, Body, getStamp, ack, askRead, readComplete, stampIs, blockIs, valueIs, Message, message, sending, good, judgedBy, Formed}
 use Rattle.frame.specs.Params.{clientFrames, outRoom, toRoom}
 use Rattle.frame.specs.Refusals.{numberOf, andThen}
@@ -81,6 +82,18 @@ room-fine : (g : Params) (area result out to : ℕ) → rowsBytes ≤ area → g
 unfolding CT.roomTest CT.sendRoom pick
 room-fine g area result out to a b c d =
     rw (le-ltb area rowsBytes a, le-ltb result (g .size) b, le-ltb out (outRoom g (clientFrames g)) c, le-ltb to (toRoom (clientFrames g)) d)
+
+-- no event turns a frame down
+read-good : (s : Stamp) (o : Option (List ℕ)) → answerRefusal (CD.readAnswer s o) ≡ none
+read-good s none = refl
+read-good s (some v) = refl
+
+pub event-good : (x : C.Event) (c : ℕ) → answerRefusal (CD.eventAnswer x c) ≡ none
+unfolding CD.eventAnswer
+event-good C.nothing c = refl
+event-good C.written c = refl
+event-good C.outOfStamps c = refl
+event-good (C.stopped x) c = read-good (x .stamp) (x .bytes)
 
 module _ (Z : Setup) (G : Assumed Z) where
   open Setup Z using (H, g, faultyServer, faultyClient)
@@ -209,14 +222,8 @@ module _ (Z : Setup) (G : Assumed Z) where
         ) refl
 
     answer-by : (v : Verdict) (x : C.Effect) → answerRefusal (CD.answerOf (judgedBy v m) x) ≡ refusalIn v
-    unfolding CD.answerOf CD.eventAnswer
-    answer-by J.Fine x = go (x .event)
-      where
-        go : (e : C.Event) → answerRefusal (CD.eventAnswer e (length (x .sends))) ≡ none
-        go C.nothing = refl
-        go C.written = refl
-        go C.outOfStamps = refl
-        go (C.completed f) = refl
+    unfolding CD.answerOf
+    answer-by J.Fine x = event-good (x .event) (length (x .sends))
     answer-by (J.Bad r) x = refl
 
     answer-is : (rows lent result out to : List ℕ) (v : Verdict) → andThen (room rows result out to) ordered ≡ v

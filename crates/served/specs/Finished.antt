@@ -37,6 +37,7 @@ answerRefusal (W.Sent m) = none
 answerRefusal W.Written = none
 answerRefusal W.OutOfStamps = none
 answerRefusal (W.Value s) = none
+answerRefusal W.Disagreement = none
 answerRefusal (W.Refused r) = some r
 
 -- a step, or a number "other than 10 and 13"

@@ -17,7 +17,7 @@ use Rattle.frame.specs.Refusals as FrRefusals
 use Rattle.frame.specs.Messages.{echo, ready}
 use Rattle.frame.specs.Frames.{build}
 use Rattle.client_rules.specs.declared.Phase.the-variants as F
-use Rattle.client_rules.specs.Steps.{written, completed}
+use Rattle.client_rules.specs.Steps.{written, stopped}
 use Rattle.runs.specs.World.{Sound}
 use Rattle.runs.specs.Admissible.{Sent, Admissible}
 use Rattle.runs.specs.Events.{At, CompletesRead, EndsWrite, OpensRead, OpensWrite}
@@ -55,7 +55,7 @@ use Rattle.witness.proofs.Setups as Setups
 use Rattle.witness.proofs.Served as Served
 use Rattle.witness.proofs.Asked as Asked
 use Rattle.witness.proofs.Images.{sameParty, amongSends, wasSent, allBytes, judgedBad, verdictBad, isFrame, honest, properFrame, properCall, advance, image, refusedIn, endIn}
-use Rattle.witness.proofs.Depicted.{Exact, admissible-by, depicts, logged, sent-by, honest-is, completes-by, ends-by, opens-read-by, opens-write-by, refuses-by, at-drop}
+use Rattle.witness.proofs.Depicted.{Exact, admissible-by, depicts, logged, sent-by, honest-is, stops-by, ends-by, opens-read-by, opens-write-by, refuses-by, at-drop}
 use Rattle.served_witness.specs.AllDelivered.{g, initial, value, Z, stamp, entryFor, stampAsked, stampFrom, blockTo, saying, block, noRoom, ackFrom, readAsked, initialFrom, valueFrom, readEnded, asking, opening, echoing, waiting, accepted, told, calls, found, Shown}
 use Rattle.served_witness.proofs.Traces.{isHand, amongHands, handOf, isOne, handedIn, isFrom, speaks, isFinal, idle, withHand, follow, trace, allOf, allAnswered, allIdle, trace-seen, finished-by, delivered-by, served-by, never-handed, never-speaks, unfinished-by}
 
@@ -76,13 +76,16 @@ sound = Setups.sound Toy.toy g initial 4 (λ c. false) bounded
 
 -- ---- the run, computed
 
-record Computed : Type 0 where
+-- in two parts, each within the prover's bound of a computation
+record Delivering : Type 0 where
   -- all calls are proper, every frame between honest parties is answered, and nobody has an operation open
   pub whole : (trace Z calls .seen .proper && (allAnswered Z (trace Z calls .seen .log) (trace Z calls .closed) && allIdle Z (trace Z calls .seen) 8)) ≡ true
   -- nothing comes from server 4, and up to the second ack no ready of server 1 to server 3
   pub nothing-from : speaks calls (P.Server 4) ≡ false
   pub not-handed : handedIn waiting (P.Server 1) (P.Server 3) (build (saying ready 1)) ≡ false
-  -- it was sent, and it would be taken, and client 1's write is open
+
+record Computed : Type 0 where
+  -- that ready was sent, and it would be taken, and client 1's write is open
   pub would : (wasSent (image Z waiting .log) (P.Server 1) (P.Server 3) (build (saying ready 1)) ≡ true)
       × (refusedIn Z (image Z waiting) (block ready 1 3) ≡ none)
       × (image Z waiting .clients 1 .client .phase ≡ F.Acking)
@@ -95,14 +98,19 @@ record Computed : Type 0 where
   pub no-room : refusedIn Z (image Z (block echo 2 1 ∷ block echo 1 1 ∷ blockTo 3 ∷ blockTo 2 ∷ blockTo 1 ∷ opening)) noRoom ≡ some R.Room
   -- they end
   pub ended : (image Z accepted .clients 1 .client .writes ≡ 1) × (endIn Z (image Z accepted) (ackFrom 3) ≡ written)
-  pub completed-is : (image Z told .clients 2 .client .reads ≡ 1) × (endIn Z (image Z told) (valueFrom 3) ≡ completed found)
+  pub completed-is : (image Z told .clients 2 .client .reads ≡ 1) × (endIn Z (image Z told) (valueFrom 3) ≡ stopped found)
 
-computed : Computed
-unfolding FrChunks.entryAt RuWorld.start SeDelivery.constructBy SeDelivery.constructTest SeDelivery.construction Toy.toy Toy.zeros Toy.four Toy.setup Toy.handServer Toy.handClient Toy.startRead Toy.startWrite g initial value Z entryFor stamp stampAsked stampFrom blockTo saying block noRoom ackFrom readAsked initialFrom valueFrom readEnded asking opening echoing waiting accepted told calls found Served.freeBy Served.freedBy Served.settledBy Served.votedBy Served.blockBy Served.bodyBy Served.servedBy Served.judgeBy Served.served Asked.searchedBy Asked.keptBy Asked.bodyBy Asked.heardBy Asked.judgeBy Asked.asked sameParty amongSends wasSent allBytes judgedBad verdictBad isFrame honest properFrame properCall advance image refusedIn endIn isHand amongHands handOf isOne handedIn isFrom speaks isFinal idle withHand follow trace allOf allAnswered allIdle FrRefusals.numberOf QuQuorum.count ArArea.pick ArArea.same ArArea.compared ArArea.tableFrom ArArea.table ArArea.joined ArNumbers.be2 ArNumbers.be4 ArNumbers.be8 ArNumbers.bytes2 ArNumbers.bytes4 ArNumbers.bytes8 _⊕_ FiField.reduction FiField.xtime FiField.shiftAdd _⊗_ FiField.powerOf FiField.Powers FiField.Logs BlCode.blockLength BlCode.padded BlCode.stripe BlCode.blockByte BlCode.blockOf BlCode.encoded BlCode.row BlCode.valueOf BlCode.blocksOf BlParams.partiesFit BlParams.thresholdFits BlParams.lengthFits BlPoly.eval BlPoly.plus BlPoly.scale BlPoly.withRoot BlPoly.vanishing BlPoly.newtonStep BlPoly.through FrCoded.pieces FrCoded.decoded FrCoded.digestsOf FrCoded.entryOf FrCoded.fits FrFrames.kindOf FrFrames.retired FrFrames.lengthOf FrFrames.bodyLength FrFrames.entryBytes FrFrames.offerBytes FrFrames.stampBytes FrFrames.bodyBytes FrFrames.headerBytes FrFrames.frameOf FrFrames.build FrFrames.framingTest FrFrames.headerIn FrFrames.headerTest FrFrames.bodyTest FrFrames.stampIn FrFrames.stampTest FrFrames.contentTest FrFrames.frameTest FrFrames.opened FrFrames.openedUnder FrFrames.bodyIn FrFrames.messageIn FrMessages.toFrom FrMessages.toAll FrParams.width FrParams.quota FrParams.largestFrame FrParams.outRoom FrParams.toRoom FrParams.ownTest FrParams.codeTest FrParams.boundsTest FrParams.paramsTest FrStamps.older FrStamps.sameStamp FrStamps.zeroStamp FrStamps.partsAgree SeBroadcast.votes SeBroadcast.enough SeBroadcast.due SeBroadcast.full SeBroadcast.matters SeRules.atTime SeRules.chosen SeRules.regained SeState.freshBlocks SeState.freshSlot SeState.freshReader SeState.freshServer SeState.blockView SeState.presentBlock SeState.presentEntry SeSteps.votedBlock SeSteps.onBlock SeSteps.tellFrom SeSteps.accept SeSteps.ripeBy SeSteps.ripe SeSteps.freeBy SeSteps.free SeSteps.freed SeSteps.settle SeSteps.onRead SeSteps.onReadComplete SeSteps.onBody SeSteps.effect SeTests.roomTest SeTests.senderRight SeTests.counted SeTests.openTest SeTests.readTest SeTests.doneTest SeTests.fitTest SeTests.orderTest SeTests.messageTest SeTests.judgeOpened SeTests.judge CB.idleTest CB.closedTest CB.lengthTest CB.readTest CB.writeTest CB.openRead CB.openWrite CB.beginBy CB.readBegun CB.writeBegun CB.beginAnswer CB.begunOf CB.readBeginning CB.writeBeginning ClRows.placesFrom ClRows.rowView ClRows.hasStamp ClRows.smallest ClRows.placeFor ClRows.atStamp ClRows.rowsFrom ClRows.agreed ClRows.firstBy ClRows.firstAgreed ClRows.foundOf ClRows.foundBy ClRows.search ClState.freshRow ClState.freshClient ClState.largest ClSteps.quorate ClSteps.sendBelow ClSteps.gatherBy ClSteps.onStamp ClSteps.endBy ClSteps.onAck ClSteps.completeBy ClSteps.settle ClSteps.keepBy ClSteps.onValue ClSteps.onBody ClSteps.effect ClTests.sendRoom ClTests.roomTest ClTests.valueTest ClTests.answers ClTests.awaited ClTests.fitTest ClTests.orderTest ClTests.messageTest ClTests.judgeOpened ClTests.judge
-computed = record {
+delivering : Delivering
+unfolding FrChunks.entryAt RuWorld.start SeDelivery.constructBy SeDelivery.constructTest SeDelivery.construction Toy.toy Toy.zeros Toy.four Toy.setup Toy.handServer Toy.handClient Toy.startRead Toy.startWrite g initial value Z entryFor stamp stampAsked stampFrom blockTo saying block noRoom ackFrom readAsked initialFrom valueFrom readEnded asking opening echoing waiting accepted told calls found Served.freeBy Served.freedBy Served.settledBy Served.votedBy Served.blockBy Served.bodyBy Served.servedBy Served.judgeBy Served.served Asked.searchedBy Asked.keptBy Asked.bodyBy Asked.heardBy Asked.judgeBy Asked.asked sameParty amongSends wasSent allBytes judgedBad verdictBad isFrame honest properFrame properCall advance image refusedIn endIn isHand amongHands handOf isOne handedIn isFrom speaks isFinal idle withHand follow trace allOf allAnswered allIdle FrRefusals.numberOf QuQuorum.count ArArea.pick ArArea.same ArArea.compared ArArea.tableFrom ArArea.table ArArea.joined ArNumbers.be2 ArNumbers.be4 ArNumbers.be8 ArNumbers.bytes2 ArNumbers.bytes4 ArNumbers.bytes8 _⊕_ FiField.reduction FiField.xtime FiField.shiftAdd _⊗_ FiField.powerOf FiField.Powers FiField.Logs BlCode.blockLength BlCode.padded BlCode.stripe BlCode.blockByte BlCode.blockOf BlCode.encoded BlCode.row BlCode.valueOf BlCode.blocksOf BlCode.candidate BlCode.agree BlCode.decodedAll BlParams.partiesFit BlParams.thresholdFits BlParams.lengthFits BlPoly.eval BlPoly.plus BlPoly.scale BlPoly.withRoot BlPoly.vanishing BlPoly.newtonStep BlPoly.through FrCoded.pieces FrCoded.lowestValue FrCoded.agreeing FrCoded.decoded FrCoded.digestsOf FrCoded.entryOf FrCoded.fits FrFrames.kindOf FrFrames.retired FrFrames.lengthOf FrFrames.bodyLength FrFrames.entryBytes FrFrames.offerBytes FrFrames.stampBytes FrFrames.bodyBytes FrFrames.headerBytes FrFrames.frameOf FrFrames.build FrFrames.framingTest FrFrames.headerIn FrFrames.headerTest FrFrames.bodyTest FrFrames.stampIn FrFrames.stampTest FrFrames.contentTest FrFrames.frameTest FrFrames.opened FrFrames.openedUnder FrFrames.bodyIn FrFrames.messageIn FrMessages.toFrom FrMessages.toAll FrParams.width FrParams.quota FrParams.largestFrame FrParams.outRoom FrParams.toRoom FrParams.ownTest FrParams.codeTest FrParams.boundsTest FrParams.paramsTest FrStamps.older FrStamps.sameStamp FrStamps.zeroStamp FrStamps.partsAgree SeBroadcast.votes SeBroadcast.enough SeBroadcast.due SeBroadcast.full SeBroadcast.matters SeRules.atTime SeRules.chosen SeRules.regained SeRules.unanimous SeState.freshBlocks SeState.freshSlot SeState.freshReader SeState.freshServer SeState.blockView SeState.presentBlock SeState.presentEntry SeSteps.votedBlock SeSteps.onBlock SeSteps.tellFrom SeSteps.accept SeSteps.ripeBy SeSteps.ripe SeSteps.freeBy SeSteps.free SeSteps.freed SeSteps.settle SeSteps.onRead SeSteps.onReadComplete SeSteps.onBody SeSteps.effect SeTests.roomTest SeTests.senderRight SeTests.counted SeTests.openTest SeTests.readTest SeTests.doneTest SeTests.fitTest SeTests.orderTest SeTests.messageTest SeTests.judgeOpened SeTests.judge CB.idleTest CB.closedTest CB.lengthTest CB.readTest CB.writeTest CB.openRead CB.openWrite CB.beginBy CB.readBegun CB.writeBegun CB.beginAnswer CB.begunOf CB.readBeginning CB.writeBeginning ClRows.placesFrom ClRows.rowView ClRows.hasStamp ClRows.smallest ClRows.placeFor ClRows.atStamp ClRows.rowsFrom ClRows.agreed ClRows.firstBy ClRows.firstAgreed ClRows.foundOf ClRows.foundBy ClRows.search ClState.freshRow ClState.freshClient ClState.largest ClSteps.quorate ClSteps.sendBelow ClSteps.gatherBy ClSteps.onStamp ClSteps.endBy ClSteps.onAck ClSteps.completeBy ClSteps.settle ClSteps.keepBy ClSteps.onValue ClSteps.onBody ClSteps.effect ClTests.sendRoom ClTests.roomTest ClTests.valueTest ClTests.answers ClTests.awaited ClTests.fitTest ClTests.orderTest ClTests.messageTest ClTests.judgeOpened ClTests.judge
+delivering = record {
   whole = refl;
   nothing-from = refl;
   not-handed = refl;
+}
+
+computed : Computed
+unfolding FrChunks.entryAt RuWorld.start SeDelivery.constructBy SeDelivery.constructTest SeDelivery.construction Toy.toy Toy.zeros Toy.four Toy.setup Toy.handServer Toy.handClient Toy.startRead Toy.startWrite g initial value Z entryFor stamp stampAsked stampFrom blockTo saying block noRoom ackFrom readAsked initialFrom valueFrom readEnded asking opening echoing waiting accepted told calls found Served.freeBy Served.freedBy Served.settledBy Served.votedBy Served.blockBy Served.bodyBy Served.servedBy Served.judgeBy Served.served Asked.searchedBy Asked.keptBy Asked.bodyBy Asked.heardBy Asked.judgeBy Asked.asked sameParty amongSends wasSent allBytes judgedBad verdictBad isFrame honest properFrame properCall advance image refusedIn endIn isHand amongHands handOf isOne handedIn isFrom speaks isFinal idle withHand follow trace allOf allAnswered allIdle FrRefusals.numberOf QuQuorum.count ArArea.pick ArArea.same ArArea.compared ArArea.tableFrom ArArea.table ArArea.joined ArNumbers.be2 ArNumbers.be4 ArNumbers.be8 ArNumbers.bytes2 ArNumbers.bytes4 ArNumbers.bytes8 _⊕_ FiField.reduction FiField.xtime FiField.shiftAdd _⊗_ FiField.powerOf FiField.Powers FiField.Logs BlCode.blockLength BlCode.padded BlCode.stripe BlCode.blockByte BlCode.blockOf BlCode.encoded BlCode.row BlCode.valueOf BlCode.blocksOf BlCode.candidate BlCode.agree BlCode.decodedAll BlParams.partiesFit BlParams.thresholdFits BlParams.lengthFits BlPoly.eval BlPoly.plus BlPoly.scale BlPoly.withRoot BlPoly.vanishing BlPoly.newtonStep BlPoly.through FrCoded.pieces FrCoded.lowestValue FrCoded.agreeing FrCoded.decoded FrCoded.digestsOf FrCoded.entryOf FrCoded.fits FrFrames.kindOf FrFrames.retired FrFrames.lengthOf FrFrames.bodyLength FrFrames.entryBytes FrFrames.offerBytes FrFrames.stampBytes FrFrames.bodyBytes FrFrames.headerBytes FrFrames.frameOf FrFrames.build FrFrames.framingTest FrFrames.headerIn FrFrames.headerTest FrFrames.bodyTest FrFrames.stampIn FrFrames.stampTest FrFrames.contentTest FrFrames.frameTest FrFrames.opened FrFrames.openedUnder FrFrames.bodyIn FrFrames.messageIn FrMessages.toFrom FrMessages.toAll FrParams.width FrParams.quota FrParams.largestFrame FrParams.outRoom FrParams.toRoom FrParams.ownTest FrParams.codeTest FrParams.boundsTest FrParams.paramsTest FrStamps.older FrStamps.sameStamp FrStamps.zeroStamp FrStamps.partsAgree SeBroadcast.votes SeBroadcast.enough SeBroadcast.due SeBroadcast.full SeBroadcast.matters SeRules.atTime SeRules.chosen SeRules.regained SeRules.unanimous SeState.freshBlocks SeState.freshSlot SeState.freshReader SeState.freshServer SeState.blockView SeState.presentBlock SeState.presentEntry SeSteps.votedBlock SeSteps.onBlock SeSteps.tellFrom SeSteps.accept SeSteps.ripeBy SeSteps.ripe SeSteps.freeBy SeSteps.free SeSteps.freed SeSteps.settle SeSteps.onRead SeSteps.onReadComplete SeSteps.onBody SeSteps.effect SeTests.roomTest SeTests.senderRight SeTests.counted SeTests.openTest SeTests.readTest SeTests.doneTest SeTests.fitTest SeTests.orderTest SeTests.messageTest SeTests.judgeOpened SeTests.judge CB.idleTest CB.closedTest CB.lengthTest CB.readTest CB.writeTest CB.openRead CB.openWrite CB.beginBy CB.readBegun CB.writeBegun CB.beginAnswer CB.begunOf CB.readBeginning CB.writeBeginning ClRows.placesFrom ClRows.rowView ClRows.hasStamp ClRows.smallest ClRows.placeFor ClRows.atStamp ClRows.rowsFrom ClRows.agreed ClRows.firstBy ClRows.firstAgreed ClRows.foundOf ClRows.foundBy ClRows.search ClState.freshRow ClState.freshClient ClState.largest ClSteps.quorate ClSteps.sendBelow ClSteps.gatherBy ClSteps.onStamp ClSteps.endBy ClSteps.onAck ClSteps.completeBy ClSteps.settle ClSteps.keepBy ClSteps.onValue ClSteps.onBody ClSteps.effect ClTests.sendRoom ClTests.roomTest ClTests.valueTest ClTests.answers ClTests.awaited ClTests.fitTest ClTests.orderTest ClTests.messageTest ClTests.judgeOpened ClTests.judge
+computed = record {
   would = (refl, refl, refl);
   write-opens = (refl, refl);
   read-opens = (refl, refl);
@@ -114,7 +122,7 @@ computed = record {
 -- ---- so
 
 all-so : (trace Z calls .seen .proper ≡ true) × ((allAnswered Z (trace Z calls .seen .log) (trace Z calls .closed) && allIdle Z (trace Z calls .seen) 8) ≡ true)
-all-so = and-split (trace Z calls .seen .proper) _ (computed .whole)
+all-so = and-split (trace Z calls .seen .proper) _ (delivering .whole)
 
 answered-idle : (allAnswered Z (trace Z calls .seen .log) (trace Z calls .closed) ≡ true) × (allIdle Z (trace Z calls .seen) 8 ≡ true)
 answered-idle = and-split (allAnswered Z (trace Z calls .seen .log) (trace Z calls .closed)) (allIdle Z (trace Z calls .seen) 8) (all-so .1)
@@ -144,9 +152,9 @@ unfolding asking opening echoing waiting accepted told calls ackFrom Toy.handCli
 ends = at-drop (EndsWrite Z 1 1) 8 calls 34 (inl (refl, ends-by Z exact accepted (ackFrom 3) 1 1 refl (computed .ended .0) (computed .ended .1)))
 
 completes : At (CompletesRead Z 2 1 found) calls 39
-unfolding asking opening echoing waiting accepted told calls valueFrom Toy.handClient
+unfolding asking opening echoing waiting accepted told calls valueFrom Toy.handClient found
 completes = at-drop (CompletesRead Z 2 1 found) 3 calls 39
-    (inl (refl, completes-by Z exact told (valueFrom 3) 2 1 found refl (computed .completed-is .0) (computed .completed-is .1)))
+    (inl (refl, (stops-by Z exact told (valueFrom 3) 2 1 found refl (computed .completed-is .0) (computed .completed-is .1), (value, refl))))
 
 -- ---- up to the second ack
 
@@ -174,7 +182,7 @@ unfolding block Toy.handServer Z Toy.setup
 unfinished = unfinished-by Z exact waiting (P.Server 1) 3 (build (saying ready 1))
     (Toy.zeros (outRoom g (serverFrames g))) (Toy.zeros (toRoom (serverFrames g)))
     (honest-is Z exact (P.Server 1) honest-one) (honest-is Z exact (P.Server 3) honest-three) ready-sent
-    (never-handed Z exact waiting (P.Server 1) (P.Server 3) (build (saying ready 1)) (computed .not-handed))
+    (never-handed Z exact waiting (P.Server 1) (P.Server 3) (build (saying ready 1)) (delivering .not-handed))
     (long (outRoom g (serverFrames g))) (long (toRoom (serverFrames g))) (computed .would .1)
 
 pub shown : Shown
@@ -184,7 +192,7 @@ shown = record {
   finished = finished-by Z exact calls (answered-idle .0);
   delivered = delivered-by Z exact calls (answered-idle .0);
   false-server = false-server;
-  silent = never-speaks Z exact calls (P.Server 4) (computed .nothing-from);
+  silent = never-speaks Z exact calls (P.Server 4) (delivering .nothing-from);
   writes = writes;
   reads = reads;
   room = room;
@@ -194,6 +202,6 @@ shown = record {
   admissible-before = admissible-before;
   open-before = ap (λ s. s .phase) (depicts Z exact waiting .clients 1 .client) ∙ computed .would .2;
   ready-sent = ready-sent;
-  ready-missing = never-handed Z exact waiting (P.Server 1) (P.Server 3) (build (saying ready 1)) (computed .not-handed);
+  ready-missing = never-handed Z exact waiting (P.Server 1) (P.Server 3) (build (saying ready 1)) (delivering .not-handed);
   unfinished = unfinished;
 }

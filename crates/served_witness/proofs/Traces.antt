@@ -28,6 +28,7 @@ use Rattle.client_rules.specs.Delivery as CD
 use Rattle.runs.specs.World.{Setup, Call, toServer, toClient, beginRead, beginWrite, run, sends, serverEffect, clientEffect}
 use Rattle.runs.specs.Events.{At}
 use Rattle.runs.specs.Admissible.{Sent, Honest}
+use Rattle.served.proofs.ClientReached.{event-good}
 use Rattle.served.specs.Finished.{replyRefusal, answerRefusal, Final, serverAnswer, clientAnswer, HandedIn, Answered, NoStep, Finished, Delivered, Served}
 use Rattle.witness.proofs.Images.{Answer, Image, sameParty, judgedBad, honest, image, advance, refusedIn}
 use Rattle.witness.proofs.Depicted.{Exact, party-same, depicts, Logged, logged, is-honest, server-judged, client-judged}
@@ -161,13 +162,6 @@ module _ (Z : Setup) (G : Exact Z) where
   unfolding SD.replyOf judgedBad
   reply-bad i (bad r) c = refl
   reply-bad i (good m) c = refl
-
-  event-good : (x : C.Event) (c : ℕ) → answerRefusal (CD.eventAnswer x c) ≡ none
-  unfolding CD.eventAnswer
-  event-good C.nothing c = refl
-  event-good C.written c = refl
-  event-good C.outOfStamps c = refl
-  event-good (C.completed x) c = refl
 
   answer-bad : (j : Judged) (x : C.Effect) → answerRefusal (CD.answerOf j x) ≡ judgedBad j
   unfolding CD.answerOf judgedBad

@@ -4,6 +4,7 @@
 use Prim.Native.Nat.{ℕ}
 use mathlib.Core.Bool.{true, false}
 use mathlib.Core.Path.{_≡_}
+use mathlib.Core.Option.{some}
 use mathlib.Core.List.{List, [], _∷_}
 use Rattle.blocks.specs.declared.Params.{Params}
 use Rattle.frame.specs.declared.Stamp.{Stamp}
@@ -123,7 +124,7 @@ calls = readEnded 3 ∷ readEnded 2 ∷ readEnded 1 ∷ valueFrom 3 ∷ told
 
 -- what the read finds
 unfoldable pub found : Found
-found = record { stamp = stamp; digests = digestsOf toy g value; bytes = value }
+found = record { stamp = stamp; digests = digestsOf toy g value; bytes = some value }
 
 -- ---- what is shown
 

@@ -1,13 +1,13 @@
 -- The value of a group, its blocks, and their digests. Assumes nothing.
 use Prim.Native.Nat.{ℕ, _+_, _*_, _-_, _≤_, _<_}
 use native.Mathlib.Omega.{arith}
-use native.Mathlib.Decide.{decLe}
-use mathlib.Core.Path.{_≡_, ap, sym, _∙_}
-use mathlib.Core.Bool.{Bool}
+use mathlib.Core.Path.{_≡_, refl, ap, ap₂, sym, _∙_}
+use mathlib.Core.Bool.{Bool, true, false, _&&_}
 use mathlib.Core.List.{List}
 use lib.ListN.{length, take}
 use lib.Seq.{sets, length-sets, length-take-le}
-use borrow.Author.Tests.{le-leb, lt-leb}
+use lib.Dec.{leb}
+use borrow.Author.Tests.{leb-true, leb-false, le-leb, lt-leb}
 use Rattle.area.specs.Area.{pick, same}
 use Rattle.field.specs.Field.{Tables}
 use Rattle.quorum.specs.Quorum.{count}
@@ -17,15 +17,16 @@ use Rattle.blocks.proofs.Values.{length-valueOf}
 use Rattle.blocks.proofs.Stripes.{length-blockOf}
 use Rattle.frame.specs.Params.{quota, width, listed}
 use Rattle.group_rules.specs.Coded.{digestsOf}
-use Rattle.group.specs.Entries.{marked, placesFrom}
-use Rattle.group.specs.Choice.{lowest, blocksIn, valueFrom}
-use Rattle.group.specs.Needs.{Decoding, Encoding}
+use Rattle.group.specs.Entries.{marked, placesFrom, Within}
+use Rattle.group.specs.Choice.{lowest, blocksIn, valueFrom, allOf}
+use Rattle.group.specs.Needs.{Decoding, Valued}
 use Rattle.group.proofs.Lists.{take-front}
 use Rattle.group.proofs.Choosing.{length-lowest}
 use Rattle.group.proofs.Digests.{short-block}
 use Rattle.group.proofs.Matched.{within-places}
 use Rattle.server_blocks.specs.declared.Voters.{Voters}
-use Rattle.server_blocks.specs.Group.{groupValue, groupEqual, Regaining}
+use Rattle.server_blocks.specs.declared.Group.{Group}
+use Rattle.server_blocks.specs.Group.{groupOf, groupValue, groupEqual, Regaining}
 
 -- ---- the group
 
@@ -33,92 +34,84 @@ quota-least : (g : Params) → g .k ≤ quota g
 unfolding quota
 quota-least g = omega arith
 
+-- which of the two it is
+module _ (g : Params) (v : Voters) (c q : ℕ) (at : List ℕ) (q-is : q ≡ quota g) where
+  pub chose-readies : q ≤ v .readied → at ≡ placesFrom (21 * c - 10) → _≡_ {A = Group} (record { on = v .readies; at = at }) (groupOf g v c)
+  unfolding groupOf pick
+  chose-readies h e =
+      let k : quota g ≤ v .readied = omega (arith, q-is, h) in
+      (λ i. record { on = v .readies; at = e i })
+      ∙ sym (ap (λ (t : Bool). pick t (record { on = v .readies; at = placesFrom (21 * c - 10) }) (record { on = v .echoes; at = placesFrom (21 * c - 20) }))
+      (le-leb (quota g) (v .readied) k))
+
+  pub chose-echoes : v .readied < q → at ≡ placesFrom (21 * c - 20) → _≡_ {A = Group} (record { on = v .echoes; at = at }) (groupOf g v c)
+  unfolding groupOf pick
+  chose-echoes h e =
+      let k : v .readied < quota g = omega (arith, q-is, h) in
+      (λ i. record { on = v .echoes; at = e i })
+      ∙ sym (ap (λ (t : Bool). pick t (record { on = v .readies; at = placesFrom (21 * c - 10) }) (record { on = v .echoes; at = placesFrom (21 * c - 20) }))
+      (lt-leb (quota g) (v .readied) k))
+
 module _ (g : Params) (v : Voters) (c : ℕ) (a : List ℕ) (R : Regaining g v c (length a)) where
+  record Right (x : Group) : Type 0 where
+    pub within : Within (x .at) a
+    pub enough : g .k ≤ count (marked (x .on)) (g .n)
+
   -- the readies are enough
   many-readies : quota g ≤ v .readied → g .k ≤ count (marked (v .readies)) (g .n)
   many-readies h = let k = quota-least g in omega (arith, k, h, R .number)
 
-  module _ (at ps ls : List ℕ) (q n : ℕ) (q-is : q ≡ quota g) (room : 256 ≤ n) (T : Tables ps ls) where
-    pub decode-readies : at ≡ placesFrom (21 * c - 10) → q ≤ v .readied → Decoding g (v .readies) at a n ps ls
-    decode-readies e h = record {
-      bounded = R .stored .bounded;
-      within = rw e (within-places (21 * c - 10) a (omega (arith, R .stored .client-low, R .stored .client-high, R .stored .whole)));
-      enough = many-readies (omega (arith, q-is, h));
-      room = omega (arith, room, R .stored .bounded .size-high);
-      tables = T;
-    }
+  -- the chosen ones are enough, and lie in the area
+  chosen-right : (b : Bool) → leb (quota g) (v .readied) ≡ b
+      → Right (pick b (record { on = v .readies; at = placesFrom (21 * c - 10) }) (record { on = v .echoes; at = placesFrom (21 * c - 20) }))
+  unfolding pick
+  chosen-right true e = record {
+    within = within-places (21 * c - 10) a (omega (arith, R .stored .client-low, R .stored .client-high, R .stored .whole));
+    enough = many-readies (leb-true (quota g) (v .readied) e);
+  }
+  chosen-right false e = record {
+    within = within-places (21 * c - 20) a (omega (arith, R .stored .client-low, R .stored .client-high, R .stored .whole));
+    enough = R .enough (leb-false (quota g) (v .readied) e);
+  }
 
-    pub decode-echoes : at ≡ placesFrom (21 * c - 20) → v .readied < q → Decoding g (v .echoes) at a n ps ls
-    decode-echoes e h = record {
-      bounded = R .stored .bounded;
-      within = rw e (within-places (21 * c - 20) a (omega (arith, R .stored .client-low, R .stored .client-high, R .stored .whole)));
-      enough = R .enough (omega (arith, q-is, h));
-      room = omega (arith, room, R .stored .bounded .size-high);
-      tables = T;
-    }
-
-  -- which of the two values it is
-  from-readies : quota g ≤ v .readied → groupValue g v c a ≡ valueFrom g (v .readies) (placesFrom (21 * c - 10)) a
-  unfolding groupValue pick
-  from-readies h =
-      ap (λ (t : Bool). pick t (valueFrom g (v .readies) (placesFrom (21 * c - 10)) a) (valueFrom g (v .echoes) (placesFrom (21 * c - 20)) a))
-      (le-leb (quota g) (v .readied) h)
-
-  from-echoes : v .readied < quota g → groupValue g v c a ≡ valueFrom g (v .echoes) (placesFrom (21 * c - 20)) a
-  unfolding groupValue pick
-  from-echoes h =
-      ap (λ (t : Bool). pick t (valueFrom g (v .readies) (placesFrom (21 * c - 10)) a) (valueFrom g (v .echoes) (placesFrom (21 * c - 20)) a))
-      (lt-leb (quota g) (v .readied) h)
-
-  module _ (at u w : List ℕ) (q : ℕ) (q-is : q ≡ quota g) where
-    pub regained-readies : at ≡ placesFrom (21 * c - 10) → q ≤ v .readied → w ≡ sets u 0 (valueFrom g (v .readies) at a) → w ≡ sets u 0 (groupValue g v c a)
-    regained-readies e h k =
-        k ∙ ap (λ (l : List ℕ). sets u 0 (valueFrom g (v .readies) l a)) e ∙ ap (sets u 0) (sym (from-readies (omega (arith, q-is, h))))
-
-    pub regained-echoes : at ≡ placesFrom (21 * c - 20) → v .readied < q → w ≡ sets u 0 (valueFrom g (v .echoes) at a) → w ≡ sets u 0 (groupValue g v c a)
-    regained-echoes e h k =
-        k ∙ ap (λ (l : List ℕ). sets u 0 (valueFrom g (v .echoes) l a)) e ∙ ap (sets u 0) (sym (from-echoes (omega (arith, q-is, h))))
+  right : Right (groupOf g v c)
+  unfolding groupOf
+  right = chosen-right (leb (quota g) (v .readied)) refl
 
   -- the value has its length
-  length-from : (on : List Bool) (at : List ℕ) → g .k ≤ count (marked on) (g .n) → length (valueFrom g on at a) ≡ g .size
-  unfolding valueFrom
-  length-from on at h =
-      let n = length-lowest (marked on) (g .k) (g .n) h in
-      length-valueOf (lowest (marked on) (g .k) (g .n)) (blocksIn g at a (lowest (marked on) (g .k) (g .n))) (g .size)
+  length-value : length (groupValue g v c a) ≡ g .size
+  unfolding groupValue valueFrom
+  length-value =
+      let x = groupOf g v c in
+      let n = length-lowest (marked (x .on)) (g .k) (g .n) (right .enough) in
+      length-valueOf (lowest (marked (x .on)) (g .k) (g .n)) (blocksIn g (x .at) a (lowest (marked (x .on)) (g .k) (g .n))) (g .size)
       (omega (arith, n, R .stored .bounded .blocks-low))
 
-  length-value : length (groupValue g v c a) ≡ g .size
-  length-value = go (decLe (quota g) (v .readied))
-    where
-      go : Dec (quota g ≤ v .readied) → length (groupValue g v c a) ≡ g .size
-      go (yes h) = ap length (from-readies h) ∙ length-from (v .readies) (placesFrom (21 * c - 10)) (many-readies h)
-      go (no h) =
-          let k : v .readied < quota g = omega (arith, h) in
-          ap length (from-echoes k) ∙ length-from (v .echoes) (placesFrom (21 * c - 20)) (R .enough k)
+  module _ (x : Group) (x-is : x ≡ groupOf g v c) (ps ls : List ℕ) (T : Tables ps ls) where
+    pub decoding : (out : ℕ) → out ≡ g .size → Decoding g (x .on) (x .at) a out ps ls
+    decoding out e = record {
+      bounded = R .stored .bounded;
+      within = rw x-is (right .within);
+      enough = rw x-is (right .enough);
+      whole = e;
+      tables = T;
+    }
 
-  -- ---- the value in the front of w
+    -- ---- the value in the front of a buffer
 
-  module _ (u w : List ℕ) (u-is : length u ≡ 256) (w-is : w ≡ sets u 0 (groupValue g v c a)) where
-    pub value-room : g .size ≤ length w
-    value-room =
-        let n = ap length w-is ∙ length-sets u 0 (groupValue g v c a) in
-        omega (arith, n, u-is, R .stored .bounded .size-high)
+    module _ (l : List ℕ) (l-is : l ≡ valueFrom g (x .on) (x .at) a) where
+      front : l ≡ groupValue g v c a
+      unfolding groupValue
+      front = l-is ∙ ap (λ (y : Group). valueFrom g (y .on) (y .at) a) x-is
 
-    pub front-length : g .size ≡ length (take (g .size) w)
-    front-length = sym (length-take-le (g .size) w value-room)
+      pub value-length : length l ≡ g .size
+      value-length = ap length front ∙ length-value
 
-    front : take (g .size) w ≡ groupValue g v c a
-    front =
-        let h : g .size ≤ length u = omega (arith, u-is, R .stored .bounded .size-high) in
-        ap (take (g .size)) w-is ∙ take-front u (groupValue g v c a) (g .size) length-value h
-
-    module _ (ps ls : List ℕ) (T : Tables ps ls) where
-      pub encode-own : (o : ℕ) → 256 ≤ o
-          → (0 < g .k) × (g .k ≤ 8) × (length (take (g .size) w) ≤ 256) × (0 + blockLength (length (take (g .size) w)) (g .k) ≤ o) × Tables ps ls
+      pub encode-own : (o : ℕ) → 256 ≤ o → (0 < g .k) × (g .k ≤ 8) × (length l ≤ 256) × (0 + blockLength (length l) (g .k) ≤ o) × Tables ps ls
       encode-own o h =
-          let n = front-length in
-          let m : length (take (g .size) w) ≤ 256 = omega (arith, n, R .stored .bounded .size-high) in
-          let s = short-block (length (take (g .size) w)) (g .k) (R .stored .bounded .blocks-low) m in (
+          let n = value-length in
+          let m : length l ≤ 256 = omega (arith, n, R .stored .bounded .size-high) in
+          let s = short-block (length l) (g .k) (R .stored .bounded .blocks-low) m in (
             R .stored .bounded .blocks-low,
             omega (arith, R .stored .bounded .servers-high, R .stored .bounded .faults-low, R .stored .bounded .blocks-high),
             m,
@@ -126,18 +119,18 @@ module _ (g : Params) (v : Voters) (c : ℕ) (a : List ℕ) (R : Regaining g v c
             T,
           )
 
-      pub encode-all : (d : ℕ) → d ≡ listed g → Encoding g (take (g .size) w) ps ls × (d ≡ listed g)
-      encode-all d h =
-          let n = front-length in
-          (record { bounded = R .stored .bounded; short = omega (arith, n, R .stored .bounded .size-high); tables = T }, h)
+      pub encode-all : (d : ℕ) → d ≡ listed g → Valued g l ps ls × Within (x .at) a × (d ≡ listed g)
+      encode-all d h = (record { bounded = R .stored .bounded; whole = value-length; tables = T }, rw x-is (right .within), h)
 
-    pub own-block : (H : List ℕ → List ℕ) (me : ℕ) (d b b′ : List ℕ) (t : Bool)
-        → t ≡ same (digestsOf H g (take (g .size) w)) d
-        → b′ ≡ sets b 0 (blockOf (g .k) (take (g .size) w) me)
-        → (t ≡ groupEqual H g v c a d) × (b′ ≡ sets b 0 (blockOf (g .k) (groupValue g v c a) me))
-    unfolding groupEqual
-    own-block H me d b b′ t h k =
-        (h ∙ ap (λ (l : List ℕ). same (digestsOf H g l) d) front, k ∙ ap (λ (l : List ℕ). sets b 0 (blockOf (g .k) l me)) front)
+      pub own-block : (H : List ℕ → List ℕ) (me : ℕ) (d b b′ : List ℕ) (t : Bool)
+          → t ≡ allOf g (x .on) (x .at) a l && same (digestsOf H g l) d
+          → b′ ≡ sets b 0 (blockOf (g .k) l me)
+          → (t ≡ groupEqual H g v c a d) × (b′ ≡ sets b 0 (blockOf (g .k) (groupValue g v c a) me))
+      unfolding groupEqual
+      own-block H me d b b′ t h k = (
+        h ∙ ap₂ (λ (y : Group) (u : List ℕ). allOf g (y .on) (y .at) a u && same (digestsOf H g u) d) x-is front,
+        k ∙ ap (λ (u : List ℕ). sets b 0 (blockOf (g .k) u me)) front,
+      )
 
   -- ---- the own block in the front of l
 

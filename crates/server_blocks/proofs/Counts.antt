@@ -1,7 +1,7 @@
 -- What the specification of a server says of a write, by flags and counts. Assumes nothing.
 use Prim.Native.Nat.{ℕ, _+_, _*_, _-_, _≤_, _<_}
 use native.Mathlib.Omega.{arith}
-use mathlib.Core.Path.{_≡_, refl, ap, ap₂, sym, _∙_}
+use mathlib.Core.Path.{_≡_, refl, ap, ap₂, sym, _∙_, subst}
 use mathlib.Core.Bool.{Bool, true, false, not, _&&_, _||_}
 use mathlib.Core.Logic.{_⊎_, inl, inr}
 use mathlib.Core.Option.{Option}
@@ -18,23 +18,24 @@ use Rattle.frame.specs.declared.Place.{Place}
 use Rattle.frame.specs.Params.{Bounded, quota}
 use Rattle.frame.specs.Messages.{Entry, entry, Offer, offer}
 use Rattle.frame.specs.Chunks.{chunkAt, entryAt}
-use Rattle.group_rules.specs.Coded.{hasList, digestsOf, decoded}
+use Rattle.group_rules.specs.Coded.{hasList, digestsOf, lowestValue, agreeing}
 use Rattle.group.specs.Entries as E
 use Rattle.group.specs.Entries.{marked, timed, entries, sentList, flags, placesFrom}
-use Rattle.group.specs.Choice.{valueFrom}
+use Rattle.group.specs.Choice.{valueFrom, allOf}
 use Rattle.group.specs.Needs.{Comparing}
-use Rattle.group.proofs.Matched.{marked-timed, place-law, entry-law, matched-count, matched-value, within-places}
+use Rattle.group.proofs.Matched.{marked-timed, place-law, entry-law, matched-count, matched-value, matched-all, within-places}
 use Rattle.server_rules.specs.declared.BlockPart.{BlockPart}
 use Rattle.server_rules.specs.declared.Slot.{Slot}
 use Rattle.server_rules.specs.Broadcast.{kept, votes, enough, due, full}
 use Rattle.server_rules.specs.State.{blockView}
 use Rattle.server.specs.Stages.{Lent}
-use Rattle.server_rules.specs.Rules.{entryBy, atTime, chosen, regained, regainedOf, blockRules}
+use Rattle.server_rules.specs.Rules.{entryBy, atTime, chosen, regained, regainedOf, unanimous, unanimousOf, blockRules}
 use Rattle.server_rules.proofs.AtTime.{by-flag, votes-are}
 use Rattle.server_blocks.specs.declared.Voters.{Voters}
+use Rattle.server_blocks.specs.declared.Group.{Group}
 use Rattle.server_blocks.specs.declared.Due.{Due}
 use Rattle.server_blocks.specs.Votes.{enoughBy, mattersBy, dueBy, fullBy, votersOf, dueFor}
-use Rattle.server_blocks.specs.Group.{groupValue, groupEqual, Stored, Regaining}
+use Rattle.server_blocks.specs.Group.{groupOf, groupValue, groupEqual, Stored, Regaining}
 
 -- q is at most n
 pub quota-small : (g : Params) → Bounded g → quota g ≤ 10
@@ -74,16 +75,23 @@ module _ (g : Params) (B : Bounded g) (a d : List ℕ) (T : ℕ) where
     unfolding blockView atTime
     ready-agree j l h = timed-agree (x .blocks .readies) (x .blocks .readied) (21 * c - 10) j h
 
--- the value of readies or of echoes
-picked-value : (g : Params) (d : List ℕ) (t : Bool) (u v : List ℕ) (f h : ℕ → Option Entry) → u ≡ decoded g f d → v ≡ decoded g h d
-    → pick t u v ≡ decoded g (pick t f h) d
+-- what the flagged servers of a group hold is what f says
+record Taken (g : Params) (a d : List ℕ) (r : Group) (f : ℕ → Option Entry) : Type 0 where
+  pub value : valueFrom g (r .on) (r .at) a ≡ lowestValue g f d
+  pub all : allOf g (r .on) (r .at) a (valueFrom g (r .on) (r .at) a) ≡ agreeing g f d
+
+-- readies or echoes: their value, and whether all have its blocks
+picked : (g : Params) (a d : List ℕ) (r e : Group) (f h : ℕ → Option Entry) → Taken g a d r f → Taken g a d e h → (t : Bool) → Taken g a d (pick t r e) (pick t f h)
 unfolding pick
-picked-value g d true u v f h p q = p
-picked-value g d false u v f h p q = q
+picked g a d r e f h p q true = p
+picked g a d r e f h p q false = q
 
 -- ---- what is due, by flags and numbers
 
-module _ (H : List ℕ → List ℕ) (g : Params) (B : Bounded g) (a d b : List ℕ) (T c : ℕ) (x : Slot) where
+module _ (H : List ℕ → List ℕ) (g : Params) (a d b : List ℕ) (T c : ℕ) (x : Slot) (S : Stored g c (length a)) where
+  abbrev B : Bounded g
+  B = S .bounded
+
   abbrev w : Voters
   w = votersOf g a c (x .blocks) T d
 
@@ -108,19 +116,35 @@ module _ (H : List ℕ → List ℕ) (g : Params) (B : Bounded g) (a d b : List 
   ready-votes : votes (blockRules H g) (g .n) (g .t) (blockView g a c x .readies) o ≡ w .readied
   ready-votes = votes-are H g (blockView g a c x .readies) o ∙ sym ready-number
 
-  -- "decode from the k lowest senders with that list, readies if there are q, else echoes"
-  pub value-is : regainedOf g (blockView g a c x .echoes) (blockView g a c x .readies) o ≡ groupValue g w c a
-  unfolding regained chosen groupValue votersOf
-  value-is =
+  -- the chosen ones, by flags
+  taken : Taken g a d (groupOf g w c) (chosen g (echoes g B a d T c x) (readies g B a d T c x) d)
+  unfolding chosen groupOf votersOf
+  taken =
       let es = echoes g B a d T c x in
       let rs = readies g B a d T c x in
-      let p : valueFrom g (w .readies) (placesFrom (21 * c - 10)) a ≡ decoded g rs d =
-      matched-value g (timed (x .blocks .readies) (x .blocks .readied) T) (placesFrom (21 * c - 10)) a d rs (ready-agree g B a d T c x) (B .servers-high) in
-      let q : valueFrom g (w .echoes) (placesFrom (21 * c - 20)) a ≡ decoded g es d =
-      matched-value g (timed (x .blocks .echoes) (x .blocks .echoed) T) (placesFrom (21 * c - 20)) a d es (echo-agree g B a d T c x) (B .servers-high) in
-      ap (λ m. decoded g (pick (leb (quota g) m) rs es) d) (sym ready-number)
-      ∙ sym (picked-value g d (leb (quota g) (w .readied))
-      (valueFrom g (w .readies) (placesFrom (21 * c - 10)) a) (valueFrom g (w .echoes) (placesFrom (21 * c - 20)) a) rs es p q)
+      let re = timed (x .blocks .readies) (x .blocks .readied) T in
+      let ec = timed (x .blocks .echoes) (x .blocks .echoed) T in
+      let u = within-places (21 * c - 10) a (omega (arith, S .client-low, S .client-high, S .whole)) in
+      let v = within-places (21 * c - 20) a (omega (arith, S .client-low, S .client-high, S .whole)) in
+      subst (λ (m : ℕ). Taken g a d (groupOf g w c) (pick (leb (quota g) m) rs es)) ready-number
+      (picked g a d _ _ rs es
+      (record {
+        value = matched-value g re (placesFrom (21 * c - 10)) a d rs (ready-agree g B a d T c x) (B .servers-high) B u;
+        all = matched-all g re (placesFrom (21 * c - 10)) a d rs (ready-agree g B a d T c x) (B .servers-high) B u;
+      })
+      (record {
+        value = matched-value g ec (placesFrom (21 * c - 20)) a d es (echo-agree g B a d T c x) (B .servers-high) B v;
+        all = matched-all g ec (placesFrom (21 * c - 20)) a d es (echo-agree g B a d T c x) (B .servers-high) B v;
+      })
+      (leb (quota g) (w .readied)))
+
+  pub value-is : regainedOf g (blockView g a c x .echoes) (blockView g a c x .readies) o ≡ groupValue g w c a
+  unfolding regained groupValue
+  value-is = sym (taken .value)
+
+  all-is : unanimousOf g (blockView g a c x .echoes) (blockView g a c x .readies) o ≡ allOf g (groupOf g w c .on) (groupOf g w c .at) a (groupValue g w c a)
+  unfolding unanimous groupValue
+  all-is = sym (taken .all)
 
   enough-is : enough (blockRules H g) (g .n) (g .t) (blockView g a c x) o ≡ enoughBy g (w .echoed) (w .readied)
   unfolding enough enoughBy
@@ -128,7 +152,7 @@ module _ (H : List ℕ → List ℕ) (g : Params) (B : Bounded g) (a d b : List 
 
   supports-is : blockRules H g .supports (blockView g a c x .echoes) (blockView g a c x .readies) o ≡ groupEqual H g w c a d
   unfolding groupEqual
-  supports-is = ap (λ v. same (digestsOf H g v) d) value-is
+  supports-is = ap₂ (λ u v. u && same (digestsOf H g v) d) all-is value-is
 
   pub due-is : due (blockRules H g) (g .n) (g .t) (blockView g a c x) o ≡ dueFor g (x .blocks .ready) w (groupEqual H g w c a d) T .ready
   unfolding due dueFor dueBy blockView

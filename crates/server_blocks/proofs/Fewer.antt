@@ -5,7 +5,7 @@ use native.Mathlib.Omega.{arith}
 use mathlib.Core.Path.{_≡_, refl, ap, ap₂, sym, _∙_}
 use mathlib.Core.Bool.{Bool, true, false, not, _&&_, _||_}
 use mathlib.Core.List.{List}
-use lib.ListN.{getD}
+use lib.ListN.{length, getD}
 use lib.Dec.{leb}
 use borrow.Author.Tests.{leb-false, lt-leb}
 use Rattle.area.proofs.Tests.{and-left}
@@ -23,6 +23,7 @@ use Rattle.server_rules.specs.declared.Slot.{Slot}
 use Rattle.server_rules.specs.Steps.{votedBlock}
 use Rattle.server.specs.declared.Call.{Call}
 use Rattle.server.specs.Stages.{left, counts}
+use Rattle.server_blocks.specs.Group.{Stored}
 use Rattle.server_blocks.specs.Votes.{enoughBy, mattersBy, votersOf}
 use Rattle.server_blocks.proofs.Voting.{skipped}
 
@@ -90,17 +91,18 @@ matters-fewer g went complete e r E R h k =
     (fewer-and (leb (quota g + g .t) r) (leb (quota g + g .t) R) (not complete) (leb-fewer (quota g + g .t) r R k))
 
 -- no list is compared: nothing hangs on the e echoes and r readies that were counted
-pub unlisted : (H : List ℕ → List ℕ) (k : Call) → Bounded (k .params) → (a d b : List ℕ) (T : ℕ) (x : Slot) → x .sequence ≡ k .header .sequence
+pub unlisted : (H : List ℕ → List ℕ) (k : Call) (a d b : List ℕ) → Stored (k .params) (k .header .client) (length a) → (T : ℕ) (x : Slot) → x .sequence ≡ k .header .sequence
     → (q : Outbox) (e r : ℕ)
     → e ≡ count (marked (x .blocks .echoes)) (k .params .n)
     → r ≡ count (marked (x .blocks .readies)) (k .params .n)
     → mattersBy (k .params) (x .blocks .ready) (x .blocks .complete) e r ≡ false
     → left x a q ≡ counts (votedBlock H (k .params) (k .me) a (k .header .client) x (offer T (entry d b))) q
 unfolding votersOf
-unlisted H k B a d b T x o q e r u w h =
+unlisted H k a d b S T x o q e r u w h =
     let g = k .params in
+    let B = S .bounded in
     let c = k .header .client in
     let v = votersOf g a c (x .blocks) T d in
     let i : v .echoed ≤ e = rw u (in-group-le g (x .blocks .echoes) (x .blocks .echoed) T (placesFrom (21 * c - 20)) a d B) in
     let j : v .readied ≤ r = rw w (in-group-le g (x .blocks .readies) (x .blocks .readied) T (placesFrom (21 * c - 10)) a d B) in
-    skipped H k B a d b T x o q v refl (matters-fewer g (x .blocks .ready) (x .blocks .complete) (v .echoed) (v .readied) e r i j h)
+    skipped H k a d b S T x o q v refl (matters-fewer g (x .blocks .ready) (x .blocks .complete) (v .echoed) (v .readied) e r i j h)

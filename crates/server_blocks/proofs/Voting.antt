@@ -7,7 +7,8 @@ use lib.Dec.{leb}
 use Rattle.area.specs.Area.{pick}
 use Rattle.quorum.proofs.Logic.{impossible}
 use Rattle.blocks.specs.Code.{blockOf}
-use Rattle.frame.specs.Params.{Bounded, quota}
+use lib.ListN.{length}
+use Rattle.frame.specs.Params.{quota}
 use Rattle.frame.specs.Messages.{Entry, entry, offer, message, toAll, blockIs, ready, Sending}
 use Rattle.frame.specs.Outbox.{Outbox, sent}
 use Rattle.frame.specs.Chunks.{storeIf, completeAt}
@@ -20,7 +21,7 @@ use Rattle.server.specs.Stages.{Left, left, counts}
 use Rattle.server_blocks.specs.declared.Voters.{Voters}
 use Rattle.server_blocks.specs.declared.Due.{Due}
 use Rattle.server_blocks.specs.Votes.{enoughBy, mattersBy, dueBy, fullBy, votersOf, dueFor}
-use Rattle.server_blocks.specs.Group.{groupValue, groupEqual}
+use Rattle.server_blocks.specs.Group.{groupValue, groupEqual, Stored}
 use Rattle.server_blocks.specs.Stage.{readiesOf, answeredBy}
 use Rattle.server_blocks.proofs.Counts.{value-is, due-is, full-is}
 
@@ -111,8 +112,8 @@ skipped-by k a x v u T own q h =
 
 -- ---- the stage by flags and numbers
 
-module _ (H : List ℕ → List ℕ) (k : Call) (B : Bounded (k .params)) (a d b : List ℕ) (T : ℕ) (x : Slot) (o : x .sequence ≡ k .header .sequence)
-    (q : Outbox) where
+module _ (H : List ℕ → List ℕ) (k : Call) (a d b : List ℕ) (S : Stored (k .params) (k .header .client) (length a)) (T : ℕ) (x : Slot)
+    (o : x .sequence ≡ k .header .sequence) (q : Outbox) where
   -- the own entry, by the votes v for the time and the list
   abbrev own : Voters → Entry
   own v = entry d (blockOf (k .params .k) (groupValue (k .params) v (k .header .client) a) (k .me))
@@ -128,9 +129,9 @@ module _ (H : List ℕ → List ℕ) (k : Call) (B : Bounded (k .params)) (a d b
   stage-is =
       let g = k .params in
       let c = k .header .client in
-      let u = value-is H g B a d b T c x in
-      let m = due-is H g B a d b T c x in
-      let f = full-is H g B a d b T c x in
+      let u = value-is H g a d b T c x S in
+      let m = due-is H g a d b T c x S in
+      let f = full-is H g a d b T c x S in
       λ i. left
       (withBlocks x (blockMarks (x .blocks) (m i) (f i) T))
       (storeIf (not (x .blocks .complete) && f i) a (completeAt c) (entry d (blockOf (g .k) (u i) (k .me))))

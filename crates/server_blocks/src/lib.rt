@@ -30,6 +30,12 @@ pub struct Voters {
     pub readied: usize,
 }
 
+// The servers whose blocks are compared, and the chunks in which these lie.
+pub struct Group {
+    pub on: [bool; 11],
+    pub at: [usize; 11],
+}
+
 // What a counted echo or ready brings forth: readies to all servers, the completed entry; and the time of both.
 pub struct Due {
     pub ready: bool,

@@ -1,6 +1,6 @@
 -- What a server decodes of a write's frames: what it computes from enough of one time and digest list has the sizes of an entry, and a write becomes
 -- complete with the digests of a value that was decoded. Assumes nothing.
-use Prim.Native.Nat.{ℕ, zero, suc, _+_, _≤_}
+use Prim.Native.Nat.{ℕ, zero, suc, _+_, _*_, _≤_}
 use native.Mathlib.Omega.{arith}
 use mathlib.Core.Bool.{Bool, true, false, not, _&&_}
 use mathlib.Core.Path.{_≡_, refl, ap, _∙_, subst}
@@ -15,17 +15,17 @@ use Rattle.quorum.specs.Quorum.{count, bit}
 use Rattle.quorum.proofs.Logic.{impossible, and-split, and-true, or-right}
 use Rattle.area.specs.Area.{Bytes, pick, same}
 use Rattle.blocks.specs.declared.Params.{Params}
-use Rattle.blocks.specs.Code.{blockOf, blockLength}
+use Rattle.blocks.specs.Code.{blockOf, blockLength, candidate}
 use Rattle.blocks.proofs.Stripes.{length-blockOf}
 use Rattle.blocks.proofs.Values.{length-valueOf}
 use Rattle.blocks.proofs.RoundTrip.{Bytes-valueOf}
-use Rattle.group_rules.specs.Coded.{Piece, hasList, pieceOf, pieces, numbers, joinedBytes, decoded, digestsOf}
+use Rattle.group_rules.specs.Coded.{Piece, hasList, pieceOf, pieces, numbers, joinedBytes, lowestValue, digestsOf}
 use Rattle.frame.specs.Messages.{Entry, Offer, Sized}
 use Rattle.frame.specs.Params.{width, quota}
 use Rattle.server_rules.specs.Broadcast.{Rules, Part, kept, undone, votes, enough, due, full, matters}
-use Rattle.server_rules.specs.Rules.{atTime, chosen, regained, regainedOf, blockRules}
+use Rattle.server_rules.specs.Rules.{atTime, chosen, regained, regainedOf, unanimousOf, blockRules}
 use Rattle.server_rules.proofs.Parts.{firstOf, settled}
-use Rattle.server_rules.proofs.Thresholds.{due-votes, full-votes, full-supported, quota-blocks, compared}
+use Rattle.server_rules.proofs.Thresholds.{due-votes, full-votes, full-supported, quota-blocks, unanimous-of, compared}
 use Rattle.server_rules.proofs.AtTime.{votes-are}
 
 piece-size : (o : Option Entry) (d : List ℕ) (j : ℕ) (l : List Piece) → length (pieceOf o d j l) ≡ bit (hasList o d) + length l
@@ -73,17 +73,17 @@ module _ (H : List ℕ → List ℕ) (g : Params) where
 
   -- what is decoded as the part w meets o
   abbrev pub decodes : Part Offer → Offer → List (List ℕ)
-  decodes w o = pick (matters Rb (g .n) (g .t) w o) (regainedOf g (w .echoes) (w .readies) o ∷ []) []
+  decodes w o = pick (matters Rb (g .n) (g .t) w o && unanimousOf g (w .echoes) (w .readies) o) (regainedOf g (w .echoes) (w .readies) o ∷ []) []
 
 module _ (H : List ℕ → List ℕ) (g : Params) (kk : 1 ≤ g .k) where
-  pub decoded-size : (f : ℕ → Option Entry) (d : List ℕ) → g .k ≤ count (λ j. hasList (f j) d) (g .n) → length (decoded g f d) ≡ g .size
-  unfolding decoded
-  decoded-size f d h =
+  pub lowest-size : (f : ℕ → Option Entry) (d : List ℕ) → g .k ≤ count (λ j. hasList (f j) d) (g .n) → length (lowestValue g f d) ≡ g .size
+  unfolding lowestValue candidate
+  lowest-size f d h =
       let p = all-pieces f d (g .n) in
-      let t : length (take (g .k) (pieces f d 1 (g .n))) ≡ g .k = length-take-le (g .k) (pieces f d 1 (g .n)) (omega arith) in
-      let m : length (numbers (take (g .k) (pieces f d 1 (g .n)))) ≡ length (take (g .k) (pieces f d 1 (g .n))) =
-      length-map (take (g .k) (pieces f d 1 (g .n))) (λ p. p .number) in
-      length-valueOf (numbers (take (g .k) (pieces f d 1 (g .n)))) _ (g .size) (omega arith)
+      let l = pieces f d 1 (g .n) in
+      let m : length (numbers l) ≡ length l = length-map l (λ p. p .number) in
+      let t : length (take (g .k) (numbers l)) ≡ g .k = length-take-le (g .k) (numbers l) (omega arith) in
+      length-valueOf (take (g .k) (numbers l)) _ (g .size) (omega arith)
 
   -- from q readies, and from the echoes where there are fewer
   by-readies : (es rs : ℕ → Option Offer) (o : Offer) → quota g ≤ votes (blockRules H g) (g .n) (g .t) rs o → length (regainedOf g es rs o) ≡ g .size
@@ -91,16 +91,16 @@ module _ (H : List ℕ → List ℕ) (g : Params) (kk : 1 ≤ g .k) where
   by-readies es rs o v =
       let c = votes-are H g rs o in
       let q : quota g ≤ count (λ j. hasList (atTime rs (o .time) j) (o .entry .digests)) (g .n) = omega arith in
-      rw (le-leb (quota g) _ q) (decoded-size (atTime rs (o .time)) (o .entry .digests) (omega (arith, quota-blocks g)))
+      rw (le-leb (quota g) _ q) (lowest-size (atTime rs (o .time)) (o .entry .digests) (omega (arith, quota-blocks g)))
 
   by-echoes : (es rs : ℕ → Option Offer) (o : Offer) → g .k ≤ votes (blockRules H g) (g .n) (g .t) es o → length (regainedOf g es rs o) ≡ g .size
   unfolding regained chosen pick votes
   by-echoes es rs o v = go (leb (quota g) (count (λ j. hasList (atTime rs (o .time) j) (o .entry .digests)) (g .n))) refl
     where
       go : (b : Bool) → leb (quota g) (count (λ j. hasList (atTime rs (o .time) j) (o .entry .digests)) (g .n)) ≡ b
-          → length (decoded g (pick b (atTime rs (o .time)) (atTime es (o .time))) (o .entry .digests)) ≡ g .size
-      go true e = decoded-size (atTime rs (o .time)) (o .entry .digests) (omega (arith, quota-blocks g, leb-true (quota g) _ e))
-      go false e = decoded-size (atTime es (o .time)) (o .entry .digests) (omega (arith, v, votes-are H g es o))
+          → length (lowestValue g (pick b (atTime rs (o .time)) (atTime es (o .time))) (o .entry .digests)) ≡ g .size
+      go true e = lowest-size (atTime rs (o .time)) (o .entry .digests) (omega (arith, quota-blocks g, leb-true (quota g) _ e))
+      go false e = lowest-size (atTime es (o .time)) (o .entry .digests) (omega (arith, v, votes-are H g es o))
 
   sized-own : (me : ℕ) (w : Part Offer) (o : Offer) → Sized g (o .entry) → length (regainedOf g (w .echoes) (w .readies) o) ≡ g .size
       → Sized g (blockRules H g .own me (w .echoes) (w .readies) o .entry)
@@ -121,10 +121,10 @@ module _ (H : List ℕ → List ℕ) (g : Params) (kk : 1 ≤ g .k) where
   -- ---- what was decoded
 
   regained-bytes : (es rs : ℕ → Option Entry) (d : List ℕ) → Bytes (regained g es rs d)
-  unfolding regained decoded
+  unfolding regained lowestValue candidate
   regained-bytes es rs d =
-      let l = take (g .k) (pieces (chosen g es rs d) d 1 (g .n)) in
-      Bytes-valueOf (numbers l) (g .size) (joinedBytes l)
+      let l = pieces (chosen g es rs d) d 1 (g .n) in
+      Bytes-valueOf (take (g .k) (numbers l)) (g .size) (take (g .k * blockLength (g .size) (g .k)) (joinedBytes l))
 
   in-pick : (b : Bool) (v : List ℕ) → b ≡ true → List·Memᴰ v (pick b (v ∷ []) [])
   unfolding pick
@@ -137,7 +137,7 @@ module _ (H : List ℕ → List ℕ) (g : Params) (kk : 1 ≤ g .k) where
       let u = and-split (leb (blockRules H g .all) (votes (blockRules H g) (g .n) (g .t) (w .readies) o)) _ h in
       let m = or-right (not (w .ready) && enough (blockRules H g) (g .n) (g .t) w o) _ (and-true _ _ (u .0) (ap undone n)) in (
         regainedOf g (w .echoes) (w .readies) o,
-        in-pick _ _ m,
+        in-pick _ _ (and-true _ _ m (unanimous-of H g (w .echoes) (w .readies) o (full-supported (blockRules H g) (g .n) (g .t) w o h))),
         compared H g (w .echoes) (w .readies) o (full-supported (blockRules H g) (g .n) (g .t) w o h),
         by-readies (w .echoes) (w .readies) o (omega (arith, full-votes (blockRules H g) (g .n) (g .t) w o h)),
         regained-bytes _ _ (o .entry .digests),

@@ -17,7 +17,7 @@ use Rattle.group_rules.specs.Coded.{digestsOf}
 use Rattle.frame.specs.Params.{quota}
 use Rattle.frame.specs.Messages.{Offer}
 use Rattle.server_rules.specs.Broadcast.{Rules, Part, votes, enough, due, full}
-use Rattle.server_rules.specs.Rules.{regainedOf, blockRules}
+use Rattle.server_rules.specs.Rules.{regainedOf, unanimousOf, blockRules}
 
 either : (m a k b : ℕ) → (leb m a || leb k b) ≡ true → (m ≤ a) ⊎ (k ≤ b)
 either m a k b e = ⊎-elim (λ h. inl (leb-true m a h)) (λ h. inr (leb-true k b h)) (or-split (leb m a) (leb k b) e)
@@ -78,6 +78,9 @@ module _ (H : List ℕ → List ℕ) (g : Params) where
   alike-of x y e = and-true _ _ (eq-eqb (x .time) (y .time) (ap (λ p. p .0) e))
       (rw (ap (λ p. p .1) e) (same-refl (y .entry .digests)))
 
-  -- frames that support an offer give a value with all digests of its list
+  -- the blocks of frames that support an offer agree, and give a value with all digests of its list
+  pub unanimous-of : (es rs : ℕ → Option Offer) (o : Offer) → blockRules H g .supports es rs o ≡ true → unanimousOf g es rs o ≡ true
+  unanimous-of es rs o e = and-split (unanimousOf g es rs o) _ e .0
+
   pub compared : (es rs : ℕ → Option Offer) (o : Offer) → blockRules H g .supports es rs o ≡ true → digestsOf H g (regainedOf g es rs o) ≡ o .entry .digests
-  compared es rs o e = same-true (digestsOf H g (regainedOf g es rs o)) (o .entry .digests) e
+  compared es rs o e = same-true (digestsOf H g (regainedOf g es rs o)) (o .entry .digests) (and-split (unanimousOf g es rs o) _ e .1)

@@ -21,7 +21,7 @@ use Rattle.server_rules.specs.declared.Server.{Server}
 use Rattle.server_rules.specs.Broadcast.{due, full, matters}
 use Rattle.server_rules.specs.State.{freshSlot, slotOf, readerAt, readerOf, withSlot, withReader, withBlocks, blockView, presentEntry}
 use Rattle.server_rules.specs.State.{blockSent, blockEcho, blockReady, blockMarks}
-use Rattle.server_rules.specs.Rules.{regainedOf, blockRules}
+use Rattle.server_rules.specs.Rules.{regainedOf, unanimousOf, blockRules}
 
 -- a write that is accepted, with the time and the entry that were completed
 pub record Write : Type 0 where
@@ -60,7 +60,7 @@ module _ (H : List ℕ → List ℕ) (g : Params) (me : ℕ) where
   -- An echo or a ready of o was counted in client c's slot x and kept in a and x. "At each counted echo or ready whose" time and "digest list then has n - t
   -- echoes or q readies, decode .., encode afresh .. and compare all n digests; if equal, send ready .. once for the write. If there are then q + t readies,
   -- and that comparison is equal," the write "is complete for good", with the time of the group (request F-4). A comparison on which nothing hangs is not
-  -- made, so it decodes nothing.
+  -- made, so it decodes nothing; nor does one whose blocks disagree.
   unfoldable pub votedBlock : List ℕ → ℕ → Slot → Offer → Counting
   votedBlock a c x o =
       let w = blockView g a c x in
@@ -71,7 +71,8 @@ module _ (H : List ℕ → List ℕ) (g : Params) (me : ℕ) where
         slot = withBlocks x (blockMarks (x .blocks) r f (o .time));
         area = storeIf (not (x .blocks .complete) && f) a (completeAt c) (own .entry);
         sends = pick r (toAll g (λ j. message c (x .sequence) (blockIs ready own))) [];
-        decodes = pick (matters (blockRules H g) (g .n) (g .t) w o) (regainedOf g (w .echoes) (w .readies) o ∷ []) [];
+        decodes =
+            pick (matters (blockRules H g) (g .n) (g .t) w o && unanimousOf g (w .echoes) (w .readies) o) (regainedOf g (w .echoes) (w .readies) o ∷ []) [];
       }
 
   -- a frame of client c's open write, its slot being x, from party j

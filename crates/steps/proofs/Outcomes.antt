@@ -3,6 +3,7 @@ use Prim.Native.Nat.{ℕ}
 use mathlib.Core.Bool.{true}
 use mathlib.Core.Path.{_≡_, refl, ap}
 use mathlib.Core.Logic.{_⊎_, inl}
+use mathlib.Core.Option.{Option, none, some}
 use mathlib.Core.List.{List}
 use lib.ListN.{length}
 use lib.Seq.{length-sets}
@@ -90,14 +91,22 @@ module _ (H : List ℕ → List ℕ) (g : Params) (me : ℕ) where
   event-answers C.nothing c r e = impossible (cc e)
   event-answers C.written c r e = impossible (cc e)
   event-answers C.outOfStamps c r e = impossible (cc e)
-  event-answers (C.completed x) c r e = impossible (cc e)
+  event-answers (C.stopped x) c r e = of-read (x .bytes) e
+    where
+      of-read : (o : Option (List ℕ)) {A : Type 0} → CD.readAnswer (x .stamp) o ≡ Z.Refused r → A
+      of-read none e = impossible (cc e)
+      of-read (some v) e = impossible (cc e)
 
   length-result : (x : C.Event) (l : List ℕ) → length (CD.resultOf x l) ≡ length l
   unfolding CD.resultOf
   length-result C.nothing l = refl
   length-result C.written l = refl
   length-result C.outOfStamps l = refl
-  length-result (C.completed x) l = length-sets l 0 (x .bytes)
+  length-result (C.stopped x) l = of-read (x .bytes)
+    where
+      of-read : (o : Option (List ℕ)) → length (CD.readResult o l) ≡ length l
+      of-read none = refl
+      of-read (some v) = length-sets l 0 v
 
   module _ (s : Client) (a v : List ℕ) (from : Party) (f result out to : List ℕ) where
     length-rows : length (CD.delivered H g me s a v from f result out to .area) ≡ length a

@@ -34,7 +34,7 @@ module _ (H : List ℕ → List ℕ) (g : Params) (me : ℕ) where
   eventSends C.nothing m = m
   eventSends C.written m = 0
   eventSends C.outOfStamps m = 0
-  eventSends (C.completed x) m = g .n
+  eventSends (C.stopped x) m = g .n
 
   pub record Sends (r : C.Effect) : Type 0 where
     pub few : length (r .sends) ≤ g .n

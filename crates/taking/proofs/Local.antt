@@ -6,17 +6,16 @@ use mathlib.Core.Path.{_≡_, refl, ap, sym, _∙_}
 use mathlib.Core.Logic.{_⊎_, inl, inr}
 use mathlib.Core.Option.{Option, none, some}
 use mathlib.Core.List.{List, _∷_}
-use lib.ListN.{take}
 use lib.Dec.{leb}
 use Rattle.quorum.specs.Quorum.{count}
 use Rattle.area.specs.Area.{pick, same}
 use Rattle.blocks.specs.declared.Params.{Params}
-use Rattle.blocks.specs.Code.{valueOf}
+use Rattle.blocks.specs.Code.{candidate, agree}
 use Rattle.frame.specs.Params.{quota}
 use Rattle.frame.specs.Messages.{Entry, entry, Offer, offer}
-use Rattle.group_rules.specs.Coded.{Piece, hasList, pieceOf, pieces, numbers, joinedBytes, decoded, digestsOf}
+use Rattle.group_rules.specs.Coded.{Piece, hasList, pieceOf, pieces, numbers, joinedBytes, lowestValue, agreeing, digestsOf}
 use Rattle.server_rules.specs.Broadcast.{Rules, Part, isLike, votes, enough, due, full}
-use Rattle.server_rules.specs.Rules.{entryBy, atTime, chosen, regained, regainedOf, blockRules}
+use Rattle.server_rules.specs.Rules.{entryBy, atTime, chosen, regained, unanimous, regainedOf, unanimousOf, blockRules}
 use Rattle.server_rules.proofs.Thresholds.{agreed}
 use Rattle.server_rules.proofs.AtTime.{like, votes-are}
 
@@ -61,32 +60,51 @@ module _ (H : List ℕ → List ℕ) (g : Params) where
         ap (pieceOf (entryBy (f j) (x .time)) (x .entry .digests) j) (agrees-pieces (suc j) m)
         ∙ agrees-piece x (f j) (f′ j) (same j) j (pieces (atTime f′ (x .time)) (x .entry .digests) (suc j) m)
 
-    agrees-decoded : decoded g (atTime f (x .time)) (x .entry .digests) ≡ decoded g (atTime f′ (x .time)) (x .entry .digests)
-    unfolding decoded
-    agrees-decoded = ap (λ l. valueOf (numbers (take (g .k) l)) (g .size) (joinedBytes (take (g .k) l))) (agrees-pieces 1 (g .n))
+    agrees-lowest : lowestValue g (atTime f (x .time)) (x .entry .digests) ≡ lowestValue g (atTime f′ (x .time)) (x .entry .digests)
+    unfolding lowestValue
+    agrees-lowest = ap (λ l. candidate (g .k) (g .size) (numbers l) (joinedBytes l)) (agrees-pieces 1 (g .n))
 
-  -- the value regained is that of the readies, where there are enough, else of the echoes
-  pub regained-cases : (es rs : ℕ → Option Offer) (x : Offer)
-      → regainedOf g es rs x ≡ pick (leb (quota g) (votes R (g .n) (g .t) rs x)) (decoded g (atTime rs (x .time)) (x .entry .digests))
-      (decoded g (atTime es (x .time)) (x .entry .digests))
-  unfolding regained chosen pick
-  regained-cases es rs x = go (leb (quota g) (count (λ j. hasList (atTime rs (x .time) j) (x .entry .digests)) (g .n)))
-      ∙ ap (λ v. pick (leb (quota g) v) (decoded g (atTime rs (x .time)) (x .entry .digests)) (decoded g (atTime es (x .time)) (x .entry .digests)))
-      (sym (votes-are H g rs x))
+    agrees-agreeing : agreeing g (atTime f (x .time)) (x .entry .digests) ≡ agreeing g (atTime f′ (x .time)) (x .entry .digests)
+    unfolding agreeing
+    agrees-agreeing = ap (λ l. agree (g .k) (g .size) (numbers l) (joinedBytes l)) (agrees-pieces 1 (g .n))
+
+  -- what rests on the chosen group rests on the readies, where there are enough, else on the echoes
+  chosen-cases : {A : Type 0} (F : (ℕ → Option Entry) → A) (es rs : ℕ → Option Offer) (x : Offer)
+      → F (chosen g (atTime es (x .time)) (atTime rs (x .time)) (x .entry .digests))
+      ≡ pick (leb (quota g) (votes R (g .n) (g .t) rs x)) (F (atTime rs (x .time))) (F (atTime es (x .time)))
+  unfolding chosen pick
+  chosen-cases F es rs x = go (leb (quota g) (count (λ j. hasList (atTime rs (x .time) j) (x .entry .digests)) (g .n)))
+      ∙ ap (λ v. pick (leb (quota g) v) (F (atTime rs (x .time))) (F (atTime es (x .time)))) (sym (votes-are H g rs x))
     where
-      go : (b : Bool) → decoded g (pick b (atTime rs (x .time)) (atTime es (x .time))) (x .entry .digests)
-          ≡ pick b (decoded g (atTime rs (x .time)) (x .entry .digests)) (decoded g (atTime es (x .time)) (x .entry .digests))
+      go : (b : Bool) → F (pick b (atTime rs (x .time)) (atTime es (x .time))) ≡ pick b (F (atTime rs (x .time))) (F (atTime es (x .time)))
       go true = refl
       go false = refl
+
+  pub regained-cases : (es rs : ℕ → Option Offer) (x : Offer)
+      → regainedOf g es rs x ≡ pick (leb (quota g) (votes R (g .n) (g .t) rs x)) (lowestValue g (atTime rs (x .time)) (x .entry .digests))
+      (lowestValue g (atTime es (x .time)) (x .entry .digests))
+  unfolding regained
+  regained-cases es rs x = chosen-cases (λ f. lowestValue g f (x .entry .digests)) es rs x
+
+  pub unanimous-cases : (es rs : ℕ → Option Offer) (x : Offer)
+      → unanimousOf g es rs x ≡ pick (leb (quota g) (votes R (g .n) (g .t) rs x)) (agreeing g (atTime rs (x .time)) (x .entry .digests))
+      (agreeing g (atTime es (x .time)) (x .entry .digests))
+  unfolding unanimous
+  unanimous-cases es rs x = chosen-cases (λ f. agreeing g f (x .entry .digests)) es rs x
 
   module _ (x : Offer) (es es′ rs rs′ : ℕ → Option Offer) (E : (j : ℕ) → Agrees x (es j) (es′ j)) (Q : (j : ℕ) → Agrees x (rs j) (rs′ j)) where
     agrees-regained : regainedOf g es rs x ≡ regainedOf g es′ rs′ x
     agrees-regained = regained-cases es rs x
-        ∙ (λ i. pick (leb (quota g) (agrees-votes x rs rs′ Q i)) (agrees-decoded x rs rs′ Q i) (agrees-decoded x es es′ E i))
+        ∙ (λ i. pick (leb (quota g) (agrees-votes x rs rs′ Q i)) (agrees-lowest x rs rs′ Q i) (agrees-lowest x es es′ E i))
         ∙ sym (regained-cases es′ rs′ x)
 
+    agrees-unanimous : unanimousOf g es rs x ≡ unanimousOf g es′ rs′ x
+    agrees-unanimous = unanimous-cases es rs x
+        ∙ (λ i. pick (leb (quota g) (agrees-votes x rs rs′ Q i)) (agrees-agreeing x rs rs′ Q i) (agrees-agreeing x es es′ E i))
+        ∙ sym (unanimous-cases es′ rs′ x)
+
     pub agrees-supports : R .supports es rs x ≡ R .supports es′ rs′ x
-    agrees-supports = ap (λ v. same (digestsOf H g v) (x .entry .digests)) agrees-regained
+    agrees-supports i = agrees-unanimous i && same (digestsOf H g (agrees-regained i)) (x .entry .digests)
 
   -- two parts that agree on x, with the same mark of a ready
   module _ (x : Offer) (w w′ : Part Offer) (ready : w .ready ≡ w′ .ready) (E : (j : ℕ) → Agrees x (w .echoes j) (w′ .echoes j))

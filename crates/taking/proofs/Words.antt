@@ -7,15 +7,15 @@ use mathlib.Core.Path.{_≡_, refl, ap, sym, _∙_, subst}
 use mathlib.Core.Logic.{_⊎_, inl, inr, ⊎-elim}
 use mathlib.Core.Option.{Option, none, some}
 use mathlib.Core.List.{List, [], _∷_, List·Memᴰ, List·Memᴰ·head, List·Memᴰ·not-nil, List·Memᴰ·append-cases, List·Memᴰ·eq-of-singleton, Memᴰ·append-right}
-use lib.ListN.{length, take}
+use lib.ListN.{length}
 use lib.Dec.{leb}
 use borrow.Author.Tests.{leb-true, leb-false}
 use Rattle.quorum.specs.Quorum.{Among}
 use Rattle.quorum.proofs.Logic.{impossible, and-split, and-true, or-split}
 use Rattle.area.specs.Area.{Bytes, pick}
 use Rattle.blocks.specs.declared.Params.{Params}
-use Rattle.blocks.proofs.RoundTrip.{Bytes-valueOf}
-use Rattle.group_rules.specs.Coded.{pieces, numbers, joinedBytes, decoded, blockAt, entryOf}
+use Rattle.blocks.proofs.Exactly.{candidate-bytes}
+use Rattle.group_rules.specs.Coded.{pieces, numbers, joinedBytes, lowestValue, blockAt, entryOf}
 use Rattle.frame.specs.declared.Party.{Party}
 use Rattle.frame.specs.declared.Party.the-variants as P
 use Rattle.frame.specs.Chunks.{storeEntry, echoAt, readyAt}
@@ -31,9 +31,9 @@ use Rattle.server_rules.specs.Steps as S
 use Rattle.server_rules.proofs.Parts.{firstOf, withEcho, withReady, settled, counted}
 use Rattle.server_rules.proofs.Views as SV
 use Rattle.server_rules.proofs.Views.{shapes, Shaped}
-use Rattle.server_rules.proofs.Thresholds.{due-votes, full-supported, compared, quota-blocks}
+use Rattle.server_rules.proofs.Thresholds.{due-votes, full-supported, unanimous-of, compared, quota-blocks}
 use Rattle.server_rules.proofs.AtTime.{votes-are}
-use Rattle.server_rules.proofs.Decoding.{decoded-size}
+use Rattle.server_rules.proofs.Decoding.{lowest-size}
 use Rattle.server_rules.proofs.Casts.{mem-all, all-mem}
 use Rattle.server_rules.proofs.Enough.{send-echoed}
 use Rattle.server_rules.proofs.Counting.{said}
@@ -60,30 +60,28 @@ module _ (H : List ℕ → List ℕ) (g : Params) where
 
   -- ---- the value regained
 
-  decoded-bytes : (f : ℕ → Option Entry) (d : List ℕ) → Bytes (decoded g f d)
-  unfolding decoded
-  decoded-bytes f d =
-      let l = take (g .k) (pieces f d 1 (g .n)) in
-      Bytes-valueOf (numbers l) (g .size) (joinedBytes l)
+  lowest-bytes : (f : ℕ → Option Entry) (d : List ℕ) → Bytes (lowestValue g f d)
+  unfolding lowestValue
+  lowest-bytes f d = let l = pieces f d 1 (g .n) in candidate-bytes (g .k) (g .size) (numbers l) (joinedBytes l)
 
   regained-bytes : (w : Part Offer) (o : Offer) → Bytes (regainedOf g (w .echoes) (w .readies) o)
   unfolding pick
   regained-bytes w o = subst Bytes (sym (regained-cases H g (w .echoes) (w .readies) o)) (go (leb (quota g) (votes R (g .n) (g .t) (w .readies) o)))
     where
-      go : (b : Bool) → Bytes (pick b (decoded g (atTime (w .readies) (o .time)) (o .entry .digests)) (decoded g (atTime (w .echoes) (o .time)) (o .entry .digests)))
-      go true = decoded-bytes _ (o .entry .digests)
-      go false = decoded-bytes _ (o .entry .digests)
+      go : (b : Bool) → Bytes (pick b (lowestValue g (atTime (w .readies) (o .time)) (o .entry .digests)) (lowestValue g (atTime (w .echoes) (o .time)) (o .entry .digests)))
+      go true = lowest-bytes _ (o .entry .digests)
+      go false = lowest-bytes _ (o .entry .digests)
 
   regained-size : Bounded g → (w : Part Offer) (o : Offer) → due R (g .n) (g .t) w o ≡ true → length (regainedOf g (w .echoes) (w .readies) o) ≡ g .size
   unfolding pick
   regained-size L w o h = subst (λ v. length v ≡ g .size) (sym (regained-cases H g (w .echoes) (w .readies) o))
       (go (leb (quota g) (votes R (g .n) (g .t) (w .readies) o)) refl)
     where
-      by : (f : ℕ → Option Offer) → g .k ≤ votes R (g .n) (g .t) f o → length (decoded g (atTime f (o .time)) (o .entry .digests)) ≡ g .size
-      by f l = decoded-size H g (L .blocks-low) (atTime f (o .time)) (o .entry .digests) (omega (arith, l, votes-are H g f o))
+      by : (f : ℕ → Option Offer) → g .k ≤ votes R (g .n) (g .t) f o → length (lowestValue g (atTime f (o .time)) (o .entry .digests)) ≡ g .size
+      by f l = lowest-size H g (L .blocks-low) (atTime f (o .time)) (o .entry .digests) (omega (arith, l, votes-are H g f o))
 
       go : (b : Bool) → leb (quota g) (votes R (g .n) (g .t) (w .readies) o) ≡ b
-          → length (pick b (decoded g (atTime (w .readies) (o .time)) (o .entry .digests)) (decoded g (atTime (w .echoes) (o .time)) (o .entry .digests)))
+          → length (pick b (lowestValue g (atTime (w .readies) (o .time)) (o .entry .digests)) (lowestValue g (atTime (w .echoes) (o .time)) (o .entry .digests)))
           ≡ g .size
       go true e = by (w .readies) (omega (arith, leb-true (quota g) (votes R (g .n) (g .t) (w .readies) o) e, quota-blocks g))
       go false e = ⊎-elim
@@ -151,7 +149,7 @@ module _ (H : List ℕ → List ℕ) (g : Params) where
         let (h, e) = said g _ c (x .sequence) _ _ u in
         let i : y ≡ R .own me (w .echoes) (w .readies) o = cc (ap (λ m. m .body) e) in (
           regainedOf g (w .echoes) (w .readies) o,
-          in-pick _ _ (due-matters w o h),
+          in-pick _ _ (and-true _ _ (due-matters w o h) (unanimous-of H g (w .echoes) (w .readies) o (due-supported w o h))),
           ap (λ y. y .entry) i ∙ own-encodes me w o (due-supported w o h),
           regained-size L w o h,
           regained-bytes w o,

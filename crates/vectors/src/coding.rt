@@ -68,6 +68,7 @@ fn answer_number(answer: Coded) -> u8 {
         Fault::Length => 3,
         Fault::Blocks => 9,
         Fault::Room => 10,
+        Fault::Disagreement => 21,
     }
 }
 

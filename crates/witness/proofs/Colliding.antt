@@ -1,19 +1,19 @@
--- The run of Colliding.antt, computed: it is admissible, two reads of one stamp give different bytes, and demand 3 shows the pair of blocks. Assumes nothing.
+-- The run of Colliding.antt, computed: it is admissible, the blocks of a read disagree, and the pair of blocks is there. Assumes nothing.
 use Prim.Native.Nat.{ℕ}
 use native.Mathlib.Omega.{arith}
 use mathlib.Core.Bool.{true, false}
 use mathlib.Core.Path.{_≡_, refl, ap}
-use mathlib.Core.Logic.{_⊎_, inl, inr}
+use mathlib.Core.Logic.{inl}
+use mathlib.Core.Option.{none, some}
 use lib.ListN.{getD, length-replicate}
 use Rattle.frame.specs.declared.Party.the-variants as P
 use Rattle.frame.specs.declared.Opened.the-variants as O
 use Rattle.frame.specs.Params.{Bounded}
 use Rattle.frame.specs.Messages.{Carries}
-use Rattle.client_rules.specs.Steps.{completed}
+use Rattle.client_rules.specs.Steps.{stopped}
 use Rattle.runs.specs.World.{Sound, DigestSize}
-use Rattle.runs.specs.Events.{At, CompletesRead}
+use Rattle.runs.specs.Events.{At, CompletesRead, Disagrees}
 use Rattle.runs.specs.Blocks.{InFrame, Collision, in-frame, of-initial}
-use Rattle.runs.specs.Demand.{Values}
 use Rattle.quorum.specs.Quorum as QuQuorum
 use Rattle.area.specs.Area as ArArea
 use Rattle.area.specs.Numbers as ArNumbers
@@ -47,7 +47,7 @@ use Rattle.witness.proofs.Served as Served
 use Rattle.witness.proofs.Asked as Asked
 use Rattle.witness.specs.Colliding.{blind, g, initial, other, Z, question, answer, lie, first, second, calls, found, Shown}
 use Rattle.witness.proofs.Images.{sameParty, amongSends, wasSent, allBytes, isFrame, honest, properFrame, properCall, advance, image, acceptedIn, endIn}
-use Rattle.witness.proofs.Depicted.{Exact, admissible-by, completes-by, at-drop}
+use Rattle.witness.proofs.Depicted.{Exact, admissible-by, stops-by, at-drop}
 
 bounded : Bounded g
 unfolding g
@@ -70,8 +70,8 @@ digest-size b = length-replicate {A = ℕ} 32 0
 record Computed : Type 0 where
   pub proper : image Z calls .proper ≡ true
   -- the two reads, and their numbers
-  pub falsified : endIn Z (image Z first) (Toy.handClient g 2 (P.Server 3) (answer 2 3)) ≡ completed (found other)
-  pub right : endIn Z (image Z second) (Toy.handClient g 3 (P.Server 4) (answer 3 4)) ≡ completed (found initial)
+  pub disagrees : endIn Z (image Z first) (Toy.handClient g 2 (P.Server 3) (answer 2 3)) ≡ stopped (found none)
+  pub right : endIn Z (image Z second) (Toy.handClient g 3 (P.Server 4) (answer 3 4)) ≡ stopped (found (some initial))
   pub numbers : (image Z first .clients 2 .client .reads ≡ 1) × (image Z second .clients 3 .client .reads ≡ 1)
   -- server 1's frame opens and carries its block; the initial value's blocks are the value
   pub opens : FrFrames.opened g (FrFrames.build lie) ≡ O.Frame (FrFrames.headerFor lie)
@@ -80,10 +80,10 @@ record Computed : Type 0 where
   pub one-digest : blind other ≡ blind initial
 
 computed : Computed
-unfolding FrChunks.entryAt RuWorld.start SeDelivery.constructTest SeDelivery.constructBy SeDelivery.construction blind g initial other Z question answer lie first second calls found Toy.zeros Toy.four Toy.setup Toy.handServer Toy.handClient Toy.startRead Served.freeBy Served.freedBy Served.settledBy Served.votedBy Served.blockBy Served.bodyBy Served.servedBy Served.judgeBy Served.served Asked.searchedBy Asked.keptBy Asked.bodyBy Asked.heardBy Asked.judgeBy Asked.asked sameParty amongSends wasSent allBytes isFrame honest properFrame properCall advance image acceptedIn endIn QuQuorum.count ArArea.pick ArArea.same ArArea.compared ArArea.tableFrom ArArea.table ArArea.joined ArNumbers.be2 ArNumbers.be4 ArNumbers.be8 ArNumbers.bytes2 ArNumbers.bytes4 ArNumbers.bytes8 _⊕_ FiField.reduction FiField.xtime FiField.shiftAdd _⊗_ FiField.powerOf FiField.Powers FiField.Logs BlCode.blockLength BlCode.padded BlCode.stripe BlCode.blockByte BlCode.blockOf BlCode.encoded BlCode.row BlCode.valueOf BlCode.blocksOf BlParams.partiesFit BlParams.thresholdFits BlParams.lengthFits BlPoly.eval BlPoly.plus BlPoly.scale BlPoly.withRoot BlPoly.vanishing BlPoly.newtonStep BlPoly.through FrCoded.pieces FrCoded.decoded FrCoded.digestsOf FrCoded.entryOf FrCoded.fits FrFrames.kindOf FrFrames.retired FrFrames.lengthOf FrFrames.bodyLength FrFrames.entryBytes FrFrames.offerBytes FrFrames.stampBytes FrFrames.bodyBytes FrFrames.headerBytes FrFrames.frameOf FrFrames.build FrFrames.framingTest FrFrames.headerIn FrFrames.headerTest FrFrames.bodyTest FrFrames.stampIn FrFrames.stampTest FrFrames.contentTest FrFrames.frameTest FrFrames.opened FrFrames.openedUnder FrFrames.bodyIn FrFrames.messageIn FrMessages.toFrom FrMessages.toAll FrParams.width FrParams.quota FrParams.largestFrame FrParams.outRoom FrParams.toRoom FrParams.ownTest FrParams.codeTest FrParams.boundsTest FrParams.paramsTest FrStamps.older FrStamps.sameStamp FrStamps.zeroStamp FrStamps.partsAgree SeBroadcast.votes SeBroadcast.enough SeBroadcast.due SeBroadcast.full SeBroadcast.matters SeRules.atTime SeRules.chosen SeRules.regained SeState.freshBlocks SeState.freshSlot SeState.freshReader SeState.freshServer SeState.blockView SeState.presentBlock SeState.presentEntry SeSteps.votedBlock SeSteps.onBlock SeSteps.tellFrom SeSteps.accept SeSteps.ripeBy SeSteps.ripe SeSteps.freeBy SeSteps.free SeSteps.freed SeSteps.settle SeSteps.onRead SeSteps.onReadComplete SeSteps.onBody SeSteps.effect SeTests.roomTest SeTests.senderRight SeTests.counted SeTests.openTest SeTests.readTest SeTests.doneTest SeTests.fitTest SeTests.orderTest SeTests.messageTest SeTests.judgeOpened SeTests.judge CB.idleTest CB.closedTest CB.lengthTest CB.readTest CB.writeTest CB.openRead CB.openWrite CB.beginBy CB.readBegun CB.writeBegun CB.beginAnswer CB.begunOf CB.readBeginning CB.writeBeginning ClRows.placesFrom ClRows.rowView ClRows.hasStamp ClRows.smallest ClRows.placeFor ClRows.atStamp ClRows.rowsFrom ClRows.agreed ClRows.firstBy ClRows.firstAgreed ClRows.foundOf ClRows.foundBy ClRows.search ClState.freshRow ClState.freshClient ClState.largest ClSteps.quorate ClSteps.sendBelow ClSteps.gatherBy ClSteps.onStamp ClSteps.endBy ClSteps.onAck ClSteps.completeBy ClSteps.settle ClSteps.keepBy ClSteps.onValue ClSteps.onBody ClSteps.effect ClTests.sendRoom ClTests.roomTest ClTests.valueTest ClTests.answers ClTests.awaited ClTests.fitTest ClTests.orderTest ClTests.messageTest ClTests.judgeOpened ClTests.judge
+unfolding FrChunks.entryAt RuWorld.start SeDelivery.constructTest SeDelivery.constructBy SeDelivery.construction blind g initial other Z question answer lie first second calls found Toy.zeros Toy.four Toy.setup Toy.handServer Toy.handClient Toy.startRead Served.freeBy Served.freedBy Served.settledBy Served.votedBy Served.blockBy Served.bodyBy Served.servedBy Served.judgeBy Served.served Asked.searchedBy Asked.keptBy Asked.bodyBy Asked.heardBy Asked.judgeBy Asked.asked sameParty amongSends wasSent allBytes isFrame honest properFrame properCall advance image acceptedIn endIn QuQuorum.count ArArea.pick ArArea.same ArArea.compared ArArea.tableFrom ArArea.table ArArea.joined ArNumbers.be2 ArNumbers.be4 ArNumbers.be8 ArNumbers.bytes2 ArNumbers.bytes4 ArNumbers.bytes8 _⊕_ FiField.reduction FiField.xtime FiField.shiftAdd _⊗_ FiField.powerOf FiField.Powers FiField.Logs BlCode.blockLength BlCode.padded BlCode.stripe BlCode.blockByte BlCode.blockOf BlCode.encoded BlCode.row BlCode.valueOf BlCode.blocksOf BlCode.candidate BlCode.agree BlCode.decodedAll BlParams.partiesFit BlParams.thresholdFits BlParams.lengthFits BlPoly.eval BlPoly.plus BlPoly.scale BlPoly.withRoot BlPoly.vanishing BlPoly.newtonStep BlPoly.through FrCoded.pieces FrCoded.lowestValue FrCoded.agreeing FrCoded.decoded FrCoded.digestsOf FrCoded.entryOf FrCoded.fits FrFrames.kindOf FrFrames.retired FrFrames.lengthOf FrFrames.bodyLength FrFrames.entryBytes FrFrames.offerBytes FrFrames.stampBytes FrFrames.bodyBytes FrFrames.headerBytes FrFrames.frameOf FrFrames.build FrFrames.framingTest FrFrames.headerIn FrFrames.headerTest FrFrames.bodyTest FrFrames.stampIn FrFrames.stampTest FrFrames.contentTest FrFrames.frameTest FrFrames.opened FrFrames.openedUnder FrFrames.bodyIn FrFrames.messageIn FrMessages.toFrom FrMessages.toAll FrParams.width FrParams.quota FrParams.largestFrame FrParams.outRoom FrParams.toRoom FrParams.ownTest FrParams.codeTest FrParams.boundsTest FrParams.paramsTest FrStamps.older FrStamps.sameStamp FrStamps.zeroStamp FrStamps.partsAgree SeBroadcast.votes SeBroadcast.enough SeBroadcast.due SeBroadcast.full SeBroadcast.matters SeRules.atTime SeRules.chosen SeRules.regained SeRules.unanimous SeState.freshBlocks SeState.freshSlot SeState.freshReader SeState.freshServer SeState.blockView SeState.presentBlock SeState.presentEntry SeSteps.votedBlock SeSteps.onBlock SeSteps.tellFrom SeSteps.accept SeSteps.ripeBy SeSteps.ripe SeSteps.freeBy SeSteps.free SeSteps.freed SeSteps.settle SeSteps.onRead SeSteps.onReadComplete SeSteps.onBody SeSteps.effect SeTests.roomTest SeTests.senderRight SeTests.counted SeTests.openTest SeTests.readTest SeTests.doneTest SeTests.fitTest SeTests.orderTest SeTests.messageTest SeTests.judgeOpened SeTests.judge CB.idleTest CB.closedTest CB.lengthTest CB.readTest CB.writeTest CB.openRead CB.openWrite CB.beginBy CB.readBegun CB.writeBegun CB.beginAnswer CB.begunOf CB.readBeginning CB.writeBeginning ClRows.placesFrom ClRows.rowView ClRows.hasStamp ClRows.smallest ClRows.placeFor ClRows.atStamp ClRows.rowsFrom ClRows.agreed ClRows.firstBy ClRows.firstAgreed ClRows.foundOf ClRows.foundBy ClRows.search ClState.freshRow ClState.freshClient ClState.largest ClSteps.quorate ClSteps.sendBelow ClSteps.gatherBy ClSteps.onStamp ClSteps.endBy ClSteps.onAck ClSteps.completeBy ClSteps.settle ClSteps.keepBy ClSteps.onValue ClSteps.onBody ClSteps.effect ClTests.sendRoom ClTests.roomTest ClTests.valueTest ClTests.answers ClTests.awaited ClTests.fitTest ClTests.orderTest ClTests.messageTest ClTests.judgeOpened ClTests.judge
 computed = record {
   proper = refl;
-  falsified = refl;
+  disagrees = refl;
   right = refl;
   numbers = (refl, refl);
   opens = refl;
@@ -94,22 +94,19 @@ computed = record {
 
 -- ---- so
 
-falsified : At (CompletesRead Z 2 1 (found other)) calls 5
-unfolding first second calls Toy.handClient
-falsified = at-drop (CompletesRead Z 2 1 (found other)) 7 calls 5
-    (inl (refl, completes-by Z exact first (Toy.handClient g 2 (P.Server 3) (answer 2 3)) 2 1 (found other) refl (computed .numbers .0) (computed .falsified)))
+disagrees : At (Disagrees Z 2 1 (found none)) calls 5
+unfolding first second calls Toy.handClient found
+disagrees = at-drop (Disagrees Z 2 1 (found none)) 7 calls 5
+    (inl (refl, (stops-by Z exact first (Toy.handClient g 2 (P.Server 3) (answer 2 3)) 2 1 (found none) refl (computed .numbers .0) (computed .disagrees), refl)))
 
-right : At (CompletesRead Z 3 1 (found initial)) calls 12
-unfolding first second calls Toy.handClient
-right = inl (refl, completes-by Z exact second (Toy.handClient g 3 (P.Server 4) (answer 3 4)) 3 1 (found initial) refl (computed .numbers .1) (computed .right))
+right : At (CompletesRead Z 3 1 (found (some initial))) calls 12
+unfolding first second calls Toy.handClient found
+right =
+    inl (refl, (stops-by Z exact second (Toy.handClient g 3 (P.Server 4) (answer 3 4)) 3 1 (found (some initial)) refl (computed .numbers .1) (computed .right), (initial, refl)))
 
 differ : other ≡ initial → ⊥
 unfolding other initial
 differ e = absurd (omega (arith, ap (λ l. getD l 0 0) e))
-
-values-fail : Values Z calls → ⊥
-unfolding found
-values-fail h = differ (h .same 2 1 3 1 5 12 (found other) (found initial) falsified right refl)
 
 given : At (InFrame Z other) calls 3
 unfolding first second calls Z Toy.setup Toy.handClient
@@ -126,19 +123,13 @@ pair = record {
   right-from = of-initial 2 (omega arith, omega arith) (computed .initial-block);
 }
 
-shown-by : (z : Values Z calls ⊎ Collision Z calls) → (c : Collision Z calls) × (z ≡ inr c)
-shown-by (inl h) = absurd (values-fail h)
-shown-by (inr c) = (c, refl)
-
 pub shown : Shown
 unfolding pair
 shown = record {
   sound = sound;
   digest-size = digest-size;
   admissible = admissible-by Z exact calls (computed .proper);
-  falsified = falsified;
+  disagrees = disagrees;
   right = right;
-  values-fail = values-fail;
-  pair-shown = λ D. shown-by (D .values);
   pair = (pair, refl, refl);
 }

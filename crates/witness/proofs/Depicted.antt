@@ -38,7 +38,7 @@ use Rattle.client_rules.specs.Beginning as CB
 use Rattle.runs.specs.World.{Setup, Call, toServer, toClient, beginRead, beginWrite, caller, ServerSide, ClientSide, World, put, initialOf, start, lentBy, lentTo, step, run, sends, serverEffect, clientEffect}
 use Rattle.server_rules.specs.Steps.{Write}
 use Rattle.client_rules.specs.Rows.{Found}
-use Rattle.runs.specs.Events.{Event, At, Accepts, CompletesRead, EndsWrite, OpensRead, OpensWrite}
+use Rattle.runs.specs.Events.{Event, At, Accepts, StopsRead, EndsWrite, OpensRead, OpensWrite}
 use Rattle.runs.specs.Admissible.{Sent, Named, Honest, Proper, Admissible}
 use Rattle.witness.proofs.Areas.{Shows}
 use Rattle.witness.specs.Refusals.{Refuses}
@@ -280,18 +280,18 @@ module _ (Z : Setup) (G : Exact Z) where
   accepts-by ks (beginRead c out to) i x h e = impossible (cc)
   accepts-by ks (beginWrite c v out to) i x h e = impossible (cc)
 
-  pub completes-by : (ks : List Call) (k : Call) (c q : ℕ) (x : Found) → caller k ≡ P.Client c → image Z ks .clients c .client .reads ≡ q
-      → endIn Z (image Z ks) k ≡ C.completed x → CompletesRead Z c q x ks k
+  pub stops-by : (ks : List Call) (k : Call) (c q : ℕ) (x : Found) → caller k ≡ P.Client c → image Z ks .clients c .client .reads ≡ q
+      → endIn Z (image Z ks) k ≡ C.stopped x → StopsRead Z c q x ks k
   unfolding endIn
-  completes-by ks (toServer j from f out to) c q x h r e = impossible (cc)
-  completes-by ks (toClient d from f lent result out to) c q x h r e =
+  stops-by ks (toServer j from f out to) c q x h r e = impossible (cc)
+  stops-by ks (toClient d from f lent result out to) c q x h r e =
       let w : c ≡ d = ap numberIn (sym h) in (
         w,
         ap (λ y. run Z ks .clients y .client .reads) (sym w) ∙ ap (λ s. s .reads) (depicts ks .clients c .client) ∙ r,
         client-at (run Z ks) (image Z ks) (depicts ks) d from f lent result out to .event ∙ e,
       )
-  completes-by ks (beginRead d out to) c q x h r e = impossible (cc)
-  completes-by ks (beginWrite d v out to) c q x h r e = impossible (cc)
+  stops-by ks (beginRead d out to) c q x h r e = impossible (cc)
+  stops-by ks (beginWrite d v out to) c q x h r e = impossible (cc)
 
   pub ends-by : (ks : List Call) (k : Call) (c q : ℕ) → caller k ≡ P.Client c → image Z ks .clients c .client .writes ≡ q
       → endIn Z (image Z ks) k ≡ C.written → EndsWrite Z c q ks k

@@ -1,10 +1,10 @@
--- Why demand 3 has an alternative. A run, as a list of calls, latest first, with a digest that is 32 bytes long and alike for all blocks: server 1 is
--- false and gives client 2 another block with the initial value's digests. Client 2's read ends with a value that nobody wrote; client 3's, with the
--- same stamp, with the initial one. The theorem holds of this run too: it shows the two blocks. k = 1. These are definitions.
+-- Why a read may disagree. A run, as a list of calls, latest first, with a digest that is 32 bytes long and alike for all blocks: server 1 is false and gives
+-- client 2 another block with the initial value's digests. Client 2's read is closed, its blocks disagree; client 3's, with the same stamp, ends with the initial
+-- value. The theorem of request F-7 holds of this run: it shows the two blocks. k = 1. These are definitions.
 use Prim.Native.Nat.{ℕ}
 use mathlib.Core.Bool.{false}
 use mathlib.Core.Path.{_≡_}
-use mathlib.Core.Logic.{inr}
+use mathlib.Core.Option.{Option, none, some}
 use mathlib.Core.List.{List, [], _∷_}
 use Rattle.blocks.specs.declared.Params.{Params}
 use Rattle.frame.specs.declared.Party.the-variants as P
@@ -14,9 +14,8 @@ use Rattle.group_rules.specs.Coded.{entryOf, digestsOf}
 use Rattle.client_rules.specs.Rows.{Found}
 use Rattle.runs.specs.World.{Setup, Sound, DigestSize, Call}
 use Rattle.runs.specs.Admissible.{Admissible}
-use Rattle.runs.specs.Events.{At, CompletesRead}
+use Rattle.runs.specs.Events.{At, CompletesRead, Disagrees}
 use Rattle.runs.specs.Blocks.{Collision}
-use Rattle.runs.specs.Demand.{Values, Demand3}
 use Rattle.witness.specs.Toy.{zeros, four, setup, handServer, handClient, startRead}
 
 -- the digest of every block
@@ -63,8 +62,8 @@ second =
 unfoldable pub calls : List Call
 calls = handClient g 3 (P.Server 4) (answer 3 4) ∷ second
 
--- what a read finds that ends with the value v
-unfoldable pub found : List ℕ → Found
+-- what a read finds whose blocks give v
+unfoldable pub found : Option (List ℕ) → Found
 found v = record { stamp = zeroStamp; digests = digestsOf blind g initial; bytes = v }
 
 -- ---- what is shown
@@ -74,12 +73,8 @@ pub record Shown : Type 0 where
   pub sound : Sound Z
   pub digest-size : DigestSize blind
   pub admissible : Admissible Z calls
-  -- two reads with one stamp give different bytes,
-  pub falsified : At (CompletesRead Z 2 1 (found other)) calls 5
-  pub right : At (CompletesRead Z 3 1 (found initial)) calls 12
-  -- so that what reads should give they do not,
-  pub values-fail : Values Z calls → ⊥
-  -- and what is shown, whatever the row, is the pair of blocks:
-  pub pair-shown : (D : Demand3 Z calls) → (c : Collision Z calls) × (D .values ≡ inr c)
-  -- the one that server 1 gave, and the one that is the initial value's
+  -- the blocks of one read disagree, and another read with that stamp gives the initial value
+  pub disagrees : At (Disagrees Z 2 1 (found none)) calls 5
+  pub right : At (CompletesRead Z 3 1 (found (some initial))) calls 12
+  -- the pair of blocks: the one that server 1 gave, and the one that is the initial value's
   pub pair : (c : Collision Z calls) × (c .left ≡ other) × (c .right ≡ initial)

@@ -4,6 +4,7 @@
 -- definitions.
 use Prim.Native.Nat.{ℕ}
 use mathlib.Core.Bool.{true, false}
+use mathlib.Core.Option.{some}
 use mathlib.Core.List.{List, [], _∷_}
 use lib.Dec.{eqb}
 use Rattle.area.specs.Area.{pick}
@@ -164,7 +165,7 @@ write c = record { client = c; sequence = 1; time = largest c; entry = entryFor 
 
 -- what the read finds
 unfoldable pub found : Found
-found = record { stamp = stamp 2; digests = digestsOf toy g (value 2); bytes = value 2 }
+found = record { stamp = stamp 2; digests = digestsOf toy g (value 2); bytes = some (value 2) }
 
 -- the operations, as the row of demand 3 has them
 unfoldable pub writing : ℕ → Operation

@@ -1,6 +1,7 @@
 -- A run, as a list of calls, latest first: server 4 and client 1 are false. Client 1 sends its block to one server alone; client 2 reads, and its read
 -- completes with the initial value. k = 1. These are definitions.
 use Prim.Native.Nat.{ℕ}
+use mathlib.Core.Option.{some}
 use mathlib.Core.List.{List, [], _∷_}
 use lib.Dec.{eqb}
 use Rattle.blocks.specs.declared.Params.{Params}
@@ -41,7 +42,7 @@ calls =
 
 -- what the read finds
 unfoldable pub found : Found
-found = record { stamp = zeroStamp; digests = digestsOf toy g initial; bytes = initial }
+found = record { stamp = zeroStamp; digests = digestsOf toy g initial; bytes = some initial }
 
 -- what is shown: the theorem speaks of this run, and the read completes
 pub record Shown : Type 0 where

@@ -2,6 +2,7 @@
 -- says what an honest server would say; server 3 hears nothing. These are definitions.
 use Prim.Native.Nat.{ℕ}
 use mathlib.Core.Bool.{true, false}
+use mathlib.Core.Option.{some}
 use mathlib.Core.List.{List, [], _∷_}
 use Rattle.blocks.specs.declared.Params.{Params}
 use Rattle.frame.specs.declared.Stamp.{Stamp}
@@ -101,7 +102,7 @@ writeAt i = record { client = 1; sequence = 1; time = 0; entry = entryFor i }
 
 -- what the read finds
 unfoldable pub found : Found
-found = record { stamp = stamp; digests = digestsOf toy g value; bytes = value }
+found = record { stamp = stamp; digests = digestsOf toy g value; bytes = some value }
 
 -- the two operations, as the row of demand 3 has them
 unfoldable pub write : Operation

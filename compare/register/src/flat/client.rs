@@ -1,10 +1,10 @@
 //! A client on lent areas.
 
 use super::{block_in, list_in, row_chunk, store, Done, Out, Outcome, ROWS_AREA, SEATS};
-use crate::blocks::{block_of, decode_into};
+use crate::blocks::{agree, block_of, decode_into};
 use crate::client::KEPT;
 use crate::frame::{open, Body, Frame, Stage, Stamp};
-use crate::params::{Params, Party, Refusal, DIGEST, MAX_K, MAX_SERVERS, MAX_VALUE};
+use crate::params::{Params, Party, Refusal, DIGEST, MAX_SERVERS, MAX_VALUE};
 use crate::sha256::digest;
 
 #[derive(Clone, Copy, Debug, PartialEq, Eq)]
@@ -264,28 +264,32 @@ impl Client {
             .find(|&i| self.stamps[server][i] == stamp && list_in(p, rows, row_chunk(server, i)) == digests)
     }
 
-    /// The search of the rows: the first stamp and list in n − t of them ends the read.
+    /// The search of the rows: the first stamp and list in n − t of them ends the read, with a value if all blocks there are its blocks.
     fn settle(&mut self, p: &Params, rows: &[u8], frame: &Frame, out: &mut Out, value: &mut [u8]) -> Outcome {
         for j in 1..=p.n {
             for i in 0..self.used(j) {
                 let stamp = self.stamps[j][i];
                 let digests = list_in(p, rows, row_chunk(j, i));
-                let mut numbers = [0; MAX_K];
-                let mut blocks: [&[u8]; MAX_K] = [&[]; MAX_K];
+                let mut numbers = [0; MAX_SERVERS];
+                let mut blocks: [&[u8]; MAX_SERVERS] = [&[]; MAX_SERVERS];
                 let mut found = 0;
                 for server in 1..=p.n {
                     if let Some(place) = self.find(p, rows, server, stamp, digests) {
-                        if found < p.k {
-                            numbers[found] = server as u8;
-                            blocks[found] = block_in(p, rows, row_chunk(server, place));
-                        }
+                        numbers[found] = server as u8;
+                        blocks[found] = block_in(p, rows, row_chunk(server, place));
                         found += 1;
                     }
                 }
                 if found >= p.most() {
-                    decode_into(p, &numbers[..p.k], &blocks[..p.k], value);
                     self.operation = Operation::None;
                     out.send_servers(p.n, &Frame { body: Body::ReadComplete, ..*frame });
+                    let mut decoded = [0; MAX_VALUE];
+                    let decoded = &mut decoded[..p.l];
+                    decode_into(p, &numbers, &blocks, decoded);
+                    if !agree(p, decoded, &numbers[..found], &blocks[..found]) {
+                        return Outcome::Disagreement;
+                    }
+                    value[..p.l].copy_from_slice(decoded);
                     return Outcome::Value(stamp);
                 }
             }

@@ -75,6 +75,8 @@ pub enum Outcome {
     Accepted,
     /// A read ended; its value is in the value area.
     Value(Stamp),
+    /// A read ended, since the blocks found disagree.
+    Disagreement,
     Written,
     OutOfStamps,
 }

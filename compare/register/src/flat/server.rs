@@ -4,7 +4,7 @@ use super::{block_in, complete_chunk, echo_chunk, list_in, ready_chunk, store, D
 use super::{BLOCK_AT, CHUNK, DESKS, SEATS, STATE_AREA};
 use crate::blocks::{block_of, decode_into};
 use crate::frame::{open, Body, Frame, Stage, Stamp};
-use crate::params::{Params, Party, Refusal, CLIENTS, DIGEST, MAX_K, MAX_VALUE};
+use crate::params::{Params, Party, Refusal, CLIENTS, DIGEST, MAX_SERVERS, MAX_VALUE};
 use crate::sha256::digest;
 
 /// A client's open write. Place j of the arrays is server j's; the digest lists and blocks lie in the state area.
@@ -74,13 +74,35 @@ pub struct Server {
     pub readers: [Reader; DESKS],
 }
 
-/// Compares a fresh encoding of a value with a digest list; the own block goes to `block`.
-fn same_digests(p: &Params, value: &[u8], digests: &[u8], own: usize, block: &mut [u8]) -> bool {
+/// The blocks of a group, by rising server number.
+struct Given<'a> {
+    numbers: [u8; MAX_SERVERS],
+    blocks: [&'a [u8]; MAX_SERVERS],
+    count: usize,
+}
+
+/// Compares a fresh encoding of a value with the blocks of a group and with its digest list; the own block goes to `block`.
+fn same_encoding(
+    p: &Params,
+    value: &[u8],
+    given: &Given,
+    digests: &[u8],
+    own: usize,
+    block: &mut [u8],
+) -> bool {
     let mut other = [0; MAX_VALUE];
+    let mut met = 0;
     for j in 1..=p.n {
         let target = if j == own { &mut *block } else { &mut other[..] };
         block_of(p, value, j, target);
-        if digest(&target[..p.block()]) != digests[(j - 1) * DIGEST..j * DIGEST] {
+        let fresh = &target[..p.block()];
+        if met < given.count && given.numbers[met] as usize == j {
+            if given.blocks[met] != fresh {
+                return false;
+            }
+            met += 1;
+        }
+        if digest(fresh) != digests[(j - 1) * DIGEST..j * DIGEST] {
             return false;
         }
     }
@@ -302,25 +324,23 @@ impl Server {
         if slot.ready && !completes {
             return;
         }
-        let mut numbers = [0; MAX_K];
-        let mut blocks: [&[u8]; MAX_K] = [&[]; MAX_K];
-        let mut found = 0;
+        let mut given = Given { numbers: [0; MAX_SERVERS], blocks: [&[]; MAX_SERVERS], count: 0 };
         for j in 1..=p.n {
             let chunk = if readies >= p.q() {
                 slot.ready_of(p, area, c, j, group)
             } else {
                 slot.echo_of(p, area, c, j, group)
             };
-            if let Some(chunk) = chunk.filter(|_| found < p.k) {
-                numbers[found] = j as u8;
-                blocks[found] = block_in(p, area, chunk);
-                found += 1;
+            if let Some(chunk) = chunk {
+                given.numbers[given.count] = j as u8;
+                given.blocks[given.count] = block_in(p, area, chunk);
+                given.count += 1;
             }
         }
         let mut value = [0; MAX_VALUE];
-        decode_into(p, &numbers[..p.k], &blocks[..p.k], &mut value);
+        decode_into(p, &given.numbers, &given.blocks, &mut value);
         let mut own_block = [0; MAX_VALUE];
-        if !same_digests(p, &value, digests, own, &mut own_block) {
+        if !same_encoding(p, &value, &given, digests, own, &mut own_block) {
             return;
         }
         let block = &own_block[..p.block()];

@@ -61,7 +61,7 @@ returns c =
     let a = c .before .before .before .before .before .before .before .before .before .before .before .before .before .before .before .before .before .before .before .before .before .before .before .args in
     let G = regaining _ _ (a .list .now) (a .time) _ (a .x .blocks) _ (stored _ _ _ _ _ _ _ (P .0)) (P .3) _ _ (P .4) in record {
       leaves = λ b.
-          compared digestOf (a .k) (P .0 .bounded) (a .area .now) (a .list .now) b (a .time) (a .x) (P .1) _ (a .v) (c .before .before .before .before .before .before .before .before .before .before .before .before .before .own-block .result) (c .before .before .before .before .before .before .before .before .before .before .before .due-for .result) _ _ (P .3)
+          compared digestOf (a .k) (a .area .now) (a .list .now) b (stored _ _ _ _ _ _ _ (P .0)) (a .time) (a .x) (P .1) _ (a .v) (c .before .before .before .before .before .before .before .before .before .before .before .before .before .own-block .result) (c .before .before .before .before .before .before .before .before .before .before .before .due-for .result) _ _ (P .3)
           (block-front _ _ _ _ G _ _ _ _ (c .before .before .before .before .before .before .before .before .before .before .before .before .before .before .before .before .width .ensures .0) (c .before .before .before .before .before .before .before .before .before .before .before .before .before .before .before .before .width .ensures .2) refl (c .before .before .before .before .before .before .before .before .before .before .before .before .before .own-block .ensures .1)) (c .before .before .before .before .before .before .before .before .before .before .before .before .before .own-block .ensures .0) (c .before .before .before .before .before .before .before .before .before .before .before .due-for .ensures) (c .before .before .before .before .before .before .answer .ensures .leaves);
       room = c .before .before .before .before .before .before .answer .ensures .room;
     }

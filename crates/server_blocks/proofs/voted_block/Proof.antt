@@ -1,4 +1,5 @@
 -- No list is compared where nothing hangs on the counted echoes and readies. Assumes nothing.
+use Rattle.server_blocks.proofs.Counts.{stored}
 use Rattle.server_blocks.proofs.Fewer.{unlisted}
 use Rattle.server_blocks.proofs.Rooms.{room-before}
 use Rattle.sha256.specs.Hash.{digestOf}
@@ -37,7 +38,7 @@ returns-2 c =
     let P = c .before .before .before .before .before .before .before .before .before .before .before .before .pre in
     let a = c .before .before .before .before .before .before .before .before .before .before .before .before .args in record {
       leaves = λ b.
-          unlisted digestOf (a .k) (P .0 .bounded) (a .area .now) (a .list .now) b (a .time) (a .x) (P .1) _ _ _ (c .before .before .before .tally .ensures .0) (c .before .before .tally2 .ensures .0) (sym (c .before .matters .ensures) ∙ c .if1 .left);
+          unlisted digestOf (a .k) (a .area .now) (a .list .now) b (stored _ _ _ _ _ _ _ (P .0)) (a .time) (a .x) (P .1) _ _ _ (c .before .before .before .tally .ensures .0) (c .before .before .tally2 .ensures .0) (sym (c .before .matters .ensures) ∙ c .if1 .left);
       room = room-before _ _ _ (P .0 .room);
     }
 

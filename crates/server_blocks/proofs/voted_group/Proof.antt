@@ -37,7 +37,7 @@ returns-2 c =
     let P = c .before .before .before .before .before .before .before .before .before .before .pre in
     let a = c .before .before .before .before .before .before .before .before .before .before .args in record {
       leaves = λ b.
-          skipped digestOf (a .k) (P .0 .bounded) (a .area .now) (a .list .now) b (a .time) (a .x) (P .1) _ (c .before .before .voters-of .result) (c .before .before .voters-of .ensures) (sym (c .before .matters .ensures) ∙ c .if1 .left);
+          skipped digestOf (a .k) (a .area .now) (a .list .now) b (stored _ _ _ _ _ _ _ (P .0)) (a .time) (a .x) (P .1) _ (c .before .before .voters-of .result) (c .before .before .voters-of .ensures) (sym (c .before .matters .ensures) ∙ c .if1 .left);
       room = room-before _ _ _ (P .0 .room);
     }
 

@@ -26,6 +26,15 @@ mul-result-2 c = search needs
 add-result : tie.Need-add-result
 add-result c = search needs
 
+enum-told-3 : tie.Need-enum-told-3
+enum-told-3 c = search needs
+
+mul-result-3 : tie.Need-mul-result-3
+mul-result-3 c = search needs
+
+add-result-2 : tie.Need-add-result-2
+add-result-2 c = search needs
+
 enum-known-a-3 : tie.Need-enum-known-a-3
 enum-known-a-3 c = search needs
 
@@ -53,7 +62,11 @@ returns-4 c = sym (ap (clientAnswer _) (c .before .a2 .given .1))
 
 returns-5 : tie.Need-returns-5
 unfolding clientAnswer
-returns-5 c = c .number-of .ensures ∙ sym (ap (clientAnswer _) (c .before .before .a3 .given .1))
+returns-5 c = sym (ap (clientAnswer _) (c .enum-told3 .given .1))
+
+returns-6 : tie.Need-returns-6
+unfolding clientAnswer
+returns-6 c = c .number-of .ensures ∙ sym (ap (clientAnswer _) (c .before .before .a3 .given .1))
 
 pub client-answer-spec : {M : Type 1} → statement M
 client-answer-spec =
@@ -66,6 +79,9 @@ client-answer-spec =
     enum-known-a-2
     mul-result-2
     add-result
+    enum-told-3
+    mul-result-3
+    add-result-2
     enum-known-a-3
     number-of-requires
     cast-result
@@ -73,4 +89,5 @@ client-answer-spec =
     returns-2
     returns-3
     returns-4
-    returns-5)
+    returns-5
+    returns-6)

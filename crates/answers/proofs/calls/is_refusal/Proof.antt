@@ -17,6 +17,9 @@ enum-told-2 c = search needs
 enum-known-a-2 : tie.Need-enum-known-a-2
 enum-known-a-2 c = search needs
 
+enum-told-3 : tie.Need-enum-told-3
+enum-told-3 c = search needs
+
 enum-known-a-3 : tie.Need-enum-known-a-3
 enum-known-a-3 c = search needs
 
@@ -38,7 +41,11 @@ returns-4 c = sym (ap isRefusal (c .before .a2 .given .1))
 
 returns-5 : tie.Need-returns-5
 unfolding isRefusal
-returns-5 c = sym (ap isRefusal (c .before .a3 .given .1))
+returns-5 c = sym (ap isRefusal (c .enum-told3 .given .1))
+
+returns-6 : tie.Need-returns-6
+unfolding isRefusal
+returns-6 c = sym (ap isRefusal (c .before .a3 .given .1))
 
 pub is-refusal-spec : {M : Type 1} → statement M
 is-refusal-spec =
@@ -48,9 +55,11 @@ is-refusal-spec =
     enum-told
     enum-told-2
     enum-known-a-2
+    enum-told-3
     enum-known-a-3
     returns
     returns-2
     returns-3
     returns-4
-    returns-5)
+    returns-5
+    returns-6)

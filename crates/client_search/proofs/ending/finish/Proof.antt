@@ -1,5 +1,6 @@
 -- The value, the frames and the client, one by one. Assumes nothing.
 use Rattle.client_search.proofs.Endings.{finish-law}
+use native.Mathlib.Omega.{arith}
 use borrow.Author.Needs.{needs}
 use Rattle.client_search.proofs.ending.finish.Statement.{statement}
 use Rattle.client_search.proofs.ending.finish.Tie as tie
@@ -31,6 +32,9 @@ regain-value-requires c κs = search needs
 ask-all-requires : tie.Need-ask-all-requires
 ask-all-requires c κs = search needs
 
+read-answer-requires : tie.Need-read-answer-requires
+read-answer-requires c κs = search needs
+
 same-length : tie.Need-same-length
 same-length c = search needs
 
@@ -42,8 +46,8 @@ same-length-3 c = search needs
 
 returns : tie.Need-returns
 returns c =
-    let q = c .before .before .before .before in
-    finish-law _ _ _ _ _ _ _ _ _ _ _ _ _ (q .before .before .before .before .before .regain-value .ensures) (q .ask-all .ensures)
+    let v = c .before .before .before .before .before .before .before .before .before .before .regain-value .ensures in
+    finish-law _ _ _ _ _ _ _ _ _ _ _ _ _ _ _ (v .0) (v .1) (c .read-answer .ensures) (c .before .before .before .before .before .ask-all .ensures)
 
 pub finish-spec : {M : Type 1} → statement M
 finish-spec =
@@ -58,6 +62,7 @@ finish-spec =
     add-regain-value
     regain-value-requires
     ask-all-requires
+    read-answer-requires
     same-length
     same-length-2
     same-length-3

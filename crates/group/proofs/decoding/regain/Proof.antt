@@ -47,13 +47,13 @@ decode-into-requires c κs =
     let e = front-length _ _ _ _ _ _ _ (c .before .before .before .before .before .before .before .before .before .before .before .before .pre) _ _ (c .before .before .before .before .before .before .before .choose .ensures) refl in
     let f = few _ _ _ _ _ _ _ (a .pre) in
     let k = a .pre .bounded .blocks-low in
-    (omega (arith, e, k), omega (arith, e, f), a .pre .bounded .size-high, back-is _ _ _ _ _ _ _ (c .before .before .before .before .before .before .before .before .before .before .before .before .pre) _ _ (c .before .before .before .before .before .before .before .choose .ensures) refl _ _ _ (c .before .before .before .before .before .before .before .before .before .block-length .ensures) (c .before .before .before .before .collect .ensures) refl, omega (arith, a .pre .room), a .pre .tables)
+    (omega (arith, e, k), omega (arith, e, f), omega (arith, a .pre .whole, a .pre .bounded .size-high), back-is _ _ _ _ _ _ _ (c .before .before .before .before .before .before .before .before .before .before .before .before .pre) _ _ (c .before .before .before .before .before .before .before .choose .ensures) refl _ _ _ (c .before .before .before .before .before .before .before .before .before .block-length .ensures) (c .before .before .before .before .collect .ensures) refl, a .pre .tables)
 
 same-length : tie.Need-same-length
 same-length c = search needs
 
 returns : tie.Need-returns
-returns c = regained _ _ _ _ _ _ _ (c .before .before .before .before .before .before .before .before .before .before .before .before .before .before .before .pre) _ _ (c .before .before .before .before .before .before .before .before .before .before .choose .ensures) refl _ _ _ (c .before .before .before .before .before .before .before .before .before .before .before .before .block-length .ensures) (c .before .before .before .before .before .before .before .collect .ensures) refl _ _ (c .before .before .decode-into .ensures)
+returns c = regained _ _ _ _ _ _ _ (c .before .before .before .before .before .before .before .before .before .before .before .before .before .before .before .pre) _ _ (c .before .before .before .before .before .before .before .before .before .before .choose .ensures) refl _ _ _ (c .before .before .before .before .before .before .before .before .before .before .before .before .block-length .ensures) (c .before .before .before .before .before .before .before .collect .ensures) refl _ (c .before .before .decode-into .ensures)
 
 pub regain-spec : {M : Type 1} → statement M
 regain-spec =

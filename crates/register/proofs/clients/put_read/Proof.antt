@@ -21,6 +21,9 @@ enum-known-a-2 c = search needs
 put-stamp-requires : tie.Need-put-stamp-requires
 put-stamp-requires c κs = search needs
 
+enum-told-3 : tie.Need-enum-told-3
+enum-told-3 c = search needs
+
 enum-known-a-3 : tie.Need-enum-known-a-3
 enum-known-a-3 c = search needs
 
@@ -45,7 +48,11 @@ returns-4 c = stamp-case _ _ _ _ (c .before .before .before .before .before .a2 
 
 returns-5 : tie.Need-returns-5
 unfolding stampAfter
-returns-5 c = stamp-case _ _ _ _ (c .before .a3 .given .1) refl
+returns-5 c = stamp-case _ _ _ _ (c .enum-told3 .given .1) refl
+
+returns-6 : tie.Need-returns-6
+unfolding stampAfter
+returns-6 c = stamp-case _ _ _ _ (c .before .a3 .given .1) refl
 
 pub put-read-spec : {M : Type 1} → statement M
 put-read-spec =
@@ -56,10 +63,12 @@ put-read-spec =
     enum-told-2
     enum-known-a-2
     put-stamp-requires
+    enum-told-3
     enum-known-a-3
     returns
     returns-2
     returns-3
     same-length
     returns-4
-    returns-5)
+    returns-5
+    returns-6)

@@ -1,0 +1,122 @@
+-- Decoding any number of blocks gives the value exactly if they are its blocks. Assumes nothing.
+use Prim.Native.Nat.{ℕ, zero, suc, _+_, _-_, _*_, _<_, _≤_}
+use mathlib.Core.Path.{_≡_, refl, sym, ap, ap₂, _∙_, subst}
+use mathlib.Core.Bool.{Bool, true, false}
+use mathlib.Core.Option.{Option, none, some}
+use mathlib.Core.List.{List, [], _∷_, _++_}
+use native.Mathlib.Nat.{suc-mul, zero-mul}
+use native.Mathlib.Omega.{arith}
+use lib.ListN.{length, take, length-append}
+use lib.Seq.{take-nil, take-append-add, length-take-le}
+use Rattle.area.specs.Area.{Bytes, pick, same}
+use Rattle.area.proofs.Same.{same-true, same-refl}
+use Rattle.blocks.specs.Poly.{All, Distinct}
+use Rattle.blocks.specs.Code.{blockLength, blockOf, valueOf, blocksOf, candidate, agree, decodedAll}
+use Rattle.blocks.specs.Exact.{BlocksOf, Given, Exact}
+use Rattle.blocks.proofs.ByteLists.{Bytes-take}
+use Rattle.blocks.proofs.Stripes.{length-blockOf}
+use Rattle.blocks.proofs.Values.{length-valueOf}
+use Rattle.blocks.proofs.RoundTrip.{decoded, Bytes-valueOf}
+
+-- ---- the first m numbers
+
+all-take : (P : ℕ → Type 0) (m : ℕ) (js : List ℕ) → All P js → All P (take m js)
+all-take P zero js h = tt
+all-take P (suc m) [] h = tt
+all-take P (suc m) (j ∷ js) h = (h .0, all-take P m js (h .1))
+
+pub distinct-take : (m : ℕ) (js : List ℕ) → Distinct js → Distinct (take m js)
+distinct-take zero js h = tt
+distinct-take (suc m) [] h = tt
+distinct-take (suc m) (j ∷ js) h = (all-take _ m js (h .0), distinct-take m js (h .1))
+
+-- their blocks stand in front
+pub blocks-take : (k : ℕ) (v : List ℕ) (m : ℕ) (js : List ℕ) → m ≤ length js
+    → take (m * blockLength (length v) k) (blocksOf k v js) ≡ blocksOf k v (take m js)
+unfolding blocksOf
+blocks-take k v zero js h = ap (λ (n : ℕ). take n (blocksOf k v js)) (zero-mul (blockLength (length v) k))
+blocks-take k v (suc m) [] h = absurd (omega arith)
+blocks-take k v (suc m) (j ∷ js) h =
+    let b : ℕ = blockLength (length v) k in
+    let e : suc m * b ≡ length (blockOf k v j) + m * b = omega (arith, suc-mul m b, length-blockOf k v j) in
+    ap (λ (n : ℕ). take n (blockOf k v j ++ blocksOf k v js)) e
+    ∙ take-append-add (blockOf k v j) (blocksOf k v js) (m * b)
+    ∙ ap (λ (l : List ℕ). blockOf k v j ++ l) (blocks-take k v m js (omega arith))
+
+pub length-blocksOf : (k : ℕ) (v js : List ℕ) → length (blocksOf k v js) ≡ length js * blockLength (length v) k
+unfolding blocksOf
+length-blocksOf k v [] = sym (zero-mul (blockLength (length v) k))
+length-blocksOf k v (j ∷ js) =
+    length-append (blockOf k v j) (blocksOf k v js)
+    ∙ omega (arith, length-blockOf k v j, length-blocksOf k v js, suc-mul (length js) (blockLength (length v) k))
+
+-- ---- the candidate
+
+taken : (k L : ℕ) (js w : List ℕ) → Given k L js w → length (take k js) ≡ k
+taken k L js w h = length-take-le k js (h .enough)
+
+pub candidate-length : (k L : ℕ) (js w : List ℕ) → Given k L js w → length (candidate k L js w) ≡ L
+unfolding candidate
+candidate-length k L js w h = length-valueOf (take k js) (take (k * blockLength L k) w) L (omega (arith, taken k L js w h, h .one))
+
+pub candidate-bytes : (k L : ℕ) (js w : List ℕ) → Bytes (candidate k L js w)
+unfolding candidate
+candidate-bytes k L js w = Bytes-valueOf (take k js) L (take (k * blockLength L k) w)
+
+-- a value whose blocks they are is the candidate
+pub candidate-is : (k L : ℕ) (js w v : List ℕ) → Given k L js w → BlocksOf k L js w v → candidate k L js w ≡ v
+unfolding candidate
+candidate-is k L js w v h x =
+    ap (λ (l : List ℕ). valueOf (take k js) L (take (k * blockLength L k) l)) (sym (x .blocks))
+    ∙ ap (λ (n : ℕ). valueOf (take k js) L (take (k * blockLength n k) (blocksOf k v js))) (sym (x .long))
+    ∙ ap (valueOf (take k js) L) (blocks-take k v k js (h .enough))
+    ∙ decoded (take k js) v k L (taken k L js w h) (x .long) (h .one) (Bytes-take k js (h .numbers)) (distinct-take k js (h .different)) (x .bytes)
+
+-- ---- decoding
+
+picked : (b : Bool) (c v : List ℕ) → pick b (some c) none ≡ some v → (b ≡ true) × (c ≡ v)
+unfolding pick
+picked true c v e = (refl, cc)
+picked false c v e = absurd (let z : _≡_ {A = ℕ} 0 1 = cc in omega arith)
+
+picked-none : (b : Bool) (c : List ℕ) → pick b (some c) none ≡ none → b ≡ false
+unfolding pick
+picked-none true c e = absurd (let z : _≡_ {A = ℕ} 0 1 = cc in omega arith)
+picked-none false c e = refl
+
+pub given-is : (k L : ℕ) (js w v : List ℕ) → Given k L js w → decodedAll k L js w ≡ some v → BlocksOf k L js w v
+unfolding decodedAll agree
+given-is k L js w v h e =
+    let p = picked (agree k L js w) (candidate k L js w) v e in
+    record {
+      long = subst (λ (l : List ℕ). length l ≡ L) (p .1) (candidate-length k L js w h);
+      bytes = subst Bytes (p .1) (candidate-bytes k L js w);
+      blocks = subst (λ (l : List ℕ). blocksOf k l js ≡ w) (p .1) (same-true _ _ (p .0));
+    }
+
+pub is-given : (k L : ℕ) (js w v : List ℕ) → Given k L js w → BlocksOf k L js w v → decodedAll k L js w ≡ some v
+unfolding decodedAll agree pick
+is-given k L js w v h x =
+    let c : candidate k L js w ≡ v = candidate-is k L js w v h x in
+    let a : agree k L js w ≡ true = ap₂ same (ap (λ (l : List ℕ). blocksOf k l js) c ∙ x .blocks) refl ∙ same-refl w in
+    ap₂ (λ (b : Bool) (l : List ℕ). pick b (some l) none) a c
+
+pub none-has : (k L : ℕ) (js w : List ℕ) → Given k L js w → decodedAll k L js w ≡ none → (v : List ℕ) → BlocksOf k L js w v → ⊥
+none-has k L js w h e v x = let e′ = sym e ∙ is-given k L js w v h x in let z : _≡_ {A = ℕ} 0 1 = cc in omega arith
+
+by-agree : (k L : ℕ) (js w : List ℕ) → Given k L js w → (b : Bool) → agree k L js w ≡ b
+    → ((v : List ℕ) → BlocksOf k L js w v → ⊥) → decodedAll k L js w ≡ none
+unfolding decodedAll agree pick
+by-agree k L js w h true a f =
+    absurd (f (candidate k L js w) (record {
+      long = candidate-length k L js w h;
+      bytes = candidate-bytes k L js w;
+      blocks = same-true _ _ a;
+    }))
+by-agree k L js w h false a f = ap (λ (b : Bool). pick b (some (candidate k L js w)) none) a
+
+pub has-none : (k L : ℕ) (js w : List ℕ) → Given k L js w → ((v : List ℕ) → BlocksOf k L js w v → ⊥) → decodedAll k L js w ≡ none
+has-none k L js w h f = by-agree k L js w h (agree k L js w) refl f
+
+pub exact : Exact
+exact = record { given-is = given-is; is-given = is-given; none-has = none-has; has-none = has-none }

@@ -3,7 +3,7 @@ use std::collections::VecDeque;
 
 mod semduoli {
     mod raw {
-        #[link(name = "register", kind = "static")]
+        #[link(name = "semduoli", kind = "static")]
         extern "C" {
             pub fn semduoli_digest(m: *const u8, m_len: usize, out: *mut u8, out_len: usize) -> u64;
             pub fn semduoli_encode(n: usize, t: usize, k: usize, size: usize, v: *const u8, v_len: usize, out: *mut u8, out_len: usize) -> u64;

@@ -147,7 +147,7 @@ fn word_with(line: Line, b: u8) -> Line {
 // The line with one byte more, which is no newline.
 pub fn add_byte(line: Line, b: u8) -> Line {
     let argument = line.argument;
-    if b == 32 {
+    if b == b' ' {
         return Line {
             begun: true,
             length: line.length,
@@ -192,7 +192,7 @@ pub fn is_bytes(a: Argument) -> bool {
         return false;
     }
     if a.length == 1 {
-        return a.first == 45;
+        return a.first == b'-';
     }
     if a.odd {
         return false;

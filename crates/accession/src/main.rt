@@ -46,7 +46,7 @@ fn end_line(r: Run, text: &mut [u8]) -> Run {
 
 // The next byte of the input.
 fn take(r: Run, b: u8, text: &mut [u8]) -> Run {
-    if b == 10 {
+    if b == b'\n' {
         return end_line(r, text);
     }
     let index = r.index;

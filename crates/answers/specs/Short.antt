@@ -6,9 +6,8 @@ use Rattle.blocks.specs.declared.Params.{Params}
 use Rattle.frame.specs.declared.Opened.{Opened}
 use Rattle.frame.specs.declared.Opened.the-variants as O
 use Rattle.frame.specs.declared.Verdict.{Verdict}
-use Rattle.frame.specs.declared.Refusal.the-variants as R
 use Rattle.frame.specs.declared.Verdict.the-variants as J
-use Rattle.frame.specs.Refusals.{andThen}
+use Rattle.frame.specs.Refusals.{andThen, refused}
 use Rattle.frame.specs.Params.{paramsTest}
 use Rattle.frame.specs.Stamps.{lastClient}
 use Rattle.frame.specs.Frames.{opened}
@@ -18,15 +17,15 @@ use Rattle.client_rules.specs.Beginning.{lengthTest}
 
 -- a client begins a read
 unfoldable pub readShort : Params → ℕ → Verdict
-readShort g me = andThen (paramsTest g me lastClient) (J.Bad R.Room)
+readShort g me = andThen (paramsTest g me lastClient) (refused 10)
 
 -- a value of length v is lent: to be written, or the initial one
 unfoldable pub valueShort : Params → ℕ → ℕ → ℕ → Verdict
-valueShort g me most v = andThen (paramsTest g me most) (andThen (lengthTest g v) (J.Bad R.Room))
+valueShort g me most v = andThen (paramsTest g me most) (andThen (lengthTest g v) (refused 10))
 
 -- a frame f is handed in; there is no record that says whether a write is open, so a lent value is not looked at
 unfoldable pub openedShort : Opened → Verdict
-openedShort (O.Frame h) = J.Bad R.Room
+openedShort (O.Frame h) = refused 10
 openedShort (O.Refused r) = J.Bad r
 
 unfoldable pub frameShort : Params → ℕ → ℕ → List ℕ → Verdict

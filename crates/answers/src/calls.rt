@@ -1,27 +1,13 @@
 // The calls of a client, of a server and of the block code.
 use blocks::Coded;
-use blocks::Fault;
+use blocks::faults::fault_number;
 use client_rules::Answer;
 use client_rules::Phase;
 use frame::Verdict;
 use frame::refusals::number_of;
 use server_rules::Reply;
 ghost use mathlib.Core.Path.{_≡_};
-ghost use Rattle.blocks.specs.Params.{numberOf as faultNumber};
 ghost use Rattle.answers.specs.Answers.{codeAnswer, testAnswer, isRefusal, clientAnswer, openAnswer, isTurnedDown, serverAnswer};
-
-fn fault_number(f: Fault) -> u64
-    ensures { λ r. ⌜ r ≡ faultNumber f ⌝ }
-{
-    match f {
-        Fault::Parties => 1,
-        Fault::Threshold => 2,
-        Fault::Length => 3,
-        Fault::Blocks => 9,
-        Fault::Room => 10,
-        Fault::Disagreement => 21,
-    }
-}
 
 pub fn code_answer(c: Coded) -> u64
     ensures { λ r. ⌜ r ≡ codeAnswer c ⌝ }

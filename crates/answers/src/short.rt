@@ -7,6 +7,7 @@ use frame::Opened;
 use frame::Refusal;
 use frame::Verdict;
 use frame::bounds::params_test;
+use frame::layout::CLIENTS;
 use frame::opener::open_frame;
 use frame::refusals::and_then;
 ghost use mathlib.Core.Path.{_≡_};
@@ -16,7 +17,7 @@ ghost use Rattle.answers.specs.Short.{readShort, valueShort, openedShort
 pub fn read_short(g: Params, me: u8) -> Verdict
     ensures { λ r. ⌜ r ≡ readShort g me ⌝ }
 {
-    let params = params_test(g, me as usize, 8);
+    let params = params_test(g, me as usize, CLIENTS);
     and_then(params, Verdict::Bad(Refusal::Room))
 }
 
@@ -56,7 +57,7 @@ pub fn stamp_short(g: Params, me: u8, s: Client, length: usize, f: &[u8]) -> Ver
     ensures { λ r. ⌜ r ≡ stampShort g me s length (now (f .entry)) ⌝ }
 {
     let p = s.phase;
-    let params = params_test(g, me as usize, 8);
+    let params = params_test(g, me as usize, CLIENTS);
     if let Verdict::Bad(r) = params {
         return Verdict::Bad(r);
     }

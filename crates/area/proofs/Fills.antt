@@ -1,5 +1,6 @@
 -- Lists made by a rule, and the loops that store them. A loop that stores f 0, f 1, .. one a turn has, after j turns, `sets d i (table j f)`; one that
--- stores the lists f i, f (i + 1), .. end to end has `sets d 0 (joined f i j)`. A loop that replaces every entry of a list in place goes by `mixed`. Assumes nothing.
+-- stores the lists f i, f (i + 1), .. end to end has `sets d 0 (joined f i j)`.
+-- A loop that replaces every entry of a list in place goes by `mixed`. Assumes nothing.
 use mathlib.Core.Path.{_≡_, refl, sym, ap, ap₂, _∙_}
 use mathlib.Core.List.{List, [], _∷_, _++_, append-assoc, append-nil}
 use Prim.Native.Nat.{ℕ, zero, suc, _+_, _-_, _*_, _<_, _≤_}

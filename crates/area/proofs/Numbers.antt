@@ -6,7 +6,7 @@ use native.Mathlib.Nat.{div-add-mod'}
 use native.Mathlib.Numerals.{add-one}
 use native.Mathlib.Omega.{arith}
 use lib.Arith.{digits-div, digits-mod}
-use lib.ListN.{length, getD, drop}
+use lib.ListN.{length, getD, drop, List·getD-append}
 use lib.Seq.{drop-cons, drop-drop, take-add}
 use Rattle.area.specs.Area.{part, Bytes}
 use Rattle.area.specs.Numbers.{be2, be4, be8, bytes2, bytes4, bytes8}
@@ -61,12 +61,21 @@ be8-bytes8 x l h =
     let b : x % 4294967296 < 4294967296 = omega arith in
     rw (be4-bytes4 (x / 4294967296) [] a, be4-bytes4 (x % 4294967296) [] b) (div-add-mod' x 4294967296)
 
+-- what stands at the front of a list
+pub be2-front : (u w : List ℕ) → 2 ≤ length u → be2 (u ++ w) 0 ≡ be2 u 0
+unfolding be2
+be2-front u w h = omega (arith, List·getD-append u w 0 0 (omega arith), List·getD-append u w 0 1 (omega arith))
+
 -- ---- what is read is written again
 
 pub getD-Bytes : (l : List ℕ) (i : ℕ) → Bytes l → getD l i 0 < 256
 getD-Bytes [] i p = omega arith
 getD-Bytes (x ∷ l) zero p = p .0
 getD-Bytes (x ∷ l) (suc i) p = getD-Bytes l i (p .1)
+
+pub bytes-of : (l : List ℕ) → ((i : ℕ) → getD l i 0 < 256) → Bytes l
+bytes-of [] f = tt
+bytes-of (x ∷ l) f = (f 0, bytes-of l (λ i. f (suc i)))
 
 pub be2-range : (l : List ℕ) (i : ℕ) → Bytes l → be2 l i < 65536
 unfolding be2

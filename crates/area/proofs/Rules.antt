@@ -1,4 +1,5 @@
--- A rule over a whole table: a Boolean test that the checker computes once, at every place and entry, and the law that carries it to one entry. Assumes nothing.
+-- A rule over a whole table: a Boolean test that the checker computes once, at every place and entry,
+-- and the law that carries it to one entry. Assumes nothing.
 use mathlib.Core.Path.{_≡_}
 use mathlib.Core.Bool.{Bool, true, _&&_}
 use mathlib.Core.List.{List, [], _∷_}

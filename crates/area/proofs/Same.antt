@@ -1,4 +1,4 @@
--- Equality and order of lists of bytes, from the front: the turns of the loops that compare, and what `same` says. Assumes nothing.
+-- Equality of lists of bytes, from the front: the turns of the loop that compares, and what `same` says. Assumes nothing.
 use mathlib.Core.Path.{_≡_, refl, sym, ap, ap₂, _∙_}
 use mathlib.Core.Bool.{Bool, true, false, _&&_}
 use mathlib.Core.List.{List, [], _∷_}
@@ -8,9 +8,8 @@ use native.Mathlib.Omega.{arith}
 use lib.ListN.{length, drop, getD, drop-of-length-le}
 use lib.Seq.{drop-cons}
 use lib.Dec.{eqb}
-use borrow.Author.Tests.{eq-eqb, ne-eqb, eqb-true, lt-ltb, le-ltb}
-use Rattle.area.specs.Area.{same, compared, pick}
-use Rattle.area.specs.declared.Order.the-variants.{Less, Equal, Greater}
+use borrow.Author.Tests.{eq-eqb, ne-eqb, eqb-true}
+use Rattle.area.specs.Area.{same}
 use Rattle.area.proofs.Tests.{and-left, and-right}
 
 -- ---- same
@@ -56,32 +55,3 @@ same-refl (x ∷ a) = rw (eq-eqb x x refl) (same-refl a)
 
 pub same-false : (a b : List ℕ) → same a b ≡ false → a ≡ b → ⊥
 same-false a b e p = let z : true ≡ false = sym (same-refl a) ∙ ap (same a) p ∙ e in let w : _≡_ {A = ℕ} 0 1 = cc in omega arith
-
--- ---- compared
-
-pub compared-step : (a b : List ℕ) (i : ℕ) → i < length a → i < length b → getD b i 0 ≤ getD a i 0 → getD a i 0 ≤ getD b i 0
-    → compared (drop i a) (drop i b) ≡ compared (drop (i + 1) a) (drop (i + 1) b)
-unfolding compared pick
-compared-step a b i ha hb e f = rw (add-one, drop-cons a i 0, drop-cons b i 0) (simp (le-ltb _ _ e, le-ltb _ _ f))
-
-pub compared-less : (a b : List ℕ) (i : ℕ) → i < length a → i < length b → getD a i 0 < getD b i 0 → compared (drop i a) (drop i b) ≡ Less
-unfolding compared pick
-compared-less a b i ha hb e = rw (drop-cons a i 0, drop-cons b i 0) (simp (lt-ltb _ _ e))
-
-pub compared-greater : (a b : List ℕ) (i : ℕ) → i < length a → i < length b → getD b i 0 < getD a i 0 → compared (drop i a) (drop i b) ≡ Greater
-unfolding compared pick
-compared-greater a b i ha hb e =
-    let n : getD b i 0 ≤ getD a i 0 = omega arith in
-    rw (drop-cons a i 0, drop-cons b i 0) (simp (le-ltb _ _ n, lt-ltb _ _ e))
-
-pub compared-longer : (a b : List ℕ) (i : ℕ) → i < length a → length b ≤ i → compared (drop i a) (drop i b) ≡ Greater
-unfolding compared
-compared-longer a b i ha hb = rw (drop-cons a i 0, drop-of-length-le b)
-
-pub compared-shorter : (a b : List ℕ) (i : ℕ) → length a ≤ i → i < length b → compared (drop i a) (drop i b) ≡ Less
-unfolding compared
-compared-shorter a b i ha hb = rw (drop-of-length-le a, drop-cons b i 0)
-
-pub compared-end : (a b : List ℕ) (i : ℕ) → length a ≤ i → length b ≤ i → compared (drop i a) (drop i b) ≡ Equal
-unfolding compared
-compared-end a b i ha hb = rw (drop-of-length-le a, drop-of-length-le b)

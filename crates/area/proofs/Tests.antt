@@ -1,6 +1,7 @@
--- Tests and their outcomes: the rules that close the returns of a chain of tests, and what a chain tells where its outcome is known. Assumes nothing.
-use mathlib.Core.Path.{_≡_, refl}
-use mathlib.Core.Bool.{Bool, true, false, _&&_}
+-- Tests and their outcomes: the rules that close the returns of a chain of tests, what a chain tells where its outcome is known, and truth values.
+-- Assumes nothing.
+use mathlib.Core.Path.{_≡_, refl, sym, _∙_}
+use mathlib.Core.Bool.{Bool, true, false, _&&_, _||_}
 use mathlib.Core.Logic.{_⊎_, inl, inr}
 use borrow.Author.Tests.{eq-eqb, ne-eqb, lt-ltb, le-ltb, le-leb, lt-leb}
 use Rattle.area.specs.Area.{pick}
@@ -32,6 +33,31 @@ unfolding pick
 pick-ap f true x y = refl
 pick-ap f false x y = refl
 
+-- a test r, which is b, holds: the value is the first outcome; it fails: the second
+pub pick-yes : {A : Type 0} (b : Bool) (x y : A) {r : Bool} {z : A} → r ≡ b → r ≡ true → z ≡ x → z ≡ pick b x y
+unfolding pick
+pick-yes b x y e t f = let h : b ≡ true = sym e ∙ t in rw h f
+
+pub pick-no : {A : Type 0} (b : Bool) (x y : A) {r : Bool} {z : A} → r ≡ b → r ≡ false → z ≡ y → z ≡ pick b x y
+unfolding pick
+pick-no b x y e t f = let h : b ≡ false = sym e ∙ t in rw h f
+
+-- what holds of both outcomes of a test
+pub by-pick {ℓ} : {A : Type 0} (P : A → Type ℓ) (b : Bool) (x y : A) → (b ≡ true → P x) → (b ≡ false → P y) → P (pick b x y)
+unfolding pick
+by-pick P true x y f g = f refl
+by-pick P false x y f g = g refl
+
+-- ---- truth values
+
+-- the two values of a test
+pub by-test : {X : Type 0} (b : Bool) → (b ≡ true → X) → (b ≡ false → X) → X
+by-test true f g = f refl
+by-test false f g = g refl
+
+pub not-true : (b : Bool) → (b ≡ true → ⊥) → b ≡ false
+not-true b f = by-test b (λ t. absurd (f t)) (λ e. e)
+
 -- both parts of a conjunction that holds
 pub and-left : (a b : Bool) → a && b ≡ true → a ≡ true
 and-left true b e = refl
@@ -41,3 +67,18 @@ pub and-right : (a b : Bool) → a && b ≡ true → b ≡ true
 and-right true b e = e
 and-right false true e = refl
 and-right false false e = e
+
+pub and-true : (a b : Bool) → a ≡ true → b ≡ true → (a && b) ≡ true
+and-true true b e f = f
+and-true false b e f = e
+
+pub or-split : (a b : Bool) → (a || b) ≡ true → (a ≡ true) ⊎ (b ≡ true)
+or-split true b e = inl refl
+or-split false b e = inr e
+
+pub or-left : (a b : Bool) → a ≡ true → (a || b) ≡ true
+or-left a b e = rw e
+
+pub or-right : (a b : Bool) → b ≡ true → (a || b) ≡ true
+or-right true b e = refl
+or-right false b e = e

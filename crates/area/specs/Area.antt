@@ -1,16 +1,20 @@
--- Lists of bytes as lent areas hold them: a part, equality, order, and lists made by a rule. Assumes nothing: these are definitions.
+-- Lists of bytes as lent areas hold them: a part, equality, and lists made by a rule; answers by number. Assumes nothing: these are definitions.
 use Prim.Native.Nat.{ℕ, zero, suc, _<_}
 use mathlib.Core.Bool.{Bool, true, false, _&&_}
+use mathlib.Core.Option.{Option, none, some}
 use mathlib.Core.List.{List, [], _∷_, _++_}
 use lib.ListN.{take, drop}
-use lib.Dec.{eqb, ltb}
-use Rattle.area.specs.declared.Order.{Order}
-use Rattle.area.specs.declared.Order.the-variants.{Less, Equal, Greater}
+use lib.Dec.{eqb}
 
 -- if-then-else
 unfoldable pub pick : {A : Type 0} → Bool → A → A → A
 pick true a b = a
 pick false a b = b
+
+-- a payload beside its flag
+abbrev pub kept : {P : Type 0} → Bool → P → Option P
+kept true p = some p
+kept false p = none
 
 -- the w elements from index i on
 abbrev pub part : List ℕ → ℕ → ℕ → List ℕ
@@ -23,12 +27,11 @@ same [] (y ∷ ys) = false
 same (x ∷ xs) [] = false
 same (x ∷ xs) (y ∷ ys) = eqb x y && same xs ys
 
--- the lexicographic order of two lists: by the first place in which they differ, and the shorter one first
-unfoldable pub compared : List ℕ → List ℕ → Order
-compared [] [] = Equal
-compared [] (y ∷ ys) = Less
-compared (x ∷ xs) [] = Greater
-compared (x ∷ xs) (y ∷ ys) = pick (ltb x y) Less (pick (ltb y x) Greater (compared xs ys))
+-- the first of a list that has the number n, by the numbers that f gives; a where none has it. It computes at numerals, so that a definition can name an
+-- answer by its number in the papers
+abbrev pub numbered : {A : Type 0} → (A → ℕ) → A → List A → ℕ → A
+numbered f a [] n = a
+numbered f a (x ∷ xs) n = elim (eqb (f x) n) [ true ↦ x | false ↦ numbered f a xs n ]
 
 -- every element is a byte
 abbrev pub Bytes : List ℕ → Type 0

@@ -3,15 +3,8 @@ ghost use mathlib.Core.Path.{_≡_};
 ghost use Prim.Native.Nat.{_+_, _≤_, _<_};
 ghost use lib.ListN.{length, replicate, getD};
 ghost use lib.Seq.{sets};
-ghost use Rattle.area.specs.Area.{part, same, compared};
+ghost use Rattle.area.specs.Area.{part, same};
 ghost use Rattle.area.specs.Numbers.{be2, be4, be8, bytes2, bytes4, bytes8};
-
-// How two lists of bytes stand in lexicographic order.
-pub enum Order {
-    Less,
-    Equal,
-    Greater,
-}
 
 // Copies src into area from index at on.
 pub fn put(area: &mut [u8], at: usize, src: &[u8])
@@ -60,29 +53,6 @@ pub fn equal_at(area: &[u8], at: usize, d: &[u8]) -> bool
     ensures { λ r. ⌜ r ≡ same (part (now (area .entry)) at (length (now (d .entry)))) (now (d .entry)) ⌝ }
 {
     equal(&area[at..at + d.len()], d)
-}
-
-// How a and b stand in lexicographic order.
-pub fn compare(a: &[u8], b: &[u8]) -> Order
-    ensures { λ r. ⌜ r ≡ compared (now (a .entry)) (now (b .entry)) ⌝ }
-{
-    let mut i = 0;
-    while i < a.len() {
-        if b.len() <= i {
-            return Order::Greater;
-        }
-        if a[i] < b[i] {
-            return Order::Less;
-        }
-        if b[i] < a[i] {
-            return Order::Greater;
-        }
-        i += 1;
-    }
-    if i < b.len() {
-        return Order::Less;
-    }
-    Order::Equal
 }
 
 // The byte at index i, as a wider number.

@@ -57,7 +57,8 @@ part-joined f w i j zero e h = absurd (not-suc-le-zero h)
 part-joined f w i zero (suc n) e h =
     let z : zero * w ≡ 0 = zero-mul w in
     let l : w ≤ length (f i) = omega (arith, e i) in
-    ap (λ x. part (f i ++ joined f (suc i) n) x w) z ∙ take-append-le w (f i) (joined f (suc i) n) l ∙ take-all w (f i) (omega (arith, e i)) ∙ ap f (sym (add-zero i))
+    ap (λ x. part (f i ++ joined f (suc i) n) x w) z ∙ take-append-le w (f i) (joined f (suc i) n) l ∙ take-all w (f i) (omega (arith, e i))
+    ∙ ap f (sym (add-zero i))
 part-joined f w i (suc j) (suc n) e h =
     let m : suc j * w ≡ length (f i) + j * w = omega (arith, suc-mul j w, e i) in
     ap (λ x. take w (drop x (f i ++ joined f (suc i) n))) m ∙ ap (take w) (drop-append-add (f i) (joined f (suc i) n) (j * w))

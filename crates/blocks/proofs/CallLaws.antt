@@ -12,7 +12,7 @@ use Rattle.blocks.specs.declared.Fault.{Fault}
 use Rattle.blocks.specs.declared.Fault.the-variants.{Disagreement}
 use Rattle.blocks.specs.declared.Coded.{Coded}
 use Rattle.blocks.specs.declared.Coded.the-variants.{Done, Refused}
-use Rattle.blocks.specs.Params.{andThen, demand, Bounds}
+use Rattle.blocks.specs.Params.{andThen, demand, Bounded}
 use Rattle.blocks.specs.Code.{blockLength, candidate, agree}
 use Rattle.blocks.specs.Calls.{outcome, written, encodeTest, decodeTest, agreeTest, decoding, numbersFit}
 use Rattle.blocks.proofs.Parameters.{demand-done, bounds, refuses, passes, then-refused, then-done}
@@ -24,7 +24,7 @@ then-both (Refused f) rest e = absurd (let z : _≡_ {A = ℕ} 0 1 = cc in omega
 
 -- what `encode` has when its tests are passed
 pub record Encodes (g : Params) (len room : ℕ) : Type 0 where
-  pub within : Bounds g
+  pub within : Bounded g
   pub whole : len ≡ g .size
   pub fits : g .n * blockLength len (g .k) ≤ room
 
@@ -40,7 +40,7 @@ encodes g len room e =
 
 -- what `decode` has when its tests are passed
 pub record Decodes (g : Params) (numbers : List ℕ) (len room : ℕ) : Type 0 where
-  pub within : Bounds g
+  pub within : Bounded g
   pub enough : g .k ≤ length numbers
   pub most : length numbers ≤ g .n
   pub whole : len ≡ length numbers * blockLength (g .size) (g .k)

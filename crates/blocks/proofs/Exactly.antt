@@ -7,16 +7,24 @@ use mathlib.Core.List.{List, [], _∷_, _++_}
 use native.Mathlib.Nat.{suc-mul, zero-mul}
 use native.Mathlib.Omega.{arith}
 use lib.ListN.{length, take, length-append}
-use lib.Seq.{take-nil, take-append-add, length-take-le}
+use lib.Seq.{sets, take-nil, take-append-add, length-take-le}
 use Rattle.area.specs.Area.{Bytes, pick, same}
 use Rattle.area.proofs.Same.{same-true, same-refl}
+use Rattle.blocks.specs.declared.Params.{Params}
+use Rattle.blocks.specs.declared.Coded.{Coded}
+use Rattle.blocks.specs.declared.Coded.the-variants.{Done, Refused}
+use Rattle.blocks.specs.Params.{fault, demand, andThen}
 use Rattle.blocks.specs.Poly.{All, Distinct}
 use Rattle.blocks.specs.Code.{blockLength, blockOf, valueOf, blocksOf, candidate, agree, decodedAll}
-use Rattle.blocks.specs.Exact.{BlocksOf, Given, Exact}
+use Rattle.blocks.specs.Calls.{Outcome, outcome, written, decodeTest, agreeTest, decoding}
+use Rattle.blocks.specs.Exact.{BlocksOf, Given, Called, Exact}
+use Rattle.blocks.proofs.Numbers.{numbers-facts}
+use Rattle.blocks.proofs.CallLaws.{Decodes, decodes}
 use Rattle.blocks.proofs.ByteLists.{Bytes-take}
 use Rattle.blocks.proofs.Stripes.{length-blockOf}
 use Rattle.blocks.proofs.Values.{length-valueOf}
 use Rattle.blocks.proofs.RoundTrip.{decoded, Bytes-valueOf}
+pub use Rattle.blocks.proofs.RoundTrip.{length-blocksOf}
 
 -- ---- the first m numbers
 
@@ -42,13 +50,6 @@ blocks-take k v (suc m) (j ∷ js) h =
     ap (λ (n : ℕ). take n (blockOf k v j ++ blocksOf k v js)) e
     ∙ take-append-add (blockOf k v j) (blocksOf k v js) (m * b)
     ∙ ap (λ (l : List ℕ). blockOf k v j ++ l) (blocks-take k v m js (omega arith))
-
-pub length-blocksOf : (k : ℕ) (v js : List ℕ) → length (blocksOf k v js) ≡ length js * blockLength (length v) k
-unfolding blocksOf
-length-blocksOf k v [] = sym (zero-mul (blockLength (length v) k))
-length-blocksOf k v (j ∷ js) =
-    length-append (blockOf k v j) (blocksOf k v js)
-    ∙ omega (arith, length-blockOf k v j, length-blocksOf k v js, suc-mul (length js) (blockLength (length v) k))
 
 -- ---- the candidate
 
@@ -94,29 +95,81 @@ given-is k L js w v h e =
       blocks = subst (λ (l : List ℕ). blocksOf k l js ≡ w) (p .1) (same-true _ _ (p .0));
     }
 
+-- blocks of one value agree
+agrees : (k L : ℕ) (js w v : List ℕ) → Given k L js w → BlocksOf k L js w v → agree k L js w ≡ true
+unfolding agree
+agrees k L js w v h x = ap₂ same (ap (λ (l : List ℕ). blocksOf k l js) (candidate-is k L js w v h x) ∙ x .blocks) refl ∙ same-refl w
+
 pub is-given : (k L : ℕ) (js w v : List ℕ) → Given k L js w → BlocksOf k L js w v → decodedAll k L js w ≡ some v
-unfolding decodedAll agree pick
-is-given k L js w v h x =
-    let c : candidate k L js w ≡ v = candidate-is k L js w v h x in
-    let a : agree k L js w ≡ true = ap₂ same (ap (λ (l : List ℕ). blocksOf k l js) c ∙ x .blocks) refl ∙ same-refl w in
-    ap₂ (λ (b : Bool) (l : List ℕ). pick b (some l) none) a c
+unfolding decodedAll pick
+is-given k L js w v h x = ap₂ (λ (b : Bool) (l : List ℕ). pick b (some l) none) (agrees k L js w v h x) (candidate-is k L js w v h x)
 
 pub none-has : (k L : ℕ) (js w : List ℕ) → Given k L js w → decodedAll k L js w ≡ none → (v : List ℕ) → BlocksOf k L js w v → ⊥
 none-has k L js w h e v x = let e′ = sym e ∙ is-given k L js w v h x in let z : _≡_ {A = ℕ} 0 1 = cc in omega arith
 
+-- blocks that agree are the candidate's
+stand : (k L : ℕ) (js w : List ℕ) → Given k L js w → agree k L js w ≡ true → BlocksOf k L js w (candidate k L js w)
+unfolding agree
+stand k L js w h a = record { long = candidate-length k L js w h; bytes = candidate-bytes k L js w; blocks = same-true _ _ a }
+
 by-agree : (k L : ℕ) (js w : List ℕ) → Given k L js w → (b : Bool) → agree k L js w ≡ b
     → ((v : List ℕ) → BlocksOf k L js w v → ⊥) → decodedAll k L js w ≡ none
-unfolding decodedAll agree pick
-by-agree k L js w h true a f =
-    absurd (f (candidate k L js w) (record {
-      long = candidate-length k L js w h;
-      bytes = candidate-bytes k L js w;
-      blocks = same-true _ _ a;
-    }))
+unfolding decodedAll pick
+by-agree k L js w h true a f = absurd (f (candidate k L js w) (stand k L js w h a))
 by-agree k L js w h false a f = ap (λ (b : Bool). pick b (some (candidate k L js w)) none) a
 
 pub has-none : (k L : ℕ) (js w : List ℕ) → Given k L js w → ((v : List ℕ) → BlocksOf k L js w v → ⊥) → decodedAll k L js w ≡ none
 has-none k L js w h f = by-agree k L js w h (agree k L js w) refl f
 
+-- ---- the call
+
+module _ (g : Params) (js w out : List ℕ) (e : decodeTest g js (length w) (length out) ≡ Done) where
+  value : List ℕ
+  value = candidate (g .k) (g .size) js w
+
+  given : Given (g .k) (g .size) js w
+  given =
+      let d : Decodes g js (length w) (length out) = decodes g js (length w) (length out) e in
+      let n : g .n < 256 = omega (arith, d .within .servers-high) in
+      let f : Bytes js × Distinct js = numbers-facts (g .n) js n (d .numbered) in
+      record { one = d .within .blocks-low; enough = d .enough; numbers = f .0; different = f .1; whole = d .whole }
+
+  outcome-by : Coded → Bool → Outcome
+  outcome-by t b = written (andThen t (demand b (fault 21) Done)) out value
+
+  valued : agree (g .k) (g .size) js w ≡ true → decoding g js w out ≡ outcome Done (sets out 0 value)
+  unfolding decoding agreeTest written andThen demand value outcome-by
+  valued a = ap₂ outcome-by e a
+
+  turned : agree (g .k) (g .size) js w ≡ false → decoding g js w out ≡ outcome (Refused (fault 21)) out
+  unfolding decoding agreeTest written andThen demand value outcome-by
+  turned a = ap₂ outcome-by e a
+
+  answers : (v : List ℕ) → BlocksOf (g .k) (g .size) js w v → decoding g js w out ≡ outcome Done (sets out 0 v)
+  unfolding value
+  answers v x =
+      valued (agrees (g .k) (g .size) js w v given x)
+      ∙ ap (λ (l : List ℕ). outcome Done (sets out 0 l)) (candidate-is (g .k) (g .size) js w v given x)
+
+  answered : (b : Bool) → agree (g .k) (g .size) js w ≡ b → decoding g js w out .answer ≡ Done
+      → (v : List ℕ) × BlocksOf (g .k) (g .size) js w v × (decoding g js w out ≡ outcome Done (sets out 0 v))
+  unfolding value
+  answered true a h = (value, stand (g .k) (g .size) js w given a, valued a)
+  answered false a h = absurd (let q : Refused (fault 21) ≡ Done = sym (ap (λ o. o .answer) (turned a)) ∙ h in let z : _≡_ {A = ℕ} 0 1 = cc in omega arith)
+
+  disagrees : (b : Bool) → agree (g .k) (g .size) js w ≡ b → ((v : List ℕ) → BlocksOf (g .k) (g .size) js w v → ⊥)
+      → decoding g js w out ≡ outcome (Refused (fault 21)) out
+  disagrees true a f = absurd (f (candidate (g .k) (g .size) js w) (stand (g .k) (g .size) js w given a))
+  disagrees false a f = turned a
+
+  disagreed : decoding g js w out .answer ≡ Refused (fault 21) → (v : List ℕ) → BlocksOf (g .k) (g .size) js w v → ⊥
+  disagreed h v x =
+      let q : Refused (fault 21) ≡ Done = sym h ∙ ap (λ o. o .answer) (answers v x) in
+      let z : _≡_ {A = ℕ} 0 1 = cc in
+      omega arith
+
+  called : Called g js w out
+  called = record { answers = answers; answered = answered _ refl; disagrees = disagrees _ refl; disagreed = disagreed }
+
 pub exact : Exact
-exact = record { given-is = given-is; is-given = is-given; none-has = none-has; has-none = has-none }
+exact = record { any = decoded; given-is = given-is; is-given = is-given; none-has = none-has; has-none = has-none; called = called }

@@ -12,7 +12,8 @@ use Rattle.field.proofs.Sum as X
 use Rattle.field.proofs.Ring as R
 use Rattle.field.proofs.Power.{inverse-right}
 use Rattle.blocks.specs.Poly.{eval, plus, scale, vanishing, newtonStep, through, All, Distinct}
-use Rattle.blocks.proofs.Polynomials.{eval-byte, eval-plus, eval-scale, eval-root, plus-bytes, vanishing-bytes, through-bytes, plus-length, through-length}
+use Rattle.blocks.proofs.Polynomials.{eval-byte, eval-plus, eval-scale, eval-root, plus-bytes}
+use Rattle.blocks.proofs.Polynomials.{vanishing-bytes, through-bytes, plus-length, through-length}
 
 all-map : {P Q : ℕ → Type 0} → ((z : ℕ) → P z → Q z) → (xs : List ℕ) → All P xs → All Q xs
 all-map f [] h = tt

@@ -10,7 +10,7 @@ use Rattle.blocks.specs.declared.Params.{Params}
 use Rattle.blocks.specs.declared.Fault.{Fault}
 use Rattle.blocks.specs.declared.Coded.{Coded}
 use Rattle.blocks.specs.declared.Coded.the-variants.{Done, Refused}
-use Rattle.blocks.specs.Params.{partiesFit, thresholdFits, lengthFits, demand, andThen, paramsTest, Bounds}
+use Rattle.blocks.specs.Params.{partiesFit, thresholdFits, lengthFits, demand, andThen, paramsTest, Bounded}
 
 -- a test whose passing is absurd is false
 pub refuted : (b : Bool) → (b ≡ true → ⊥) → false ≡ b
@@ -76,7 +76,7 @@ demand-done true f rest e = (refl, e)
 demand-done false f rest e = absurd (let z : _≡_ {A = ℕ} 0 1 = cc in omega arith)
 
 -- parameters that pass are within the bounds
-pub bounds : (g : Params) → paramsTest g ≡ Done → Bounds g
+pub bounds : (g : Params) → paramsTest g ≡ Done → Bounded g
 unfolding paramsTest
 bounds g e =
     let a = demand-done _ _ _ e in
@@ -86,14 +86,14 @@ bounds g e =
     let q = threshold-facts (g .n) (g .t) (g .k) (b .0) in
     let r = length-facts (g .size) (c .0) in
     record {
-      fewest = p .0;
-      most = p .1;
-      false-one = p .2;
-      third = p .3;
-      block-one = q .0;
-      enough = omega arith;
-      byte-one = r .0;
-      longest = r .1;
+      servers-low = p .0;
+      servers-high = p .1;
+      faults-low = p .2;
+      faults-high = omega (arith, p .3);
+      blocks-low = q .0;
+      blocks-high = omega arith;
+      size-low = r .0;
+      size-high = r .1;
     }
 
 -- ---- chains of tests

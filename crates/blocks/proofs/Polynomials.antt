@@ -101,7 +101,12 @@ through-length [] ys e = refl
 through-length (x ∷ xs) [] e = sym e
 through-length (x ∷ xs) (y ∷ ys) e =
     plus-length (through xs ys) (scale ((y ⊕ eval (through xs ys) x) ⊗ powerOf (eval (vanishing xs) x) 254) (vanishing xs))
-    ∙ omega (arith, through-length xs ys (omega arith), scale-length ((y ⊕ eval (through xs ys) x) ⊗ powerOf (eval (vanishing xs) x) 254) (vanishing xs), vanishing-length xs)
+    ∙ omega (
+      arith,
+      through-length xs ys (omega arith),
+      scale-length ((y ⊕ eval (through xs ys) x) ⊗ powerOf (eval (vanishing xs) x) 254) (vanishing xs),
+      vanishing-length xs,
+    )
 
 -- ---- entries
 

@@ -127,7 +127,8 @@ decoded js v k L e l h hj d hv =
 pub Bytes-blockOf : (k : ℕ) (v : List ℕ) (j : ℕ) → Bytes v → Bytes (blockOf k v j)
 unfolding blockOf blockByte
 Bytes-blockOf k v j h =
-    Bytes-table (blockLength (length v) k) (blockByte k v j) (λ r. eval-byte (stripe k (padded (k * blockLength (length v) k) v) r) j (stripe-bytes k (k * blockLength (length v) k) r v h))
+    Bytes-table (blockLength (length v) k) (blockByte k v j)
+    (λ r. eval-byte (stripe k (padded (k * blockLength (length v) k) v) r) j (stripe-bytes k (k * blockLength (length v) k) r v h))
 
 pub Bytes-encoded : (n k : ℕ) (v : List ℕ) → Bytes v → Bytes (encoded n k v)
 unfolding encoded

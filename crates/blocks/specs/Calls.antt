@@ -6,10 +6,9 @@ use lib.Dec.{eqb, leb}
 use lib.ListN.{length}
 use lib.Seq.{sets}
 use Rattle.blocks.specs.declared.Params.{Params}
-use Rattle.blocks.specs.declared.Fault.the-variants.{Length, Blocks, Room, Disagreement}
 use Rattle.blocks.specs.declared.Coded.{Coded}
 use Rattle.blocks.specs.declared.Coded.the-variants.{Done, Refused}
-use Rattle.blocks.specs.Params.{paramsTest, demand, andThen}
+use Rattle.blocks.specs.Params.{paramsTest, fault, demand, andThen}
 use Rattle.blocks.specs.Code.{blockLength, encoded, candidate, agree}
 
 -- a call's answer and the lent area after it
@@ -31,8 +30,8 @@ written (Refused f) out bytes = outcome (Refused f) out
 unfoldable pub encodeTest : Params → ℕ → ℕ → Coded
 encodeTest g len room =
     andThen (paramsTest g)
-    (demand (eqb len (g .size)) Length
-    (demand (leb (g .n * blockLength (g .size) (g .k)) room) Room Done))
+    (demand (eqb len (g .size)) (fault 3)
+    (demand (leb (g .n * blockLength (g .size) (g .k)) room) (fault 10) Done))
 
 unfoldable pub encoding : Params → List ℕ → List ℕ → Outcome
 encoding g value out = written (encodeTest g (length value) (length out)) out (encoded (g .n) (g .k) value)
@@ -58,15 +57,15 @@ numbersFit n (j ∷ js) = numberFits n j && absent j js && numbersFit n js
 unfoldable pub decodeTest : Params → List ℕ → ℕ → ℕ → Coded
 decodeTest g numbers len room =
     andThen (paramsTest g)
-    (demand (leb (g .k) (length numbers)) Blocks
-    (demand (leb (length numbers) (g .n)) Blocks
-    (demand (eqb len (length numbers * blockLength (g .size) (g .k))) Blocks
-    (demand (numbersFit (g .n) numbers) Blocks
-    (demand (leb (g .size) room) Room Done)))))
+    (demand (leb (g .k) (length numbers)) (fault 9)
+    (demand (leb (length numbers) (g .n)) (fault 9)
+    (demand (eqb len (length numbers * blockLength (g .size) (g .k))) (fault 9)
+    (demand (numbersFit (g .n) numbers) (fault 9)
+    (demand (leb (g .size) room) (fault 10) Done)))))
 
 -- 21, request F-7: "a direct decode whose blocks disagree"
 unfoldable pub agreeTest : Params → List ℕ → List ℕ → Coded
-agreeTest g numbers blocks = demand (agree (g .k) (g .size) numbers blocks) Disagreement Done
+agreeTest g numbers blocks = demand (agree (g .k) (g .size) numbers blocks) (fault 21) Done
 
 unfoldable pub decoding : Params → List ℕ → List ℕ → List ℕ → Outcome
 decoding g numbers blocks out =

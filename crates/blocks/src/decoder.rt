@@ -89,7 +89,8 @@ fn put_stripe(
         × (r * length (now js) ≤ length (now value)) × (length (now value) ≤ 256) × Basis (now js) (now table) × Tables (now ps) (now ls) ⌝ }
     ensures { λ _. ⌜ now (value .exit)
         ≡ sets (now (value .entry)) (r * length (now (js .entry)))
-        (take (length (now (value .entry)) - r * length (now (js .entry))) (through (now (js .entry)) (row (length (now (js .entry))) b (now (w .entry)) r))) ⌝ }
+        (take (length (now (value .entry)) - r * length (now (js .entry)))
+        (through (now (js .entry)) (row (length (now (js .entry))) b (now (w .entry)) r))) ⌝ }
 {
     let k = js.len();
     let start = r * k;

@@ -80,7 +80,8 @@ pub fn block_stands(
 
 // Whether w holds the blocks of the value v with the numbers js, end to end.
 pub fn blocks_stand(v: &[u8], k: usize, js: &[u8], w: &[u8], ps: &[u8; 255], ls: &[u8; 256]) -> bool
-    requires { ⌜ (0 < k) × (k ≤ 8) × (length (now v) ≤ 256) × (length (now js) ≤ 10) × (length (now w) ≡ length (now js) * blockLength (length (now v)) k) × Tables (now ps) (now ls) ⌝ }
+    requires { ⌜ (0 < k) × (k ≤ 8) × (length (now v) ≤ 256) × (length (now js) ≤ 10) × (length (now w) ≡ length (now js) * blockLength (length (now v)) k)
+        × Tables (now ps) (now ls) ⌝ }
     ensures { λ r. ⌜ r ≡ same (blocksOf k (now (v .entry)) (now (js .entry))) (now (w .entry)) ⌝ }
 {
     let b = block_length(v.len(), k);

@@ -7,6 +7,7 @@ use encoder::encode_blocks;
 pub mod bounds;
 pub mod decoder;
 pub mod encoder;
+pub mod faults;
 pub mod polynomial;
 
 // A register's parameters: n servers, of which at most t are false; a value of size bytes (L in document 01) is decoded from k blocks.

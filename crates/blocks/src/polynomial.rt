@@ -76,7 +76,8 @@ fn with_point(p: &mut [u8], m: &mut [u8], x: u8, y: u8, ps: &[u8; 255], ls: &[u8
 // The polynomial through the points (xs, ys) into p, built from the one through all but the first point, and the product of X - x
 // over xs into m.
 pub fn interpolate(xs: &[u8], ys: &[u8], p: &mut [u8], m: &mut [u8], ps: &[u8; 255], ls: &[u8; 256])
-    requires { ⌜ (length (now ys) ≡ length (now xs)) × (length (now p) ≡ length (now xs)) × (length (now m) ≡ length (now xs) + 1) × Tables (now ps) (now ls) ⌝ }
+    requires { ⌜ (length (now ys) ≡ length (now xs)) × (length (now p) ≡ length (now xs)) × (length (now m) ≡ length (now xs) + 1)
+        × Tables (now ps) (now ls) ⌝ }
     ensures { λ _. ⌜ (now (p .exit) ≡ through (now (xs .entry)) (now (ys .entry))) × (now (m .exit) ≡ vanishing (now (xs .entry))) ⌝ }
 {
     let k = xs.len();

@@ -31,7 +31,8 @@ use Rattle.client_rules.specs.Tests.{sendRoom}
 use Rattle.client_rules.specs.Steps.{Effect, quiet}
 use Rattle.client_rules.specs.Beginning.{Begun, lengthTest, openRead, openWrite, beginBy, beginAnswer, begunOf}
 use Rattle.client.specs.Stages.{closedBy, Opening}
-use Rattle.client.proofs.SendRooms.{room-of-send, room-smaller}
+use Rattle.frame.proofs.Rooms.{room-within}
+use Rattle.client.proofs.SendRooms.{room-of-send}
 
 -- ---- what the tests tell where nothing spoke against it
 
@@ -39,7 +40,7 @@ room-first : (g : Params) (out to : ℕ) → sendRoom g out to ≡ J.Fine → Ro
 unfolding largestFrame
 room-first g out to e =
     let l : 9 ≤ largestFrame g = omega arith in
-    room-smaller firstPlace (g .n) (largestFrame g) 9 out to l (room-of-send g out to e)
+    room-within firstPlace (g .n) (g .n) (largestFrame g) 9 out to (omega arith) l (room-of-send g out to e)
 
 -- 15 and 16, b saying whether an operation is open
 abbrev usable : Bool → ℕ → Verdict
@@ -107,7 +108,15 @@ module _ (g : Params) (me : ℕ) where
         → _≡_ {A = Begun}
         (record {
           answer = Y.Sent (q .count);
-          client = record { writes = s .writes + 1; reads = s .reads; closed = s .closed; phase = F.Asking; heard = replicate 11 false; times = replicate 11 0; rows = s .rows };
+          client = record {
+            writes = s .writes + 1;
+            reads = s .reads;
+            closed = s .closed;
+            phase = F.Asking;
+            heard = replicate 11 false;
+            times = replicate 11 0;
+            rows = s .rows;
+          };
           out = o;
           to = t;
         })

@@ -24,7 +24,8 @@ use Rattle.client.specs.Stages.{spotOf}
 
 -- ---- whether a stamp is there: from the last place down
 
-module _ (l : List Stamp) (x : Stamp) (i k m : ℕ) (b : Bool) (w : i ≡ suc k) (e : b ≡ sameStamp (getD l k noStamp) x) (q : hasStamp l i x ≡ hasStamp l m x) where
+module _ (l : List Stamp) (x : Stamp) (i k m : ℕ) (b : Bool) (w : i ≡ suc k) (e : b ≡ sameStamp (getD l k noStamp) x)
+    (q : hasStamp l i x ≡ hasStamp l m x) where
   pub has-found : b ≡ true → true ≡ hasStamp l m x
   unfolding hasStamp
   has-found t =

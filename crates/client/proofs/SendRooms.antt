@@ -1,12 +1,10 @@
 -- The room for the frames that a client sends. Assumes nothing.
 use Prim.Native.Nat.{ℕ, _*_, _≤_}
 use native.Mathlib.Omega.{arith}
-use native.Mathlib.Nat.{mul-le-mul-left}
 use mathlib.Core.Path.{_≡_}
 use lib.Dec.{ltb}
 use borrow.Author.Tests.{ltb-false}
 use Rattle.blocks.specs.declared.Params.{Params}
-use Rattle.frame.specs.declared.Place.{Place}
 use Rattle.frame.specs.declared.Refusal.the-variants as R
 use Rattle.frame.specs.declared.Verdict.the-variants as J
 use Rattle.frame.specs.Params.{clientFrames, outRoom, toRoom, largestFrame}
@@ -23,9 +21,3 @@ room-of-send g out to e =
     let o : g .n * largestFrame g ≤ out = ltb-false _ _ (a .0) in
     let t : 2 * g .n ≤ to = ltb-false _ _ (b .0) in
     record { out-room = omega arith; to-room = omega arith }
-
--- room for m frames is room for m smaller ones
-pub room-smaller : (p : Place) (m size small out to : ℕ) → small ≤ size → Room p m size out to → Room p m small out to
-room-smaller p m size small out to h R =
-    let x : m * small ≤ m * size = mul-le-mul-left m h in
-    record { out-room = omega (arith, R .out-room); to-room = R .to-room }

@@ -9,8 +9,8 @@ use lib.Dec.{leb}
 use Rattle.area.specs.Area.{pick}
 use Rattle.blocks.specs.declared.Params.{Params}
 use Rattle.frame.specs.declared.Verdict.{Verdict}
-use Rattle.frame.specs.declared.Refusal.the-variants as R
 use Rattle.frame.specs.declared.Verdict.the-variants as J
+use Rattle.frame.specs.Refusals.{refused}
 use Rattle.frame.specs.Params.{Bounded, largestFrame}
 use Rattle.frame.specs.Stamps.{lastSequence}
 use Rattle.frame.specs.Outbox.{frames, receivers, Room, firstPlace}
@@ -31,10 +31,10 @@ spotOf (some i) = At i
 
 -- 15, 16 and 17, of the parts of a client's record
 abbrev pub idleBy : Phase → ℕ → Verdict
-idleBy p last = pick (not (idle p)) (J.Bad R.Busy) (pick (leb lastSequence last) (J.Bad R.Exhausted) J.Fine)
+idleBy p last = pick (not (idle p)) (refused 15) (pick (leb lastSequence last) (refused 16) J.Fine)
 
 abbrev pub closedBy : Bool → Verdict
-closedBy b = pick b (J.Bad R.Closed) J.Fine
+closedBy b = pick b (refused 17) J.Fine
 
 -- an operation can begin: a number is left, and a question to all servers has room
 pub record Opening (g : Params) (last out to : ℕ) : Type 0 where

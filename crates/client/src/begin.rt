@@ -13,6 +13,7 @@ use frame::Ask;
 use frame::Place;
 use frame::Verdict;
 use frame::bounds::params_test;
+use frame::layout::CLIENTS;
 use frame::send::ask_all;
 ghost use mathlib.Core.Path.{_≡_};
 ghost use lib.ListN.{length};
@@ -28,7 +29,7 @@ ghost use Rattle.client.specs.Stages.{idleBy, closedBy, Opening};
 fn read_test(g: Params, me: usize, p: Phase, last: u32, out: usize, to: usize) -> Verdict
     ensures { λ r. ⌜ r ≡ andThen (paramsTest g me lastClient) (andThen (sendRoom g out to) (idleBy p last)) ⌝ }
 {
-    let params = params_test(g, me, 8);
+    let params = params_test(g, me, CLIENTS);
     if let Verdict::Bad(r) = params {
         return Verdict::Bad(r);
     }
@@ -61,9 +62,10 @@ fn write_test(
     out: usize,
     to: usize,
 ) -> Verdict
-    ensures { λ r. ⌜ r ≡ andThen (paramsTest g me lastClient) (andThen (lengthTest g size) (andThen (sendRoom g out to) (andThen (idleBy p last) (closedBy closed)))) ⌝ }
+    ensures { λ r. ⌜ r ≡ andThen (paramsTest g me lastClient)
+        (andThen (lengthTest g size) (andThen (sendRoom g out to) (andThen (idleBy p last) (closedBy closed)))) ⌝ }
 {
-    let params = params_test(g, me, 8);
+    let params = params_test(g, me, CLIENTS);
     if let Verdict::Bad(r) = params {
         return Verdict::Bad(r);
     }

@@ -12,10 +12,10 @@ ghost use mathlib.Core.Path.{_≡_};
 ghost use mathlib.Core.Bool.{not, _&&_};
 ghost use lib.Dec.{eqb, leb};
 ghost use Rattle.area.specs.Area.{pick};
+ghost use Rattle.frame.specs.Refusals.{refused};
 ghost use Rattle.frame.specs.Params.{Bounded};
 ghost use Rattle.frame.specs.Stamps.{lastSequence};
 ghost use Rattle.frame.specs.declared.Verdict.the-variants as J;
-ghost use Rattle.frame.specs.declared.Refusal.the-variants as R;
 ghost use Rattle.client_rules.specs.State.{idle, writing};
 ghost use Rattle.client_rules.specs.Tests.{sendRoom, roomTest, awaited};
 ghost use Rattle.client_rules.specs.Beginning.{lengthTest};
@@ -60,7 +60,7 @@ pub fn length_test(g: Params, length: usize) -> Verdict
 
 // 3: whether the lent value of an open write is.
 pub fn value_test(g: Params, p: Phase, length: usize) -> Verdict
-    ensures { λ r. ⌜ r ≡ pick (writing p && not (eqb length (g .size))) (J.Bad R.Length) J.Fine ⌝ }
+    ensures { λ r. ⌜ r ≡ pick (writing p && not (eqb length (g .size))) (refused 3) J.Fine ⌝ }
 {
     if !is_writing(p) {
         return Verdict::Fine;
@@ -73,7 +73,7 @@ pub fn value_test(g: Params, p: Phase, length: usize) -> Verdict
 
 // 15 and 16, where last is the last number used.
 pub fn idle_test(p: Phase, last: u32) -> Verdict
-    ensures { λ r. ⌜ r ≡ pick (not (idle p)) (J.Bad R.Busy) (pick (leb lastSequence last) (J.Bad R.Exhausted) J.Fine) ⌝ }
+    ensures { λ r. ⌜ r ≡ pick (not (idle p)) (refused 15) (pick (leb lastSequence last) (refused 16) J.Fine) ⌝ }
 {
     if !is_idle(p) {
         return Verdict::Bad(Refusal::Busy);
@@ -86,7 +86,7 @@ pub fn idle_test(p: Phase, last: u32) -> Verdict
 
 // 17: whether an earlier write closed as out of stamps.
 pub fn closed_test(closed: bool) -> Verdict
-    ensures { λ r. ⌜ r ≡ pick closed (J.Bad R.Closed) J.Fine ⌝ }
+    ensures { λ r. ⌜ r ≡ pick closed (refused 17) J.Fine ⌝ }
 {
     if closed {
         return Verdict::Bad(Refusal::Closed);

@@ -38,7 +38,7 @@ use Rattle.client_rules.specs.Steps.{onBody, effect, onStamp, onAck, onValue}
 use Rattle.client_rules.specs.Delivery.{Outcome, outcome, answerOf, resultOf, outcomeOf, effectBy, delivered, delivery}
 use Rattle.client.specs.Stages.{Lent, stepped, answered}
 use Rattle.client.proofs.SendRooms.{room-of-send}
-use Rattle.client_deliver.specs.Needs.{Admitted, reasonIn}
+use Rattle.client_deliver.specs.Needs.{Admitted}
 
 -- ---- what the tests leave
 
@@ -98,24 +98,26 @@ module _ (g : Params) (me : ℕ) (s : Client) (a v : List ℕ) (from : Party) (f
   bad-judged r e = by-judged (bad r) e
 
   module _ (c : Verdict) (call : c ≡ andThen (paramsTest g me lastClient) (valueTest g s (length v))) where
-    pub call-refused : (r : Refusal) → c ≡ J.Bad r → outcome (record { answer = Y.Refused r; client = s }) a l out to ≡ delivery digestOf g me s a v from f l out to
+    pub call-refused : (r : Refusal) → c ≡ J.Bad r
+        → outcome (record { answer = Y.Refused r; client = s }) a l out to ≡ delivery digestOf g me s a v from f l out to
     unfolding judge
     call-refused r e =
-        bad-judged r (ap (λ z. after z (judgeOpened digestOf g me (opened g f) (roomTest g (length a) (length l) (length out) (length to)) s from f)) (sym call ∙ e))
+        bad-judged r
+        (ap (λ z. after z (judgeOpened digestOf g me (opened g f) (roomTest g (length a) (length l) (length out) (length to)) s from f)) (sym call ∙ e))
 
     module _ (fine : c ≡ J.Fine) (o : Opened) (open-is : o ≡ opened g f) where
-      judged-opened : judge digestOf g me s a v from f l out to ≡ judgeOpened digestOf g me o (roomTest g (length a) (length l) (length out) (length to)) s from f
+      judged-opened : judge digestOf g me s a v from f l out to
+          ≡ judgeOpened digestOf g me o (roomTest g (length a) (length l) (length out) (length to)) s from f
       unfolding judge
       judged-opened =
           ap (λ z. after z (judgeOpened digestOf g me (opened g f) (roomTest g (length a) (length l) (length out) (length to)) s from f)) (sym call ∙ fine)
           ∙ ap (λ z. judgeOpened digestOf g me z (roomTest g (length a) (length l) (length out) (length to)) s from f) (sym open-is)
 
-      pub not-opened : (r k : Refusal) → r ≡ reasonIn o → o ≡ O.Refused k
+      pub not-opened : (r : Refusal) → o ≡ O.Refused r
           → outcome (record { answer = Y.Refused r; client = s }) a l out to ≡ delivery digestOf g me s a v from f l out to
       unfolding judgeOpened
-      not-opened r k e q =
-          let d : r ≡ k = e ∙ ap reasonIn q in
-          bad-judged r (judged-opened ∙ ap (λ z. judgeOpened digestOf g me z (roomTest g (length a) (length l) (length out) (length to)) s from f) q ∙ ap bad (sym d))
+      not-opened r q =
+          bad-judged r (judged-opened ∙ ap (λ z. judgeOpened digestOf g me z (roomTest g (length a) (length l) (length out) (length to)) s from f) q)
 
       module _ (h : Header) (frame-is : o ≡ O.Frame h) (w : Verdict) (room : w ≡ roomTest g (length a) (length l) (length out) (length to)) where
         judged-frame : judge digestOf g me s a v from f l out to ≡ judgedBy (andThen w (messageTest digestOf g me s from (messageIn g h f))) (messageIn g h f)
@@ -124,7 +126,8 @@ module _ (g : Params) (me : ℕ) (s : Client) (a v : List ℕ) (from : Party) (f
             judged-opened ∙ ap (λ z. judgeOpened digestOf g me z (roomTest g (length a) (length l) (length out) (length to)) s from f) frame-is
             ∙ ap (λ z. judgedBy (andThen z (messageTest digestOf g me s from (messageIn g h f))) (messageIn g h f)) (sym room)
 
-        pub room-refused : (r : Refusal) → w ≡ J.Bad r → outcome (record { answer = Y.Refused r; client = s }) a l out to ≡ delivery digestOf g me s a v from f l out to
+        pub room-refused : (r : Refusal) → w ≡ J.Bad r
+            → outcome (record { answer = Y.Refused r; client = s }) a l out to ≡ delivery digestOf g me s a v from f l out to
         room-refused r e =
             bad-judged r (judged-frame ∙ ap (λ z. judgedBy (andThen z (messageTest digestOf g me s from (messageIn g h f))) (messageIn g h f)) e)
 
@@ -134,7 +137,8 @@ module _ (g : Params) (me : ℕ) (s : Client) (a v : List ℕ) (from : Party) (f
         frame-answered x e q =
             let m = messageIn g h f in
             q ∙ sym (by-verdict (messageTest digestOf g me s from m) m)
-            ∙ by-judged (judgedBy (messageTest digestOf g me s from m) m) (judged-frame ∙ ap (λ z. judgedBy (andThen z (messageTest digestOf g me s from m)) m) e)
+            ∙ by-judged (judgedBy (messageTest digestOf g me s from m) m)
+            (judged-frame ∙ ap (λ z. judgedBy (andThen z (messageTest digestOf g me s from m)) m) e)
 
 -- ---- the kinds
 
@@ -153,7 +157,8 @@ module _ (g : Params) (me : ℕ) (s : Client) (a v : List ℕ) (from : Party) (f
   told-in b x e q = q ∙ ap told (sym e)
 
   pub of-stamp : (x : Outcome) → h .kind ≡ 2
-      → x ≡ answered (messageTest digestOf g me s from (message (h .client) (h .sequence) (stampIs (be8 f 9)))) s a (onStamp digestOf g me s a v (numberIn from) (be8 f 9)) l out to
+      → x ≡ answered (messageTest digestOf g me s from (message (h .client) (h .sequence) (stampIs (be8 f 9)))) s a
+      (onStamp digestOf g me s a v (numberIn from) (be8 f 9)) l out to
       → x ≡ answered (messageTest digestOf g me s from (messageIn g h f)) s a (effect digestOf g me s a v from (messageIn g h f)) l out to
   unfolding bodyIn onBody pick
   of-stamp x k q = told-in (stampIs (be8 f 9)) x (ap (λ z. bodyIn g z f) k) q
@@ -198,7 +203,8 @@ module _ (g : Params) (me : ℕ) (s : Client) (a v : List ℕ) (from : Party) (f
   of-others i j k =
       let d = and-false (fromServer g from) (answers (bodyIn g (h .kind) f)) (eqb (h .client) me) (not-answers i j k) in
       let o = orderTest digestOf g me s (numberIn from) (h .sequence) (bodyIn g (h .kind) f) in
-      let e : pick (fromServer g from && (answers (bodyIn g (h .kind) f) && eqb (h .client) me)) o (J.Bad R.Sender) ≡ J.Bad R.Sender = pick-no _ o (J.Bad R.Sender) d in
+      let e : pick (fromServer g from && (answers (bodyIn g (h .kind) f) && eqb (h .client) me)) o (J.Bad R.Sender) ≡ J.Bad R.Sender =
+      pick-no _ o (J.Bad R.Sender) d in
       ap (λ (z : Verdict). answered z s a (effect digestOf g me s a v from (messageIn g h f)) l out to) (sym e)
 
 -- ---- how long the frame is

@@ -27,8 +27,8 @@ use Rattle.frame.proofs.RoundTrip.{length-frame}
 use Rattle.frame.proofs.Sizes.{small}
 use Rattle.group.proofs.Digests.{length-digests}
 use Rattle.group.proofs.Lists.{take-front}
-use Rattle.client.proofs.SendRooms.{room-smaller}
-use Rattle.client_deliver.proofs.Rooms.{room-left, each-small}
+use Rattle.frame.proofs.Rooms.{room-within, room-left}
+use Rattle.client_deliver.proofs.Rooms.{each-small}
 
 -- kind 3 to server j
 abbrev pub own : Params → List ℕ → WriteTime → ℕ → Message
@@ -65,7 +65,8 @@ module _ (g : Params) (v : List ℕ) (whole : length v ≡ g .size) where
       → y ≡ sent x (sending (P.Server j) (message (w .client) (w .sequence) (blockIs send (offer (w .time) (entry d b)))) ∷ [])
       → y ≡ sent x (sending (P.Server j) (own g v w j) ∷ [])
   unfolding entryOf
-  own-sent d b w j x y e f s = s ∙ (λ i. sent x (sending (P.Server j) (message (w .client) (w .sequence) (blockIs send (offer (w .time) (entry (e i) (f i))))) ∷ []))
+  own-sent d b w j x y e f s =
+      s ∙ (λ i. sent x (sending (P.Server j) (message (w .client) (w .sequence) (blockIs send (offer (w .time) (entry (e i) (f i))))) ∷ []))
 
 -- ---- one after the other
 
@@ -103,7 +104,7 @@ pub block-room : (g : Params) (p : Place) (out to : ℕ) → Room p (g .n) (larg
 unfolding largestFrame
 block-room g p out to R =
     let l : 17 + entryLength g ≤ largestFrame g = omega arith in
-    room-smaller p (g .n) (largestFrame g) (17 + entryLength g) out to l R
+    room-within p (g .n) (g .n) (largestFrame g) (17 + entryLength g) out to (omega arith) l R
 
 -- ---- all of it
 

@@ -43,7 +43,8 @@ some-of (some k) i e = let q : k ≡ i = cc in ap some q
 pub place-small : (r : Row) (x : Stamp) (p : Spot) (i : ℕ) → p ≡ spotOf (placeFor r x) → p ≡ S.At i → i < 4
 place-small r x p i e q = goes r x i (some-of (placeFor r x) i (sym e ∙ q)) .small
 
-module _ (g : Params) (me : ℕ) (s : Client) (a l out to : List ℕ) (j : ℕ) (x : Stamp) (e : Entry) (p : Spot) (at : p ≡ spotOf (placeFor (rowOf s j) x)) (r : Outcome) where
+module _ (g : Params) (me : ℕ) (s : Client) (a l out to : List ℕ) (j : ℕ) (x : Stamp) (e : Entry) (p : Spot)
+    (at : p ≡ spotOf (placeFor (rowOf s j) x)) (r : Outcome) where
   pub not-kept : p ≡ S.Nowhere → r ≡ stepped (settle digestOf g me s a) l out to → r ≡ stepped (onValue digestOf g me s a j x e) l out to
   unfolding onValue keepBy
   not-kept q f =
@@ -66,8 +67,16 @@ pub kept-from : (g : Params) (me : ℕ) (s : Client) (a l out to : List ℕ) (i 
 kept-from g me s a l out to i j x y e r p q f = f ∙ (λ z. stepped (onValue digestOf g me s a (p z) (q z) e) l out to)
 
 pub value-verdict : (g : Params) (me : ℕ) (s : Client) (from : Party) (h : Header) (e : Entry) (x y : Stamp) (v : Verdict) → x ≡ y
-    → v ≡ pick (fromServer g from && eqb (h .client) me) (andThen (awaited (reading (s .phase) && (eqb (h .sequence) (s .reads) && not (hasStamp (rowOf s (numberIn from) .stamps) (used (rowOf s (numberIn from))) x)))) (fitTest digestOf e (numberIn from))) (J.Bad R.Sender)
+    → v ≡ pick (fromServer g from && eqb (h .client) me)
+    (andThen (awaited (reading (s .phase) && (eqb (h .sequence) (s .reads)
+    && not (hasStamp (rowOf s (numberIn from) .stamps) (used (rowOf s (numberIn from))) x))))
+    (fitTest digestOf e (numberIn from)))
+    (J.Bad R.Sender)
     → v ≡ messageTest digestOf g me s from (message (h .client) (h .sequence) (valueIs y e))
 unfolding messageTest orderTest answers
 value-verdict g me s from h e x y v p q =
-    q ∙ ap (λ z. pick (fromServer g from && eqb (h .client) me) (andThen (awaited (reading (s .phase) && (eqb (h .sequence) (s .reads) && not (hasStamp (rowOf s (numberIn from) .stamps) (used (rowOf s (numberIn from))) z)))) (fitTest digestOf e (numberIn from))) (J.Bad R.Sender)) p
+    q ∙ ap (λ z. pick (fromServer g from && eqb (h .client) me)
+    (andThen (awaited (reading (s .phase) && (eqb (h .sequence) (s .reads)
+    && not (hasStamp (rowOf s (numberIn from) .stamps) (used (rowOf s (numberIn from))) z))))
+    (fitTest digestOf e (numberIn from)))
+    (J.Bad R.Sender)) p

@@ -1,7 +1,7 @@
--- How much room is left behind frames that were sent. Assumes nothing.
+-- Frames that were sent change no length, and how much room they take. Assumes nothing.
 use Prim.Native.Nat.{ℕ, zero, suc, _+_, _*_, _≤_}
 use native.Mathlib.Omega.{arith}
-use native.Mathlib.Nat.{add-mul, suc-mul, mul-le-mul-left, mul-le-mul-right}
+use native.Mathlib.Nat.{suc-mul}
 use mathlib.Core.Path.{_≡_, ap, _∙_}
 use mathlib.Core.List.{List}
 use lib.ListN.{length, length-append}
@@ -9,22 +9,7 @@ use lib.Seq.{length-sets}
 use Rattle.frame.specs.declared.Place.{Place}
 use Rattle.frame.specs.Messages.{Message, Sending, toFrom}
 use Rattle.frame.specs.Frames.{build}
-use Rattle.frame.specs.Outbox.{frames, receivers, Outbox, outbox, sent, Room}
-
--- of room for N frames k were taken: there is room for m more, which may be smaller
-pub room-left : (p r : Place) (o t o₀ t₀ : List ℕ) (xs : List Sending) (k m N size size′ : ℕ)
-    → outbox o t r ≡ sent (outbox o₀ t₀ p) xs → length (frames xs) ≤ k * size → length xs ≤ k → k + m ≤ N → size′ ≤ size
-    → Room p N size (length o₀) (length t₀) → Room r m size′ (length o) (length t)
-unfolding sent
-room-left p r o t o₀ t₀ xs k m N size size′ e f l h s R =
-    let a : r .at ≡ p .at + length (frames xs) = ap (λ (q : Outbox). q .place .at) e in
-    let c : r .count ≡ p .count + length xs = ap (λ (q : Outbox). q .place .count) e in
-    let u : length o ≡ length o₀ = ap (λ (q : Outbox). length (q .out)) e ∙ length-sets o₀ (p .at) (frames xs) in
-    let v : length t ≡ length t₀ = ap (λ (q : Outbox). length (q .to)) e ∙ length-sets t₀ (2 * p .count) (receivers xs) in
-    let d : (k + m) * size ≡ k * size + m * size = add-mul k m size in
-    let b : (k + m) * size ≤ N * size = mul-le-mul-right size h in
-    let w : m * size′ ≤ m * size = mul-le-mul-left m s in
-    record { out-room = omega (arith, R .out-room); to-room = omega (arith, R .to-room) }
+use Rattle.frame.specs.Outbox.{frames, receivers, Outbox, outbox, sent}
 
 pub same-lengths : (p r : Place) (o t o₀ t₀ : List ℕ) (xs : List Sending) → outbox o t r ≡ sent (outbox o₀ t₀ p) xs
     → (length o ≡ length o₀) × (length t ≡ length t₀)

@@ -5,14 +5,12 @@ use mathlib.Core.Path.{_≡_, refl, ap, sym, _∙_}
 use mathlib.Core.Bool.{Bool, true, false, not, _&&_}
 use mathlib.Core.List.{List}
 use lib.ListN.{getD, take, drop}
-use lib.Dec.{eqb, leb}
-use borrow.Author.Tests.{leb-true, not-true, not-false}
+use lib.Dec.{eqb}
+use borrow.Author.Tests.{not-true, not-false}
 use Rattle.area.specs.Area.{pick}
-use Rattle.area.proofs.Tests.{and-left, and-right}
-use Rattle.quorum.proofs.Logic.{impossible}
+use Rattle.area.proofs.Tests.{and-left}
 use Rattle.blocks.specs.declared.Params.{Params}
 use Rattle.frame.specs.declared.Party.{Party}
-use Rattle.frame.specs.declared.Party.the-variants as P
 use Rattle.frame.specs.declared.Refusal.the-variants as R
 use Rattle.frame.specs.declared.Stamp.{Stamp}
 use Rattle.frame.specs.declared.Verdict.{Verdict}
@@ -22,14 +20,10 @@ use Rattle.frame.specs.Messages.{entry, numberIn, fromServer}
 use Rattle.frame.specs.Frames.{entryIn}
 use Rattle.group_rules.specs.Coded.{fits}
 use Rattle.frame.proofs.Verdicts.{fine-is}
+use Rattle.frame.proofs.PartyLaws.{server-number}
 use Rattle.frame.proofs.Writing.{part-at}
 use Rattle.client_rules.specs.Rows.{hasStamp}
 use Rattle.client_rules.specs.Tests.{awaited}
-
--- one of servers 1 to n
-server-number : (g : Params) (from : Party) → fromServer g from ≡ true → (1 ≤ numberIn from) × (numberIn from ≤ g .n)
-server-number g (P.Client c) e = impossible (cc)
-server-number g (P.Server j) e = (leb-true 1 j (and-left (leb 1 j) (leb j (g .n)) e), leb-true j (g .n) (and-right (leb 1 j) (leb j (g .n)) e))
 
 -- the sender where 11 found nothing, of which b is the test's value; i is its number
 pub sender-facts : (g : Params) (from : Party) (c me : ℕ) (b : Bool) (i : ℕ) → b ≡ (fromServer g from && eqb c me) → not b ≡ false → i ≡ numberIn from

@@ -91,7 +91,8 @@ module _ (g : Params) (me : ℕ) (s : Client) (v a l out to : List ℕ) where
 
 -- ---- an ack from server j, which was marked
 
-module _ (g : Params) (me : ℕ) (s : Client) (a l out to : List ℕ) (i j : ℕ) (b : Bool) (y : Client) (at : i ≡ j) (q : b ≡ quorate g (set (s .heard) i true)) where
+module _ (g : Params) (me : ℕ) (s : Client) (a l out to : List ℕ) (i j : ℕ) (b : Bool) (y : Client) (at : i ≡ j)
+    (q : b ≡ quorate g (set (s .heard) i true)) where
   pub ack-waits : y ≡ inPhase s F.Acking (set (s .heard) i true) (s .times) → not b ≡ true
       → outcome (record { answer = Y.Sent 0; client = y }) a l out to ≡ stepped (onAck digestOf g me s a j) l out to
   unfolding stepped onAck endBy eventAnswer resultOf frames receivers

@@ -7,10 +7,6 @@ use lib.ListN.{length}
 use Rattle.field.specs.Field.{Tables}
 use Rattle.sha256.specs.Hash.{digestOf}
 use Rattle.blocks.specs.declared.Params.{Params}
-use Rattle.frame.specs.declared.Opened.{Opened}
-use Rattle.frame.specs.declared.Refusal.{Refusal}
-use Rattle.frame.specs.declared.Opened.the-variants as O
-use Rattle.frame.specs.declared.Refusal.the-variants as R
 use Rattle.frame.specs.Params.{Bounded, largestFrame}
 use Rattle.frame.specs.Frames.{bodyAt, bodyLength}
 use Rattle.group_rules.specs.Coded.{digestsOf}
@@ -37,8 +33,3 @@ pub record Admitted (g : Params) (s : Client) (kind value frame area result out 
   pub lent : Lent g area result out to
   pub whole : writing (s .phase) ≡ true → value ≡ g .size
   pub frame-is : frame ≡ bodyAt + bodyLength g kind
-
--- why a frame did not open; one that opened has no reason, and any stands for it
-abbrev pub reasonIn : Opened → Refusal
-reasonIn (O.Refused r) = r
-reasonIn (O.Frame h) = R.Framing

@@ -17,6 +17,7 @@ use frame::Party;
 use frame::Refusal;
 use frame::Verdict;
 use frame::bounds::params_test;
+use frame::layout::CLIENTS;
 use frame::opener::open_frame;
 use reading::on_value;
 use writing::on_ack;
@@ -29,36 +30,25 @@ ghost use Rattle.area.specs.Area.{pick};
 ghost use Rattle.sha256.specs.Hash.{digestOf};
 ghost use Rattle.frame.specs.Params.{paramsTest};
 ghost use Rattle.frame.specs.Stamps.{lastClient};
-ghost use Rattle.frame.specs.Refusals.{andThen};
+ghost use Rattle.frame.specs.Refusals.{andThen, refused};
 ghost use Rattle.frame.specs.Frames.{messageIn};
 ghost use Rattle.frame.specs.declared.Verdict.the-variants as J;
-ghost use Rattle.frame.specs.declared.Refusal.the-variants as R;
 ghost use Rattle.client_rules.specs.State.{writing};
 ghost use Rattle.client_rules.specs.Tests.{messageTest};
 ghost use Rattle.client_rules.specs.Steps.{effect};
 ghost use Rattle.client_rules.specs.Delivery.{outcome, delivery};
 ghost use Rattle.client.specs.Stages.{answered};
-ghost use Rattle.client_deliver.specs.Needs.{Admitted, reasonIn};
+ghost use Rattle.client_deliver.specs.Needs.{Admitted};
 
 // 1 to 3: the parameters and the own number, and a value of this length, which must be L where a write is open.
 fn call_test(g: Params, me: usize, p: Phase, value: usize) -> Verdict
-    ensures { λ r. ⌜ r ≡ andThen (paramsTest g me lastClient) (pick (writing p && not (eqb value (g .size))) (J.Bad R.Length) J.Fine) ⌝ }
+    ensures { λ r. ⌜ r ≡ andThen (paramsTest g me lastClient) (pick (writing p && not (eqb value (g .size))) (refused 3) J.Fine) ⌝ }
 {
-    let params = params_test(g, me, 8);
+    let params = params_test(g, me, CLIENTS);
     if let Verdict::Bad(r) = params {
         return Verdict::Bad(r);
     }
     value_test(g, p, value)
-}
-
-// Why a frame did not open.
-fn reason(o: Opened) -> Refusal
-    ensures { λ r. ⌜ r ≡ reasonIn o ⌝ }
-{
-    match o {
-        Opened::Refused(r) => r,
-        Opened::Frame(_) => Refusal::Framing,
-    }
 }
 
 // The step of an opened frame, or its refusal by 11 to 14.
@@ -120,25 +110,26 @@ pub fn deliver(
         };
     }
     let opened = open_frame(g, f);
-    let Opened::Frame(header) = opened else {
-        let r = reason(opened);
-        return Answered {
+    match opened {
+        Opened::Refused(r) => Answered {
             answer: Answer::Refused(r),
             client: s,
-        };
-    };
-    let room = room_test(g, area.len(), result.len(), out.len(), to.len());
-    if let Verdict::Bad(r) = room {
-        return Answered {
-            answer: Answer::Refused(r),
-            client: s,
-        };
+        },
+        Opened::Frame(header) => {
+            let room = room_test(g, area.len(), result.len(), out.len(), to.len());
+            if let Verdict::Bad(r) = room {
+                return Answered {
+                    answer: Answer::Refused(r),
+                    client: s,
+                };
+            }
+            let k = Call {
+                params: g,
+                me,
+                from,
+                header,
+            };
+            step(s, k, value, f, area, result, out, to)
+        }
     }
-    let k = Call {
-        params: g,
-        me,
-        from,
-        header,
-    };
-    step(s, k, value, f, area, result, out, to)
 }

@@ -12,6 +12,7 @@ use client_search::settle;
 use frame::Stamp;
 use frame::Verdict;
 use frame::entries::keep_entry;
+use frame::layout::VALUE_AT;
 use frame::opener::stamp_in;
 use frame::parties::number_in;
 ghost use mathlib.Core.Path.{_≡_};
@@ -49,7 +50,7 @@ fn keep(
     let Spot::At(i) = spot else {
         return settle(s, k.params, k.me, area, result, out, to);
     };
-    keep_entry(area, 4 * j - 4 + i, k.params, f, 22);
+    keep_entry(area, 4 * j - 4 + i, k.params, f, VALUE_AT);
     let kept = row_with(row, i, x);
     let client = with_row(s, j, kept);
     settle(client, k.params, k.me, area, result, out, to)

@@ -11,6 +11,7 @@ use frame::Refusal;
 use frame::Stamp;
 use frame::Verdict;
 use frame::bounds::width;
+use frame::layout::VALUE_AT;
 use frame::parties::from_server;
 use frame::parties::number_in;
 use group::fitting::block_fits;
@@ -22,11 +23,9 @@ ghost use lib.Dec.{eqb};
 ghost use Rattle.area.specs.Area.{pick};
 ghost use Rattle.sha256.specs.Hash.{digestOf};
 ghost use Rattle.frame.specs.Params.{Bounded, entryLength};
-ghost use Rattle.frame.specs.Refusals.{andThen};
+ghost use Rattle.frame.specs.Refusals.{andThen, refused};
 ghost use Rattle.frame.specs.Messages.{fromServer, numberIn};
 ghost use Rattle.frame.specs.Frames.{entryIn};
-ghost use Rattle.frame.specs.declared.Verdict.the-variants as J;
-ghost use Rattle.frame.specs.declared.Refusal.the-variants as R;
 ghost use Rattle.client_rules.specs.State.{reading, rowOf};
 ghost use Rattle.client_rules.specs.Rows.{used, hasStamp};
 ghost use Rattle.client_rules.specs.Tests.{awaited, fitTest};
@@ -41,7 +40,8 @@ pub fn sender_right(g: Params, from: Party, c: u8, me: u8) -> bool
     c == me
 }
 
-// 11 and 12 of a stamp or an ack, where last is the number of the open write, whose phase is right where fit holds; heard says of which servers one was counted.
+// 11 and 12 of a stamp or an ack, where last is the number of the open write, whose phase is right where fit holds;
+// heard says of which servers one was counted.
 pub fn reply_test(
     g: Params,
     me: u8,
@@ -52,7 +52,8 @@ pub fn reply_test(
     heard: [bool; 11],
 ) -> Verdict
     requires { ⌜ Bounded g ⌝ }
-    ensures { λ r. ⌜ r ≡ pick (fromServer g from && eqb (h .client) me) (awaited (fit && (eqb (h .sequence) last && not (getD heard (numberIn from) false)))) (J.Bad R.Sender) ⌝ }
+    ensures { λ r. ⌜ r ≡ pick (fromServer g from && eqb (h .client) me)
+        (awaited (fit && (eqb (h .sequence) last && not (getD heard (numberIn from) false)))) (refused 11) ⌝ }
 {
     if !sender_right(g, from, h.client, me) {
         return Verdict::Bad(Refusal::Sender);
@@ -66,9 +67,9 @@ fn fit_test(g: Params, f: &[u8], j: usize) -> Verdict
     requires { ⌜ Bounded g × (1 ≤ j) × (j ≤ g .n) × (22 + entryLength g ≤ length (now f)) ⌝ }
     ensures { λ r. ⌜ r ≡ fitTest digestOf (entryIn g (now (f .entry)) 22) j ⌝ }
 {
-    let middle = 22 + 32 * g.n;
+    let middle = VALUE_AT + 32 * g.n;
     let end = middle + width(g);
-    if !block_fits(&f[22..middle], &f[middle..end], j) {
+    if !block_fits(&f[VALUE_AT..middle], &f[middle..end], j) {
         return Verdict::Bad(Refusal::Digest);
     }
     Verdict::Fine
@@ -77,7 +78,8 @@ fn fit_test(g: Params, f: &[u8], j: usize) -> Verdict
 // 12 and 14 of a value from server j with stamp x.
 fn kept_test(s: Client, g: Params, j: usize, q: u32, x: Stamp, f: &[u8]) -> Verdict
     requires { ⌜ Bounded g × (1 ≤ j) × (j ≤ g .n) × (22 + entryLength g ≤ length (now f)) ⌝ }
-    ensures { λ r. ⌜ r ≡ andThen (awaited (reading (s .phase) && (eqb q (s .reads) && not (hasStamp (rowOf s j .stamps) (used (rowOf s j)) x)))) (fitTest digestOf (entryIn g (now (f .entry)) 22) j) ⌝ }
+    ensures { λ r. ⌜ r ≡ andThen (awaited (reading (s .phase) && (eqb q (s .reads) && not (hasStamp (rowOf s j .stamps) (used (rowOf s j)) x))))
+        (fitTest digestOf (entryIn g (now (f .entry)) 22) j) ⌝ }
 {
     let p = s.phase;
     let row = s.rows[j];
@@ -101,7 +103,11 @@ pub fn entry_test(
     f: &[u8],
 ) -> Verdict
     requires { ⌜ Bounded g × (22 + entryLength g ≤ length (now f)) ⌝ }
-    ensures { λ r. ⌜ r ≡ pick (fromServer g from && eqb (h .client) me) (andThen (awaited (reading (s .phase) && (eqb (h .sequence) (s .reads) && not (hasStamp (rowOf s (numberIn from) .stamps) (used (rowOf s (numberIn from))) x)))) (fitTest digestOf (entryIn g (now (f .entry)) 22) (numberIn from))) (J.Bad R.Sender) ⌝ }
+    ensures { λ r. ⌜ r ≡ pick (fromServer g from && eqb (h .client) me)
+        (andThen (awaited (reading (s .phase) && (eqb (h .sequence) (s .reads)
+        && not (hasStamp (rowOf s (numberIn from) .stamps) (used (rowOf s (numberIn from))) x))))
+        (fitTest digestOf (entryIn g (now (f .entry)) 22) (numberIn from)))
+        (refused 11) ⌝ }
 {
     if !sender_right(g, from, h.client, me) {
         return Verdict::Bad(Refusal::Sender);

@@ -16,6 +16,8 @@ use client_rules::Client;
 use client_rules::Phase;
 use frame::Verdict;
 use frame::WriteTime;
+use frame::layout::BODY_AT;
+use frame::layout::LAST_TIME;
 use frame::parties::number_in;
 ghost use mathlib.Core.Path.{_≡_};
 ghost use mathlib.Core.Bool.{true};
@@ -32,9 +34,6 @@ ghost use Rattle.client_rules.specs.Steps.{gatherBy, onStamp, onAck};
 ghost use Rattle.client_rules.specs.Delivery.{outcome};
 ghost use Rattle.client.specs.Stages.{stepped, answered};
 ghost use Rattle.client_deliver.specs.Needs.{Stamping};
-
-// 2^64 - 1.
-const LAST_TIME: u64 = 18446744073709551615;
 
 // "At n - t first stamps, take the largest time": it goes out with the blocks, or the write closes as out of stamps.
 fn gather(s: Client, g: Params, me: u8, value: &[u8], out: &mut [u8], to: &mut [u8]) -> Answered
@@ -96,7 +95,7 @@ pub fn on_stamp(
     }
     let j = number_in(from) as usize;
     heard[j] = true;
-    times[j] = area::read8(f, 9);
+    times[j] = area::read8(f, BODY_AT);
     let client = in_phase(s, Phase::Asking, heard, times);
     if !is_quorate(k.params, heard) {
         return Answered {

@@ -28,7 +28,8 @@ unfolding atStamp pick
 row-has [] x d e = impossible (cc)
 row-has (k ∷ l) x d e = go (row-has l x d) (sameStamp (k .stamp) x) refl e
   where
-    go : (hasList (atStamp l x) d ≡ true → Has l x d) → (b : Bool) → sameStamp (k .stamp) x ≡ b → hasList (pick b (some (k .entry)) (atStamp l x)) d ≡ true → Has (k ∷ l) x d
+    go : (hasList (atStamp l x) d ≡ true → Has l x d) → (b : Bool) → sameStamp (k .stamp) x ≡ b → hasList (pick b (some (k .entry)) (atStamp l x)) d ≡ true
+        → Has (k ∷ l) x d
     go f true z u = record { it = k; stamp = stamp-of (k .stamp) x z; digests = same-true (k .entry .digests) d u; in-row = List·Memᴰ·head refl }
     go f false z u = let w = f u in record { it = w .it; stamp = w .stamp; digests = w .digests; in-row = List·Memᴰ·tail (w .in-row) }
 
@@ -38,7 +39,8 @@ module _ (H : List ℕ → List ℕ) (g : Params) where
   first-agreed f [] k e = impossible (cc)
   first-agreed f (y ∷ l) k e = go (first-agreed f l k) (agreed g f y) refl e
     where
-      go : (firstAgreed g f l ≡ some k → agreed g f k ≡ true) → (b : Bool) → agreed g f y ≡ b → firstBy g f b y (firstAgreed g f l) ≡ some k → agreed g f k ≡ true
+      go : (firstAgreed g f l ≡ some k → agreed g f k ≡ true) → (b : Bool) → agreed g f y ≡ b → firstBy g f b y (firstAgreed g f l) ≡ some k
+          → agreed g f k ≡ true
       go r true z u = let w : y ≡ k = cc in subst (λ v. agreed g f v ≡ true) w z
       go r false z u = r u
 
@@ -55,7 +57,8 @@ module _ (H : List ℕ → List ℕ) (g : Params) where
   unfolding search foundOf foundBy
   finds f v e = go (firstAgreed g f (rowsFrom f 1 (g .n))) refl e
     where
-      go : (o : Option Kept) → firstAgreed g f (rowsFrom f 1 (g .n)) ≡ o → foundBy g f o ≡ some v → AtLeast (g .n) (g .n - g .t) (λ j. Has (f j) (v .stamp) (v .digests))
+      go : (o : Option Kept) → firstAgreed g f (rowsFrom f 1 (g .n)) ≡ o → foundBy g f o ≡ some v
+          → AtLeast (g .n) (g .n - g .t) (λ j. Has (f j) (v .stamp) (v .digests))
       go none z u = impossible (cc)
       go (some k) z u =
           let w : foundOf g f k ≡ v = cc in

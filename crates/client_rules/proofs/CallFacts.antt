@@ -15,7 +15,7 @@ use borrow.Author.Tests.{leb-true, eqb-true}
 use Rattle.quorum.specs.Quorum.{count, Among}
 use Rattle.quorum.proofs.Logic.{impossible, and-split}
 use Rattle.quorum.proofs.Quorums.{AtLeast, at-least-map}
-use Rattle.area.specs.Area.{pick}
+use Rattle.area.specs.Area.{pick, kept}
 use Rattle.blocks.specs.declared.Params.{Params}
 use Rattle.frame.specs.declared.Stamp.{Stamp}
 use Rattle.frame.specs.declared.Party.{Party}
@@ -23,9 +23,11 @@ use Rattle.frame.specs.declared.Verdict.{Verdict}
 use Rattle.frame.specs.declared.Party.the-variants as A
 use Rattle.frame.specs.declared.Verdict.the-variants as J
 use Rattle.frame.specs.Chunks.{rowsBytes}
-use Rattle.frame.specs.Messages.{Entry, Offer, offer, send, Body, getStamp, ack, askRead, readComplete, stampIs, blockIs, valueIs, Message, message, Sending, sending, toAll, Sized, FormedBody}
+use Rattle.frame.specs.Messages.{Entry, Offer, offer, send, Body, getStamp, ack, askRead, readComplete, stampIs}
+use Rattle.frame.specs.Messages.{blockIs, valueIs, Message, message, Sending, sending, toAll, Sized, FormedBody}
 use Rattle.frame.proofs.Sizes.{Small}
 use Rattle.frame.proofs.Verdicts.{fine-both}
+use Rattle.frame.proofs.PartyLaws.{mem-all}
 use Rattle.client_rules.specs.declared.Phase.{Phase}
 use Rattle.client_rules.specs.declared.Row.{Row}
 use Rattle.client_rules.specs.declared.Client.{Client}
@@ -38,11 +40,11 @@ use Rattle.client_rules.specs.State as CS
 use Rattle.client_rules.specs.Steps as C
 use Rattle.client_rules.specs.Tests as CT
 use Rattle.client_rules.proofs.Views as CV
-use Rattle.client_rules.proofs.Shapes.{dispersed, largestNow, Keeps, drops, keeps, Shape, idle, hears, shuts, counts, ends, waits, completes, shape-length, shape-of}
+use Rattle.client_rules.proofs.Shapes.{dispersed, largestNow, Keeps, drops, keeps, Shape, idle, hears}
+use Rattle.client_rules.proofs.Shapes.{shuts, counts, ends, waits, completes, shape-length, shape-of}
 use Rattle.client_rules.proofs.Shapes.{sends as disperses}
 use Rattle.client_rules.proofs.Within.{Empty, fresh-within, read-within, write-within, step-within}
 use Rattle.client_rules.proofs.Agreed.{finds}
-use Rattle.client_rules.proofs.Sends.{mem-all}
 
 -- ---- small laws
 
@@ -50,11 +52,6 @@ pub awaited-true : (H : List ℕ → List ℕ) (g : Params) (me : ℕ) (b : Bool
 unfolding CT.awaited pick
 awaited-true H g me true e = refl
 awaited-true H g me false e = impossible (cc)
-
--- a time beside its flag
-abbrev kept : Bool → ℕ → Option ℕ
-kept true T = some T
-kept false T = none
 
 no-flag : (n j : ℕ) → getD (replicate n false) j false ≡ false
 no-flag zero j = refl
@@ -84,7 +81,8 @@ pub record ClientShape (s : Client) (a : List ℕ) : Type 0 where
   pub within : Within CV.shapes s
   pub room : rowsBytes ≤ length a
 
-pub set-cases : {A : Type 0} (l : List A) (i : ℕ) (v d : A) → i < length l → (j : ℕ) → ((j ≡ i) × (getD (set l i v) j d ≡ v)) ⊎ (getD (set l i v) j d ≡ getD l j d)
+pub set-cases : {A : Type 0} (l : List A) (i : ℕ) (v d : A) → i < length l → (j : ℕ)
+    → ((j ≡ i) × (getD (set l i v) j d ≡ v)) ⊎ (getD (set l i v) j d ≡ getD l j d)
 set-cases l i v d h j = go (ℕ-discrete j i)
   where
     go : Dec (j ≡ i) → ((j ≡ i) × (getD (set l i v) j d ≡ v)) ⊎ (getD (set l i v) j d ≡ getD l j d)
@@ -155,7 +153,8 @@ module _ (H : List ℕ → List ℕ) (g : Params) (M : Small g) (few : g .n ≤ 
       pub g-sent : (b : Party) (d q : ℕ) → List·Memᴰ (sending b (message d q getStamp)) l → q ≤ s′ .writes
       pub r-sent : (b : Party) (d q : ℕ) → List·Memᴰ (sending b (message d q askRead)) l → q ≤ s′ .reads
       pub write-why : ev ≡ C.written → AtLeast (g .n) (g .n - g .t) KnowsA
-      pub read-why : (v : Found) → ev ≡ C.stopped v → AtLeast (g .n) (g .n - g .t) (λ j. (k : Kept) × (k .stamp ≡ v .stamp) × (k .entry .digests ≡ v .digests) × KnowsV j k)
+      pub read-why : (v : Found) → ev ≡ C.stopped v
+          → AtLeast (g .n) (g .n - g .t) (λ j. (k : Kept) × (k .stamp ≡ v .stamp) × (k .entry .digests ≡ v .digests) × KnowsV j k)
 
     -- a move that sends nothing and ends nothing
     turn-facts : (s′ : Client) (a′ : List ℕ) → ClientShape s′ a′ → s′ .writes ≡ s .writes → s′ .reads ≡ s .reads
@@ -195,7 +194,8 @@ module _ (H : List ℕ → List ℕ) (g : Params) (M : Small g) (few : g .n ≤ 
         go : Dec (i ≡ j) → KnowsT i T′
         go (yes z) =
             let w = kept-some (getD (heardNow j) i false) (getD (timesNow j T) i 0) T′ e in
-            let t : T ≡ T′ = sym (getD-set-same (s .times) j T 0 (omega (arith, X .within .times, few, ij .1))) ∙ ap (λ y. getD (timesNow j T) y 0) (sym z) ∙ w .1 in
+            let t : T ≡ T′ =
+            sym (getD-set-same (s .times) j T 0 (omega (arith, X .within .times, few, ij .1))) ∙ ap (λ y. getD (timesNow j T) y 0) (sym z) ∙ w .1 in
             inr (subst (λ y. N i (message me (s .writes) (stampIs y))) t (subst (λ y. N y (message me (s .writes) (stampIs T))) (sym z) new))
         go (no z) =
             let u : kept (getD (heardNow j) i false) (getD (timesNow j T) i 0) ≡ timeOf s i =
@@ -205,7 +205,8 @@ module _ (H : List ℕ → List ℕ) (g : Params) (M : Small g) (few : g .n ≤ 
     abbrev asked : ℕ → ℕ → Client
     asked j T = inPhase s F.Asking (heardNow j) (timesNow j T)
 
-    body-all : (f : ℕ → Message) (b : Party) (m : Message) → List·Memᴰ (sending b m) (toAll g f) → (j : ℕ) × (m .body ≡ f j .body) × (m .sequence ≡ f j .sequence)
+    body-all : (f : ℕ → Message) (b : Party) (m : Message) → List·Memᴰ (sending b m) (toAll g f)
+        → (j : ℕ) × (m .body ≡ f j .body) × (m .sequence ≡ f j .sequence)
     unfolding toAll
     body-all f b m u = let w = mem-all f 1 (g .n) (sending b m) u in (w .0, ap (λ z. z .body) (w .1), ap (λ z. z .sequence) (w .1))
 
@@ -214,7 +215,8 @@ module _ (H : List ℕ → List ℕ) (g : Params) (M : Small g) (few : g .n ≤ 
     Above j T U = (i : ℕ) → Among (g .n) i → getD (timesNow j T) i 0 ≤ U
 
     module _ (X : ClientShape s a) (p : s .phase ≡ F.Asking) (v : List ℕ) (j T : ℕ) (ij : Among (g .n) j) (new : N j (message me (s .writes) (stampIs T))) where
-      quorum : C.quorate g (heardNow j) ≡ true → (U : ℕ) → Above j T U → (T₁ : ℕ) → T₁ ≡ U → AtLeast (g .n) (g .n - g .t) (λ i. (T′ : ℕ) × (T′ ≤ T₁) × KnowsT i T′)
+      quorum : C.quorate g (heardNow j) ≡ true → (U : ℕ) → Above j T U → (T₁ : ℕ) → T₁ ≡ U
+          → AtLeast (g .n) (g .n - g .t) (λ i. (T′ : ℕ) × (T′ ≤ T₁) × KnowsT i T′)
       unfolding C.quorate
       quorum e U above T₁ eT = record {
         member = λ i. getD (heardNow j) i false;
@@ -264,7 +266,8 @@ module _ (H : List ℕ → List ℕ) (g : Params) (M : Small g) (few : g .n ≤ 
       }
 
       hear-facts : ClientShape (asked j T) a → ClientFacts (asked j T) a [] C.nothing
-      hear-facts Y = turn-facts (asked j T) a Y refl refl (λ i T′ is q z. stamp-knows X p j T ij new i T′ z) (λ i is q z. impossible (cc)) (λ i k is q z. impossible (cc))
+      hear-facts Y =
+          turn-facts (asked j T) a Y refl refl (λ i T′ is q z. stamp-knows X p j T ij new i T′ z) (λ i is q z. impossible (cc)) (λ i k is q z. impossible (cc))
 
     -- ---- acks
 
@@ -275,7 +278,8 @@ module _ (H : List ℕ → List ℕ) (g : Params) (M : Small g) (few : g .n ≤ 
           (λ w. inl (p, sym w ∙ e))
           (set-cases (s .heard) j true false (omega (arith, X .within .heard, few, ij .1)) i)
 
-      end-facts : ClientShape (inPhase s F.Idle (heardNow j) (s .times)) a → C.quorate g (heardNow j) ≡ true → ClientFacts (inPhase s F.Idle (heardNow j) (s .times)) a [] C.written
+      end-facts : ClientShape (inPhase s F.Idle (heardNow j) (s .times)) a → C.quorate g (heardNow j) ≡ true
+          → ClientFacts (inPhase s F.Idle (heardNow j) (s .times)) a [] C.written
       unfolding C.quorate
       end-facts Y e = record {
         client-shape = Y;
@@ -332,15 +336,16 @@ module _ (H : List ℕ → List ℕ) (g : Params) (M : Small g) (few : g .n ≤ 
       pub phase : s′ .phase ≡ F.Reading
       pub each : (i : ℕ) (k : Kept) → Among (g .n) i → List·Memᴰ k (rowView g s′ a′ i) → KnowsV i k
 
-    keep-facts : ClientShape s a → s .phase ≡ F.Reading → (v : List ℕ) (j : ℕ) (x : Stamp) (e : Entry) → Sized g e → Among (g .n) j → N j (message me (s .reads) (valueIs x e))
-        → {s′ : Client} {a′ : List ℕ} → Keeps H g me s a v j x e s′ a′ → Kept-facts s′ a′
+    keep-facts : ClientShape s a → s .phase ≡ F.Reading → (v : List ℕ) (j : ℕ) (x : Stamp) (e : Entry) → Sized g e → Among (g .n) j
+        → N j (message me (s .reads) (valueIs x e)) → {s′ : Client} {a′ : List ℕ} → Keeps H g me s a v j x e s′ a′ → Kept-facts s′ a′
     keep-facts X p v j x e Q ij new (drops z) = record { writes = refl; reads = refl; phase = p; each = λ i k is u. inl (p, u) }
     keep-facts X p v j x e Q ij new (keeps i z) = record {
       writes = refl;
       reads = refl;
       phase = p;
       each = λ m k is u. ⊎-elim
-          (λ w. inr (subst (λ y. N m (message me (s .reads) (valueIs (y .stamp) (y .entry)))) (sym (w .1)) (subst (λ y. N y (message me (s .reads) (valueIs x e))) (sym (w .0)) new)))
+          (λ w. inr (subst (λ y. N m (message me (s .reads) (valueIs (y .stamp) (y .entry)))) (sym (w .1))
+          (subst (λ y. N y (message me (s .reads) (valueIs x e))) (sym (w .0)) new)))
           (λ w. inl (p, w))
           (CV.row-kept g M s (X .within .rows) a (X .room) j (ij .0, omega (arith, few, ij .1)) x e Q i (CV.goes (rowOf s j) x i z) m (is .0) k u);
     }
@@ -424,8 +429,10 @@ module _ (H : List ℕ → List ℕ) (g : Params) (M : Small g) (few : g .n ≤ 
         let K = keep-facts s a (Brought j (message me q (valueIs x e))) X (w .0) v j x e (f .0) ij (refl, ap (λ y. message me y (valueIs x e)) (w .1)) k in
         complete-facts s a (Brought j (message me q (valueIs x e))) _ _ (K .writes) (K .reads) (K .phase) (K .each) (shape-after (completes x e k y z)) y z
 
-  pub effect-facts : (s : Client) (a v : List ℕ) → ClientShape s a → (j q : ℕ) (b : Body) → Among (g .n) j → FormedBody g b → CT.orderTest H g me s j q b ≡ J.Fine
-      → ClientFacts s a (Brought j (message me q b)) (C.effect H g me s a v (A.Server j) (message me q b) .client) (C.effect H g me s a v (A.Server j) (message me q b) .area)
+  pub effect-facts : (s : Client) (a v : List ℕ) → ClientShape s a → (j q : ℕ) (b : Body) → Among (g .n) j → FormedBody g b
+      → CT.orderTest H g me s j q b ≡ J.Fine
+      → ClientFacts s a (Brought j (message me q b)) (C.effect H g me s a v (A.Server j) (message me q b) .client)
+      (C.effect H g me s a v (A.Server j) (message me q b) .area)
       (C.effect H g me s a v (A.Server j) (message me q b) .sends) (C.effect H g me s a v (A.Server j) (message me q b) .event)
   effect-facts s a v X j q b ij f o = shape-facts s a v X j q ij f o (shape-of H g me s a v (A.Server j) (message me q b))
 
@@ -439,7 +446,9 @@ module _ (H : List ℕ → List ℕ) (g : Params) (M : Small g) (few : g .n ≤ 
   unfolding CB.readBegun CB.openRead CB.beginBy
   read-facts s a X out to = go (CB.readTest g me s out to)
     where
-      go : (y : Verdict) → ClientFacts s a Nought (CB.beginBy g me y s (CB.openRead g me s) .client) a (CB.beginBy g me y s (CB.openRead g me s) .sends) (CB.beginBy g me y s (CB.openRead g me s) .event)
+      go : (y : Verdict)
+          → ClientFacts s a Nought (CB.beginBy g me y s (CB.openRead g me s) .client) a (CB.beginBy g me y s (CB.openRead g me s) .sends)
+          (CB.beginBy g me y s (CB.openRead g me s) .event)
       go (J.Bad r) = quiet-facts s a _ X
       go J.Fine = record {
         client-shape = record { within = read-within CV.shapes shapes-empty g me s (X .within) tt; room = X .room };
@@ -463,7 +472,9 @@ module _ (H : List ℕ → List ℕ) (g : Params) (M : Small g) (few : g .n ≤ 
   unfolding CB.writeBegun CB.openWrite CB.beginBy
   write-facts s a X v out to = go (CB.writeTest g me s v out to)
     where
-      go : (y : Verdict) → ClientFacts s a Nought (CB.beginBy g me y s (CB.openWrite g me s) .client) a (CB.beginBy g me y s (CB.openWrite g me s) .sends) (CB.beginBy g me y s (CB.openWrite g me s) .event)
+      go : (y : Verdict)
+          → ClientFacts s a Nought (CB.beginBy g me y s (CB.openWrite g me s) .client) a (CB.beginBy g me y s (CB.openWrite g me s) .sends)
+          (CB.beginBy g me y s (CB.openWrite g me s) .event)
       go (J.Bad r) = quiet-facts s a _ X
       go J.Fine = record {
         client-shape = record { within = write-within CV.shapes shapes-empty g me s (X .within) tt; room = X .room };

@@ -1,5 +1,4 @@
 pub mod Views
-pub mod Sends
 pub mod Shapes
 pub mod Quotas
 pub mod Enough

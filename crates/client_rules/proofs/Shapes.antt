@@ -13,7 +13,8 @@ use Rattle.frame.specs.declared.Party.{Party}
 use Rattle.frame.specs.declared.Refusal.{Refusal}
 use Rattle.frame.specs.Stamps.{lastTime}
 use Rattle.frame.specs.Chunks.{storeEntry, placeAt}
-use Rattle.frame.specs.Messages.{Entry, offer, send, Body, getStamp, ack, askRead, readComplete, stampIs, blockIs, valueIs, Message, message, Sending, toAll, numberIn, Judged, bad, good}
+use Rattle.frame.specs.Messages.{Entry, offer, send, Body, getStamp, ack, askRead, readComplete, stampIs, blockIs}
+use Rattle.frame.specs.Messages.{valueIs, Message, message, Sending, toAll, numberIn, Judged, bad, good}
 use Rattle.frame.proofs.Chunks.{length-store}
 use Rattle.group_rules.specs.Coded.{entryOf}
 use Rattle.client_rules.specs.declared.Client.{Client}
@@ -55,16 +56,18 @@ module _ (H : List ℕ → List ℕ) (g : Params) (me : ℕ) (s : Client) (a v :
       sends = dispersed (largestNow T);
       event = C.nothing;
     })
-    shuts : (T : ℕ) → C.quorate g heardNow ≡ true → lastTime ≤ largestNow T → Shape (stampIs T) (record { client = shut (asked T); area = a; sends = []; event = C.outOfStamps })
+    shuts : (T : ℕ) → C.quorate g heardNow ≡ true → lastTime ≤ largestNow T
+        → Shape (stampIs T) (record { client = shut (asked T); area = a; sends = []; event = C.outOfStamps })
     counts : C.quorate g heardNow ≡ false → Shape ack (C.quiet (inPhase s F.Acking heardNow (s .times)) a)
     ends : C.quorate g heardNow ≡ true → Shape ack (record { client = inPhase s F.Idle heardNow (s .times); area = a; sends = []; event = C.written })
     waits : (x : Stamp) (e : Entry) {s′ : Client} {a′ : List ℕ} → Keeps x e s′ a′ → search g (rowView g s′ a′) ≡ none → Shape (valueIs x e) (C.quiet s′ a′)
-    completes : (x : Stamp) (e : Entry) {s′ : Client} {a′ : List ℕ} → Keeps x e s′ a′ → (y : Found) → search g (rowView g s′ a′) ≡ some y → Shape (valueIs x e) (record {
-      client = inPhase s′ F.Idle (s′ .heard) (s′ .times);
-      area = a′;
-      sends = toAll g (λ i. message me (s′ .reads) readComplete);
-      event = C.stopped y;
-    })
+    completes : (x : Stamp) (e : Entry) {s′ : Client} {a′ : List ℕ} → Keeps x e s′ a′ → (y : Found) → search g (rowView g s′ a′) ≡ some y
+        → Shape (valueIs x e) (record {
+          client = inPhase s′ F.Idle (s′ .heard) (s′ .times);
+          area = a′;
+          sends = toAll g (λ i. message me (s′ .reads) readComplete);
+          event = C.stopped y;
+        })
 
   on-stamp : (T : ℕ) → Shape (stampIs T) (C.onStamp H g me s a v j T)
   unfolding C.onStamp C.gatherBy C.sendBelow
@@ -90,7 +93,8 @@ module _ (H : List ℕ → List ℕ) (g : Params) (me : ℕ) (s : Client) (a v :
   unfolding C.onValue C.keepBy C.settle C.completeBy
   on-value x e = go (placeFor (rowOf s j) x) refl
     where
-      settled : (s′ : Client) (a′ : List ℕ) → Keeps x e s′ a′ → (o : Option Found) → search g (rowView g s′ a′) ≡ o → Shape (valueIs x e) (C.completeBy H g me o s′ a′)
+      settled : (s′ : Client) (a′ : List ℕ) → Keeps x e s′ a′ → (o : Option Found) → search g (rowView g s′ a′) ≡ o
+          → Shape (valueIs x e) (C.completeBy H g me o s′ a′)
       settled s′ a′ k none z = waits x e k z
       settled s′ a′ k (some y) z = completes x e k y z
 

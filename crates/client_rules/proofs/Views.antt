@@ -101,6 +101,17 @@ unfolding pick
 count-why r i G true e p h ne = ⊎-elim (λ w. omega (arith, w .1, ne)) (λ w. absurd (omega (arith, ltb-true (r .count) 4 e))) (G .either)
 count-why r i G false e p h ne = h
 
+-- server j's row gets a stamp: the other rows stay, and so do the other places of that row
+pub other-row : (s : Client) (j i : ℕ) (x : Stamp) (m : ℕ) → (m ≡ j → ⊥) → rowOf (withRow s j (rowWith (rowOf s j) i x)) m ≡ rowOf s m
+other-row s j i x m ne = getD-set-other (s .rows) j m (rowWith (rowOf s j) i x) noRow ne
+
+pub place-stays : (g : Params) → Small g → (a : List ℕ) (j : ℕ) (r : Row) (x : Stamp) (e : Entry) → Sized g e → (i p : ℕ) → (p ≡ i → ⊥)
+    → placed g (storeEntry a (placeAt j i) e) j (rowWith r i x) p ≡ placed g a j r p
+place-stays g M a j r x e Q i p ne =
+    let u = getD-set-other (r .stamps) i p x noStamp ne in
+    let q = entry-other g M a (placeAt j i) e Q (placeAt j p) (λ z. ne (omega arith)) in
+    λ d. record { stamp = u d; entry = q d }
+
 module _ (g : Params) (M : Small g) (s : Client) (S : Shaped (s .rows)) (a : List ℕ) (room : rowsBytes ≤ length a) (j : ℕ) (at : Among 10 j)
     (x : Stamp) (e : Entry) (Q : Sized g e) (i : ℕ) (G : Goes (rowOf s j) i) where
   abbrev next : Client
@@ -112,20 +123,11 @@ module _ (g : Params) (M : Small g) (s : Client) (S : Shaped (s .rows)) (a : Lis
   this-row : rowOf next j ≡ rowWith (rowOf s j) i x
   this-row = getD-set-same (s .rows) j (rowWith (rowOf s j) i x) noRow (omega (arith, S .rows-many))
 
-  other-row : (m : ℕ) → (m ≡ j → ⊥) → rowOf next m ≡ rowOf s m
-  other-row m ne = getD-set-other (s .rows) j m (rowWith (rowOf s j) i x) noRow ne
-
   at-new : placed g area j (rowWith (rowOf s j) i x) i ≡ record { stamp = x; entry = e }
   at-new =
       let p = getD-set-same (rowOf s j .stamps) i x noStamp (omega (arith, G .small, S .stamps-many j (at .1))) in
       let q = entry-same g M a (placeAt j i) e Q (omega (arith, G .small)) in
       λ d. record { stamp = p d; entry = q d }
-
-  at-old : (p : ℕ) → (p ≡ i → ⊥) → placed g area j (rowWith (rowOf s j) i x) p ≡ placed g a j (rowOf s j) p
-  at-old p ne =
-      let u = getD-set-other (rowOf s j .stamps) i p x noStamp ne in
-      let q = entry-other g M a (placeAt j i) e Q (placeAt j p) (λ z. ne (omega arith)) in
-      λ d. record { stamp = u d; entry = q d }
 
   in-this : (k : Kept) → List·Memᴰ k (placesFrom g area j (rowWith (rowOf s j) i x) 0 (used (rowWith (rowOf s j) i x)))
       → (k ≡ record { stamp = x; entry = e }) ⊎ List·Memᴰ k (placesFrom g a j (rowOf s j) 0 (used (rowOf s j)))
@@ -139,7 +141,8 @@ module _ (g : Params) (M : Small g) (s : Client) (S : Shaped (s .rows)) (a : Lis
       go w (no z) =
           let c = count-why (rowOf s j) i G (ltb (rowOf s j .count) 4) refl (w .at) (omega (arith, w .high)) z in
           let l : w .at < used (rowOf s j) = omega (arith, w .high, c) in
-          inr (rw (w .is, at-old (w .at) z) (of-placed g a j (rowOf s j) 0 (used (rowOf s j)) (w .at) (omega arith) (omega arith)))
+          inr (rw (w .is, place-stays g M a j (rowOf s j) x e Q i (w .at) z)
+          (of-placed g a j (rowOf s j) 0 (used (rowOf s j)) (w .at) (omega arith) (omega arith)))
 
   in-other : (m : ℕ) → 1 ≤ m → (m ≡ j → ⊥) → (k : Kept) → List·Memᴰ k (placesFrom g area m (rowOf s m) 0 (used (rowOf s m)))
       → List·Memᴰ k (placesFrom g a m (rowOf s m) 0 (used (rowOf s m)))
@@ -161,4 +164,4 @@ module _ (g : Params) (M : Small g) (s : Client) (S : Shaped (s .rows)) (a : Lis
           subst (λ y. List·Memᴰ k (placesFrom g area y (rowOf next y) 0 (used (rowOf next y)))) z u in
           ⊎-elim (λ w. inl (z, w)) (λ w. inr (rw z w))
           (in-this k (subst (λ r. List·Memᴰ k (placesFrom g area j r 0 (used r))) this-row v))
-      go (no z) = inr (in-other m h z k (subst (λ r. List·Memᴰ k (placesFrom g area m r 0 (used r))) (other-row m z) u))
+      go (no z) = inr (in-other m h z k (subst (λ r. List·Memᴰ k (placesFrom g area m r 0 (used r))) (other-row s j i x m z) u))

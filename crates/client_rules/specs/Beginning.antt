@@ -9,9 +9,8 @@ use lib.Dec.{leb, eqb}
 use Rattle.area.specs.Area.{pick}
 use Rattle.blocks.specs.declared.Params.{Params}
 use Rattle.frame.specs.declared.Verdict.{Verdict}
-use Rattle.frame.specs.declared.Refusal.the-variants as R
 use Rattle.frame.specs.declared.Verdict.the-variants as J
-use Rattle.frame.specs.Refusals.{andThen}
+use Rattle.frame.specs.Refusals.{andThen, refused}
 use Rattle.frame.specs.Params.{paramsTest}
 use Rattle.frame.specs.Stamps.{lastSequence, lastClient}
 use Rattle.frame.specs.Messages.{getStamp, askRead, message, toAll}
@@ -40,17 +39,17 @@ begun r out to = record { answer = r .answer; client = r .client; out = out; to 
 -- 15, "an operation is open"; 16, "sequences used up", where last is the last number used
 unfoldable pub idleTest : Client → ℕ → Verdict
 idleTest s last =
-    pick (not (idle (s .phase))) (J.Bad R.Busy)
-    (pick (leb lastSequence last) (J.Bad R.Exhausted)
+    pick (not (idle (s .phase))) (refused 15)
+    (pick (leb lastSequence last) (refused 16)
     J.Fine)
 
 -- 17: "a write by a client whose earlier write closed as out of stamps"
 unfoldable pub closedTest : Client → Verdict
-closedTest s = pick (s .closed) (J.Bad R.Closed) J.Fine
+closedTest s = pick (s .closed) (refused 17) J.Fine
 
 -- 3: "value not L long"
 unfoldable pub lengthTest : Params → ℕ → Verdict
-lengthTest g v = pick (eqb v (g .size)) J.Fine (J.Bad R.Length)
+lengthTest g v = pick (eqb v (g .size)) J.Fine (refused 3)
 
 module _ (g : Params) (me : ℕ) where
   unfoldable pub readTest : Client → List ℕ → List ℕ → Verdict

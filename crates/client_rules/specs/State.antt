@@ -90,4 +90,12 @@ abbrev pub shut : Client → Client
 shut s = record { writes = s .writes; reads = s .reads; closed = true; phase = F.Idle; heard = s .heard; times = s .times; rows = s .rows }
 
 abbrev pub withRow : Client → ℕ → Row → Client
-withRow s j r = record { writes = s .writes; reads = s .reads; closed = s .closed; phase = s .phase; heard = s .heard; times = s .times; rows = set (s .rows) j r }
+withRow s j r = record {
+  writes = s .writes;
+  reads = s .reads;
+  closed = s .closed;
+  phase = s .phase;
+  heard = s .heard;
+  times = s .times;
+  rows = set (s .rows) j r;
+}

@@ -11,7 +11,8 @@ use Rattle.blocks.specs.declared.Params.{Params}
 use Rattle.frame.specs.declared.Stamp.{Stamp}
 use Rattle.frame.specs.declared.Party.{Party}
 use Rattle.frame.specs.Stamps.{lastTime}
-use Rattle.frame.specs.Messages.{Entry, offer, send, Body, getStamp, ack, askRead, readComplete, stampIs, blockIs, valueIs, Message, message, Sending, toAll, numberIn}
+use Rattle.frame.specs.Messages.{Entry, offer, send, Body, getStamp, ack, askRead, readComplete, stampIs}
+use Rattle.frame.specs.Messages.{blockIs, valueIs, Message, message, Sending, toAll, numberIn}
 use Rattle.frame.specs.Chunks.{storeEntry, placeAt}
 use Rattle.group_rules.specs.Coded.{entryOf}
 use Rattle.client_rules.specs.declared.Client.{Client}

@@ -10,13 +10,13 @@ use Rattle.blocks.specs.declared.Params.{Params}
 use Rattle.frame.specs.declared.Party.{Party}
 use Rattle.frame.specs.declared.Verdict.{Verdict}
 use Rattle.frame.specs.declared.Opened.{Opened}
-use Rattle.frame.specs.declared.Refusal.the-variants as R
 use Rattle.frame.specs.declared.Verdict.the-variants as J
 use Rattle.frame.specs.declared.Opened.the-variants as O
-use Rattle.frame.specs.Refusals.{andThen}
+use Rattle.frame.specs.Refusals.{andThen, refused}
 use Rattle.frame.specs.Params.{clientFrames, outRoom, toRoom, paramsTest}
 use Rattle.frame.specs.Stamps.{lastClient}
-use Rattle.frame.specs.Messages.{Entry, Body, getStamp, ack, askRead, readComplete, stampIs, blockIs, valueIs, Message, numberIn, fromServer, Judged, bad, judgedBy, after}
+use Rattle.frame.specs.Messages.{Entry, Body, getStamp, ack, askRead, readComplete, stampIs, blockIs}
+use Rattle.frame.specs.Messages.{valueIs, Message, numberIn, fromServer, Judged, bad, judgedBy, after}
 use Rattle.frame.specs.Frames.{opened, messageIn}
 use Rattle.frame.specs.Chunks.{rowsBytes}
 use Rattle.group_rules.specs.Coded.{fits}
@@ -27,20 +27,20 @@ use Rattle.client_rules.specs.Rows.{used, hasStamp}
 -- 10, of the lengths of the out and to areas: "The client's largest need is now n frames" (request F-4)
 unfoldable pub sendRoom : Params → ℕ → ℕ → Verdict
 sendRoom g out to =
-    pick (ltb out (outRoom g (clientFrames g))) (J.Bad R.Room)
-    (pick (ltb to (toRoom (clientFrames g))) (J.Bad R.Room)
+    pick (ltb out (outRoom g (clientFrames g))) (refused 10)
+    (pick (ltb to (toRoom (clientFrames g))) (refused 10)
     J.Fine)
 
 -- 10, of all lent areas: "others their full content"
 unfoldable pub roomTest : Params → ℕ → ℕ → ℕ → ℕ → Verdict
 roomTest g area result out to =
-    pick (ltb area rowsBytes) (J.Bad R.Room)
-    (pick (ltb result (g .size)) (J.Bad R.Room)
+    pick (ltb area rowsBytes) (refused 10)
+    (pick (ltb result (g .size)) (refused 10)
     (sendRoom g out to))
 
 -- 3: the lent value of an open write is L long; with no write open it is not looked at
 unfoldable pub valueTest : Params → Client → ℕ → Verdict
-valueTest g s v = pick (writing (s .phase) && not (eqb v (g .size))) (J.Bad R.Length) J.Fine
+valueTest g s v = pick (writing (s .phase) && not (eqb v (g .size))) (refused 3) J.Fine
 
 -- 11: only stamps, acks and values go to clients
 unfoldable pub answers : Body → Bool
@@ -54,11 +54,11 @@ answers (valueIs x e) = true
 
 -- 12: "old, repeated or not awaited"
 unfoldable pub awaited : Bool → Verdict
-awaited b = pick b J.Fine (J.Bad R.Stale)
+awaited b = pick b J.Fine (refused 12)
 
 -- 14: "block against its digest"
 unfoldable pub fitTest : (List ℕ → List ℕ) → Entry → ℕ → Verdict
-fitTest H e j = pick (fits H e j) J.Fine (J.Bad R.Digest)
+fitTest H e j = pick (fits H e j) J.Fine (refused 14)
 
 module _ (H : List ℕ → List ℕ) (g : Params) (me : ℕ) where
   -- 12 and 14, of a frame of operation q from server j. Stamps count only in a write's first part, acks only in its second, each server's first;
@@ -77,7 +77,7 @@ module _ (H : List ℕ → List ℕ) (g : Params) (me : ℕ) where
   -- 11 to 14: from a server 1 to n, of a kind for clients, naming this client
   unfoldable pub messageTest : Client → Party → Message → Verdict
   messageTest s from m =
-      pick (fromServer g from && (answers (m .body) && eqb (m .client) me)) (orderTest s (numberIn from) (m .sequence) (m .body)) (J.Bad R.Sender)
+      pick (fromServer g from && (answers (m .body) && eqb (m .client) me)) (orderTest s (numberIn from) (m .sequence) (m .body)) (refused 11)
 
   -- all of them: the lowest number, or what the frame says
   unfoldable pub judgeOpened : Opened → Verdict → Client → Party → List ℕ → Judged

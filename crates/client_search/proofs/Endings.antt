@@ -4,13 +4,12 @@ use native.Mathlib.Omega.{arith}
 use mathlib.Core.Bool.{Bool, true, false, not}
 use mathlib.Core.Path.{_≡_, refl, ap, ap₂, sym, _∙_}
 use mathlib.Core.Option.{Option, none, some}
-use mathlib.Core.List.{List, [], _∷_}
+use mathlib.Core.List.{List}
 use lib.ListN.{length}
 use lib.Seq.{sets}
 use borrow.Author.Tests.{leb-true, not-true, not-false}
 use Rattle.area.specs.Area.{pick}
 use Rattle.quorum.specs.Quorum.{count}
-use Rattle.quorum.proofs.Logic.{impossible}
 use Rattle.field.specs.Field.{Powers, Logs}
 use Rattle.blocks.specs.declared.Params.{Params}
 use Rattle.sha256.specs.Hash.{digestOf}
@@ -31,10 +30,12 @@ use Rattle.client_rules.specs.declared.Client.{Client}
 use Rattle.client_rules.specs.declared.Answer.{Answer}
 use Rattle.client_rules.specs.declared.Answer.the-variants as Y
 use Rattle.client_rules.specs.declared.Phase.the-variants as F
-use Rattle.client_rules.specs.Rows.{Kept, atStamp, rowView, rowsFrom, agreed, firstBy, firstAgreed, foundOf, foundBy, search}
+use Rattle.client_rules.specs.State.{inPhase}
+use Rattle.client_rules.specs.Rows.{Kept, atStamp, rowView, rowsFrom, agreed, firstAgreed, foundOf, foundBy, search}
 use Rattle.client_rules.specs.Steps.{completeBy, settle}
+use Rattle.client_rules.proofs.Agreed.{first-agreed}
 use Rattle.client.specs.Stages.{Lent, stepped}
-use Rattle.client.proofs.SendRooms.{room-smaller}
+use Rattle.frame.proofs.Rooms.{room-within}
 use Rattle.client_rules.specs.Delivery.{Outcome, readAnswer, readResult, eventAnswer, resultOf}
 use Rattle.client_search.specs.declared.Hits.{Hits}
 use Rattle.client_search.specs.declared.Stop.{Stop}
@@ -98,7 +99,8 @@ module _ (g : Params) (rows : List Row) (a : List ℕ) (x : Stamp) (p result : �
           decoded-by g at-row (entryAt g a p .digests)
           ∙ ap₂ (λ (t : Bool) (w : List ℕ). pick t (some w) none) (sym agree-is ∙ e) (sym lowest-is)
 
-      pub disagreed : (o : List ℕ) → not r ≡ true → (false ≡ agreeing g at-row (entryAt g a p .digests)) × (o ≡ readResult (decoded g at-row (entryAt g a p .digests)) o)
+      pub disagreed : (o : List ℕ) → not r ≡ true
+          → (false ≡ agreeing g at-row (entryAt g a p .digests)) × (o ≡ readResult (decoded g at-row (entryAt g a p .digests)) o)
       unfolding pick
       disagreed o t =
           let e : r ≡ false = not-true r t in
@@ -113,19 +115,6 @@ module _ (g : Params) (rows : List Row) (a : List ℕ) (x : Stamp) (p result : �
 
 -- ---- what the search tells
 
-module _ (g : Params) (f : ℕ → List Kept) where
-  agreed-of : (k w : Kept) (b : Bool) (o : Option Kept) → agreed g f w ≡ b → some k ≡ firstBy g f b w o
-      → (some k ≡ o → agreed g f k ≡ true) → agreed g f k ≡ true
-  unfolding firstBy
-  agreed-of k w true o e q h = let z : k ≡ w = cc in ap (agreed g f) z ∙ e
-  agreed-of k w false o e q h = h q
-
-  -- the first that is agreed is agreed
-  pub first-agreed : (l : List Kept) (k : Kept) → some k ≡ firstAgreed g f l → agreed g f k ≡ true
-  unfolding firstAgreed
-  first-agreed [] k e = impossible cc
-  first-agreed (w ∷ l) k e = agreed-of k w (agreed g f w) (firstAgreed g f l) refl e (first-agreed l k)
-
 module _ (g : Params) (rows : List Row) (a : List ℕ) (result out to : ℕ) (lent : Lent g (length a) result out to) where
   pub searching : Searching g (length a)
   searching = record { bounded = lent .bounded; whole = lent .whole }
@@ -134,7 +123,7 @@ module _ (g : Params) (rows : List Row) (a : List ℕ) (result out to : ℕ) (le
   unfolding largestFrame
   ask-room =
       let l : 9 ≤ largestFrame g = omega arith in
-      room-smaller firstPlace (g .n) (largestFrame g) 9 out to l (lent .room)
+      room-within firstPlace (g .n) (g .n) (largestFrame g) 9 out to (omega arith) l (lent .room)
 
   pub finishing : (s : Stop) (j i : ℕ) → s ≡ At j i
       → (standing g rows a s ≡ firstAgreed g (view g rows a) (rowsFrom (view g rows a) 1 (g .n))) × Inside s
@@ -146,7 +135,7 @@ module _ (g : Params) (rows : List Row) (a : List ℕ) (result out to : ℕ) (le
         server-low = w .1 .0;
         server-high = w .1 .1;
         place = w .1 .2;
-        held = first-agreed g (view g rows a) (rowsFrom (view g rows a) 1 (g .n)) (keptAt g rows a j i) (w .0);
+        held = first-agreed digestOf g (view g rows a) (rowsFrom (view g rows a) 1 (g .n)) (keptAt g rows a j i) (sym (w .0));
         value-room = lent .value-room;
         room = ask-room;
       }
@@ -167,15 +156,16 @@ answer-by true x v = refl
 answer-by false x v = refl
 
 module _ (g : Params) (me : ℕ) (s : Client) (a result out to : List ℕ) where
-  pub finish-law : (j i : ℕ) (r o t : List ℕ) (q : Place) (b : Bool) (y : Answer)
+  pub finish-law : (j i : ℕ) (r o t : List ℕ) (q : Place) (b : Bool) (y : Answer) (s′ : Client)
       → b ≡ agreeing g (λ m. atStamp (view g (s .rows) a m) (keptAt g (s .rows) a j i .stamp)) (entryAt g a (placeAt j i) .digests)
       → r ≡ readResult (decoded g (λ m. atStamp (view g (s .rows) a m) (keptAt g (s .rows) a j i .stamp)) (entryAt g a (placeAt j i) .digests)) result
       → y ≡ pick b (Y.Value (keptAt g (s .rows) a j i .stamp)) Y.Disagreement
       → outbox o t q ≡ sent (outbox out to firstPlace) (toAll g (λ m. message me (s .reads) readComplete))
+      → s′ ≡ inPhase s F.Idle (s .heard) (s .times)
       → _≡_ {A = Outcome}
       (record {
         answer = y;
-        client = record { writes = s .writes; reads = s .reads; closed = s .closed; phase = F.Idle; heard = s .heard; times = s .times; rows = s .rows };
+        client = s′;
         area = a;
         result = r;
         out = o;
@@ -183,7 +173,7 @@ module _ (g : Params) (me : ℕ) (s : Client) (a result out to : List ℕ) where
       })
       (stepped (completeBy digestOf g me (some (foundOf g (view g (s .rows) a) (keptAt g (s .rows) a j i))) s a) result out to)
   unfolding stepped completeBy foundOf eventAnswer resultOf sent
-  finish-law j i r o t q b y p d n e =
+  finish-law j i r o t q b y s′ p d n e c =
       let f : ℕ → Option Entry = λ m. atStamp (view g (s .rows) a m) (keptAt g (s .rows) a j i .stamp) in
       let h = n ∙ ap (λ (c : Bool). pick c (Y.Value (keptAt g (s .rows) a j i .stamp)) Y.Disagreement) p
       ∙ answer-by (agreeing g f (entryAt g a (placeAt j i) .digests)) (keptAt g (s .rows) a j i .stamp) (lowestValue g f (entryAt g a (placeAt j i) .digests))
@@ -192,7 +182,7 @@ module _ (g : Params) (me : ℕ) (s : Client) (a result out to : List ℕ) where
       let w : t ≡ sets to 0 (receivers (toAll g (λ m. message me (s .reads) readComplete))) = ap (λ (b : Outbox). b .to) e in
       λ z. record {
         answer = h z;
-        client = record { writes = s .writes; reads = s .reads; closed = s .closed; phase = F.Idle; heard = s .heard; times = s .times; rows = s .rows };
+        client = c z;
         area = a;
         result = d z;
         out = u z;

@@ -11,14 +11,14 @@ use mathlib.Core.List.{List}
 use lib.ListN.{length, getD, List·getD-eq-default}
 use lib.Dec.{leb, ltb}
 use borrow.Author.Tests.{le-leb, lt-leb, lt-ltb, le-ltb, ltb-true}
-use Rattle.area.specs.Area.{pick, table}
+use Rattle.area.specs.Area.{pick, kept, table}
 use Rattle.area.proofs.Tests.{and-right}
 use Rattle.area.proofs.Fills.{getD-table, length-table}
 use Rattle.blocks.specs.declared.Params.{Params}
 use Rattle.frame.specs.declared.Stamp.{Stamp}
 use Rattle.frame.specs.Stamps.{sameStamp}
 use Rattle.frame.specs.Chunks.{entryAt, placeAt, chunkAt, rowsBytes}
-use Rattle.group.specs.Entries.{kept, marked, entries, Within}
+use Rattle.group.specs.Entries.{marked, entries, Within}
 use Rattle.client_rules.specs.declared.Row.{Row}
 use Rattle.client_rules.specs.State.{noStamp, noRow}
 use Rattle.client_rules.specs.Rows.{used, placesFrom, atStamp}

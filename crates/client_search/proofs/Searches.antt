@@ -9,16 +9,17 @@ use mathlib.Core.List.{List, _++_}
 use lib.ListN.{length, getD}
 use lib.Dec.{leb}
 use borrow.Author.Tests.{lt-leb}
-use Rattle.quorum.specs.Quorum.{bit, count}
+use Rattle.quorum.specs.Quorum.{count}
+use Rattle.quorum.proofs.Counting.{count-mono}
 use Rattle.blocks.specs.declared.Params.{Params}
 use Rattle.frame.specs.declared.Stamp.{Stamp}
 use Rattle.frame.specs.Messages.{Entry}
 use Rattle.frame.specs.Chunks.{chunkAt, entryAt, rowsBytes}
 use Rattle.group_rules.specs.Coded.{hasList, lowestValue, agreeing}
-use Rattle.group.specs.Entries.{kept, marked, entries, sentList, flags}
+use Rattle.group.specs.Entries.{marked, entries, sentList, flags}
 use Rattle.group.specs.Choice.{valueFrom, allOf}
 use Rattle.group.specs.Needs.{Comparing}
-use Rattle.group.proofs.Matched.{count-flags, matched-count, matched-value, matched-all}
+use Rattle.group.proofs.Matched.{sent-flagged, count-flags, matched-count, matched-value, matched-all}
 use Rattle.client_rules.specs.declared.Row.{Row}
 use Rattle.client_rules.specs.State.{noRow}
 use Rattle.client_rules.specs.Rows.{Kept, used, placesFrom, atStamp, rowsFrom, agreed, firstBy, firstAgreed}
@@ -30,24 +31,6 @@ use Rattle.client_search.specs.Search.{view, holdersOf, keptAt, standing
 use Rattle.client_search.proofs.Firsts.{hits-within, hits-entry}
 
 -- ---- a candidate: stamp x, and the digest list in chunk p
-
--- fewer pass a test that implies another
-bit-le : (a b : Bool) → (a ≡ true → b ≡ true) → bit a ≤ bit b
-bit-le true b h = rw (h refl) (omega arith)
-bit-le false b h = omega arith
-
-count-le-count : (p q : ℕ → Bool) (n : ℕ) → ((j : ℕ) → p j ≡ true → q j ≡ true) → count p n ≤ count q n
-unfolding count
-count-le-count p q zero h = omega arith
-count-le-count p q (suc n) h = omega (arith, bit-le (p (suc n)) (q (suc n)) (h (suc n)), count-le-count p q n h)
-
-kept-list : (b : Bool) (e : Entry) (d : List ℕ) → hasList (kept b e) d ≡ true → b ≡ true
-kept-list true e d q = refl
-kept-list false e d q = q
-
-sent-flagged : (g : Params) (on : List Bool) (at a d : List ℕ) (j : ℕ) → sentList g on at a d j ≡ true → marked on j ≡ true
-unfolding sentList entries
-sent-flagged g on at a d j e = kept-list (marked on j) (entryAt g a (getD at j 0)) d e
 
 pub comparing : (g : Params) (rows : List Row) (a : List ℕ) (x : Stamp) → Searching g (length a) → (h : Hits) → h ≡ hitsOf rows x
     → Comparing g (h .at) a
@@ -100,7 +83,7 @@ module _ (g : Params) (rows : List Row) (a : List ℕ) (x : Stamp) (p : ℕ) (q 
       let at = hitsOf rows x .at in
       let d = entryAt g a p .digests in
       let e : with-list ≡ count (sentList g on at a d) (g .n) = sym holders-count ∙ count-flags (sentList g on at a d) (g .n) (q .bounded .servers-high) in
-      let l = count-le-count (sentList g on at a d) (marked on) (g .n) (sent-flagged g on at a d) in
+      let l = count-mono (sentList g on at a d) (marked on) (g .n) (λ j h. sent-flagged g on at a d j) in
       omega (arith, e, l)
 
   module _ (h : Hits) (e : h ≡ hitsOf rows x) (c : ℕ) where

@@ -9,7 +9,7 @@ use mathlib.Core.Logic.{_⊎_, inl, inr, ⊎-elim}
 use mathlib.Core.Option.{none, some}
 use mathlib.Core.List.{List, List·Memᴰ}
 use lib.ListN.{getD}
-use lib.Seq.{getD-set-same, getD-set-other}
+use lib.Seq.{getD-set-same}
 use lib.Dec.{ltb}
 use borrow.Author.Tests.{ltb-true, ltb-false}
 use Rattle.quorum.specs.Quorum.{Among}
@@ -27,7 +27,7 @@ use Rattle.client_rules.specs.declared.Row.{Row}
 use Rattle.client_rules.specs.declared.Client.{Client}
 use Rattle.client_rules.specs.Rows.{Kept, used, rowView, placesFrom, smallest, placeFor, rowWith}
 use Rattle.client_rules.specs.State.{noRow, noStamp, rowOf, withRow}
-use Rattle.client_rules.proofs.Views.{Shaped, placed, Placed, placed-of, of-placed, Goes, goes}
+use Rattle.client_rules.proofs.Views.{Shaped, placed, Placed, placed-of, of-placed, Goes, goes, other-row, place-stays}
 
 -- ---- the smallest of four
 
@@ -108,13 +108,6 @@ module _ (g : Params) (M : Small g) (s : Client) (S : Shaped (s .rows)) (a : Lis
   small : i < 4
   small = goes (rowOf s j) x i goes-to .small
 
-  -- another place of that row
-  place-stays : (p : ℕ) → (p ≡ i → ⊥) → placed g area j (rowWith (rowOf s j) i x) p ≡ placed g a j (rowOf s j) p
-  place-stays p ne =
-      let u = getD-set-other (rowOf s j .stamps) i p x noStamp ne in
-      let q = entry-other g M a (placeAt j i) e Q (placeAt j p) (λ z. ne (omega arith)) in
-      λ d. record { stamp = u d; entry = q d }
-
   -- a place of another row
   other-stays : (m p : ℕ) → 1 ≤ m → p < 4 → (m ≡ j → ⊥) → placed g area m (rowOf s m) p ≡ placed g a m (rowOf s m) p
   other-stays m p low h ne =
@@ -123,9 +116,6 @@ module _ (g : Params) (M : Small g) (s : Client) (S : Shaped (s .rows)) (a : Lis
 
   this-row : rowOf next j ≡ rowWith (rowOf s j) i x
   this-row = getD-set-same (s .rows) j (rowWith (rowOf s j) i x) noRow (omega (arith, S .rows-many, at .1))
-
-  other-row : (m : ℕ) → (m ≡ j → ⊥) → rowOf next m ≡ rowOf s m
-  other-row m ne = getD-set-other (s .rows) j m (rowWith (rowOf s j) i x) noRow ne
 
   in-this : (k : Kept) → List·Memᴰ k (placesFrom g a j (rowOf s j) 0 (used (rowOf s j)))
       → List·Memᴰ k (placesFrom g area j (rowWith (rowOf s j) i x) 0 (used (rowWith (rowOf s j) i x))) ⊎ Smallest (rowOf s j) x (k .stamp)
@@ -142,7 +132,7 @@ module _ (g : Params) (M : Small g) (s : Client) (S : Shaped (s .rows)) (a : Lis
       go w (no z) =
           let c = count-up (rowOf s j .count) (ltb (rowOf s j .count) 4) in
           let l : w .at < used (rowWith (rowOf s j) i x) = omega (arith, w .high, c) in
-          inl (rw (w .is, sym (place-stays (w .at) z))
+          inl (rw (w .is, sym (place-stays g M a j (rowOf s j) x e Q i (w .at) z))
           (of-placed g area j (rowWith (rowOf s j) i x) 0 (used (rowWith (rowOf s j) i x)) (w .at) (omega arith) (omega arith)))
 
   in-other : (m : ℕ) → 1 ≤ m → (m ≡ j → ⊥) → (k : Kept) → List·Memᴰ k (placesFrom g a m (rowOf s m) 0 (used (rowOf s m)))
@@ -168,4 +158,4 @@ module _ (g : Params) (M : Small g) (s : Client) (S : Shaped (s .rows)) (a : Lis
           (subst (λ r. List·Memᴰ k (placesFrom g area j r 0 (used r))) (sym this-row) w)))
           (λ w. inr (z, w))
           (in-this k v)
-      go (no z) = inl (subst (λ r. List·Memᴰ k (placesFrom g area m r 0 (used r))) (sym (other-row m z)) (in-other m low z k h))
+      go (no z) = inl (subst (λ r. List·Memᴰ k (placesFrom g area m r 0 (used r))) (sym (other-row s j i x m z)) (in-other m low z k h))

@@ -2,6 +2,7 @@
 use crate::at_stamp::hits;
 use crate::searching::holders;
 use blocks::Params;
+use client::record::in_phase;
 use client_rules::Answer;
 use client_rules::Answered;
 use client_rules::Client;
@@ -39,7 +40,8 @@ fn regain_value(
 ) -> bool
     requires { ⌜ Regaining g rows (now area) x p (length (now result)) ⌝ }
     ensures { λ r. ⌜ (r ≡ agreeing g (λ j. atStamp (view g rows (now (area .entry)) j) x) (entryAt g (now (area .entry)) p .digests)) ×
-        (now (result .exit) ≡ readResult (decoded g (λ j. atStamp (view g rows (now (area .entry)) j) x) (entryAt g (now (area .entry)) p .digests)) (now (result .entry))) ⌝ }
+        (now (result .exit) ≡ readResult (decoded g (λ j. atStamp (view g rows (now (area .entry)) j) x) (entryAt g (now (area .entry)) p .digests))
+        (now (result .entry))) ⌝ }
 {
     let h = hits(rows, x);
     let k = holders(h, p, area, g);
@@ -80,7 +82,10 @@ pub fn finish(
     to: &mut [u8],
 ) -> Answered
     requires { ⌜ Finishing g (s .rows) (now area) j i (length (now result)) (length (now out)) (length (now to)) ⌝ }
-    ensures { λ r. ⌜ outcome r (now (area .entry)) (now (result .exit)) (now (out .exit)) (now (to .exit)) ≡ stepped (completeBy digestOf g me (some (foundOf g (view g (s .rows) (now (area .entry))) (keptAt g (s .rows) (now (area .entry)) j i))) s (now (area .entry))) (now (result .entry)) (now (out .entry)) (now (to .entry)) ⌝ }
+    ensures { λ r. ⌜ outcome r (now (area .entry)) (now (result .exit)) (now (out .exit)) (now (to .exit))
+        ≡ stepped
+        (completeBy digestOf g me (some (foundOf g (view g (s .rows) (now (area .entry))) (keptAt g (s .rows) (now (area .entry)) j i))) s (now (area .entry)))
+        (now (result .entry)) (now (out .entry)) (now (to .entry)) ⌝ }
 {
     let heard = s.heard;
     let times = s.times;
@@ -91,15 +96,7 @@ pub fn finish(
     let agree = regain_value(rows, x, 4 * j - 4 + i, area, g, result);
     let start = Place { at: 0, count: 0 };
     ask_all(out, to, start, g, Ask::ReadComplete, me, s.reads);
-    let client = Client {
-        writes: s.writes,
-        reads: s.reads,
-        closed: s.closed,
-        phase: Phase::Idle,
-        heard,
-        times,
-        rows,
-    };
+    let client = in_phase(s, Phase::Idle, heard, times);
     let answer = read_answer(agree, x);
     Answered { answer, client }
 }

@@ -45,7 +45,8 @@ pub fn settle(
     to: &mut [u8],
 ) -> Answered
     requires { ⌜ Lent g (length (now area)) (length (now result)) (length (now out)) (length (now to)) ⌝ }
-    ensures { λ r. ⌜ outcome r (now (area .entry)) (now (result .exit)) (now (out .exit)) (now (to .exit)) ≡ stepped (settle digestOf g me s (now (area .entry))) (now (result .entry)) (now (out .entry)) (now (to .entry)) ⌝ }
+    ensures { λ r. ⌜ outcome r (now (area .entry)) (now (result .exit)) (now (out .exit)) (now (to .exit))
+        ≡ stepped (settle digestOf g me s (now (area .entry))) (now (result .entry)) (now (out .entry)) (now (to .entry)) ⌝ }
 {
     let rows = s.rows;
     let stop = search(rows, area, g);

@@ -47,7 +47,8 @@ fn is_agreed(rows: [Row; 11], x: Stamp, p: usize, area: &[u8], g: Params) -> boo
 // The first place, by rising server and place, whose stamp and digest list are in n - t rows.
 pub fn search(rows: [Row; 11], area: &[u8], g: Params) -> Stop
     requires { ⌜ Searching g (length (now area)) ⌝ }
-    ensures { λ r. ⌜ (standing g rows (now (area .entry)) r ≡ firstAgreed g (view g rows (now (area .entry))) (rowsFrom (view g rows (now (area .entry))) 1 (g .n))) × Inside r ⌝ }
+    ensures { λ r. ⌜ (standing g rows (now (area .entry)) r
+        ≡ firstAgreed g (view g rows (now (area .entry))) (rowsFrom (view g rows (now (area .entry))) 1 (g .n))) × Inside r ⌝ }
 {
     let n = g.n;
     let mut stop = Stop::Nowhere;

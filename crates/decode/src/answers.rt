@@ -4,6 +4,7 @@ use crate::words::spelt;
 use blocks::Coded;
 use blocks::Fault;
 use blocks::Params;
+use blocks::faults::fault_number;
 use case_text::text::put_bytes;
 use case_text::text::word_at;
 use console::counts::count_of;
@@ -17,20 +18,9 @@ fn put_what(out: Out, text: &mut [u8]) -> Out {
     put(out, text, b"what?\n")
 }
 
-fn number_of(f: Fault) -> u64 {
-    match f {
-        Fault::Parties => 1,
-        Fault::Threshold => 2,
-        Fault::Length => 3,
-        Fault::Blocks => 9,
-        Fault::Room => 10,
-        Fault::Disagreement => 21,
-    }
-}
-
 fn put_refused(out: Out, text: &mut [u8], f: Fault) -> Out {
     let word = put(out, text, b"refused ");
-    let number = put_decimal(word, text, number_of(f));
+    let number = put_decimal(word, text, fault_number(f));
     put(number, text, b"\n")
 }
 

@@ -39,7 +39,7 @@ fn end_line(r: Run, line: &[u8], text: &mut [u8]) -> Run {
 
 // The next byte of the input.
 fn take(r: Run, b: u8, line: &mut [u8], text: &mut [u8]) -> Run {
-    if b == 10 {
+    if b == b'\n' {
         return end_line(r, line, text);
     }
     let out = r.out;

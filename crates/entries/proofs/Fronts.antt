@@ -16,7 +16,8 @@ use Rattle.entries.specs.declared.Closing.the-variants as C
 use Rattle.entries.specs.declared.Found.{Found}
 use Rattle.entries.specs.declared.Reading.{Reading}
 use Rattle.entries.specs.declared.Reading.the-variants as R
-use Rattle.entries.specs.Entries.{malformed, cut, senderIn, readingOf}
+use Rattle.frame.specs.Outbox.{partyIn}
+use Rattle.entries.specs.Entries.{malformed, cut, readingOf}
 
 -- ---- tests
 
@@ -42,7 +43,7 @@ pub record Begins (l : List ℕ) : Type 0 where
   pub whole : 2 + be2 l 0 ≤ length l
 
 abbrev pub foundAt : List ℕ → Found
-foundAt l = record { sender = senderIn (getD l 3 0) (getD l 4 0); end = 2 + be2 l 0 }
+foundAt l = record { sender = partyIn (getD l 3 0) (getD l 4 0); end = 2 + be2 l 0 }
 
 -- nothing speaks against the length, the version and the class as far as they are there
 pub record Sound (l : List ℕ) : Type 0 where
@@ -198,6 +199,6 @@ module _ (l : List ℕ) where
     unfolding readingOf pick
     cut-read e f = rw (ne-eqb _ 0 some, e, f)
 
-  pub entry-read : (p : Party) (x : ℕ) → Begins l → p ≡ senderIn (getD l 3 0) (getD l 4 0) → x ≡ be2 l 0
+  pub entry-read : (p : Party) (x : ℕ) → Begins l → p ≡ partyIn (getD l 3 0) (getD l 4 0) → x ≡ be2 l 0
       → R.Entry (record { sender = p; end = 2 + x }) ≡ readingOf l
   entry-read p x B e f = ap₂ (λ q y. R.Entry (record { sender = q; end = 2 + y })) e f ∙ sym (reading-begins l B)

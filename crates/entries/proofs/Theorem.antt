@@ -11,13 +11,15 @@ use Rattle.area.specs.Numbers.{be2, bytes2}
 use Rattle.frame.specs.declared.Party.{Party}
 use Rattle.frame.specs.declared.Party.the-variants as P
 use Rattle.frame.specs.Messages.{numberIn}
-use Rattle.frame.specs.Outbox.{partyBytes}
+use Rattle.frame.specs.Outbox.{partyBytes, partyIn}
 use Rattle.entries.specs.declared.Closing.{Closing}
 use Rattle.entries.specs.declared.Closing.the-variants as C
 use Rattle.entries.specs.declared.Reading.{Reading}
-use Rattle.entries.specs.Entries.{TraceEntry, traceEntry, leadBytes, entryBytes, traceBytes, senderIn, malformed, cut, readingOf, Trace, closed, before, foundIn, thenTrace, traceFrom, traceOf}
+use Rattle.entries.specs.Entries.{TraceEntry, traceEntry, leadBytes, entryBytes, traceBytes, malformed}
+use Rattle.entries.specs.Entries.{cut, readingOf, Trace, closed, before, foundIn, thenTrace, traceFrom, traceOf}
 use Rattle.entries.specs.Forms.{Writable, AllWritable, Closes, Read, Theorem}
-use Rattle.entries.proofs.Fronts.{Begins, foundAt, Sound, Unsound, length-low, version-other, class-high, Front, none, bad, short, one, front, reading-begins}
+use Rattle.entries.proofs.Fronts.{Begins, foundAt, Sound, Unsound, length-low, version-other}
+use Rattle.entries.proofs.Fronts.{class-high, Front, none, bad, short, one, front, reading-begins}
 use Rattle.entries.proofs.Traces.{trace-entry, fewer}
 
 -- ---- entries written are read back
@@ -54,7 +56,7 @@ module _ (f l : List ℕ) (c j : ℕ) (h : length f ≤ 65532) where
   rest-bytes = ap (λ k. drop k bytes) (five (length f)) ∙ drop-at f l (length f) refl
 
 written-back : (p : Party) (f l : List ℕ) → length f ≤ 65532 → Behind (traceEntry p f) l
-unfolding entryBytes leadBytes bytes2 partyBytes senderIn pick
+unfolding entryBytes leadBytes bytes2 partyBytes partyIn pick
 written-back (P.Client c) f l h = let e = size-back f l 0 c h in record {
   begins = begins-bytes f l 0 c h (omega arith);
   sender = refl;
@@ -96,8 +98,8 @@ back (e ∷ es) W rest =
 
 -- two bytes, version, class, number and frame as they are read
 again : (a b c j : ℕ) (f : List ℕ) → a < 256 → b < 256 → c ≤ 1 → 3 + length f ≡ a * 256 + b
-    → (entryBytes (traceEntry (senderIn c j) f) ≡ a ∷ b ∷ 1 ∷ c ∷ j ∷ f) × (numberIn (senderIn c j) ≡ j)
-unfolding entryBytes leadBytes bytes2 partyBytes senderIn pick
+    → (entryBytes (traceEntry (partyIn c j) f) ≡ a ∷ b ∷ 1 ∷ c ∷ j ∷ f) × (numberIn (partyIn c j) ≡ j)
+unfolding entryBytes leadBytes bytes2 partyBytes partyIn pick
 again a b zero j f ha hb hc e =
     let u : (3 + length f) / 256 % 256 ≡ a = omega arith in
     let v : (3 + length f) % 256 ≡ b = omega arith in
@@ -167,7 +169,7 @@ missing : (a b c j : ℕ) (f l more : List ℕ) → a < 256 → b < 256 → c �
 missing a b c j f l more ha hb hc hj e s q =
     let g = again a b c j f ha hb hc e in
     record {
-      entry = traceEntry (senderIn c j) f;
+      entry = traceEntry (partyIn c j) f;
       writable = record { number = omega (arith, g .1); short = omega arith };
       more = more;
       some = s;

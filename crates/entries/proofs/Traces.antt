@@ -11,7 +11,7 @@ use Rattle.entries.specs.declared.Closing.the-variants as C
 use Rattle.entries.specs.declared.Reading.{Reading}
 use Rattle.entries.specs.declared.Reading.the-variants as R
 use Rattle.entries.specs.declared.Found.{Found}
-use Rattle.entries.specs.Entries.{Trace, closed, before, foundIn, thenTrace, readingOf, traceFrom, traceOf, closingIn, surveyOf}
+use Rattle.entries.specs.Entries.{Trace, closed, before, foundIn, thenTrace, readingOf, traceFrom, traceOf, surveyOf}
 use Rattle.entries.proofs.Fronts.{Begins, foundAt, Unsound, length-low, version-other, class-high, Front, none, bad, short, one, front}
 
 -- behind an entry fewer bytes are left
@@ -146,10 +146,10 @@ module _ (trace : List ℕ) (at count : ℕ) (K : Counts trace at count) (r : Re
       let t = rest-entry trace at r is x e in
       record { many = omega (arith, ap (λ y. length (y .entries)) t, K .many); ends = sym (ap (λ y. y .closing) t) ∙ K .ends }
 
-  pub counts-end : (c c′ : Closing) → r ≡ R.Closed c → c′ ≡ closingIn r → record { count = count; closing = c′ } ≡ surveyOf (traceOf trace)
-  unfolding surveyOf closingIn
-  counts-end c c′ e f =
+  pub counts-end : (c : Closing) → r ≡ R.Closed c → record { count = count; closing = c } ≡ surveyOf (traceOf trace)
+  unfolding surveyOf
+  counts-end c e =
       let t = rest-closed trace at r is c e in
       let m : count ≡ length (traceOf trace .entries) = omega (arith, ap (λ y. length (y .entries)) t, K .many) in
-      let d : c′ ≡ traceOf trace .closing = f ∙ ap closingIn e ∙ sym (ap (λ y. y .closing) t) ∙ K .ends in
+      let d : c ≡ traceOf trace .closing = sym (ap (λ y. y .closing) t) ∙ K .ends in
       λ i. record { count = m i; closing = d i }

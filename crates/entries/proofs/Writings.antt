@@ -3,7 +3,7 @@ use Prim.Native.Nat.{ℕ, _+_, _-_, _/_, _%_, _≤_, _<_}
 use native.Mathlib.Omega.{arith}
 use mathlib.Core.Path.{_≡_, refl, sym, ap, _∙_}
 use mathlib.Core.List.{List, [], _∷_, _++_}
-use lib.ListN.{length}
+use lib.ListN.{length, getD}
 use lib.Seq.{sets}
 use borrow.Author.Tests.{lt-ltb, le-ltb}
 use Rattle.area.specs.Area.{pick}
@@ -20,13 +20,10 @@ unfolding leadBytes bytes2 partyBytes
 length-lead n (P.Client c) = refl
 length-lead n (P.Server j) = refl
 
-pub client-lead : (n : ℕ) (p : Party) (c : ℕ) → p ≡ P.Client c → (n / 256 % 256 ∷ n % 256 ∷ 1 ∷ 0 ∷ c ∷ []) ≡ leadBytes n p
+pub lead-of : (n : ℕ) (p : Party) (b : List ℕ) → b ≡ partyBytes p → (n / 256 % 256 ∷ n % 256 ∷ 1 ∷ getD b 0 0 ∷ getD b 1 0 ∷ []) ≡ leadBytes n p
 unfolding leadBytes bytes2 partyBytes
-client-lead n p c e = sym (ap (leadBytes n) e)
-
-pub server-lead : (n : ℕ) (p : Party) (j : ℕ) → p ≡ P.Server j → (n / 256 % 256 ∷ n % 256 ∷ 1 ∷ 1 ∷ j ∷ []) ≡ leadBytes n p
-unfolding leadBytes bytes2 partyBytes
-server-lead n p j e = sym (ap (leadBytes n) e)
+lead-of n (P.Client c) b e = ap (λ z. n / 256 % 256 ∷ n % 256 ∷ 1 ∷ getD z 0 0 ∷ getD z 1 0 ∷ []) e
+lead-of n (P.Server j) b e = ap (λ z. n / 256 % 256 ∷ n % 256 ∷ 1 ∷ getD z 0 0 ∷ getD z 1 0 ∷ []) e
 
 module _ (p : Party) (f out : List ℕ) where
   pub too-long : longest < length f → written 0 out ≡ writing p f out

@@ -6,11 +6,10 @@ use mathlib.Core.Bool.{Bool, not, _&&_, _||_}
 use mathlib.Core.List.{List, [], _∷_, _++_}
 use lib.ListN.{length, getD, drop}
 use lib.Dec.{eqb, ltb, leb}
-use Rattle.area.specs.Area.{pick, part}
+use Rattle.area.specs.Area.{pick, part, numbered}
 use Rattle.area.specs.Numbers.{be2, bytes2}
 use Rattle.frame.specs.declared.Party.{Party}
-use Rattle.frame.specs.declared.Party.the-variants as P
-use Rattle.frame.specs.Outbox.{partyBytes}
+use Rattle.frame.specs.Outbox.{partyBytes, partyIn}
 use Rattle.entries.specs.declared.Closing.{Closing}
 use Rattle.entries.specs.declared.Closing.the-variants as C
 use Rattle.entries.specs.declared.Found.{Found}
@@ -60,17 +59,23 @@ malformed l =
 unfoldable pub cut : List ℕ → Bool
 cut l = ltb (length l) 2 || ltb (length l) (2 + be2 l 0)
 
--- "the sender class (0 client, 1 server), its number"
-unfoldable pub senderIn : ℕ → ℕ → Party
-senderIn class j = pick (eqb class 0) (P.Client j) (P.Server j)
+-- document 02's number of a closing; 0 where the trace is whole
+abbrev pub closingNumber : Closing → ℕ
+closingNumber C.Whole = 0
+closingNumber C.Malformed = 22
+closingNumber C.Cut = 23
+
+-- the closing with the number n (0 where none has it)
+abbrev pub closingWith : ℕ → Closing
+closingWith n = numbered closingNumber C.Whole (C.Whole ∷ C.Malformed ∷ C.Cut ∷ []) n
 
 -- what stands at the front of the bytes that are left: no bytes, so that the trace is whole; 22; 23; or an entry
 unfoldable pub readingOf : List ℕ → Reading
 readingOf l =
-    pick (eqb (length l) 0) (R.Closed C.Whole)
-    (pick (malformed l) (R.Closed C.Malformed)
-    (pick (cut l) (R.Closed C.Cut)
-    (R.Entry (record { sender = senderIn (getD l 3 0) (getD l 4 0); end = 2 + be2 l 0 }))))
+    pick (eqb (length l) 0) (R.Closed (closingWith 0))
+    (pick (malformed l) (R.Closed (closingWith 22))
+    (pick (cut l) (R.Closed (closingWith 23))
+    (R.Entry (record { sender = partyIn (getD l 3 0) (getD l 4 0); end = 2 + be2 l 0 }))))
 
 -- the entries of a trace up to where it closes, and how it closes
 pub record Trace : Type 0 where
@@ -103,15 +108,5 @@ traceOf l = traceFrom (length l) l
 
 -- ---- what the code says of it
 
-unfoldable pub closingIn : Reading → Closing
-closingIn (R.Entry x) = C.Whole
-closingIn (R.Closed c) = c
-
 unfoldable pub surveyOf : Trace → Survey
 surveyOf t = record { count = length (t .entries); closing = t .closing }
-
--- document 02's number; 0 where the trace is whole
-unfoldable pub closingNumber : Closing → ℕ
-closingNumber C.Whole = 0
-closingNumber C.Malformed = 22
-closingNumber C.Cut = 23

@@ -1,7 +1,5 @@
 // Entries of a trace (document 02, F-8): a frame and its sender each.
 use frame::Party;
-ghost use mathlib.Core.Path.{_≡_};
-ghost use Rattle.entries.specs.Entries.{closingNumber};
 
 pub mod reader;
 pub mod writer;
@@ -15,7 +13,7 @@ pub const VERSION: u8 = 1;
 // The longest frame that an entry can have.
 pub const LONGEST: usize = 65532;
 
-// How a trace closes: whole, or at an entry that is malformed (22) or inside of which it ends (23).
+// How a trace closes: whole, or at an entry that is malformed or inside of which it ends. `closingNumber` gives document 02's number.
 pub enum Closing {
     Whole,
     Malformed,
@@ -38,15 +36,4 @@ pub enum Reading {
 pub struct Survey {
     pub count: usize,
     pub closing: Closing,
-}
-
-// 0, 22 or 23.
-pub fn closing_number(c: Closing) -> u8
-    ensures { λ r. ⌜ r ≡ closingNumber c ⌝ }
-{
-    match c {
-        Closing::Whole => 0,
-        Closing::Malformed => 22,
-        Closing::Cut => 23,
-    }
 }

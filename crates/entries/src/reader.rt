@@ -3,9 +3,9 @@ use crate::Closing;
 use crate::Found;
 use crate::Reading;
 use crate::Survey;
-use frame::Party;
+use frame::parties::party_in;
 ghost use mathlib.Core.Path.{_≡_};
-ghost use Rattle.entries.specs.Entries.{malformed, cut, senderIn, readingOf, closingIn, traceOf, surveyOf};
+ghost use Rattle.entries.specs.Entries.{malformed, cut, readingOf, traceOf, surveyOf};
 
 // 22: length under 3, version not 1 or class above 1, as far as the bytes go.
 fn is_malformed(l: &[u8]) -> bool
@@ -39,16 +39,6 @@ fn is_cut(l: &[u8]) -> bool
     l.len() < 2 + area::read2(l, 0) as usize
 }
 
-// Class 0 is a client, any other a server.
-fn sender_in(class: u8, number: u8) -> Party
-    ensures { λ r. ⌜ r ≡ senderIn class number ⌝ }
-{
-    if class == 0 {
-        return Party::Client(number);
-    }
-    Party::Server(number)
-}
-
 // What stands at the front of l: an entry, or how the trace closes there.
 pub fn read_entry(l: &[u8]) -> Reading
     ensures { λ r. ⌜ r ≡ readingOf (now (l .entry)) ⌝ }
@@ -62,19 +52,9 @@ pub fn read_entry(l: &[u8]) -> Reading
     if is_cut(l) {
         return Reading::Closed(Closing::Cut);
     }
-    let sender = sender_in(l[3], l[4]);
+    let sender = party_in(l[3], l[4]);
     let end = 2 + area::read2(l, 0) as usize;
     Reading::Entry(Found { sender, end })
-}
-
-// How a trace closes that has no entry there; of an entry it is not asked.
-fn closing_in(r: Reading) -> Closing
-    ensures { λ x. ⌜ x ≡ closingIn r ⌝ }
-{
-    match r {
-        Reading::Entry(_) => Closing::Whole,
-        Reading::Closed(c) => c,
-    }
 }
 
 // Counts the entries of a trace.
@@ -85,11 +65,14 @@ pub fn survey(trace: &[u8]) -> Survey
     let mut at: usize = 0;
     loop {
         let reading = read_entry(&trace[at..]);
-        let Reading::Entry(found) = reading else {
-            let closing = closing_in(reading);
-            return Survey { count, closing };
-        };
-        count += 1;
-        at += found.end;
+        match reading {
+            Reading::Closed(closing) => {
+                return Survey { count, closing };
+            }
+            Reading::Entry(found) => {
+                count += 1;
+                at += found.end;
+            }
+        }
     }
 }

@@ -3,6 +3,7 @@ use crate::FRAME_AT;
 use crate::LONGEST;
 use crate::VERSION;
 use frame::Party;
+use frame::parties::party_bytes;
 ghost use mathlib.Core.Path.{_≡_};
 ghost use Prim.Native.Nat.{_<_};
 ghost use Rattle.entries.specs.Entries.{leadBytes};
@@ -14,10 +15,8 @@ fn lead_bytes(sender: Party, size: usize) -> [u8; 5]
 {
     let high = (size / 256 % 256) as u8;
     let low = (size % 256) as u8;
-    match sender {
-        Party::Client(c) => [high, low, VERSION, 0, c],
-        Party::Server(j) => [high, low, VERSION, 1, j],
-    }
+    let party = party_bytes(sender);
+    [high, low, VERSION, party[0], party[1]]
 }
 
 // Writes an entry at the front of out. The answer is how many bytes it takes: 0 if the frame is too long for an entry, or out too short.

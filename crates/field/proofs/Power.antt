@@ -1,5 +1,5 @@
--- The laws of powers in the byte field: of sums of exponents, of halved exponents, the period of 03, and that the 254th power of a byte other than 00 is its inverse.
--- Assumes nothing.
+-- The laws of powers in the byte field: of sums of exponents, of halved exponents, the period of 03, and that the 254th power of a byte other than 00 is its
+-- inverse. Assumes nothing.
 use mathlib.Core.Logic.{_≢_}
 use mathlib.Core.Path.{_≡_, refl, sym, ap, ap₂, _∙_}
 use Prim.Native.Nat.{ℕ, zero, suc, _+_, _-_, _/_, _%_, _<_, _≤_}

@@ -121,5 +121,6 @@ unfolding xtime
 xtime-sum a b =
     ap₂ _⊕_
     (ap (λ (x : ℕ). x % 256) (twice a b) ∙ mod-256 (a * 2) (b * 2))
-    (ap (λ (x : ℕ). x % 2 * reduction) (top a b) ∙ ap (λ (x : ℕ). x * reduction) (mod-2 (a / 128) (b / 128)) ∙ bit-times (a / 128 % 2) (b / 128 % 2) (bit (a / 128)) (bit (b / 128)) reduction)
+    (ap (λ (x : ℕ). x % 2 * reduction) (top a b) ∙ ap (λ (x : ℕ). x * reduction) (mod-2 (a / 128) (b / 128))
+    ∙ bit-times (a / 128 % 2) (b / 128 % 2) (bit (a / 128)) (bit (b / 128)) reduction)
     ∙ four (a * 2 % 256) (b * 2 % 256) (a / 128 % 2 * reduction) (b / 128 % 2 * reduction)

@@ -44,4 +44,5 @@ logs-rule l n t =
     nonzero zero e p t = absurd (not-suc-le-zero p)
     nonzero (suc a) e p t =
         let h : e < 255 = ltb-true e 255 (and-left (ltb e 255) (eqb (getD (generated 1 255) e 0) (suc a)) t) in
-        (h, sym (powers-rule (generated 1 255) refl e h) ∙ eqb-true (getD (generated 1 255) e 0) (suc a) (and-right (ltb e 255) (eqb (getD (generated 1 255) e 0) (suc a)) t))
+        let w = and-right (ltb e 255) (eqb (getD (generated 1 255) e 0) (suc a)) t in
+        (h, sym (powers-rule (generated 1 255) refl e h) ∙ eqb-true (getD (generated 1 255) e 0) (suc a) w)

@@ -1,5 +1,5 @@
--- The byte field of FIPS 197, section 4: a sum is the exclusive or, and a product that of polynomials over the bits modulo 11B (hexadecimal). It knows no table.
--- Factors count by their low eight bits, so that the laws of the product need no bound. Assumes nothing: these are definitions.
+-- The byte field of FIPS 197, section 4: a sum is the exclusive or, and a product that of polynomials over the bits modulo 11B (hexadecimal). It knows no
+-- table. Factors count by their low eight bits, so that the laws of the product need no bound. Assumes nothing: these are definitions.
 use Prim.Native.Nat.{ℕ, zero, suc, _*_, _/_, _%_, _<_}
 use mathlib.Core.Path.{_≡_}
 use mathlib.Core.List.{List}

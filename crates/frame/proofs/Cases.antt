@@ -16,5 +16,6 @@ twelve = refl
 
 -- in every case the definitions give what document 01 states
 pub as-stated : map (λ c. c .given) cases ≡ map (λ c. c .stated) cases
-unfolding cases value blockOf blockByte blockLength padded stripe table tableFrom joined row valueOf blocksOf candidate agree decodedAll pick same eval plus scale withRoot vanishing newtonStep through _⊕_ reduction xtime shiftAdd _⊗_ powerOf kindOf bodyBytes headerBytes frameOf build bytes2 bytes4
+unfolding cases value blockOf blockByte blockLength padded stripe table tableFrom joined row valueOf blocksOf candidate agree decodedAll pick same eval plus
+    scale withRoot vanishing newtonStep through _⊕_ reduction xtime shiftAdd _⊗_ powerOf kindOf bodyBytes headerBytes frameOf build bytes2 bytes4
 as-stated = refl

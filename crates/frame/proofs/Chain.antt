@@ -16,7 +16,8 @@ use Rattle.frame.specs.declared.Opened.{Opened}
 use Rattle.frame.specs.declared.Opened.the-variants as O
 use Rattle.frame.specs.Refusals.{andThen}
 use Rattle.frame.specs.Params.{boundsTest, entryLength}
-use Rattle.frame.specs.Frames.{versionAt, kindAt, bodyAt, valueAt, lengthOf, bodyLength, headerIn, stampIn, framingTest, headerTest, bodyTest, stampTest, contentTest, frameTest, opened, openedBy, openedUnder}
+use Rattle.frame.specs.Frames.{versionAt, kindAt, bodyAt, valueAt, lengthOf, bodyLength, headerIn, stampIn, framingTest}
+use Rattle.frame.specs.Frames.{headerTest, bodyTest, stampTest, contentTest, frameTest, opened, openedBy, openedUnder}
 use Rattle.frame.proofs.Opening.{framing-facts, body-facts}
 
 -- the stamp is looked at in a value alone

@@ -17,8 +17,11 @@ use Rattle.frame.specs.declared.Header.{Header}
 use Rattle.frame.specs.declared.Opened.{Opened}
 use Rattle.frame.specs.declared.Opened.the-variants as O
 use Rattle.frame.specs.Params.{width, listed, entryLength}
-use Rattle.frame.specs.Messages.{Entry, Stage, send, echo, ready, Body, getStamp, ack, askRead, readComplete, stampIs, blockIs, valueIs, Message, message, Sized, FormedBody, Formed}
-use Rattle.frame.specs.Frames.{version, versionAt, kindAt, clientAt, sequenceAt, bodyAt, offerAt, writerAt, writeAt, valueAt, kindOf, retired, bodyLength, lengthOf, entryBytes, offerBytes, stampBytes, bodyBytes, headerBytes, frameOf, build, headerIn, stampIn, opened, entryIn, offerIn, bodyIn, messageIn}
+use Rattle.frame.specs.Messages.{Entry, Stage, send, echo, ready, Body, getStamp, ack, askRead, readComplete}
+use Rattle.frame.specs.Messages.{stampIs, blockIs, valueIs, Message, message, Sized, FormedBody, Formed}
+use Rattle.frame.specs.Frames.{version, versionAt, kindAt, clientAt, sequenceAt, bodyAt, offerAt, writerAt, writeAt, valueAt}
+use Rattle.frame.specs.Frames.{kindOf, retired, bodyLength, lengthOf, entryBytes, offerBytes, stampBytes, bodyBytes}
+use Rattle.frame.specs.Frames.{headerBytes, frameOf, build, headerIn, stampIn, opened, entryIn, offerIn, bodyIn, messageIn}
 use Rattle.frame.proofs.Verdicts.{never}
 use Rattle.frame.proofs.Opening.{StampFine, Opens, opens-facts}
 

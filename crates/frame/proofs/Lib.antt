@@ -5,9 +5,11 @@ pub mod RoundTrip
 pub mod Converse
 pub mod StampOrder
 pub mod Chunks
+pub mod PartyLaws
 pub mod Outbox
 pub mod Chain
 pub mod Within
 pub mod Writing
 pub mod Cases
 pub mod Rooms
+pub mod Theorem

@@ -19,7 +19,8 @@ use Rattle.frame.specs.declared.Opened.{Opened}
 use Rattle.frame.specs.declared.Opened.the-variants as O
 use Rattle.frame.specs.Refusals.{andThen}
 use Rattle.frame.specs.Stamps.{partsAgree}
-use Rattle.frame.specs.Frames.{version, versionAt, kindAt, bodyAt, retired, bodyLength, headerIn, stampIn, framingTest, headerTest, bodyTest, stampTest, contentTest, frameTest, opened}
+use Rattle.frame.specs.Frames.{version, versionAt, kindAt, bodyAt, retired, bodyLength, headerIn, stampIn}
+use Rattle.frame.specs.Frames.{framingTest, headerTest, bodyTest, stampTest, contentTest, frameTest, opened}
 use Rattle.frame.proofs.Verdicts.{fine-not, fine-is, fine-both, fine-opened}
 
 -- the stamp of a value: all parts zero or none, and the writer at most 8
@@ -127,7 +128,15 @@ header-fine : (v : ℕ) (h : Header) → HeaderFine v h → headerTest v h ≡ J
 unfolding headerTest pick
 header-fine v h n =
     let s : h .sequence ≡ 0 → ⊥ = λ q. omega (arith, n .sequence-low, q) in
-    rw (eq-eqb _ _ (n .version-is), le-ltb _ _ (n .kind-low), le-ltb _ _ (n .kind-high), n .kind-used, le-ltb _ _ (n .client-low), le-ltb _ _ (n .client-high), ne-eqb _ _ s)
+    rw (
+      eq-eqb _ _ (n .version-is),
+      le-ltb _ _ (n .kind-low),
+      le-ltb _ _ (n .kind-high),
+      n .kind-used,
+      le-ltb _ _ (n .client-low),
+      le-ltb _ _ (n .client-high),
+      ne-eqb _ _ s,
+    )
 
 stamp-fine : (s : Stamp) → StampFine s → stampTest s ≡ J.Fine
 unfolding stampTest pick

@@ -14,6 +14,7 @@ use Rattle.frame.specs.declared.Place.{Place}
 use Rattle.frame.specs.Params.{largestFrame, Bounded}
 use Rattle.frame.specs.Messages.{Message, Sending, sending, Formed, toFrom, toAll}
 use Rattle.frame.specs.Frames.{build}
+use Rattle.frame.proofs.PartyLaws.{length-party}
 use Rattle.frame.specs.Outbox.{frames, partyBytes, receivers, Outbox, outbox, sent, wrote, wroteTo}
 
 pub frames-append : (xs ys : List Sending) → frames (xs ++ ys) ≡ frames xs ++ frames ys
@@ -25,11 +26,6 @@ pub receivers-append : (xs ys : List Sending) → receivers (xs ++ ys) ≡ recei
 unfolding receivers
 receivers-append [] ys = refl
 receivers-append (x ∷ xs) ys = rw (receivers-append xs ys) (sym (append-assoc (partyBytes (x .receiver)) (receivers xs) (receivers ys)))
-
-length-party : (p : Party) → length (partyBytes p) ≡ 2
-unfolding partyBytes
-length-party (P.Client c) = refl
-length-party (P.Server j) = refl
 
 pub length-receivers : (xs : List Sending) → length (receivers xs) ≡ 2 * length xs
 unfolding receivers
@@ -44,7 +40,8 @@ sent-append q xs ys =
     let o : sets (sets (q .out) (q .place .at) (frames xs)) (q .place .at + length (frames xs)) (frames ys) ≡ sets (q .out) (q .place .at) (frames (xs ++ ys)) =
     rw (frames-append xs ys) (sym (sets-append (q .out) (q .place .at) (frames xs) (frames ys))) in
     let l : 2 * q .place .count + length (receivers xs) ≡ 2 * (q .place .count + length xs) = omega (arith, length-receivers xs) in
-    let r : sets (sets (q .to) (2 * q .place .count) (receivers xs)) (2 * (q .place .count + length xs)) (receivers ys) ≡ sets (q .to) (2 * q .place .count) (receivers (xs ++ ys)) =
+    let r : sets (sets (q .to) (2 * q .place .count) (receivers xs)) (2 * (q .place .count + length xs)) (receivers ys)
+    ≡ sets (q .to) (2 * q .place .count) (receivers (xs ++ ys)) =
     rw (receivers-append xs ys, ← l) (sym (sets-append (q .to) (2 * q .place .count) (receivers xs) (receivers ys))) in
     let a : q .place .at + length (frames xs) + length (frames ys) ≡ q .place .at + length (frames (xs ++ ys)) =
     omega (arith, ap length (frames-append xs ys), length-append (frames xs) (frames ys)) in

@@ -1,16 +1,19 @@
--- Frames of messages within their bounds are no longer than the largest frame. Assumes nothing.
+-- Frames of messages within their bounds are no longer than the largest frame; and the room that is left behind frames. Assumes nothing.
 use Prim.Native.Nat.{ℕ, _+_, _*_, _≤_}
 use native.Mathlib.Omega.{arith}
-use native.Mathlib.Nat.{suc-mul}
+use native.Mathlib.Nat.{add-mul, suc-mul, mul-le-mul-left, mul-le-mul-right}
 use mathlib.Core.List.{List, [], _∷_, _++_}
-use mathlib.Core.Path.{_≡_}
+use mathlib.Core.Path.{_≡_, ap, _∙_}
 use lib.ListN.{length, length-append}
+use lib.Seq.{length-sets}
 use Rattle.area.proofs.Numbers.{length-bytes8}
 use Rattle.blocks.specs.declared.Params.{Params}
 use Rattle.frame.specs.Params.{entryLength, largestFrame}
-use Rattle.frame.specs.Messages.{Stage, send, echo, ready, Body, getStamp, ack, askRead, readComplete, stampIs, blockIs, valueIs, Message, Sending, FormedBody}
+use Rattle.frame.specs.Messages.{Stage, send, echo, ready, Body, getStamp, ack, askRead, readComplete}
+use Rattle.frame.specs.Messages.{stampIs, blockIs, valueIs, Message, Sending, FormedBody}
 use Rattle.frame.specs.Frames.{bodyAt, kindOf, entryBytes, stampBytes, bodyBytes, frameOf, build}
-use Rattle.frame.specs.Outbox.{frames}
+use Rattle.frame.specs.declared.Place.{Place}
+use Rattle.frame.specs.Outbox.{frames, receivers, Outbox, outbox, sent, Room}
 use Rattle.frame.proofs.RoundTrip.{length-frame, length-entry, length-offer, length-stamp}
 
 pub body-room : (g : Params) (b : Body) → FormedBody g b → length (bodyBytes b) ≤ 13 + entryLength g
@@ -39,3 +42,27 @@ unfolding frames
 frames-room g [] f = omega arith
 frames-room g (x ∷ xs) f =
     rw suc-mul (omega (arith, length-append (build (x .says)) (frames xs), build-room g (x .says) (f .0), frames-room g xs (f .1)))
+
+-- ---- the room of lent areas
+
+-- room for m frames is room for fewer that are smaller
+pub room-within : (p : Place) (m k size small out to : ℕ) → k ≤ m → small ≤ size → Room p m size out to → Room p k small out to
+room-within p m k size small out to h s R =
+    let d : k * size ≤ m * size = mul-le-mul-right size h in
+    let x : k * small ≤ k * size = mul-le-mul-left k s in
+    record { out-room = omega (arith, R .out-room); to-room = omega (arith, R .to-room) }
+
+-- of room for N frames k were taken: there is room for m more, which may be smaller
+pub room-left : (p r : Place) (o t o₀ t₀ : List ℕ) (xs : List Sending) (k m N size size′ : ℕ)
+    → outbox o t r ≡ sent (outbox o₀ t₀ p) xs → length (frames xs) ≤ k * size → length xs ≤ k → k + m ≤ N → size′ ≤ size
+    → Room p N size (length o₀) (length t₀) → Room r m size′ (length o) (length t)
+unfolding sent
+room-left p r o t o₀ t₀ xs k m N size size′ e f l h s R =
+    let a : r .at ≡ p .at + length (frames xs) = ap (λ (q : Outbox). q .place .at) e in
+    let c : r .count ≡ p .count + length xs = ap (λ (q : Outbox). q .place .count) e in
+    let u : length o ≡ length o₀ = ap (λ (q : Outbox). length (q .out)) e ∙ length-sets o₀ (p .at) (frames xs) in
+    let v : length t ≡ length t₀ = ap (λ (q : Outbox). length (q .to)) e ∙ length-sets t₀ (2 * p .count) (receivers xs) in
+    let d : (k + m) * size ≡ k * size + m * size = add-mul k m size in
+    let b : (k + m) * size ≤ N * size = mul-le-mul-right size h in
+    let w : m * size′ ≤ m * size = mul-le-mul-left m s in
+    record { out-room = omega (arith, R .out-room); to-room = omega (arith, R .to-room) }

@@ -15,8 +15,11 @@ use Rattle.frame.specs.declared.Header.{Header}
 use Rattle.frame.specs.declared.Opened.{Opened}
 use Rattle.frame.specs.declared.Opened.the-variants as O
 use Rattle.frame.specs.Params.{width, listed, entryLength, Bounded}
-use Rattle.frame.specs.Messages.{Entry, Offer, Stage, send, echo, ready, Body, getStamp, ack, askRead, readComplete, stampIs, blockIs, valueIs, Message, message, Sized, FormedBody, Formed}
-use Rattle.frame.specs.Frames.{version, versionAt, bodyAt, offerAt, valueAt, kindOf, retired, bodyLength, lengthOf, entryBytes, offerBytes, stampBytes, bodyBytes, headerBytes, frameOf, build, headerIn, stampIn, opened, entryIn, offerIn, bodyIn, messageIn, headerFor}
+use Rattle.frame.specs.Messages.{Entry, Offer, Stage, send, echo, ready, Body, getStamp, ack, askRead, readComplete}
+use Rattle.frame.specs.Messages.{stampIs, blockIs, valueIs, Message, message, Sized, FormedBody, Formed}
+use Rattle.frame.specs.Frames.{version, versionAt, bodyAt, offerAt, valueAt, kindOf, retired, bodyLength, lengthOf, entryBytes, offerBytes, stampBytes}
+use Rattle.frame.specs.Frames.{bodyBytes, headerBytes, frameOf, build, headerIn, stampIn, opened, entryIn, offerIn, bodyIn, messageIn, headerFor}
+use Rattle.frame.specs.Forms.{Back}
 use Rattle.frame.proofs.Sizes.{Small, small}
 use Rattle.frame.proofs.Opening.{StampFine, Opens, opens}
 
@@ -47,7 +50,8 @@ module _ (kind client sequence : ℕ) (body : List ℕ) where
 entry-back : (g : Params) (e : Entry) → Sized g e → (pre : List ℕ) (i : ℕ) → length pre ≡ i → entryIn g (pre ++ entryBytes e) i ≡ e
 unfolding entryBytes
 entry-back g e Q pre i h =
-    let d : part (pre ++ entryBytes e) i (listed g) ≡ e .digests = rw (drop-at pre (entryBytes e) i h) (take-at (e .digests) (e .block) (listed g) (Q .list-is)) in
+    let d : part (pre ++ entryBytes e) i (listed g) ≡ e .digests =
+    rw (drop-at pre (entryBytes e) i h) (take-at (e .digests) (e .block) (listed g) (Q .list-is)) in
     let w : length (e .block) ≤ width g = omega (arith, Q .block-is) in
     let b : part (pre ++ entryBytes e) (i + listed g) (width g) ≡ e .block =
     rw (← drop-drop (listed g) i (pre ++ entryBytes e), drop-at pre (entryBytes e) i h, drop-at (e .digests) (e .block) (listed g) (Q .list-is))
@@ -156,11 +160,6 @@ body-high g M (stampIs T) f = omega (arith, length-bytes8 T)
 body-high g M (blockIs z o) f = omega (arith, length-offer g o (f .0), M .list-room, M .block-room)
 body-high g M (valueIs s e) f =
     omega (arith, length-append (stampBytes s) (entryBytes e), length-stamp s, length-entry g e (f .0), M .list-room, M .block-room)
-
--- the whole of a message from its frame
-pub record Back (g : Params) (m : Message) : Type 0 where
-  pub opens : opened g (build m) ≡ O.Frame (headerFor m)
-  pub says : messageIn g (headerFor m) (build m) ≡ m
 
 -- what is built opens, and says what was said
 pub opened-build : (g : Params) → Bounded g → (m : Message) → Formed g m → Back g m

@@ -7,7 +7,7 @@ use mathlib.Core.Path.{_≡_, refl, ap, sym, _∙_}
 use mathlib.Core.Logic.{_⊎_, inl, inr, ⊎-elim}
 use lib.Dec.{ltb, eqb}
 use borrow.Author.Tests.{ltb-true, eqb-true, lt-ltb, le-ltb, eq-eqb, ne-eqb}
-use Rattle.area.proofs.Tests.{and-left, and-right}
+use Rattle.area.proofs.Tests.{and-left, and-right, and-true, or-split, or-left, or-right}
 use Rattle.frame.specs.declared.Stamp.{Stamp}
 use Rattle.frame.specs.Stamps.{older, sameStamp, zeroStamp}
 use Rattle.frame.proofs.Verdicts.{never}
@@ -20,20 +20,6 @@ abbrev pub AtMost : Stamp → Stamp → Type 0
 AtMost a b = (a ≡ b) ⊎ Less a b
 
 -- ---- the test tells the order
-
-or-split : (a b : Bool) → (a || b) ≡ true → (a ≡ true) ⊎ (b ≡ true)
-or-split true b e = inl refl
-or-split false b e = inr e
-
-or-first : (a b : Bool) → a ≡ true → (a || b) ≡ true
-or-first a b e = rw e
-
-or-second : (a b : Bool) → b ≡ true → (a || b) ≡ true
-or-second true b e = refl
-or-second false b e = e
-
-and-both : (a b : Bool) → a ≡ true → b ≡ true → (a && b) ≡ true
-and-both a b p q = rw (p, q)
 
 pub less-of : (a b : Stamp) → older a b ≡ true → Less a b
 unfolding older
@@ -48,14 +34,14 @@ less-of a b e = ⊎-elim (λ u. inl (ltb-true _ _ u)) (λ u. inr (
 
 pub older-of : (a b : Stamp) → Less a b → older a b ≡ true
 unfolding older
-older-of a b (inl h) = or-first (ltb (a .time) (b .time)) _ (lt-ltb _ _ h)
+older-of a b (inl h) = or-left (ltb (a .time) (b .time)) _ (lt-ltb _ _ h)
 older-of a b (inr (e, inl h)) =
-    or-second (ltb (a .time) (b .time)) _
-    (and-both (eqb (a .time) (b .time)) _ (eq-eqb _ _ e) (or-first (ltb (a .writer) (b .writer)) _ (lt-ltb _ _ h)))
+    or-right (ltb (a .time) (b .time)) _
+    (and-true (eqb (a .time) (b .time)) _ (eq-eqb _ _ e) (or-left (ltb (a .writer) (b .writer)) _ (lt-ltb _ _ h)))
 older-of a b (inr (e, inr (f, h))) =
-    or-second (ltb (a .time) (b .time)) _
-    (and-both (eqb (a .time) (b .time)) _ (eq-eqb _ _ e)
-    (or-second (ltb (a .writer) (b .writer)) _ (and-both (eqb (a .writer) (b .writer)) _ (eq-eqb _ _ f) (lt-ltb _ _ h))))
+    or-right (ltb (a .time) (b .time)) _
+    (and-true (eqb (a .time) (b .time)) _ (eq-eqb _ _ e)
+    (or-right (ltb (a .writer) (b .writer)) _ (and-true (eqb (a .writer) (b .writer)) _ (eq-eqb _ _ f) (lt-ltb _ _ h))))
 
 pub stamp-of : (a b : Stamp) → sameStamp a b ≡ true → a ≡ b
 unfolding sameStamp
@@ -69,8 +55,8 @@ stamp-of a b e =
 pub same-of : (a b : Stamp) → a ≡ b → sameStamp a b ≡ true
 unfolding sameStamp
 same-of a b e =
-    and-both (eqb (a .time) (b .time)) _ (eq-eqb _ _ (ap (λ x. x .time) e))
-    (and-both (eqb (a .writer) (b .writer)) _ (eq-eqb _ _ (ap (λ x. x .writer) e)) (eq-eqb _ _ (ap (λ x. x .sequence) e)))
+    and-true (eqb (a .time) (b .time)) _ (eq-eqb _ _ (ap (λ x. x .time) e))
+    (and-true (eqb (a .writer) (b .writer)) _ (eq-eqb _ _ (ap (λ x. x .writer) e)) (eq-eqb _ _ (ap (λ x. x .sequence) e)))
 
 -- ---- strict and total
 

@@ -26,16 +26,6 @@ use Rattle.frame.specs.Chunks.{storeEntry}
 use Rattle.frame.proofs.RoundTrip.{length-frame}
 use Rattle.frame.proofs.Outbox.{wrote-sent, all-sent}
 
--- ---- parties
-
-pub client-bytes : (p : Party) (c : ℕ) → p ≡ P.Client c → (0 ∷ c ∷ []) ≡ partyBytes p
-unfolding partyBytes
-client-bytes p c e = rw e
-
-pub server-bytes : (p : Party) (j : ℕ) → p ≡ P.Server j → (1 ∷ j ∷ []) ≡ partyBytes p
-unfolding partyBytes
-server-bytes p j e = rw e
-
 -- ---- one frame
 
 -- a store behind another
@@ -60,8 +50,10 @@ frame-written out at kind client sequence h lead d b o₁ o₂ o₃ o₄ e e₁ 
     let y : at + 9 + length lead ≡ at + length (h ++ lead) = omega (arith, l, length-append h lead) in
     let z : at + 9 + length lead + length d ≡ at + length ((h ++ lead) ++ d) = omega (arith, l, length-append h lead, length-append (h ++ lead) d) in
     let p₂ : o₂ ≡ sets out at (h ++ lead) = e₂ ∙ ap (λ o. sets o (at + 9) lead) e₁ ∙ sets-then out at (at + 9) h lead x in
-    let p₃ : o₃ ≡ sets out at ((h ++ lead) ++ d) = e₃ ∙ ap (λ o. sets o (at + 9 + length lead) d) p₂ ∙ sets-then out at (at + 9 + length lead) (h ++ lead) d y in
-    let p₄ : o₄ ≡ sets out at (((h ++ lead) ++ d) ++ b) = e₄ ∙ ap (λ o. sets o (at + 9 + length lead + length d) b) p₃ ∙ sets-then out at (at + 9 + length lead + length d) ((h ++ lead) ++ d) b z in
+    let p₃ : o₃ ≡ sets out at ((h ++ lead) ++ d) =
+    e₃ ∙ ap (λ o. sets o (at + 9 + length lead) d) p₂ ∙ sets-then out at (at + 9 + length lead) (h ++ lead) d y in
+    let p₄ : o₄ ≡ sets out at (((h ++ lead) ++ d) ++ b) =
+    e₄ ∙ ap (λ o. sets o (at + 9 + length lead + length d) b) p₃ ∙ sets-then out at (at + 9 + length lead + length d) ((h ++ lead) ++ d) b z in
     let q : ((h ++ lead) ++ d) ++ b ≡ h ++ (lead ++ (d ++ b)) = simp append-assoc in
     let w : h ≡ headerBytes (7 + length (lead ++ (d ++ b))) kind client sequence = rw length-parts e in
     p₄ ∙ ap (sets out at) (q ∙ ap (λ l. l ++ (lead ++ (d ++ b))) w)

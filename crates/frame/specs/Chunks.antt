@@ -8,12 +8,19 @@ use Rattle.blocks.specs.declared.Params.{Params}
 use Rattle.frame.specs.Params.{width, listed}
 use Rattle.frame.specs.Messages.{Entry, entry}
 
+abbrev pub chunkBytes : ℕ
+chunkBytes = 576
+
+-- where a chunk's block begins, and how long its digest list can be
+abbrev pub listBytes : ℕ
+listBytes = 320
+
 -- where chunk p and its block begin
 abbrev pub chunkAt : ℕ → ℕ
-chunkAt p = 576 * p
+chunkAt p = chunkBytes * p
 
 abbrev pub blockPlace : ℕ → ℕ
-blockPlace p = 576 * p + 320
+blockPlace p = chunkBytes * p + listBytes
 
 -- the entry in chunk p
 unfoldable pub entryAt : Params → List ℕ → ℕ → Entry
@@ -30,18 +37,25 @@ storeIf false a p e = a
 
 -- ---- the state area of a server: 169 chunks
 
+-- the chunks before those of client c's echoes, of its readies
+abbrev pub echoesFrom : ℕ → ℕ
+echoesFrom c = 21 * c - 20
+
+abbrev pub readiesFrom : ℕ → ℕ
+readiesFrom c = 21 * c - 10
+
 -- the present value; of client c, the completed entry, and the echo and the ready of server j
 abbrev pub presentAt : ℕ
 presentAt = 0
 
 abbrev pub completeAt : ℕ → ℕ
-completeAt c = 21 * c - 20
+completeAt c = echoesFrom c
 
 abbrev pub echoAt : ℕ → ℕ → ℕ
-echoAt c j = 21 * c - 20 + j
+echoAt c j = echoesFrom c + j
 
 abbrev pub readyAt : ℕ → ℕ → ℕ
-readyAt c j = 21 * c - 10 + j
+readyAt c j = readiesFrom c + j
 
 abbrev pub areaBytes : ℕ
 areaBytes = 97344

@@ -10,16 +10,15 @@ use Rattle.area.specs.Numbers.{be2, be4, be8, bytes2, bytes4, bytes8}
 use Rattle.blocks.specs.declared.Params.{Params}
 use Rattle.frame.specs.declared.Stamp.{Stamp}
 use Rattle.frame.specs.declared.Header.{Header}
-use Rattle.frame.specs.declared.Refusal.{Refusal}
-use Rattle.frame.specs.declared.Refusal.the-variants as R
 use Rattle.frame.specs.declared.Verdict.{Verdict}
 use Rattle.frame.specs.declared.Verdict.the-variants as J
 use Rattle.frame.specs.declared.Opened.{Opened}
 use Rattle.frame.specs.declared.Opened.the-variants as O
-use Rattle.frame.specs.Refusals.{andThen}
+use Rattle.frame.specs.Refusals.{andThen, refused}
 use Rattle.frame.specs.Params.{width, listed, entryLength, boundsTest}
 use Rattle.frame.specs.Stamps.{partsAgree}
-use Rattle.frame.specs.Messages.{Entry, entry, Offer, offer, Stage, send, echo, ready, Body, getStamp, ack, askRead, readComplete, stampIs, blockIs, valueIs, Message, message}
+use Rattle.frame.specs.Messages.{Entry, entry, Offer, offer, Stage, send, echo, ready, Body, getStamp, ack}
+use Rattle.frame.specs.Messages.{askRead, readComplete, stampIs, blockIs, valueIs, Message, message}
 
 -- ---- layout
 
@@ -106,9 +105,9 @@ bodyBytes (stampIs T) = bytes8 T
 bodyBytes (blockIs z o) = offerBytes o
 bodyBytes (valueIs s e) = stampBytes s ++ entryBytes e
 
--- the bytes before the body, of which length follow
+-- the bytes before the body; following counts what follows the length
 unfoldable pub headerBytes : ℕ → ℕ → ℕ → ℕ → List ℕ
-headerBytes length kind client sequence = bytes2 length ++ (version ∷ kind ∷ client ∷ bytes4 sequence)
+headerBytes following kind client sequence = bytes2 following ++ (version ∷ kind ∷ client ∷ bytes4 sequence)
 
 unfoldable pub frameOf : ℕ → ℕ → ℕ → List ℕ → List ℕ
 frameOf kind client sequence body = headerBytes (7 + length body) kind client sequence ++ body
@@ -121,7 +120,7 @@ build m = frameOf (kindOf (m .body)) (m .client) (m .sequence) (bodyBytes (m .bo
 
 -- 4: the length field counts what follows it
 unfoldable pub framingTest : List ℕ → Verdict
-framingTest f = pick (ltb (length f) bodyAt) (J.Bad R.Framing) (pick (eqb (be2 f 0 + 2) (length f)) J.Fine (J.Bad R.Framing))
+framingTest f = pick (ltb (length f) bodyAt) (refused 4) (pick (eqb (be2 f 0 + 2) (length f)) J.Fine (refused 4))
 
 unfoldable pub headerIn : List ℕ → Header
 headerIn f = record { kind = getD f kindAt 0; client = getD f clientAt 0; sequence = be4 f sequenceAt }
@@ -130,18 +129,18 @@ headerIn f = record { kind = getD f kindAt 0; client = getD f clientAt 0; sequen
 unfoldable pub headerTest : ℕ → Header → Verdict
 headerTest v h =
     pick (eqb v version)
-    (pick (ltb (h .kind) 1) (J.Bad R.Kind)
-    (pick (ltb 12 (h .kind)) (J.Bad R.Kind)
-    (pick (retired (h .kind)) (J.Bad R.Kind)
-    (pick (ltb (h .client) 1) (J.Bad R.Owner)
-    (pick (ltb 8 (h .client)) (J.Bad R.Owner)
-    (pick (eqb (h .sequence) 0) (J.Bad R.Owner)
+    (pick (ltb (h .kind) 1) (refused 6)
+    (pick (ltb 12 (h .kind)) (refused 6)
+    (pick (retired (h .kind)) (refused 6)
+    (pick (ltb (h .client) 1) (refused 7)
+    (pick (ltb 8 (h .client)) (refused 7)
+    (pick (eqb (h .sequence) 0) (refused 7)
     J.Fine))))))
-    (J.Bad R.Version)
+    (refused 5)
 
--- 8, of a frame of length bytes
+-- 8, of a frame of size bytes
 unfoldable pub bodyTest : Params → ℕ → ℕ → Verdict
-bodyTest g kind length = pick (eqb length (bodyAt + bodyLength g kind)) J.Fine (J.Bad R.Body)
+bodyTest g kind size = pick (eqb size (bodyAt + bodyLength g kind)) J.Fine (refused 8)
 
 -- a value's stamp
 unfoldable pub stampIn : List ℕ → Stamp
@@ -150,7 +149,7 @@ stampIn f = record { time = be8 f bodyAt; writer = getD f writerAt 0; sequence =
 -- 9, of a value's stamp
 unfoldable pub stampTest : Stamp → Verdict
 stampTest s =
-    pick (partsAgree (s .time) (s .writer) (s .sequence)) (pick (ltb 8 (s .writer)) (J.Bad R.Content) J.Fine) (J.Bad R.Content)
+    pick (partsAgree (s .time) (s .writer) (s .sequence)) (pick (ltb 8 (s .writer)) (refused 9) J.Fine) (refused 9)
 
 -- 9
 unfoldable pub contentTest : ℕ → List ℕ → Verdict

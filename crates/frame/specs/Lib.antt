@@ -6,3 +6,4 @@ pub mod Frames
 pub mod Outbox
 pub mod Chunks
 pub mod Cases
+pub mod Forms

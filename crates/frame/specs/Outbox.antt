@@ -4,6 +4,8 @@ use Prim.Native.Nat.{ℕ, zero, suc, _+_, _*_, _≤_}
 use mathlib.Core.List.{List, [], _∷_, _++_}
 use lib.ListN.{length}
 use lib.Seq.{sets}
+use lib.Dec.{eqb}
+use Rattle.area.specs.Area.{pick}
 use Rattle.frame.specs.declared.Party.{Party}
 use Rattle.frame.specs.declared.Party.the-variants as P
 use Rattle.frame.specs.declared.Place.{Place}
@@ -23,6 +25,10 @@ frames (x ∷ xs) = build (x .says) ++ frames xs
 unfoldable pub partyBytes : Party → List ℕ
 partyBytes (P.Client c) = 0 ∷ c ∷ []
 partyBytes (P.Server j) = 1 ∷ j ∷ []
+
+-- the party that they name
+unfoldable pub partyIn : ℕ → ℕ → Party
+partyIn class j = pick (eqb class 0) (P.Client j) (P.Server j)
 
 unfoldable pub receivers : List Sending → List ℕ
 receivers [] = []

@@ -1,5 +1,5 @@
 -- The parameters: their bounds (refusals 1 to 3), and the sizes that follow from them. Assumes nothing: these are definitions.
-use Prim.Native.Nat.{ℕ, _+_, _*_, _≤_, max}
+use Prim.Native.Nat.{ℕ, _+_, _*_, max}
 use mathlib.Core.Path.{_≡_}
 use mathlib.Core.List.{List}
 use lib.Dec.{ltb}
@@ -7,11 +7,10 @@ use Rattle.area.specs.Area.{pick}
 use Rattle.blocks.specs.declared.Params.{Params}
 use Rattle.blocks.specs.Code.{blockLength}
 use Rattle.blocks.specs.Params.{partiesFit, thresholdFits, lengthFits}
-use Rattle.frame.specs.declared.Refusal.{Refusal}
-use Rattle.frame.specs.declared.Refusal.the-variants as R
+pub use Rattle.blocks.specs.Params.{Bounded}
 use Rattle.frame.specs.declared.Verdict.{Verdict}
 use Rattle.frame.specs.declared.Verdict.the-variants as J
-use Rattle.frame.specs.Refusals.{andThen}
+use Rattle.frame.specs.Refusals.{andThen, refused}
 
 -- ---- sizes
 
@@ -53,28 +52,17 @@ toRoom m = 2 * m
 
 -- 1, the own number: party me of parties 1 to most
 unfoldable pub ownTest : ℕ → ℕ → Verdict
-ownTest me most = pick (ltb me 1) (J.Bad R.Parties) (pick (ltb most me) (J.Bad R.Parties) J.Fine)
+ownTest me most = pick (ltb me 1) (refused 1) (pick (ltb most me) (refused 1) J.Fine)
 
 -- 2 and 3, but for a value's length
 unfoldable pub codeTest : Params → Verdict
 codeTest g =
-    pick (thresholdFits (g .n) (g .t) (g .k)) (pick (lengthFits (g .size)) J.Fine (J.Bad R.Length)) (J.Bad R.Threshold)
+    pick (thresholdFits (g .n) (g .t) (g .k)) (pick (lengthFits (g .size)) J.Fine (refused 3)) (refused 2)
 
 -- 1 to 3, without an own number
 unfoldable pub boundsTest : Params → Verdict
-boundsTest g = pick (partiesFit (g .n) (g .t)) (codeTest g) (J.Bad R.Parties)
+boundsTest g = pick (partiesFit (g .n) (g .t)) (codeTest g) (refused 1)
 
 -- 1 to 3, of party me of parties 1 to most
 unfoldable pub paramsTest : Params → ℕ → ℕ → Verdict
-paramsTest g me most = pick (partiesFit (g .n) (g .t)) (andThen (ownTest me most) (codeTest g)) (J.Bad R.Parties)
-
--- what 1 to 3 leave: "n from 4 to 10; t is at least 1 with n > 3t", "k is 1 to n - 2t", "L, 1 to 256 bytes"
-pub record Bounded (g : Params) : Type 0 where
-  pub servers-low : 4 ≤ g .n
-  pub servers-high : g .n ≤ 10
-  pub faults-low : 1 ≤ g .t
-  pub faults-high : 3 * g .t + 1 ≤ g .n
-  pub blocks-low : 1 ≤ g .k
-  pub blocks-high : g .k + 2 * g .t ≤ g .n
-  pub size-low : 1 ≤ g .size
-  pub size-high : g .size ≤ 256
+paramsTest g me most = pick (partiesFit (g .n) (g .t)) (andThen (ownTest me most) (codeTest g)) (refused 1)

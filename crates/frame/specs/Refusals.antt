@@ -1,13 +1,16 @@
 -- Refusals: document 01's number of each, "When a frame or call is turned down", and tests one after the other.
 -- Assumes nothing: these are definitions.
 use Prim.Native.Nat.{ℕ}
+use mathlib.Core.List.{List, [], _∷_}
+use Rattle.area.specs.Area.{numbered}
 use Rattle.frame.specs.declared.Refusal.{Refusal}
-use Rattle.frame.specs.declared.Refusal.the-variants.{Parties, Threshold, Length, Framing, Version, Kind, Owner, Body, Content, Room, Sender, Stale, Ahead, Digest, Busy, Exhausted, Closed, Record, Unlisted}
+use Rattle.frame.specs.declared.Refusal.the-variants.{Parties, Threshold, Length, Framing, Version, Kind, Owner, Body, Content, Room}
+use Rattle.frame.specs.declared.Refusal.the-variants.{Sender, Stale, Ahead, Digest, Busy, Exhausted, Closed, Record, Unlisted}
 use Rattle.frame.specs.declared.Verdict.{Verdict}
 use Rattle.frame.specs.declared.Verdict.the-variants.{Fine, Bad}
 
 -- document 01's number
-unfoldable pub numberOf : Refusal → ℕ
+abbrev pub numberOf : Refusal → ℕ
 -- n, t or own number out of bounds
 numberOf Parties = 1
 -- k out of bounds
@@ -46,6 +49,20 @@ numberOf Closed = 17
 numberOf Record = 18
 -- read of an unlisted stamp other than zero
 numberOf Unlisted = 19
+
+-- all of them, in the order of the numbers
+abbrev pub refusals : List Refusal
+refusals =
+    Parties ∷ Threshold ∷ Length ∷ Framing ∷ Version ∷ Kind ∷ Owner ∷ Body ∷ Content ∷ Room ∷ Sender ∷ Stale ∷ Ahead ∷ Digest ∷ Busy ∷ Exhausted ∷ Closed
+    ∷ Record ∷ Unlisted ∷ []
+
+-- the refusal with the number n (1 where none has it)
+abbrev pub refusal : ℕ → Refusal
+refusal n = numbered numberOf Parties refusals n
+
+-- turned down with number n
+abbrev pub refused : ℕ → Verdict
+refused n = Bad (refusal n)
 
 -- two tests, of which the first to speak against it counts
 abbrev pub andThen : Verdict → Verdict → Verdict

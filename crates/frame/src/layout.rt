@@ -24,12 +24,25 @@ pub const WRITE_AT: usize = 18;
 
 pub const VALUE_AT: usize = 22;
 
-// An entry's chunk, and its block therein.
+// An entry's chunk, and its block therein, behind the longest digest list.
 pub const CHUNK_BYTES: usize = 576;
 
 pub const BLOCK_AT: usize = 320;
+
+// The chunks of client c in a server's area end before chunk 21 c + 1: its echoes' lie behind chunk 21 c - 20, its readies' behind chunk 21 c - 10.
+pub const CLIENT_CHUNKS: usize = 21;
+
+pub const ECHOES_BACK: usize = 20;
+
+pub const READIES_BACK: usize = 10;
 
 // The state area of a server, 169 chunks, and the rows area of a client, 40 chunks.
 pub const AREA_BYTES: usize = 97344;
 
 pub const ROWS_BYTES: usize = 23040;
+
+// Clients are 1 to 8.
+pub const CLIENTS: usize = 8;
+
+// The largest time, 2^64 - 1.
+pub const LAST_TIME: u64 = 18446744073709551615;

@@ -21,7 +21,8 @@ ghost use mathlib.Core.Path.{_≡_};
 ghost use Prim.Native.Nat.{_+_, _≤_, _<_};
 ghost use lib.ListN.{length, getD};
 ghost use Rattle.frame.specs.Params.{Bounded};
-ghost use Rattle.frame.specs.Frames.{retired, lengthOf, bodyLength, framingTest, headerIn, headerTest, bodyTest, stampIn, stampTest, contentTest, opened, openedUnder};
+ghost use Rattle.frame.specs.Frames.{retired, lengthOf, bodyLength, framingTest, headerIn, headerTest};
+ghost use Rattle.frame.specs.Frames.{bodyTest, stampIn, stampTest, contentTest, opened, openedUnder};
 
 // 4: under 9 bytes, or length field wrong.
 pub fn framing_test(f: &[u8]) -> Verdict
@@ -193,7 +194,7 @@ pub fn open_frame(g: Params, f: &[u8]) -> Opened
 }
 
 // What opening a frame finds, for any parameters: 1 to 9 in the order of the numbers.
-pub fn opened(g: Params, f: &[u8]) -> Opened
+pub fn opened_under(g: Params, f: &[u8]) -> Opened
     ensures { λ r. ⌜ r ≡ openedUnder g (now (f .entry)) ⌝ }
 {
     let bounds = bounds_test(g);

@@ -7,6 +7,7 @@ use crate::Stamp;
 use crate::WriteTime;
 use crate::layout::BODY_AT;
 use crate::layout::VERSION;
+use crate::parties::party_bytes;
 use blocks::Params;
 ghost use mathlib.Core.Path.{_≡_};
 ghost use mathlib.Core.List.{_∷_, [], _++_};
@@ -17,7 +18,7 @@ ghost use Rattle.area.specs.Numbers.{bytes8};
 ghost use Rattle.frame.specs.Params.{Bounded, entryLength};
 ghost use Rattle.frame.specs.Messages.{entry, offer, message, sending, toAll, Sized, getStamp, ack, stampIs, blockIs, valueIs, send};
 ghost use Rattle.frame.specs.Frames.{kindOf, stampBytes, headerBytes, frameOf};
-ghost use Rattle.frame.specs.Outbox.{partyBytes, outbox, sent, wrote, wroteTo, Room, stageOf, askOf};
+ghost use Rattle.frame.specs.Outbox.{outbox, sent, wrote, wroteTo, Room, stageOf, askOf};
 
 // The bytes before the body, of which size follow.
 fn header_bytes(size: usize, kind: u8, client: u8, sequence: u32) -> [u8; 9]
@@ -34,16 +35,6 @@ fn header_bytes(size: usize, kind: u8, client: u8, sequence: u32) -> [u8; 9]
         (sequence % 65536 / 256 % 256) as u8,
         (sequence % 65536 % 256) as u8,
     ]
-}
-
-// The class and the number of a party.
-fn receiver_bytes(p: Party) -> [u8; 2]
-    ensures { λ r. ⌜ r ≡ partyBytes p ⌝ }
-{
-    match p {
-        Party::Client(c) => [0, c],
-        Party::Server(j) => [1, j],
-    }
 }
 
 // A time, as a frame's body holds it.
@@ -78,7 +69,8 @@ fn put_frame(
     block: &[u8],
 )
     requires { ⌜ at + (9 + (length (now lead) + (length (now digests) + length (now block)))) ≤ length (now out) ⌝ }
-    ensures { λ _. ⌜ now (out .exit) ≡ sets (now (out .entry)) at (frameOf kind client sequence (now (lead .entry) ++ (now (digests .entry) ++ now (block .entry)))) ⌝ }
+    ensures { λ _. ⌜ now (out .exit)
+        ≡ sets (now (out .entry)) at (frameOf kind client sequence (now (lead .entry) ++ (now (digests .entry) ++ now (block .entry)))) ⌝ }
 {
     let body = at + BODY_AT;
     let list = body + lead.len();
@@ -108,9 +100,11 @@ pub fn deposit(
     block: &[u8],
 ) -> Place
     requires { ⌜ Room p 1 (9 + (length (now lead) + (length (now digests) + length (now block)))) (length (now out)) (length (now to)) ⌝ }
-    ensures { λ r. ⌜ outbox (now (out .exit)) (now (to .exit)) r ≡ wrote (outbox (now (out .entry)) (now (to .entry)) p) receiver (frameOf kind client sequence (now (lead .entry) ++ (now (digests .entry) ++ now (block .entry)))) ⌝ }
+    ensures { λ r. ⌜ outbox (now (out .exit)) (now (to .exit)) r
+        ≡ wrote (outbox (now (out .entry)) (now (to .entry)) p) receiver
+        (frameOf kind client sequence (now (lead .entry) ++ (now (digests .entry) ++ now (block .entry)))) ⌝ }
 {
-    let bytes = receiver_bytes(receiver);
+    let bytes = party_bytes(receiver);
     area::put(to, 2 * p.count, &bytes);
     put_frame(out, p.at, kind, client, sequence, lead, digests, block);
     Place {
@@ -133,7 +127,9 @@ pub fn deposit_all(
     block: &[u8],
 ) -> Place
     requires { ⌜ (n ≤ 10) × Room p n (9 + (length (now lead) + (length (now digests) + length (now block)))) (length (now out)) (length (now to)) ⌝ }
-    ensures { λ r. ⌜ outbox (now (out .exit)) (now (to .exit)) r ≡ wroteTo (outbox (now (out .entry)) (now (to .entry)) p) (frameOf kind client sequence (now (lead .entry) ++ (now (digests .entry) ++ now (block .entry)))) n ⌝ }
+    ensures { λ r. ⌜ outbox (now (out .exit)) (now (to .exit)) r
+        ≡ wroteTo (outbox (now (out .entry)) (now (to .entry)) p)
+        (frameOf kind client sequence (now (lead .entry) ++ (now (digests .entry) ++ now (block .entry)))) n ⌝ }
 {
     let mut q = p;
     let mut j: usize = 0;
@@ -186,7 +182,8 @@ pub fn ask_all(
     sequence: u32,
 ) -> Place
     requires { ⌜ Bounded g × Room p (g .n) 9 (length (now out)) (length (now to)) ⌝ }
-    ensures { λ r. ⌜ outbox (now (out .exit)) (now (to .exit)) r ≡ sent (outbox (now (out .entry)) (now (to .entry)) p) (toAll g (λ j. message client sequence (askOf a))) ⌝ }
+    ensures { λ r. ⌜ outbox (now (out .exit)) (now (to .exit)) r
+        ≡ sent (outbox (now (out .entry)) (now (to .entry)) p) (toAll g (λ j. message client sequence (askOf a))) ⌝ }
 {
     let kind = ask_kind(a);
     let no_lead = [0u8; 0];
@@ -249,7 +246,8 @@ pub fn send_block(
 ) -> Place
     requires { ⌜ Room p 1 (17 + (length (now digests) + length (now block))) (length (now out)) (length (now to)) ⌝ }
     ensures { λ r. ⌜ outbox (now (out .exit)) (now (to .exit)) r ≡ sent (outbox (now (out .entry)) (now (to .entry)) p)
-        (sending (Party.Server j) (message (w .client) (w .sequence) (blockIs send (offer (w .time) (entry (now (digests .entry)) (now (block .entry)))))) ∷ []) ⌝ }
+        (sending (Party.Server j)
+        (message (w .client) (w .sequence) (blockIs send (offer (w .time) (entry (now (digests .entry)) (now (block .entry)))))) ∷ []) ⌝ }
 {
     let t = time_bytes(w.time);
     deposit(
@@ -276,7 +274,8 @@ pub fn send_stamp(
     time: u64,
 ) -> Place
     requires { ⌜ Room p 1 17 (length (now out)) (length (now to)) ⌝ }
-    ensures { λ r. ⌜ outbox (now (out .exit)) (now (to .exit)) r ≡ sent (outbox (now (out .entry)) (now (to .entry)) p) (sending (Party.Client client) (message client sequence (stampIs time)) ∷ []) ⌝ }
+    ensures { λ r. ⌜ outbox (now (out .exit)) (now (to .exit)) r
+        ≡ sent (outbox (now (out .entry)) (now (to .entry)) p) (sending (Party.Client client) (message client sequence (stampIs time)) ∷ []) ⌝ }
 {
     let t = time_bytes(time);
     let no_list = [0u8; 0];
@@ -298,7 +297,8 @@ pub fn send_stamp(
 // Sends a client the acknowledgement of its write.
 pub fn send_ack(out: &mut [u8], to: &mut [u8], p: Place, client: u8, sequence: u32) -> Place
     requires { ⌜ Room p 1 9 (length (now out)) (length (now to)) ⌝ }
-    ensures { λ r. ⌜ outbox (now (out .exit)) (now (to .exit)) r ≡ sent (outbox (now (out .entry)) (now (to .entry)) p) (sending (Party.Client client) (message client sequence ack) ∷ []) ⌝ }
+    ensures { λ r. ⌜ outbox (now (out .exit)) (now (to .exit)) r
+        ≡ sent (outbox (now (out .entry)) (now (to .entry)) p) (sending (Party.Client client) (message client sequence ack) ∷ []) ⌝ }
 {
     let no_lead = [0u8; 0];
     let no_list = [0u8; 0];
@@ -329,7 +329,9 @@ pub fn send_value(
     block: &[u8],
 ) -> Place
     requires { ⌜ Room p 1 (22 + (length (now digests) + length (now block))) (length (now out)) (length (now to)) ⌝ }
-    ensures { λ r. ⌜ outbox (now (out .exit)) (now (to .exit)) r ≡ sent (outbox (now (out .entry)) (now (to .entry)) p) (sending (Party.Client client) (message client sequence (valueIs s (entry (now (digests .entry)) (now (block .entry))))) ∷ []) ⌝ }
+    ensures { λ r. ⌜ outbox (now (out .exit)) (now (to .exit)) r
+        ≡ sent (outbox (now (out .entry)) (now (to .entry)) p)
+        (sending (Party.Client client) (message client sequence (valueIs s (entry (now (digests .entry)) (now (block .entry))))) ∷ []) ⌝ }
 {
     let t = stamp_bytes(s);
     deposit(

@@ -130,8 +130,10 @@ pub number-turn : (p : ℕ → Bool) (k j c r : ℕ) (b : Bool) (d l m : List �
     → m ≡ pick (b && ltb c k) (set l c (j + 1)) l
     → (m ≡ sets d 0 (lowest p k (j + 1))) × (r ≡ length (lowest p k (j + 1))) × (r ≤ k)
 number-turn p k j c r b d l m e f g h i =
-    let y : m ≡ sets d 0 (lowest p k (j + 1)) = i ∙ rw (e, f, g) (stored (p (j + 1) && ltb (length (lowest p k j)) k) d (lowest p k j) (j + 1) ∙ ap (sets d 0) (sym (lowest-snoc p k j))) in
-    let z : r ≡ length (lowest p k (j + 1)) = h ∙ rw (f, g) (counted (p (j + 1) && ltb (length (lowest p k j)) k) (lowest p k j) (j + 1) ∙ ap length (sym (lowest-snoc p k j))) in
+    let y : m ≡ sets d 0 (lowest p k (j + 1)) =
+    i ∙ rw (e, f, g) (stored (p (j + 1) && ltb (length (lowest p k j)) k) d (lowest p k j) (j + 1) ∙ ap (sets d 0) (sym (lowest-snoc p k j))) in
+    let z : r ≡ length (lowest p k (j + 1)) =
+    h ∙ rw (f, g) (counted (p (j + 1) && ltb (length (lowest p k j)) k) (lowest p k j) (j + 1) ∙ ap length (sym (lowest-snoc p k j))) in
     let few = few-lowest p k (j + 1) in
     (y, z, omega arith)
 

@@ -83,7 +83,8 @@ module _ (g : Params) (at a : List ℕ) (B : Bounded g) (W : Within at a) (on : 
       → r ≡ pick (getD on (j + 1) false) (same w (blockOf (g .k) v (j + 1))) true && fits digestOf (entry list (blockOf (g .k) v (j + 1))) (j + 1) → r ≡ step j
   unfolding marked
   step-is j w r e q =
-      q ∙ ap (λ (l : List ℕ). pick (getD on (j + 1) false) (same l (blockOf (g .k) v (j + 1))) true && fits digestOf (entry list (blockOf (g .k) v (j + 1))) (j + 1)) e
+      q ∙ ap (λ (l : List ℕ). pick (getD on (j + 1) false) (same l (blockOf (g .k) v (j + 1))) true
+      && fits digestOf (entry list (blockOf (g .k) v (j + 1))) (j + 1)) e
 
   fits-is : (j : ℕ) → fits digestOf (entry list (blockOf (g .k) v (j + 1))) (j + 1) ≡ same (digestAt (j + 1)) (part list (32 * j) 32)
   unfolding fits

@@ -26,7 +26,8 @@ unfolding blockLength
 block-high L k h l = div-le-of-le-mul k (omega (arith, h, l))
 
 -- the front of an area in which a block was stored
-pub block-front : (z a : List ℕ) (k j b : ℕ) (v : List ℕ) → b ≡ blockLength (length v) k → b ≤ length z → a ≡ sets z 0 (blockOf k v j) → take b a ≡ blockOf k v j
+pub block-front : (z a : List ℕ) (k j b : ℕ) (v : List ℕ) → b ≡ blockLength (length v) k → b ≤ length z → a ≡ sets z 0 (blockOf k v j)
+    → take b a ≡ blockOf k v j
 block-front z a k j b v e h q =
     let l : length (blockOf k v j) ≡ b = length-blockOf k v j ∙ sym e in
     let f : 0 + length (blockOf k v j) ≤ length z = omega (arith, l, h) in

@@ -11,7 +11,7 @@ use native.Mathlib.Numerals.{add-one}
 use lib.ListN.{length, getD, take, List·getD-eq-default}
 use lib.Dec.{leb, eqb}
 use borrow.Author.Tests.{le-leb}
-use Rattle.area.specs.Area.{pick, same, table}
+use Rattle.area.specs.Area.{pick, kept, same, table}
 use Rattle.area.proofs.Fills.{getD-table, length-table}
 use Rattle.quorum.specs.Quorum.{bit, count}
 use Rattle.quorum.proofs.Counting.{count-suc}
@@ -22,10 +22,20 @@ use Rattle.frame.specs.Params.{width, Bounded}
 use Rattle.frame.specs.Messages.{Entry}
 use Rattle.frame.specs.Chunks.{chunkAt, entryAt}
 use Rattle.group_rules.specs.Coded.{Piece, hasList, pieceOf, pieces, numbers, joinedBytes, lowestValue, agreeing, decoded}
-use Rattle.group.specs.Entries.{kept, marked, timed, entries, sentList, passing, flags, placesFrom, Within}
+use Rattle.group.specs.Entries.{marked, timed, entries, sentList, passing, flags, placesFrom, Within}
 use Rattle.group.specs.Choice.{chosen, lowest, blockIn, blocksIn, valueFrom, allOf}
 use Rattle.group.proofs.Choosing.{chosen-agree}
 use Rattle.group.proofs.Unanimous.{blocksIn-take}
+
+-- ---- who sent a list is flagged
+
+kept-list : (b : Bool) (e : Entry) (d : List ℕ) → hasList (kept b e) d ≡ true → b ≡ true
+kept-list true e d q = refl
+kept-list false e d q = q
+
+pub sent-flagged : (g : Params) (on : List Bool) (at a d : List ℕ) (j : ℕ) → sentList g on at a d j ≡ true → marked on j ≡ true
+unfolding sentList entries
+sent-flagged g on at a d j e = kept-list (marked on j) (entryAt g a (getD at j 0)) d e
 
 -- ---- tests and entries that agree
 
@@ -155,7 +165,8 @@ module _ (g : Params) (on : List Bool) (at a d : List ℕ) where
   -- the flagged servers
   flagged : g .n ≤ 10 → chosen (marked (flags (sentList g on at a d) (g .n))) 1 (g .n) ≡ chosen (sentList g on at a d) 1 (g .n)
   flagged m =
-      chosen-agree (marked (flags (sentList g on at a d) (g .n))) (sentList g on at a d) 1 (g .n) (λ i l h. marked-flags (sentList g on at a d) (g .n) m i l (omega arith))
+      chosen-agree (marked (flags (sentList g on at a d) (g .n))) (sentList g on at a d) 1 (g .n)
+      (λ i l h. marked-flags (sentList g on at a d) (g .n) m i l (omega arith))
 
   numbered : numbers (pieces (entries g on at a) d 1 (g .n)) ≡ chosen (sentList g on at a d) 1 (g .n)
   unfolding sentList

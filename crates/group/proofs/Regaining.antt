@@ -69,7 +69,8 @@ module _ (g : Params) (on : List Bool) (at a : List ℕ) (out : ℕ) (ps ls : Li
       room = rw (← front-length) (total b e);
     }
 
-    module _ (b : ℕ) (x m : List ℕ) (width-is : b ≡ blockLength (g .size) (g .k)) (collected : m ≡ sets x 0 (blocksIn g at a (take (g .k) l))) (room : length x ≡ 264) where
+    module _ (b : ℕ) (x m : List ℕ) (width-is : b ≡ blockLength (g .size) (g .k)) (collected : m ≡ sets x 0 (blocksIn g at a (take (g .k) l)))
+        (room : length x ≡ 264) where
       -- the front of the buffer of blocks
       pub back-room : g .k * b ≤ length m
       back-room =

@@ -71,7 +71,8 @@ module _ (g : Params) (at a : List ℕ) (B : Bounded g) (W : Within at a) where
         let e : g .n ≡ g .n - 0 = omega arith in
         ap (λ (m : ℕ). same (blocksOf (g .k) v (chosen (marked on) 1 m)) (blocksIn g at a (chosen (marked on) 1 m))) e
 
-    pub in-order : (w : List ℕ) (j : ℕ) (r : Bool) → w ≡ blockIn g at a j → r ≡ pick (getD on j false) (same w (blockOf (g .k) v j)) true → r ≡ inOrder g at a on v j
+    pub in-order : (w : List ℕ) (j : ℕ) (r : Bool) → w ≡ blockIn g at a j → r ≡ pick (getD on j false) (same w (blockOf (g .k) v j)) true
+        → r ≡ inOrder g at a on v j
     unfolding marked
     in-order w j r e q = q ∙ ap (λ (l : List ℕ). pick (getD on j false) (same l (blockOf (g .k) v j)) true) e
 
@@ -98,12 +99,15 @@ module _ (g : Params) (at a : List ℕ) (B : Bounded g) (W : Within at a) where
         let u : suc (j + 1) ≡ j + 1 + 1 = omega arith in
         ap (λ (m : ℕ). same (blocksOf (g .k) v (chosen (marked on) (j + 1) m)) (blocksIn g at a (chosen (marked on) (j + 1) m))) e
         ∙ by-flag (marked on (j + 1)) (j + 1) (chosen (marked on) (suc (j + 1)) (g .n - (j + 1)))
-        ∙ ap (λ (i : ℕ). inOrder g at a on v (j + 1) && same (blocksOf (g .k) v (chosen (marked on) i (g .n - (j + 1)))) (blocksIn g at a (chosen (marked on) i (g .n - (j + 1))))) u
+        ∙ ap (λ (i : ℕ). inOrder g at a on v (j + 1)
+        && same (blocksOf (g .k) v (chosen (marked on) i (g .n - (j + 1)))) (blocksIn g at a (chosen (marked on) i (g .n - (j + 1))))) u
 
-    pub left-turn : (j : ℕ) (r : Bool) → j < g .n → r ≡ inOrder g at a on v (j + 1) → not r ≡ false → allOf g on at a v ≡ left g at a on v j → allOf g on at a v ≡ left g at a on v (j + 1)
+    pub left-turn : (j : ℕ) (r : Bool) → j < g .n → r ≡ inOrder g at a on v (j + 1) → not r ≡ false → allOf g on at a v ≡ left g at a on v j
+        → allOf g on at a v ≡ left g at a on v (j + 1)
     left-turn j r h q t i = i ∙ left-split j h ∙ ap (λ (b : Bool). b && left g at a on v (j + 1)) (sym q ∙ not-false r t)
 
-    pub left-out : (j : ℕ) (r : Bool) → j < g .n → r ≡ inOrder g at a on v (j + 1) → not r ≡ true → allOf g on at a v ≡ left g at a on v j → false ≡ allOf g on at a v
+    pub left-out : (j : ℕ) (r : Bool) → j < g .n → r ≡ inOrder g at a on v (j + 1) → not r ≡ true → allOf g on at a v ≡ left g at a on v j
+        → false ≡ allOf g on at a v
     left-out j r h q t i = sym (i ∙ left-split j h ∙ ap (λ (b : Bool). b && left g at a on v (j + 1)) (sym q ∙ not-true r t))
 
     pub left-end : (j : ℕ) → g .n ≤ j → left g at a on v j ≡ true

@@ -6,16 +6,11 @@ use mathlib.Core.Option.{Option, none, some}
 use mathlib.Core.List.{List}
 use lib.ListN.{length, getD}
 use lib.Dec.{leb, eqb}
-use Rattle.area.specs.Area.{table}
+use Rattle.area.specs.Area.{table, kept}
 use Rattle.blocks.specs.declared.Params.{Params}
 use Rattle.frame.specs.Messages.{Entry}
 use Rattle.frame.specs.Chunks.{chunkAt, entryAt}
 use Rattle.group_rules.specs.Coded.{hasList}
-
--- a payload beside its flag
-abbrev pub kept : {P : Type 0} → Bool → P → Option P
-kept true p = some p
-kept false p = none
 
 -- whether server j is flagged
 unfoldable pub marked : List Bool → ℕ → Bool

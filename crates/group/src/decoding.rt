@@ -23,7 +23,8 @@ ghost use Rattle.group.specs.Needs.{Collecting, Decoding, Valued};
 // Server j as the next number behind the c before it, if it is flagged and these are fewer than k; the answer is how many there are then.
 fn add_number(mark: bool, j: u8, c: usize, k: usize, numbers: &mut [u8; 8]) -> usize
     requires { ⌜ (c ≤ k) × (k ≤ 8) ⌝ }
-    ensures { λ r. ⌜ (r ≡ pick (mark && ltb c k) (c + 1) c) × (now (numbers .exit) ≡ pick (mark && ltb c k) (set (now (numbers .entry)) c j) (now (numbers .entry))) ⌝ }
+    ensures { λ r. ⌜ (r ≡ pick (mark && ltb c k) (c + 1) c)
+        × (now (numbers .exit) ≡ pick (mark && ltb c k) (set (now (numbers .entry)) c j) (now (numbers .entry))) ⌝ }
 {
     if mark {
         if c < k {

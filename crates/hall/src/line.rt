@@ -15,6 +15,23 @@ pub const READ: u8 = 6;
 
 pub const WRITE: u8 = 7;
 
+// How they are spelt, as one number, the first byte first: hall, read, write, S, C, c and s; and - for no bytes.
+const SPELT_HALL: u64 = 0x68616c6c;
+
+const SPELT_READ: u64 = 0x72656164;
+
+const SPELT_WRITE: u64 = 0x7772697465;
+
+const SPELT_SERVER: u64 = 0x53;
+
+const SPELT_CLIENT: u64 = 0x43;
+
+const SPELT_FROM_CLIENT: u64 = 0x63;
+
+const SPELT_FROM_SERVER: u64 = 0x73;
+
+const NO_BYTES: u64 = 0x2d;
+
 // The field being read: how many bytes it has, 9 standing for more than 8; these as one number; its value as a decimal number, 1000 standing for more;
 // whether it is such a number, without leading zeros; whether it is hexadecimal, and the digit that waits for its second.
 pub struct Field {
@@ -158,16 +175,16 @@ fn word_of(length: usize, word: u64) -> u8 {
         return letter_of(word);
     }
     if length == 4 {
-        if word == 1751215212 {
+        if word == SPELT_HALL {
             return HALL;
         }
-        if word == 1919246692 {
+        if word == SPELT_READ {
             return READ;
         }
         return 0;
     }
     if length == 5 {
-        if word == 513020621925 {
+        if word == SPELT_WRITE {
             return WRITE;
         }
     }
@@ -175,16 +192,16 @@ fn word_of(length: usize, word: u64) -> u8 {
 }
 
 fn letter_of(word: u64) -> u8 {
-    if word == 83 {
+    if word == SPELT_SERVER {
         return SERVER;
     }
-    if word == 67 {
+    if word == SPELT_CLIENT {
         return CLIENT;
     }
-    if word == 99 {
+    if word == SPELT_FROM_CLIENT {
         return FROM_CLIENT;
     }
-    if word == 115 {
+    if word == SPELT_FROM_SERVER {
         return FROM_SERVER;
     }
     0
@@ -205,7 +222,7 @@ fn is_bytes(f: Field) -> bool {
     }
     if f.odd {
         if f.length == 1 {
-            return f.word == 45;
+            return f.word == NO_BYTES;
         }
         return false;
     }
@@ -264,7 +281,7 @@ fn add_to_field(line: Line, b: u8, bytes: &mut [u8]) -> Line {
 
 // The line with one byte more, which is no newline.
 pub fn add_byte(line: Line, b: u8, bytes: &mut [u8]) -> Line {
-    if b == 32 {
+    if b == b' ' {
         return next_field(line);
     }
     add_to_field(line, b, bytes)

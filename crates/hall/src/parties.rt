@@ -28,7 +28,7 @@ pub struct Hall {
     pub ready: bool,
     pub g: Params,
     pub servers: [Server; 11],
-    pub clients: [Client; 9],
+    pub clients: [Client; Server::PLACES],
     pub out: Out,
 }
 
@@ -43,7 +43,7 @@ pub fn no_hall() -> Hall {
         ready: false,
         g,
         servers: [Server::fresh(); 11],
-        clients: [fresh_client(); 9],
+        clients: [fresh_client(); Server::PLACES],
         out: nothing(),
     }
 }
@@ -71,7 +71,7 @@ fn with_server(h: Hall, i: usize, s: Server, o: Out) -> Hall {
 fn with_client(h: Hall, i: usize, s: Client, o: Out) -> Hall {
     let mut y = h;
     y.out = o;
-    if 8 < i {
+    if Server::CLIENTS < i {
         return y;
     }
     y.clients[i] = s;
@@ -191,7 +191,7 @@ pub fn hand_client(
 ) -> Hall
     requires { ⌜ (length (now rows) ≡ 207360) × (length (now values) ≡ 2304) ⌝ }
 {
-    let i = place_of(j, 8);
+    let i = place_of(j, Server::CLIENTS);
     let at = 23040 * i;
     let first = 256 * i;
     let g = h.g;
@@ -222,7 +222,7 @@ pub fn hand_client(
 
 // Client j begins a read.
 pub fn read(h: Hall, j: usize, text: &mut [u8]) -> Hall {
-    let i = place_of(j, 8);
+    let i = place_of(j, Server::CLIENTS);
     let mut out = [0u8; 12000];
     let mut to = [0u8; 64];
     let g = h.g;
@@ -249,7 +249,7 @@ fn keep(a: Answer, value: &[u8], values: &mut [u8], at: usize)
 pub fn write(h: Hall, j: usize, value: &[u8], values: &mut [u8], text: &mut [u8]) -> Hall
     requires { ⌜ length (now values) ≡ 2304 ⌝ }
 {
-    let i = place_of(j, 8);
+    let i = place_of(j, Server::CLIENTS);
     let mut out = [0u8; 12000];
     let mut to = [0u8; 64];
     let g = h.g;

@@ -25,7 +25,7 @@ fn scan(line: Line, piece: &[u8], at: usize, bytes: &mut [u8]) -> Scanned
     let mut y = line;
     let mut i = at;
     while i < piece.len() {
-        if piece[i] == 10 {
+        if piece[i] == b'\n' {
             return Scanned { line: y, at: i };
         }
         y = add_byte(y, piece[i], bytes);

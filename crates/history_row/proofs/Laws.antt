@@ -35,7 +35,7 @@ added-whole ops h acc i l p = p ∙ ap (addedAll h) (take-all i ops l)
 
 -- ---- what the walk gives is what is judged
 
-added-fits : (h : History) (a : Operation) → h .count < 64 → added h a ≡ record { rows = set (h .rows) (h .count) a; count = h .count + 1 }
+pub added-fits : (h : History) (a : Operation) → h .count < 64 → added h a ≡ record { rows = set (h .rows) (h .count) a; count = h .count + 1 }
 unfolding added pick
 added-fits h a l = simp (lt-leb 64 (h .count) l)
 
@@ -72,7 +72,8 @@ verdict-added h (a ∷ ops) e l =
     (λ t.
     let g : h .count < 64 = ltb-true (h .count) 64 t in
     let i : h .count < length (h .rows) = omega arith in
-    let s : take (h .count + 1) (set (h .rows) (h .count) a) ≡ take (h .count) (h .rows) ++ (a ∷ []) = rw (add-one (h .count)) (take-suc-set (h .rows) (h .count) a i) in
+    let s : take (h .count + 1) (set (h .rows) (h .count) a) ≡ take (h .count) (h .rows) ++ (a ∷ []) =
+    rw (add-one (h .count)) (take-suc-set (h .rows) (h .count) a i) in
     ap (λ k. verdictOf (addedAll k ops)) (added-fits h a g)
     ∙ verdict-added (record { rows = set (h .rows) (h .count) a; count = h .count + 1 }) ops (length-set (h .rows) (h .count) a ∙ e) (omega arith)
     ∙ ap (λ x. judged (x ++ ops)) s

@@ -7,6 +7,7 @@ use console::output::flush;
 use console::output::nothing;
 use console::output::put;
 use console::output::put_decimal;
+use frame::Refusal;
 use order::judge::Answer;
 use order::judge::Verdict;
 use order::judge::refuse;
@@ -19,7 +20,7 @@ fn judge(history: &[u8]) -> Verdict
     ensures { λ r. ⌜ r ≡ answerTo (now (history .entry)) ⌝ }
 {
     if 65535 < history.len() {
-        return refuse(18);
+        return refuse(Refusal::Record);
     }
     history_text::text::judge_text(history)
 }

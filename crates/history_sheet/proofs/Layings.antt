@@ -9,7 +9,7 @@ use native.Mathlib.Omega.{arith}
 use lib.Dec.{ltb}
 use lib.ListN.{length, getD, take, set, length-set, length-map, List·getD-map}
 use lib.Seq.{sets, take-suc-set, getD-take, ext-getD}
-use borrow.Author.Tests.{lt-ltb, le-ltb, lt-leb, ltb-false}
+use borrow.Author.Tests.{lt-ltb, le-ltb, ltb-false}
 use Rattle.area.specs.Area.{pick, joined}
 use Rattle.area.proofs.Tests.{pick-not}
 use Rattle.area.proofs.Sets.{part-sets-same}
@@ -27,6 +27,7 @@ use Rattle.order.proofs.Rows.{row-length}
 use Rattle.order.proofs.Arranged.{theRow, size, stands, row-is-row}
 use Rattle.history_row.specs.Rows.{none, added, addedAll}
 use Rattle.history_row.specs.declared.History.{History}
+use Rattle.history_row.proofs.Laws.{added-fits}
 use Rattle.history_text.specs.Lines.{Lines, Records, Malformed, linesOf, answerOf}
 use Rattle.history_text.specs.Readings.{readingOf, answerBy}
 use Rattle.history_text.specs.declared.text.Reading.{Reading}
@@ -60,10 +61,6 @@ sheet-laid row out o m pages n e h q =
 
 -- ---- operations added to a history
 
-added-one : (h : History) (a : Operation) → h .count < 64 → added h a ≡ record { rows = set (h .rows) (h .count) a; count = h .count + 1 }
-unfolding added pick
-added-one h a l = simp (lt-leb 64 (h .count) l)
-
 all-added : (h : History) (ops : List Operation) → length (h .rows) ≡ 64 → h .count + length ops ≤ 64
     → take (h .count + length ops) (addedAll h ops .rows) ≡ take (h .count) (h .rows) ++ ops
 unfolding addedAll
@@ -76,7 +73,7 @@ all-added h (a ∷ ops) e l =
     let s : take (h .count + 1) (set (h .rows) (h .count) a) ≡ take (h .count) (h .rows) ++ (a ∷ []) =
     rw (add-one (h .count)) (take-suc-set (h .rows) (h .count) a i) in
     ap (λ x. take x (addedAll (added h a) ops .rows)) n
-    ∙ ap (λ x. take (h .count + 1 + length ops) (addedAll x ops .rows)) (added-one h a g)
+    ∙ ap (λ x. take (h .count + 1 + length ops) (addedAll x ops .rows)) (added-fits h a g)
     ∙ all-added k ops (length-set (h .rows) (h .count) a ∙ e) (omega arith)
     ∙ ap (λ x. x ++ ops) s
     ∙ append-assoc (take (h .count) (h .rows)) (a ∷ []) ops

@@ -9,6 +9,7 @@ use lib.ListN.{length, getD, drop, length-append, List·getD-eq-default}
 use lib.Seq.{getD-append-seam, drop-append-seam, drop-drop}
 use borrow.Author.Tests.{ltb-true, ltb-false, leb-true, eqb-true, eqb-false}
 use Rattle.area.specs.Area.{pick}
+use Rattle.area.proofs.Tests.{by-pick}
 use Rattle.order.specs.declared.operation.Operation.{Operation}
 use Rattle.order.proofs.Picks.{pick-yes, pick-no}
 use Rattle.order.proofs.Less.{true-false}
@@ -30,12 +31,7 @@ use Rattle.history_text.proofs.Laws.{digits-cons, number-cons}
 use Rattle.history_text.proofs.Decimals.{digit-is, is-digit, cons-digits, plain-head, decimal-plain}
 use Rattle.history_text.proofs.Shown.{shown, printed-shown}
 
--- what holds of both outcomes of a test, and of what follows a part that was read
-by-pick : {A : Type 0} (P : A → Type 0) (b : Bool) (x y : A) → (b ≡ true → P x) → (b ≡ false → P y) → P (pick b x y)
-unfolding pick
-by-pick P true x y f g = f refl
-by-pick P false x y f g = g refl
-
+-- what holds of what follows a part that was read
 by-number : {A : Type 0} (P : A → Type 0) (Q : Field → Type 0) (f : Field) (bad : A) (g : ℕ → ℕ → A) → Q f → P bad → ((v u : ℕ) → Q (Number v u) → P (g v u))
     → P (thenNumber f bad g)
 unfolding thenNumber

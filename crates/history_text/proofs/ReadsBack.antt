@@ -184,5 +184,6 @@ line-reads-back a t h =
     ∙ sym (line-whole s 0 (omega arith) refl (kind-of a .0) refl (a .start) (a .end) n (a .time) (a .writer) (a .sequence) m (sym i) refl (sym p) refl (sym c)
     (a .caller) (length (shown (a .caller) 10)) refl)
     ∙ ap₂ L.Record
-    (ap (λ w. record { write = w; start = a .start; end = a .end; time = a .time; writer = a .writer; sequence = a .sequence; caller = a .caller }) (kind-of a .1))
+    (ap (λ w. record { write = w; start = a .start; end = a .end; time = a .time; writer = a .writer; sequence = a .sequence; caller = a .caller })
+    (kind-of a .1))
     (sym (printed-length a))

@@ -1,6 +1,7 @@
 // A history as text: its lines read, and the answer to it.
 use crate::line::Line;
 use crate::line::read_line;
+use frame::Refusal;
 use history_row::History;
 use history_row::add;
 use history_row::empty;
@@ -45,12 +46,12 @@ pub fn judge_reading(reading: Reading) -> Verdict
     ensures { λ r. ⌜ r ≡ answerBy reading ⌝ }
 {
     if reading.malformed {
-        return refuse(18);
+        return refuse(Refusal::Record);
     }
     let history = reading.history;
     let n = history.count;
     if 64 < n {
-        return refuse(18);
+        return refuse(Refusal::Record);
     }
     let rows = history.rows;
     judge_first(rows, n)

@@ -51,15 +51,15 @@ use Rattle.layout.specs.Clients.{clientSize, clientBytes, clientIn}
 use Rattle.layout.specs.Servers.{serverSize, serverBytes, serverIn, slotBytes, readerBytes, scopeSets}
 use Rattle.answers.specs.Answers.{testAnswer, isRefusal, clientAnswer, openAnswer, isTurnedDown, serverAnswer}
 use Rattle.answers.specs.Short.{readShort, valueShort, frameShort, stampShort}
-use Rattle.register.specs.Calls.{Wrote, wrote, freshCall, Began, began, beganOf, stateAfter, readCall, writeCall}
-use Rattle.register.specs.Handed.{senderOf, stampSize, stampAfter, ClientGot, clientGot, clientGotOf, clientCall}
-use Rattle.register.specs.ServerCalls.{Made, made, madeOf, freshAfter, scopeAfter, makeCall, ServerGot, serverGot, serverGotOf, serverCall}
-use Rattle.register.specs.Asked.{openOf, clientOpenCall}
-use Rattle.register.proofs.Laws.{enough}
-use Rattle.register.proofs.Handed.{client-whole, client-stamp-short}
-use Rattle.register.proofs.RecordBack.{record-back, make-back, fresh-server}
-use Rattle.register.proofs.ClientRecordBack.{fresh-back, read-back, write-back, client-record-back}
-use Rattle.register.proofs.StayBytes.{fresh-bytes, read-bytes, write-bytes, client-call-bytes, make-bytes, server-call-bytes}
+use Rattle.semduoli.specs.Calls.{Wrote, wrote, freshCall, Began, began, beganOf, stateAfter, readCall, writeCall}
+use Rattle.semduoli.specs.Handed.{senderOf, stampSize, stampAfter, ClientGot, clientGot, clientGotOf, clientCall}
+use Rattle.semduoli.specs.ServerCalls.{Made, made, madeOf, freshAfter, scopeAfter, makeCall, ServerGot, serverGot, serverGotOf, serverCall}
+use Rattle.semduoli.specs.Asked.{openOf, clientOpenCall}
+use Rattle.semduoli.proofs.Laws.{enough}
+use Rattle.semduoli.proofs.Handed.{client-whole, client-stamp-short}
+use Rattle.semduoli.proofs.RecordBack.{record-back, make-back, fresh-server}
+use Rattle.semduoli.proofs.ClientRecordBack.{fresh-back, read-back, write-back, client-record-back}
+use Rattle.semduoli.proofs.StayBytes.{fresh-bytes, read-bytes, write-bytes, client-call-bytes, make-bytes, server-call-bytes}
 use Rattle.hosts.specs.Hosts.{ServerHost, ClientHost, Hosts, Records, Lent, HostCall, serverDeliver, clientDeliver, beginRead, beginWrite, writeOpen}
 use Rattle.hosts.specs.Hosts.{lentBy, keptBy, first, hostStep, hosted, callOf, callsOf, Told, told, toldBy, toldIn, Fit, ServerSays, ClientSays, Hosted}
 use Rattle.hosts.specs.Hosts.{HostsTheorem}
@@ -157,7 +157,6 @@ open-is state h =
     ∙ open-read (clientIn state .writes) (clientIn state .reads) (clientIn state .phase)
 
 refused-low : (r : Refusal) → eqb (numberOf r % 65536) 0 ≡ false
-unfolding numberOf
 refused-low R.Parties = refl
 refused-low R.Threshold = refl
 refused-low R.Length = refl

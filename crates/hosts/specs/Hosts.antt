@@ -19,10 +19,10 @@ use Rattle.runs.specs.Demand.{Demand3}
 use Rattle.layout.specs.Clients.{clientSize, clientIn}
 use Rattle.layout.specs.Servers.{serverSize, serverIn}
 use Rattle.answers.specs.Answers.{clientAnswer, serverAnswer}
-use Rattle.register.specs.Calls.{freshCall, readCall, writeCall}
-use Rattle.register.specs.Handed.{senderOf, stampSize, stampAfter, clientCall}
-use Rattle.register.specs.ServerCalls.{makeCall, serverCall}
-use Rattle.register.specs.Asked.{clientOpenCall}
+use Rattle.semduoli.specs.Calls.{freshCall, readCall, writeCall}
+use Rattle.semduoli.specs.Handed.{senderOf, stampSize, stampAfter, clientCall}
+use Rattle.semduoli.specs.ServerCalls.{makeCall, serverCall}
+use Rattle.semduoli.specs.Asked.{clientOpenCall}
 
 -- ---- what hosts keep
 

@@ -84,7 +84,8 @@ pub client-bytes : (s : Client) → TypedClient s → Bytes (clientBytes s)
 unfolding clientBytes rowsBytes
 client-bytes s t =
     let y = numbersBytes (s .times) ++ rowsBytes (s .rows) in
-    Bytes-append (headBytes (s .writes) (s .reads) (s .closed) (s .phase)) (flagsBytes (s .heard) ++ y) (head-bytes (s .writes) (s .reads) (s .closed) (s .phase))
+    Bytes-append (headBytes (s .writes) (s .reads) (s .closed) (s .phase)) (flagsBytes (s .heard) ++ y)
+    (head-bytes (s .writes) (s .reads) (s .closed) (s .phase))
     (Bytes-append (flagsBytes (s .heard)) y (flags-bytes (s .heard))
     (Bytes-append (numbersBytes (s .times)) (rowsBytes (s .rows)) (numbers-bytes (s .times))
     (row-bytes TypedRow keptBytes 11 noRow (s .rows) kept-bytes (t .rows))))

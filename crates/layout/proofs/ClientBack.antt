@@ -18,7 +18,8 @@ use Rattle.client_rules.specs.declared.Row.{Row}
 use Rattle.client_rules.specs.declared.Client.{Client}
 use Rattle.client_rules.specs.State.{noStamp, noRow}
 use Rattle.layout.specs.Fields.{flagByte, flagAt, stampAt, flagsBytes, numbersBytes}
-use Rattle.layout.specs.Clients.{clientSize, phaseByte, phaseIn, stampsBytes, stampsAt, keptBytes, keptAt, rowsBytes, rowsAt, headBytes, clientBytes, clientAt, clientIn}
+use Rattle.layout.specs.Clients.{clientSize, phaseByte, phaseIn, stampsBytes, stampsAt, keptBytes, keptAt}
+use Rattle.layout.specs.Clients.{rowsBytes, rowsAt, headBytes, clientBytes, clientAt, clientIn}
 use Rattle.layout.specs.Typed.{Word, TypedStamp, TypedRow, TypedClient}
 use Rattle.server_rules.specs.WellFormed.{Array}
 use Rattle.layout.proofs.Lengths.{length-flags, length-numbers, length-kept, length-head, length-client}

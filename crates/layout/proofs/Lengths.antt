@@ -21,7 +21,8 @@ use Rattle.server_rules.specs.declared.Server.{Server}
 use Rattle.server_rules.specs.State.{noSlot, noReader}
 use Rattle.layout.specs.Fields.{flagByte, rowBytes, flagsBytes, numbersBytes}
 use Rattle.layout.specs.Clients.{clientSize, phaseByte, stampsBytes, keptBytes, rowsBytes, headBytes, clientBytes}
-use Rattle.layout.specs.Servers.{serverSize, blocksSize, slotSize, slotsSize, readerSize, readersSize, marksBytes, votesBytes, blocksBytes, slotBytes, slotsBytes, readerBytes, readersBytes, serverBytes}
+use Rattle.layout.specs.Servers.{serverSize, blocksSize, slotSize, slotsSize, readerSize, readersSize, marksBytes}
+use Rattle.layout.specs.Servers.{votesBytes, blocksBytes, slotBytes, slotsBytes, readerBytes, readersBytes, serverBytes}
 
 -- two parts, the one after the other
 pub both : (a b : List ℕ) (v w : ℕ) → length a ≡ v → length b ≡ w → length (a ++ b) ≡ v + w
@@ -52,7 +53,8 @@ length-rows xs = length-joined (λ j. keptBytes (getD xs j noRow)) 60 0 11 (λ j
 pub length-head : (w r : ℕ) (b : Bool) (p : Phase) → length (headBytes w r b p) ≡ 10
 unfolding headBytes
 length-head w r b p =
-    both (bytes4 w) (bytes4 r ++ (flagByte b ∷ phaseByte p ∷ [])) 4 6 (length-bytes4 w) (both (bytes4 r) (flagByte b ∷ phaseByte p ∷ []) 4 2 (length-bytes4 r) refl)
+    both (bytes4 w) (bytes4 r ++ (flagByte b ∷ phaseByte p ∷ [])) 4 6 (length-bytes4 w)
+    (both (bytes4 r) (flagByte b ∷ phaseByte p ∷ []) 4 2 (length-bytes4 r) refl)
 
 pub length-client : (s : Client) → length (clientBytes s) ≡ clientSize
 unfolding clientBytes

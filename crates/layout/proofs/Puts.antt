@@ -19,7 +19,8 @@ use Rattle.server_rules.specs.declared.Reader.{Reader}
 use Rattle.server_rules.specs.declared.Server.{Server}
 use Rattle.layout.specs.Fields.{flagByte, flagsBytes, numbersBytes}
 use Rattle.layout.specs.Clients.{phaseByte, stampsBytes, keptBytes, rowsBytes, headBytes, clientBytes}
-use Rattle.layout.specs.Servers.{slotsSize, readersPlace, marksBytes, votesBytes, blocksBytes, slotBytes, slotsBytes, readerBytes, readersBytes, serverBytes}
+use Rattle.layout.specs.Servers.{slotsSize, readersPlace, marksBytes, votesBytes, blocksBytes}
+use Rattle.layout.specs.Servers.{slotBytes, slotsBytes, readerBytes, readersBytes, serverBytes}
 use Rattle.layout.proofs.Places.{onto}
 use Rattle.layout.proofs.Lengths.{length-flags, length-numbers, length-head, length-marks, length-votes, length-slots}
 
@@ -66,12 +67,14 @@ module _ (d l m : List ℕ) (i : ℕ) where
         → n ≡ sets m (i + readersPlace) (readersBytes (s .readers)) → n ≡ sets d i (serverBytes s)
     unfolding serverBytes
     server-put s p q r =
-        let u = onto l m n (i + 13) slotsSize (i + readersPlace) (slotsBytes (s .slots)) (readersBytes (s .readers)) (length-slots (s .slots)) (omega arith) q r in
+        let u = onto l m n (i + 13) slotsSize (i + readersPlace) (slotsBytes (s .slots)) (readersBytes (s .readers))
+        (length-slots (s .slots)) (omega arith) q r in
         onto d l n i 13 (i + 13) (stampBytes (s .stamp)) (slotsBytes (s .slots) ++ readersBytes (s .readers)) (length-stamp (s .stamp)) refl p u
 
     module _ (o : List ℕ) where
       pub head-put : (w r : ℕ) (b : Bool) (p : Phase) (x y : ℕ) → x ≡ flagByte b → y ≡ phaseByte p
-          → l ≡ sets d i (bytes4 w) → m ≡ sets l (i + 4) (bytes4 r) → n ≡ sets m (i + 8) (x ∷ []) → o ≡ sets n (i + 9) (y ∷ []) → o ≡ sets d i (headBytes w r b p)
+          → l ≡ sets d i (bytes4 w) → m ≡ sets l (i + 4) (bytes4 r) → n ≡ sets m (i + 8) (x ∷ []) → o ≡ sets n (i + 9) (y ∷ [])
+          → o ≡ sets d i (headBytes w r b p)
       unfolding headBytes
       head-put w r b p x y e f p₁ p₂ p₃ p₄ =
           let u : o ≡ sets m (i + 8) (x ∷ y ∷ []) = onto m n o (i + 8) 1 (i + 9) (x ∷ []) (y ∷ []) refl (omega arith) p₃ p₄ in
@@ -83,8 +86,10 @@ module _ (d l m : List ℕ) (i : ℕ) where
       unfolding clientBytes
       client-put s p₁ p₂ p₃ p₄ =
           let u = onto m n o (i + 21) 88 (i + 109) (numbersBytes (s .times)) (rowsBytes (s .rows)) (length-numbers (s .times)) (omega arith) p₃ p₄ in
-          let v = onto l m o (i + 10) 11 (i + 21) (flagsBytes (s .heard)) (numbersBytes (s .times) ++ rowsBytes (s .rows)) (length-flags (s .heard)) (omega arith) p₂ u in
-          onto d l o i 10 (i + 10) (headBytes (s .writes) (s .reads) (s .closed) (s .phase)) (flagsBytes (s .heard) ++ (numbersBytes (s .times) ++ rowsBytes (s .rows)))
+          let v = onto l m o (i + 10) 11 (i + 21) (flagsBytes (s .heard)) (numbersBytes (s .times) ++ rowsBytes (s .rows))
+          (length-flags (s .heard)) (omega arith) p₂ u in
+          onto d l o i 10 (i + 10) (headBytes (s .writes) (s .reads) (s .closed) (s .phase))
+          (flagsBytes (s .heard) ++ (numbersBytes (s .times) ++ rowsBytes (s .rows)))
           (length-head (s .writes) (s .reads) (s .closed) (s .phase)) refl p₁ v
 
       pub blocks-put : (k : List ℕ) (b : BlockPart) → l ≡ sets d i (marksBytes (b .sent) (b .ready) (b .complete)) → m ≡ sets l (i + 3) (bytes8 (b .time))

@@ -47,7 +47,8 @@ stored l i a h =
     let k : i ≤ length l = omega arith in
     record {
       rest = drop (i + length a) l;
-      is = ap (drop i) (sets-eq a l i h ∙ append-assoc (take i l) a (drop (i + length a) l)) ∙ drop-at (take i l) (a ++ drop (i + length a) l) i (length-take-le i l k);
+      is = ap (drop i) (sets-eq a l i h ∙ append-assoc (take i l) a (drop (i + length a) l))
+          ∙ drop-at (take i l) (a ++ drop (i + length a) l) i (length-take-le i l k);
     }
 
 -- ---- flags and numbers
@@ -102,7 +103,8 @@ stamp-at l i s t p =
 -- ---- arrays
 
 -- of lists end to end, list k
-entry-at : (F : ℕ → List ℕ) (w : ℕ) → ((k : ℕ) → length (F k) ≡ w) → (l : List ℕ) (m k s i : ℕ) → k < m → Stands l i (joined F s m) → Stands l (i + k * w) (F (s + k))
+entry-at : (F : ℕ → List ℕ) (w : ℕ) → ((k : ℕ) → length (F k) ≡ w) → (l : List ℕ) (m k s i : ℕ) → k < m → Stands l i (joined F s m)
+    → Stands l (i + k * w) (F (s + k))
 unfolding joined
 entry-at F w e l zero k s i h p = absurd (not-suc-le-zero h)
 entry-at F w e l (suc m) zero s i h p =

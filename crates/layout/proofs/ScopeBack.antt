@@ -16,7 +16,8 @@ use Rattle.frame.proofs.RoundTrip.{length-stamp}
 use Rattle.server_rules.specs.declared.Slot.{Slot}
 use Rattle.server_rules.specs.declared.Reader.{Reader}
 use Rattle.layout.specs.Fields.{flagIn, flagAt, stampAt, rowAt, flagsAt, numbersAt}
-use Rattle.layout.specs.Servers.{serverSize, blocksSize, slotSize, slotsSize, readerSize, readersSize, slotsPlace, readersPlace, blocksAt, slotBytes, slotAt, slotsAt, readerBytes, readerAt, readersAt, serverAt, serverIn, scopeSets}
+use Rattle.layout.specs.Servers.{serverSize, blocksSize, slotSize, slotsSize, readerSize, readersSize, slotsPlace, readersPlace, blocksAt}
+use Rattle.layout.specs.Servers.{slotBytes, slotAt, slotsAt, readerBytes, readerAt, readersAt, serverAt, serverIn, scopeSets}
 use Rattle.layout.specs.Typed.{TypedStamp, TypedSlot, TypedReader}
 use Rattle.layout.proofs.Lengths.{length-slot, length-reader}
 use Rattle.layout.proofs.Reading.{stored, stamp-at, row-entry}
@@ -77,7 +78,8 @@ word-spans = record {
 long-spans : Spans be8 8
 unfolding be8
 long-spans = record {
-  reads = λ l m i e. ap₂ (λ x y. x * 4294967296 + y) (within word-spans e i (omega arith) (omega arith)) (within word-spans e (i + 4) (omega arith) (omega arith));
+  reads = λ l m i e. ap₂ (λ x y. x * 4294967296 + y) (within word-spans e i (omega arith) (omega arith))
+      (within word-spans e (i + 4) (omega arith) (omega arith));
 }
 
 stamp-spans : Spans stampAt 13
@@ -208,7 +210,8 @@ pub readers-set : (l : List ℕ) (i c : ℕ) (z : Reader) → TypedReader z → 
 unfolding readersAt
 readers-set l i c z t h k =
     let u : i + c * readerSize + length (readerBytes z) ≤ length l = omega (arith, length-reader z) in
-    row-set readerAt 9 readerSize reader-spans l i c (readerBytes z) z (omega arith) (length-reader z) (reader-at _ _ z t (stored l (i + c * readerSize) (readerBytes z) u))
+    row-set readerAt 9 readerSize reader-spans l i c (readerBytes z) z (omega arith) (length-reader z)
+    (reader-at _ _ z t (stored l (i + c * readerSize) (readerBytes z) u))
 
 module _ (l : List ℕ) (c : ℕ) (x : Stamp) (y : Slot) (z : Reader) (h : serverSize ≤ length l) (few : c ≤ 8) where
   -- what was written reads back, and the rest reads as before

@@ -16,7 +16,8 @@ use Rattle.server_rules.specs.declared.Reader.{Reader}
 use Rattle.server_rules.specs.declared.Server.{Server}
 use Rattle.server_rules.specs.State.{noSlot, noReader}
 use Rattle.layout.specs.Fields.{flagByte, flagAt, flagsBytes, flagsAt, numbersBytes}
-use Rattle.layout.specs.Servers.{serverSize, slotSize, slotsSize, readerSize, slotsPlace, readersPlace, marksBytes, votesBytes, blocksBytes, blocksAt, slotBytes, slotAt, slotsBytes, slotsAt, readerBytes, readerAt, readersBytes, readersAt, serverBytes, serverAt, serverIn}
+use Rattle.layout.specs.Servers.{serverSize, slotSize, slotsSize, readerSize, slotsPlace, readersPlace, marksBytes, votesBytes, blocksBytes, blocksAt}
+use Rattle.layout.specs.Servers.{slotBytes, slotAt, slotsBytes, slotsAt, readerBytes, readerAt, readersBytes, readersAt, serverBytes, serverAt, serverIn}
 use Rattle.layout.specs.Typed.{TypedBlocks, TypedSlot, TypedReader, TypedServer}
 use Rattle.server_rules.specs.WellFormed.{Array}
 use Rattle.layout.proofs.Lengths.{length-flags, length-numbers, length-marks, length-votes, length-slot, length-slots, length-reader, length-server}

@@ -32,7 +32,8 @@ use Rattle.client_rules.specs.Tests.{sendRoom, roomTest, valueTest, messageTest
 use Rattle.client_rules.specs.Steps.{Effect}
 use Rattle.client_rules.proofs.Shapes.{shape-of}
 use Rattle.client_rules.proofs.Within.{Empty, fresh-within, read-within, write-within, Grants, step-within}
-use Rattle.client_rules.specs.Beginning.{idleTest, closedTest, lengthTest, readTest, writeTest, openRead, openWrite, beginBy, readBegun, writeBegun, begunOf, readBeginning, writeBeginning}
+use Rattle.client_rules.specs.Beginning.{idleTest, closedTest, lengthTest, readTest, writeTest, openRead, openWrite}
+use Rattle.client_rules.specs.Beginning.{beginBy, readBegun, writeBegun, begunOf, readBeginning, writeBeginning}
 use Rattle.client_rules.specs.Delivery.{effectBy, delivered, outcomeOf, delivery}
 use Rattle.layout.specs.Fields.{flagAt, stampAt, flagsAt, numbersAt}
 use Rattle.layout.specs.Clients.{stampsAt, keptAt, rowsAt, clientAt, clientIn}

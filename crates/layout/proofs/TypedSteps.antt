@@ -115,12 +115,13 @@ module _ (H : List ℕ → List ℕ) (g : Params) (me : ℕ) (s : Server) (t : T
   }
 
   -- the verdict is of 10 to 14; a frame that is turned down changes nothing
-  typed-judged : (v room : Verdict) (m : Message) → m .client ≤ 8 → Word (m .sequence) → TimeIn widths (m .body) → andThen room (messageTest H g me s from m) ≡ v
-      → TypedServer (effectBy H g me (judgedBy v m) s a initial from .server)
+  typed-judged : (v room : Verdict) (m : Message) → m .client ≤ 8 → Word (m .sequence) → TimeIn widths (m .body)
+      → andThen room (messageTest H g me s from m) ≡ v → TypedServer (effectBy H g me (judgedBy v m) s a initial from .server)
   unfolding effectBy messageTest
   typed-judged J.Fine room m few w h e =
       let o = fine-is (senderRight g from (m .client) (m .body)) R.Sender _ (fine-both room _ e .1) .1 in
-      step-within widths H g me s a initial (numberIn from) (m .client) (m .sequence) t few (shape-of H g me s a initial from m) o (granted (numberIn from) (m .client) (m .sequence) (m .body) few w h)
+      step-within widths H g me s a initial (numberIn from) (m .client) (m .sequence) t few (shape-of H g me s a initial from m) o
+      (granted (numberIn from) (m .client) (m .sequence) (m .body) few w h)
   typed-judged (J.Bad r) room m few w h e = t
 
   -- p is of 1 to 3, u of 4 to 9, v of 10

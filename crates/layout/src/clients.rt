@@ -16,7 +16,8 @@ ghost use mathlib.Core.Path.{_≡_};
 ghost use Prim.Native.Nat.{_+_, _≤_};
 ghost use lib.ListN.{length};
 ghost use lib.Seq.{sets};
-ghost use Rattle.layout.specs.Clients.{clientSize, phaseByte, phaseIn, stampsBytes, stampsAt, keptBytes, keptAt, rowsBytes, rowsAt, headBytes, clientBytes, clientAt};
+ghost use Rattle.layout.specs.Clients.{clientSize, phaseByte, phaseIn, stampsBytes, stampsAt, keptBytes};
+ghost use Rattle.layout.specs.Clients.{keptAt, rowsBytes, rowsAt, headBytes, clientBytes, clientAt};
 
 pub const CLIENT_SIZE: usize = 769;
 

@@ -18,7 +18,9 @@ ghost use Prim.Native.Nat.{_+_, _≤_};
 ghost use lib.ListN.{length};
 ghost use lib.Seq.{sets};
 ghost use Rattle.server_rules.specs.Scopes.{scopeOf};
-ghost use Rattle.layout.specs.Servers.{serverSize, blocksSize, slotSize, slotsSize, readerSize, readersSize, marksBytes, votesBytes, blocksBytes, blocksAt, slotBytes, slotAt, slotsBytes, readerBytes, readerAt, readersBytes, readersAt, serverBytes, serverIn, scopeSets};
+ghost use Rattle.layout.specs.Servers.{serverSize, blocksSize, slotSize, slotsSize, readerSize, readersSize, marksBytes};
+ghost use Rattle.layout.specs.Servers.{votesBytes, blocksBytes, blocksAt, slotBytes, slotAt, slotsBytes, readerBytes};
+ghost use Rattle.layout.specs.Servers.{readerAt, readersBytes, readersAt, serverBytes, serverIn, scopeSets};
 
 // ---- sizes and places
 
@@ -111,12 +113,12 @@ fn slot_at(bytes: &[u8], at: usize) -> Slot
     Slot { sequence, blocks }
 }
 
-fn put_slots(x: [Slot; 9], out: &mut [u8], at: usize)
+fn put_slots(x: [Slot; Server::PLACES], out: &mut [u8], at: usize)
     requires { ⌜ at + slotsSize ≤ length (now out) ⌝ }
     ensures { λ _. ⌜ now (out .exit) ≡ sets (now (out .entry)) at (slotsBytes x) ⌝ }
 {
     let mut j = 0;
-    while j < 9 {
+    while j < Server::PLACES {
         put_slot(x[j], out, at + j * SLOT_SIZE);
         j += 1;
     }
@@ -148,25 +150,25 @@ fn reader_at(bytes: &[u8], at: usize) -> Reader
     }
 }
 
-fn put_readers(x: [Reader; 9], out: &mut [u8], at: usize)
+fn put_readers(x: [Reader; Server::PLACES], out: &mut [u8], at: usize)
     requires { ⌜ at + readersSize ≤ length (now out) ⌝ }
     ensures { λ _. ⌜ now (out .exit) ≡ sets (now (out .entry)) at (readersBytes x) ⌝ }
 {
     let mut j = 0;
-    while j < 9 {
+    while j < Server::PLACES {
         put_reader(x[j], out, at + j * READER_SIZE);
         j += 1;
     }
 }
 
-pub fn readers_at(bytes: &[u8], at: usize) -> [Reader; 9]
+pub fn readers_at(bytes: &[u8], at: usize) -> [Reader; Server::PLACES]
     requires { ⌜ at + readersSize ≤ length (now bytes) ⌝ }
     ensures { λ r. ⌜ r ≡ readersAt (now (bytes .entry)) at ⌝ }
 {
     let first = reader_at(bytes, at);
-    let mut x = [first; 9];
+    let mut x = [first; Server::PLACES];
     let mut j = 0;
-    while j < 9 {
+    while j < Server::PLACES {
         x[j] = reader_at(bytes, at + j * READER_SIZE);
         j += 1;
     }

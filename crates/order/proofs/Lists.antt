@@ -8,15 +8,8 @@ use native.Mathlib.Omega.{arith}
 use lib.ListN.{length, getD}
 use borrow.Author.Tests.{ltb-false}
 use Rattle.area.specs.Area.{pick}
+pub use Rattle.area.proofs.Tests.{by-test, not-true}
 use Rattle.order.specs.Histories.{count, place, any}
-
--- the two values of a test
-pub by-test : {X : Type 0} (b : Bool) → (b ≡ true → X) → (b ≡ false → X) → X
-by-test true f g = f refl
-by-test false f g = g refl
-
-pub not-true : (b : Bool) → (b ≡ true → ⊥) → b ≡ false
-not-true b f = by-test b (λ t. absurd (f t)) (λ e. e)
 
 -- ---- searching
 
@@ -24,11 +17,11 @@ place-cons : {A : Type 0} (f : A → Bool) (x : A) (l : List A) → place f (x �
 unfolding place
 place-cons f x l = refl
 
-place-hit : {A : Type 0} (f : A → Bool) (x : A) (l : List A) → f x ≡ true → place f (x ∷ l) ≡ 0
+pub place-hit : {A : Type 0} (f : A → Bool) (x : A) (l : List A) → f x ≡ true → place f (x ∷ l) ≡ 0
 unfolding pick
 place-hit f x l e = place-cons f x l ∙ rw e
 
-place-miss : {A : Type 0} (f : A → Bool) (x : A) (l : List A) → f x ≡ false → place f (x ∷ l) ≡ suc (place f l)
+pub place-miss : {A : Type 0} (f : A → Bool) (x : A) (l : List A) → f x ≡ false → place f (x ∷ l) ≡ suc (place f l)
 unfolding pick
 place-miss f x l e = place-cons f x l ∙ rw e
 

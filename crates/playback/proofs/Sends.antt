@@ -4,19 +4,18 @@ use native.Mathlib.Omega.{arith}
 use native.Mathlib.Nat.{suc-mul, mul-le-mul-right}
 use mathlib.Core.Path.{_≡_, refl, sym, ap, ap₂, subst, _∙_}
 use mathlib.Core.List.{List, [], _∷_, _++_, append-assoc, List·Memᴰ, List·Memᴰ·head, List·Memᴰ·tail}
-use lib.ListN.{length, take, drop, length-append, List·getD-append}
+use lib.ListN.{length, take, drop, length-append}
 use lib.Seq.{sets, sets-eq, take-at, drop-at, length-sets}
 use Rattle.area.specs.Numbers.{be2, bytes2}
-use Rattle.area.proofs.Numbers.{length-bytes2}
+use Rattle.area.proofs.Numbers.{length-bytes2, be2-front}
 use Rattle.blocks.specs.declared.Params.{Params}
 use Rattle.frame.specs.Params.{largestFrame, serverFrames, outRoom, toRoom, Bounded}
 use Rattle.frame.specs.Messages.{Message, Sending, Formed, FormedBody}
 use Rattle.frame.specs.Frames.{bodyBytes, kindOf, build}
 use Rattle.frame.specs.Outbox.{frames, receivers, partyBytes}
-use Rattle.frame.specs.declared.Party.{Party}
-use Rattle.frame.specs.declared.Party.the-variants as P
 use Rattle.frame.proofs.Rooms.{body-room, build-room, AllFormed, frames-room}
 use Rattle.frame.proofs.RoundTrip.{length-field}
+use Rattle.frame.proofs.PartyLaws.{length-party}
 use Rattle.frame.proofs.Outbox.{length-receivers}
 use Rattle.frame.proofs.Sizes.{small}
 use Rattle.playback.specs.Reports.{addressed, Report, reportBytes}
@@ -27,16 +26,6 @@ use Rattle.playback.specs.Stages.{sentIn, Lie}
 pub all-formed : (g : Params) (xs : List Sending) → ((x : Sending) → List·Memᴰ x xs → Formed g (x .says)) → AllFormed g xs
 all-formed g [] f = tt
 all-formed g (x ∷ xs) f = (f x (List·Memᴰ·head refl) .body, all-formed g xs (λ y u. f y (List·Memᴰ·tail u)))
-
--- the front of a list
-be2-front : (u w : List ℕ) → 2 ≤ length u → be2 (u ++ w) 0 ≡ be2 u 0
-unfolding be2
-be2-front u w h = omega (arith, List·getD-append u w 0 0 (omega arith), List·getD-append u w 0 1 (omega arith))
-
-party-two : (p : Party) → length (partyBytes p) ≡ 2
-unfolding partyBytes
-party-two (P.Client c) = refl
-party-two (P.Server j) = refl
 
 module _ (g : Params) (B : Bounded g) where
   pub largest-few : largestFrame g ≤ 598
@@ -71,8 +60,8 @@ module _ (g : Params) (B : Bounded g) where
       let k = length xs in
       let l = b ++ (frames xs ++ r) in
       ap₂ (λ o q. take 2 q ++ (take (2 + be2 o 0) o ++ sentIn k (drop (2 + be2 o 0) o) (drop 2 q))) u v
-      ∙ ap₂ (λ o q. o ++ (take (2 + be2 l 0) l ++ sentIn k (drop (2 + be2 l 0) l) q)) (take-at p (receivers xs ++ t) 2 (party-two (x .receiver)))
-      (drop-at p (receivers xs ++ t) 2 (party-two (x .receiver)))
+      ∙ ap₂ (λ o q. o ++ (take (2 + be2 l 0) l ++ sentIn k (drop (2 + be2 l 0) l) q)) (take-at p (receivers xs ++ t) 2 (length-party (x .receiver)))
+      (drop-at p (receivers xs ++ t) 2 (length-party (x .receiver)))
       ∙ ap₂ (λ o q. p ++ (o ++ sentIn k q (receivers xs ++ t))) (take-at b (frames xs ++ r) _ n) (drop-at b (frames xs ++ r) _ n)
       ∙ ap (λ o. p ++ (b ++ o)) (sent-back xs (f .1) r t)
 
@@ -101,7 +90,7 @@ module _ (g : Params) (B : Bounded g) where
         arith,
         length-append p (b ++ addressed xs),
         length-append b (addressed xs),
-        party-two (x .receiver),
+        length-party (x .receiver),
         build-room g (x .says) (f .0),
         addressed-few xs (f .1),
       ))

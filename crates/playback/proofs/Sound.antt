@@ -1,9 +1,9 @@
 -- A server that is played is well formed: what it sends can be said in frames, and is not more than its room. Assumes nothing.
-use Prim.Native.Nat.{ℕ, suc, _+_, _≤_, _<_}
+use Prim.Native.Nat.{ℕ, _+_, _≤_}
 use native.Mathlib.Omega.{arith}
 use mathlib.Core.Path.{sym, subst}
-use mathlib.Core.List.{List, [], _∷_}
-use lib.ListN.{length, getD}
+use mathlib.Core.List.{List}
+use lib.ListN.{length}
 use Rattle.area.specs.Area.{Bytes}
 use Rattle.blocks.specs.declared.Params.{Params}
 use Rattle.frame.specs.declared.Verdict.{Verdict}
@@ -26,12 +26,6 @@ use Rattle.playback.proofs.Sends.{all-formed}
 pub record Sound (s : Server) (a : List ℕ) : Type 0 where
   pub in-bounds : InBounds s
   pub shape : ServerShape s a
-
--- ---- bytes
-
-pub bytes-of : (l : List ℕ) → ((i : ℕ) → getD l i 0 < 256) → Bytes l
-bytes-of [] f = tt
-bytes-of (x ∷ l) f = (f 0, bytes-of l (λ i. f (suc i)))
 
 -- ---- a fresh server
 

@@ -14,10 +14,10 @@ use Rattle.frame.specs.declared.Party.the-variants as P
 use Rattle.frame.specs.Params.{width, Bounded}
 use Rattle.frame.specs.Messages.{Sending, Message, FormedBody}
 use Rattle.frame.specs.Frames.{build}
-use Rattle.frame.specs.Outbox.{partyBytes}
+use Rattle.frame.specs.Outbox.{partyBytes, partyIn}
 use Rattle.frame.proofs.Rooms.{AllFormed}
 use Rattle.server_rules.specs.declared.Server.{Server}
-use Rattle.entries.specs.Entries.{TraceEntry, senderIn}
+use Rattle.entries.specs.Entries.{TraceEntry}
 use Rattle.entries.proofs.Theorem.{AllFrames}
 use Rattle.playback.specs.Reports.{replyNumber, addressed, Report, reportBytes, reportsBytes}
 use Rattle.playback.specs.Playback.{entryNeed, serverAfter, areaAfter, played}
@@ -37,7 +37,7 @@ module _ (g : Params) (B : Bounded g) where
   -- ---- one frame, after its receiver
 
   record Front (p : Party) (m : Message) (l : List ℕ) : Type 0 where
-    pub receiver : senderIn (getD (partyBytes p ++ (build m ++ l)) 0 0) (getD (partyBytes p ++ (build m ++ l)) 1 0) ≡ p
+    pub receiver : partyIn (getD (partyBytes p ++ (build m ++ l)) 0 0) (getD (partyBytes p ++ (build m ++ l)) 1 0) ≡ p
     pub frame : part (partyBytes p ++ (build m ++ l)) 2 (2 + be2 (partyBytes p ++ (build m ++ l)) 2) ≡ build m
     pub rest : drop (4 + be2 (partyBytes p ++ (build m ++ l)) 2) (partyBytes p ++ (build m ++ l)) ≡ l
 
@@ -53,7 +53,7 @@ module _ (g : Params) (B : Bounded g) where
       (take-at (build m) l (2 + n) e, ap (λ (y : ℕ). drop y (a ∷ b ∷ (build m ++ l))) k ∙ drop-at (build m) l (2 + n) e)
 
   front : (p : Party) (m : Message) → FormedBody g (m .body) → (l : List ℕ) → Front p m l
-  unfolding partyBytes senderIn pick
+  unfolding partyBytes partyIn pick
   front (P.Client c) m f l = let w = two 0 c m f l in record { receiver = refl; frame = w .0; rest = w .1 }
   front (P.Server j) m f l = let w = two 1 j m f l in record { receiver = refl; frame = w .0; rest = w .1 }
 
@@ -74,7 +74,7 @@ module _ (g : Params) (B : Bounded g) where
       let R = posted-back xs (f .1) l in
       let e = split x xs l in
       let k = length xs in (
-        ap (λ y. record { receiver = senderIn (getD y 0 0) (getD y 1 0); frame = part y 2 (2 + be2 y 2) } ∷ postedIn k (drop (4 + be2 y 2) y)) e
+        ap (λ y. record { receiver = partyIn (getD y 0 0) (getD y 1 0); frame = part y 2 (2 + be2 y 2) } ∷ postedIn k (drop (4 + be2 y 2) y)) e
             ∙ (λ i. record { receiver = F .receiver i; frame = F .frame i } ∷ postedIn k (F .rest i))
             ∙ ap (λ y. post x ∷ y) (R .0),
         ap (λ y. behindPosted k (drop (4 + be2 y 2) y)) e ∙ ap (behindPosted k) (F .rest) ∙ R .1,

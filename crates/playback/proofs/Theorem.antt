@@ -33,7 +33,8 @@ use Rattle.playback.specs.declared.Ending.the-variants as E
 use Rattle.playback.specs.declared.Summary.{Summary}
 use Rattle.playback.specs.declared.Answer.the-variants as A
 use Rattle.playback.specs.Reports.{replyNumber, addressed, reportBytes, reportsBytes}
-use Rattle.playback.specs.Playback.{entryNeed, outTest, Played, played, playTest, playedFrom, endingOf, summaryOf, Outcome, outcomeOf, playbackBy, playback}
+use Rattle.playback.specs.Playback.{entryNeed, outTest, Played, played, playTest, playedFrom}
+use Rattle.playback.specs.Playback.{endingOf, summaryOf, Outcome, outcomeOf, playbackBy, playback}
 use Rattle.playback.specs.Theorem.{Handed, AllEnough, entriesOf, taken, takenFrom, AllAgree, toldIn, IsSteps, GoesOn, Restarts, Unchanged, Theorem}
 use Rattle.playback.proofs.Rooms.{same-initial}
 use Rattle.playback.proofs.Sound.{sound-fresh}

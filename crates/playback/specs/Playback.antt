@@ -8,10 +8,9 @@ use lib.Dec.{ltb}
 use Rattle.area.specs.Area.{pick}
 use Rattle.blocks.specs.declared.Params.{Params}
 use Rattle.frame.specs.declared.Refusal.{Refusal}
-use Rattle.frame.specs.declared.Refusal.the-variants as R
 use Rattle.frame.specs.declared.Verdict.{Verdict}
 use Rattle.frame.specs.declared.Verdict.the-variants as J
-use Rattle.frame.specs.Refusals.{andThen}
+use Rattle.frame.specs.Refusals.{andThen, refusal}
 use Rattle.frame.specs.Params.{largestFrame, serverFrames, outRoom, toRoom}
 use Rattle.server_rules.specs.declared.Server.{Server}
 use Rattle.server_rules.specs.State.{freshServer}
@@ -42,7 +41,7 @@ entryNeed g = 3 + serverFrames g * (largestFrame g + 2)
 
 -- 10: "summed over them it must hold" this; count entries are played, and the one at which the trace closes is not counted
 unfoldable pub outTest : Params → ℕ → ℕ → Verdict
-outTest g count out = pick (ltb out (count * entryNeed g)) (J.Bad R.Room) J.Fine
+outTest g count out = pick (ltb out (count * entryNeed g)) (J.Bad (refusal 10)) J.Fine
 
 -- ---- the entries, one after the other
 

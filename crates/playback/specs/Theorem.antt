@@ -15,12 +15,12 @@ use Rattle.frame.specs.declared.Verdict.the-variants as J
 use Rattle.frame.specs.Refusals.{numberOf}
 use Rattle.frame.specs.Params.{serverFrames, outRoom, toRoom}
 use Rattle.frame.specs.Frames.{build}
-use Rattle.frame.specs.Outbox.{frames, receivers}
+use Rattle.frame.specs.Outbox.{frames, receivers, partyIn}
 use Rattle.server_rules.specs.declared.Server.{Server}
 use Rattle.server_rules.specs.declared.Reply.the-variants as Y
 use Rattle.server_rules.specs.Delivery as SD
 use Rattle.entries.specs.declared.Closing.the-variants as C
-use Rattle.entries.specs.Entries.{TraceEntry, senderIn, traceBytes, traceOf}
+use Rattle.entries.specs.Entries.{TraceEntry, traceBytes, traceOf}
 use Rattle.entries.specs.Forms.{AllWritable}
 use Rattle.playback.specs.declared.Ending.the-variants as E
 use Rattle.playback.specs.declared.Summary.{Summary}
@@ -98,7 +98,7 @@ pub record Told : Type 0 where
 -- m frames from the front, each after its receiver's class and number; "Frames carry their length"
 unfoldable pub postedIn : ℕ → List ℕ → List Posted
 postedIn zero l = []
-postedIn (suc m) l = record { receiver = senderIn (getD l 0 0) (getD l 1 0); frame = part l 2 (2 + be2 l 2) } ∷ postedIn m (drop (4 + be2 l 2) l)
+postedIn (suc m) l = record { receiver = partyIn (getD l 0 0) (getD l 1 0); frame = part l 2 (2 + be2 l 2) } ∷ postedIn m (drop (4 + be2 l 2) l)
 
 -- what stands behind them
 unfoldable pub behindPosted : ℕ → List ℕ → List ℕ

@@ -121,7 +121,8 @@ module _ {K A S : Type 0} (Z : Stamps A S) (W : Views K A S) (n t : ℕ) (faulty
         (λ w. omega (arith, noted-begun ks (a .1) j c h (w .listens), w .current, a .0 .reads-up c)))
         (a .0 .value-new j c q v u)
 
-    value-above : (ks₀ ks : List K) → Extends ks₀ ks → Run ks → (j c q : ℕ) (v : S) → faultyClient c ≡ false → reads ks₀ c < q → SentValue ks j c q v → key (present ks₀ j) ≤ key v
+    value-above : (ks₀ ks : List K) → Extends ks₀ ks → Run ks → (j c q : ℕ) (v : S) → faultyClient c ≡ false → reads ks₀ c < q → SentValue ks j c q v
+        → key (present ks₀ j) ≤ key v
     value-above ks₀ [] x a j c q v h l u = absurd (E .no-value j c q v u)
     value-above ks₀ (k ∷ ks) (inl e) a j c q v h l u = absurd (omega (arith, value-begun (k ∷ ks) a j c q v h u, ap (λ z. reads z c) e))
     value-above ks₀ (k ∷ ks) (inr x) a j c q v h l u = ⊎-elim
@@ -138,7 +139,8 @@ module _ {K A S : Type 0} (Z : Stamps A S) (W : Views K A S) (n t : ℕ) (faulty
         (λ w. omega (arith, get-stamp-begun ks (a .1) c q (w .0 h), a .0 .writes-up c))
         (a .0 .stamp-new j c q T u)
 
-    time-above : (ks₀ ks : List K) → Extends ks₀ ks → Run ks → (j c q T : ℕ) → faultyClient c ≡ false → writes ks₀ c < q → SentStamp ks j c q T → time (present ks₀ j) ≤ T
+    time-above : (ks₀ ks : List K) → Extends ks₀ ks → Run ks → (j c q T : ℕ) → faultyClient c ≡ false → writes ks₀ c < q → SentStamp ks j c q T
+        → time (present ks₀ j) ≤ T
     time-above ks₀ [] x a j c q T h l u = absurd (E .no-stamp j c q T u)
     time-above ks₀ (k ∷ ks) (inl e) a j c q T h l u = absurd (omega (arith, time-begun (k ∷ ks) a j c q T h u, ap (λ z. writes z c) e))
     time-above ks₀ (k ∷ ks) (inr x) a j c q T h l u = ⊎-elim
@@ -191,7 +193,8 @@ module _ {K A S : Type 0} (Z : Stamps A S) (W : Views K A S) (n t : ℕ) (faulty
 
     pub read-begun : (ks : List K) → Run ks → (c q : ℕ) (v : S) → ReadEnded ks c q v → q ≤ reads ks c
     read-begun [] a c q v u = absurd (E .no-read-ended c q v u)
-    read-begun (k ∷ ks) a c q v u = ⊎-elim (λ o. omega (arith, read-begun ks (a .1) c q v o, a .0 .reads-up c)) (λ w. omega (arith, w .0, a .0 .reads-up c)) (a .0 .read-ended-new c q v u)
+    read-begun (k ∷ ks) a c q v u =
+        ⊎-elim (λ o. omega (arith, read-begun ks (a .1) c q v o, a .0 .reads-up c)) (λ w. omega (arith, w .0, a .0 .reads-up c)) (a .0 .read-ended-new c q v u)
 
     module _ (F : Faults n t faultyServer) where
       -- ---- quorums
@@ -219,7 +222,8 @@ module _ {K A S : Type 0} (Z : Stamps A S) (W : Views K A S) (n t : ℕ) (faulty
           omega (arith, value-written ks₀ a₀ j c q v (e g) .0, value-above ks₀ ks x a j d p w h l (f g))
 
       -- agreement and validity of the times, from the broadcast
-      module _ (Admissible : List K → Type 0) (agree : (ks : List K) → Admissible ks → (i j c q : ℕ) (T T′ : A) → Accepted ks i c q T → Accepted ks j c q T′ → T ≡ T′)
+      module _ (Admissible : List K → Type 0)
+          (agree : (ks : List K) → Admissible ks → (i j c q : ℕ) (T T′ : A) → Accepted ks i c q T → Accepted ks j c q T′ → T ≡ T′)
           (valid : (ks : List K) → Admissible ks → (i c q : ℕ) (T : A) → faultyClient c ≡ false → Accepted ks i c q T → SentTime ks c q (sent T)) where
         write-above : (ks₀ ks : List K) → Extends ks₀ ks → Run ks → Admissible ks → (c q i : ℕ) (T : A) → WriteEnded ks₀ c q → Accepted ks i c q T
             → Quorum (λ j. key (stamped T c q) ≤ key (present ks₀ j))
@@ -260,11 +264,13 @@ module _ {K A S : Type 0} (Z : Stamps A S) (W : Views K A S) (n t : ℕ) (faulty
             above ks₀ ks x a m (stamped T₁ c q) (write-above ks₀ ks x a m c q i₁ T₁ r ac₁) i d p T h l ac
 
         -- Reads of one key bear one stamp, so one digest list: keys tell writes apart.
-        pub one-stamp : ((a b : A) (c q d p : ℕ) → key (stamped a c q) ≡ key (stamped b d p) → (c ≡ d) × (q ≡ p)) → ((a : A) (c q : ℕ) → key initial < key (stamped a c q))
+        pub one-stamp : ((a b : A) (c q d p : ℕ) → key (stamped a c q) ≡ key (stamped b d p) → (c ≡ d) × (q ≡ p))
+            → ((a : A) (c q : ℕ) → key initial < key (stamped a c q))
             → (ks : List K) → Run ks → Admissible ks → (c q d p : ℕ) (v w : S) → ReadEnded ks c q v → ReadEnded ks d p w → key v ≡ key w → v ≡ w
         one-stamp inj pos ks a m c q d p v w r s e = go (read-from ks a c q v r) (read-from ks a d p w s)
           where
-            go : (v ≡ initial) ⊎ ((j : ℕ) × (faultyServer j ≡ false) × Written ks j v) → (w ≡ initial) ⊎ ((j : ℕ) × (faultyServer j ≡ false) × Written ks j w) → v ≡ w
+            go : (v ≡ initial) ⊎ ((j : ℕ) × (faultyServer j ≡ false) × Written ks j v)
+                → (w ≡ initial) ⊎ ((j : ℕ) × (faultyServer j ≡ false) × Written ks j w) → v ≡ w
             go (inl x) (inl y) = x ∙ sym y
             go (inl x) (inr (j, g, (c, q, T, ac, y))) = absurd (omega (arith, ap key x, ap key y, e, pos T c q))
             go (inr (j, g, (c, q, T, ac, x))) (inl y) = absurd (omega (arith, ap key x, ap key y, e, pos T c q))

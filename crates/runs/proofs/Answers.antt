@@ -20,7 +20,8 @@ use Rattle.frame.specs.declared.Party.the-variants as P
 use Rattle.frame.specs.declared.Opened.the-variants as O
 use Rattle.frame.specs.declared.Verdict.the-variants as J
 use Rattle.frame.specs.Params.{largestFrame, entryLength, serverFrames, clientFrames, outRoom, toRoom, Bounded, paramsTest}
-use Rattle.frame.specs.Messages.{Body, getStamp, ack, askRead, readComplete, stampIs, blockIs, valueIs, send, echo, ready, Message, Sending, Formed, Judged, bad, good}
+use Rattle.frame.specs.Messages.{Body, getStamp, ack, askRead, readComplete, stampIs, blockIs, valueIs}
+use Rattle.frame.specs.Messages.{send, echo, ready, Message, Sending, Formed, Judged, bad, good}
 use Rattle.frame.specs.Frames.{build, bodyBytes, kindOf, bodyLength, lengthOf, opened, messageIn}
 use Rattle.frame.specs.Outbox.{frames, receivers, partyBytes}
 use Rattle.frame.specs.Stamps.{lastClient}
@@ -109,7 +110,8 @@ module _ (g : Params) (B : Bounded g) where
 
 -- ---- receivers
 
-party-back : (p : Party) (rest : List ℕ) → (partyIn (getD (partyBytes p ++ rest) 0 0) (getD (partyBytes p ++ rest) 1 0) ≡ p) × (drop 2 (partyBytes p ++ rest) ≡ rest)
+party-back : (p : Party) (rest : List ℕ)
+    → (partyIn (getD (partyBytes p ++ rest) 0 0) (getD (partyBytes p ++ rest) 1 0) ≡ p) × (drop 2 (partyBytes p ++ rest) ≡ rest)
 unfolding partyBytes
 party-back (P.Client c) rest = (refl, refl)
 party-back (P.Server j) rest = (refl, refl)
@@ -121,7 +123,8 @@ receivers-back (x ∷ xs) rest =
     let l = append-assoc (partyBytes (x .receiver)) (receivers xs) rest in
     let w = party-back (x .receiver) (receivers xs ++ rest) in
     let r = receivers-back xs rest in
-    ap (λ z. partyIn (getD z 0 0) (getD z 1 0) ∷ receiversIn (length xs) (drop 2 z)) l ∙ (λ i. w .0 i ∷ receiversIn (length xs) (w .1 i)) ∙ ap (λ z. x .receiver ∷ z) r
+    ap (λ z. partyIn (getD z 0 0) (getD z 1 0) ∷ receiversIn (length xs) (drop 2 z)) l ∙ (λ i. w .0 i ∷ receiversIn (length xs) (w .1 i))
+    ∙ ap (λ z. x .receiver ∷ z) r
 
 -- ---- what a step writes
 
@@ -133,8 +136,8 @@ nothing-back : (out to : List ℕ) → Back 0 [] out to
 unfolding framesIn receiversIn
 nothing-back out to = (refl, refl)
 
-written-back : (g : Params) → Bounded g → (xs : List Sending) → AllFormed g xs → (m : ℕ) → length xs ≤ m → (out to : List ℕ) → outRoom g m ≤ length out → toRoom m ≤ length to
-    → Back (length xs) xs (sets out 0 (frames xs)) (sets to 0 (receivers xs))
+written-back : (g : Params) → Bounded g → (xs : List Sending) → AllFormed g xs → (m : ℕ) → length xs ≤ m → (out to : List ℕ) → outRoom g m ≤ length out
+    → toRoom m ≤ length to → Back (length xs) xs (sets out 0 (frames xs)) (sets to 0 (receivers xs))
 unfolding outRoom toRoom
 written-back g B xs f m h out to o t =
     let few = frames-few g B xs f in
@@ -220,8 +223,10 @@ module _ (Z : Setup) (G : Assumed Z) where
       a = w .servers i .area
 
       go : (j : Judged) → ST.judge H g i s a (initialOf Z i) from f out to ≡ j → AllFormed g (SD.effectBy H g i j s a (initialOf Z i) from .sends)
-          → Back (replyCount (SD.replyOf H g i j (length (SD.effectBy H g i j s a (initialOf Z i) from .sends)))) (SD.effectBy H g i j s a (initialOf Z i) from .sends)
-          (sets out 0 (frames (SD.effectBy H g i j s a (initialOf Z i) from .sends))) (sets to 0 (receivers (SD.effectBy H g i j s a (initialOf Z i) from .sends)))
+          → Back (replyCount (SD.replyOf H g i j (length (SD.effectBy H g i j s a (initialOf Z i) from .sends))))
+          (SD.effectBy H g i j s a (initialOf Z i) from .sends)
+          (sets out 0 (frames (SD.effectBy H g i j s a (initialOf Z i) from .sends)))
+          (sets to 0 (receivers (SD.effectBy H g i j s a (initialOf Z i) from .sends)))
       go (bad r) e F = nothing-back _ _
       go (good m) e F =
           let r = server-room H g i s a (initialOf Z i) from f out to m e in
@@ -248,7 +253,8 @@ module _ (Z : Setup) (G : Assumed Z) where
           let r = took-room H g c s a v from f result out to m e in
           let S = client-sends H g c s a v from m in
           let x = C.effect H g c s a v from m in
-          let n : length (x .sends) ≡ answerCount g (CD.eventAnswer (x .event) (length (x .sends))) = sym (count-is H g c (x .event) (length (x .sends)) ∙ S .event) in
+          let n : length (x .sends) ≡ answerCount g (CD.eventAnswer (x .event) (length (x .sends))) =
+          sym (count-is H g c (x .event) (length (x .sends)) ∙ S .event) in
           subst (λ y. Back y (x .sends) (sets out 0 (frames (x .sends))) (sets to 0 (receivers (x .sends)))) n
           (written-back g (G .bounded) (x .sends) F (clientFrames g) (S .few) out to (r .out-room) (r .to-room))
 

@@ -17,7 +17,8 @@ use Rattle.client_rules.specs.State.{freshClient}
 use Rattle.client_rules.specs.Beginning as CB
 use Rattle.runs.specs.Admissible.{Admissible}
 use Rattle.runs.specs.Events.{Event, At, Accepts, StopsRead, OpensRead, OpensWrite}
-use Rattle.runs.specs.World.{Setup, Call, toServer, toClient, beginRead, beginWrite, ClientSide, clientLeft, lentBy, lentTo, readEffect, writeEffect, start, run, step, put}
+use Rattle.runs.specs.World.{Setup, Call, toServer, toClient, beginRead, beginWrite, ClientSide, clientLeft}
+use Rattle.runs.specs.World.{lentBy, lentTo, readEffect, writeEffect, start, run, step, put}
 use Rattle.runs.proofs.Agreement.{small}
 use Rattle.runs.proofs.Formation.{validity, accepted-in-bounds}
 use Rattle.runs.proofs.ReadOnce.{delivered-does, completed-number}

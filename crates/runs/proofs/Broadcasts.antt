@@ -34,7 +34,8 @@ use Rattle.steps.proofs.ServerFits.{ServerShape, Delivered, refused, taken, del
 use Rattle.server_rules.proofs.Taking.{Taken}
 use Rattle.runs.specs.Admissible.{Sent, Honest, Proper, Admissible}
 use Rattle.runs.specs.Events.{At, Accepts}
-use Rattle.runs.specs.World.{Setup, Call, toServer, toClient, beginRead, beginWrite, caller, ServerSide, initialOf, start, serverEffect, serverLeft, step, run, sends, put}
+use Rattle.runs.specs.World.{Setup, Call, toServer, toClient, beginRead, beginWrite, caller, ServerSide}
+use Rattle.runs.specs.World.{initialOf, start, serverEffect, serverLeft, step, run, sends, put}
 use Rattle.runs.proofs.Assumed.{Assumed}
 
 -- what servers agree on of a write: its time and its digest list
@@ -79,7 +80,8 @@ module _ (Z : Setup) (G : Assumed Z) (M : Small (Z .g)) where
   Next ks k j = (serverAt (k ∷ ks) j ≡ serverAt ks j) ⊎ ((C : Takes ks k j) × (serverAt (k ∷ ks) j ≡ serverLeft Z (effectOf C)))
 
   at-server : (ks : List Call) (i : ℕ) (from : Party) (f out to : List ℕ) (h : ServerSide) → h ≡ serverLeft Z (serverEffect Z (run Z ks) i from f out to)
-      → {r : S.Effect} → serverEffect Z (run Z ks) i from f out to ≡ r → Delivered H g (G .bounded .servers-high) i (serverAt ks i .server) (serverAt ks i .area) (initialOf Z i) from f r
+      → {r : S.Effect} → serverEffect Z (run Z ks) i from f out to ≡ r
+      → Delivered H g (G .bounded .servers-high) i (serverAt ks i .server) (serverAt ks i .area) (initialOf Z i) from f r
       → (h ≡ serverAt ks i) ⊎ ((C : Takes ks (toServer i from f out to) i) × (h ≡ serverLeft Z (effectOf C)))
   at-server ks i from f out to h e q (refused z) = inl (e ∙ ap (serverLeft Z) (q ∙ z))
   at-server ks i from f out to h e q (taken m T z) =
@@ -99,7 +101,8 @@ module _ (Z : Setup) (G : Assumed Z) (M : Small (Z .g)) where
 
   pub server-left : (ks : List Call) (k : Call) (j : ℕ) (C : Takes ks k j) → serverAt (k ∷ ks) j ≡ serverLeft Z (effectOf C)
   unfolding run step
-  server-left ks k j C = subst (λ y. serverAt (y ∷ ks) j ≡ serverLeft Z (effectOf C)) (sym (C .is)) (put-same (run Z ks .servers) j _ ∙ ap (serverLeft Z) (C .moves))
+  server-left ks k j C =
+      subst (λ y. serverAt (y ∷ ks) j ≡ serverLeft Z (effectOf C)) (sym (C .is)) (put-same (run Z ks .servers) j _ ∙ ap (serverLeft Z) (C .moves))
 
   pub shape : (ks : List Call) (i : ℕ) → ServerShape (serverAt ks i .server) (serverAt ks i .area)
   unfolding run start
@@ -128,7 +131,8 @@ module _ (Z : Setup) (G : Assumed Z) (M : Small (Z .g)) where
   pub accepts-new : (ks : List Call) (k : Call) (j : ℕ) (x : S.Write) → Accepts Z j x ks k → (C : Takes ks k j) × List·Memᴰ x (effectOf C .accepted)
   accepts-new ks (toServer i from f out to) j x u =
       subst (λ y. (C : Takes ks (toServer i from f out to) y) × List·Memᴰ x (effectOf C .accepted)) (sym (u .0))
-      (took-by ks i from f out to x refl (delivered H g (G .bounded .servers-high) i (serverAt ks i .server) (serverAt ks i .area) (initialOf Z i) from f out to) (u .1))
+      (took-by ks i from f out to x refl
+      (delivered H g (G .bounded .servers-high) i (serverAt ks i .server) (serverAt ks i .area) (initialOf Z i) from f out to) (u .1))
   accepts-new ks (toClient c from f lent result out to) j x u = absurd u
   accepts-new ks (beginRead c out to) j x u = absurd u
   accepts-new ks (beginWrite c v out to) j x u = absurd u
@@ -147,7 +151,8 @@ module _ (Z : Setup) (G : Assumed Z) (M : Small (Z .g)) where
   sent-new ks (toServer i from f out to) j b m (inl u) =
       let e : i ≡ j = cc (u .0) in
       inr (subst (λ y. (C : Takes ks (toServer i from f out to) y) × List·Memᴰ (sending b m) (effectOf C .sends)) e
-      (sent-by ks i from f out to (sending b m) refl (delivered H g (G .bounded .servers-high) i (serverAt ks i .server) (serverAt ks i .area) (initialOf Z i) from f out to) (u .1)))
+      (sent-by ks i from f out to (sending b m) refl
+      (delivered H g (G .bounded .servers-high) i (serverAt ks i .server) (serverAt ks i .area) (initialOf Z i) from f out to) (u .1)))
   sent-new ks (toClient c from f lent result out to) j b m (inl u) = impossible (cc (u .0))
   sent-new ks (beginRead c out to) j b m (inl u) = impossible (cc (u .0))
   sent-new ks (beginWrite c v out to) j b m (inl u) = impossible (cc (u .0))
@@ -155,7 +160,8 @@ module _ (Z : Setup) (G : Assumed Z) (M : Small (Z .g)) where
   -- ---- what an honest sender's frame rests on
 
   module _ (formed : (ks : List Call) → Admissible Z ks → (a b : Party) (m : Message) → Honest Z a → SentMessage ks a b m → Formed g m) where
-    pub message-sent : {ks : List Call} {k : Call} {j : ℕ} → Admissible Z ks → Proper Z ks k → (C : Takes ks k j) → Honest Z (C .from) → SentMessage ks (C .from) (A.Server j) (C .m)
+    pub message-sent : {ks : List Call} {k : Call} {j : ℕ} → Admissible Z ks → Proper Z ks k → (C : Takes ks k j) → Honest Z (C .from)
+        → SentMessage ks (C .from) (A.Server j) (C .m)
     message-sent {ks} {k} {j} adm p C h =
         let q : Proper Z ks (toServer j (C .from) (C .f) (C .out) (C .to)) = subst (Proper Z ks) (C .is) p in
         let w = sent-message ks (C .from) (A.Server j) (C .f) (q .2 (C .took .header) (C .took .opens) h) in

@@ -31,10 +31,12 @@ use Rattle.client_rules.specs.Steps as C
 use Rattle.client_rules.specs.Tests as CT
 use Rattle.server_rules.proofs.Passing.{is-server}
 use Rattle.client_rules.proofs.Shapes.{shape-of, shape-length}
-use Rattle.client_rules.proofs.CallFacts.{timeOf, ClientShape, client-shape-fresh, ClientFacts, KnowsV, Brought, Nought, quiet-facts, effect-facts, read-facts, write-facts}
+use Rattle.client_rules.proofs.CallFacts.{timeOf, ClientShape, client-shape-fresh, ClientFacts, KnowsV, Brought}
+use Rattle.client_rules.proofs.CallFacts.{Nought, quiet-facts, effect-facts, read-facts, write-facts}
 use Rattle.steps.proofs.ClientTaken.{Taken, Delivered, refused, taken, delivered, passed}
 use Rattle.runs.specs.Admissible.{Named, Honest, Proper, Admissible}
-use Rattle.runs.specs.World.{Setup, Call, toServer, toClient, beginRead, beginWrite, caller, ClientSide, lentTo, clientEffect, readEffect, writeEffect, start, step, run, sends, put}
+use Rattle.runs.specs.World.{Setup, Call, toServer, toClient, beginRead, beginWrite, caller, ClientSide}
+use Rattle.runs.specs.World.{lentTo, clientEffect, readEffect, writeEffect, start, step, run, sends, put}
 use Rattle.runs.specs.Events as Rn
 use Rattle.runs.proofs.Broadcasts.{Agreed, SentMessage, sent-message}
 use Rattle.runs.proofs.Formation.{formed}
@@ -72,7 +74,8 @@ module _ (Z : Setup) (G : Assumed Z) (M : Small (Z .g)) where
   -- what a call on client c does
   record Acts (ks : List Call) (k : Call) (c : ℕ) : Type 1 where
     N : ℕ → Message → Type 0
-    facts : ClientFacts H g M (G .bounded .servers-high) c (home ks c .client) (rows ks c) N (home (k ∷ ks) c .client) (rows (k ∷ ks) c) (sends Z (run Z ks) k) (ended ks k)
+    facts : ClientFacts H g M (G .bounded .servers-high) c (home ks c .client) (rows ks c) N (home (k ∷ ks) c .client) (rows (k ∷ ks) c)
+        (sends Z (run Z ks) k) (ended ks k)
     brought : (j : ℕ) (m : Message) → Among (g .n) j → faultyServer j ≡ false → N j m → SentMessage Z G M ks (A.Server j) (A.Client c) m
 
   cli-cases : (ks : List Call) (k : Call) (c : ℕ) → (home (k ∷ ks) c ≡ home ks c) ⊎ (caller k ≡ A.Client c)
@@ -83,8 +86,8 @@ module _ (Z : Setup) (G : Assumed Z) (M : Small (Z .g)) where
   cli-cases ks (beginWrite d v out to) c = ⊎-elim (λ w. inr (ap A.Client (sym (w .0)))) (λ w. inl w) (put-cases (run Z ks .clients) d _ c)
 
   -- an honest server's frame that a client takes was sent by it
-  frame-from : (ks : List Call) → Admissible Z ks → (c : ℕ) (from : Party) (f : List ℕ) → Named Z ks from (A.Client c) f → (s : Client) (v : List ℕ) (m : Message)
-      → Taken H g c s v from f m → Honest Z from → SentMessage Z G M ks from (A.Client c) m
+  frame-from : (ks : List Call) → Admissible Z ks → (c : ℕ) (from : Party) (f : List ℕ) → Named Z ks from (A.Client c) f
+      → (s : Client) (v : List ℕ) (m : Message) → Taken H g c s v from f m → Honest Z from → SentMessage Z G M ks from (A.Client c) m
   frame-from ks adm c from f q s v m T h =
       let w = sent-message Z G M ks from (A.Client c) f (q (T .header) (T .opens) h) in
       let b = opened-build g (G .bounded) (w .0) (formed Z G M ks adm from (A.Client c) (w .0) h (w .1)) in
@@ -102,12 +105,14 @@ module _ (Z : Setup) (G : Assumed Z) (M : Small (Z .g)) where
       facts : Of c N r
       brought : (j : ℕ) (m : Message) → Among (g .n) j → faultyServer j ≡ false → N j m → SentMessage Z G M ks (A.Server j) (A.Client c) m
 
-    by-frame : (c : ℕ) → ClientShape (home ks c .client) (rows ks c) → (from : Party) (f lent result out to : List ℕ) → Proper Z ks (toClient c from f lent result out to)
+    by-frame : (c : ℕ) → ClientShape (home ks c .client) (rows ks c) → (from : Party) (f lent result out to : List ℕ)
+        → Proper Z ks (toClient c from f lent result out to)
         → (v : List ℕ) {r : C.Effect} → Delivered H g c (home ks c .client) (home ks c .area) v from f r → Acts′ c r
     unfolding CT.orderTest
     by-frame c X from f lent result out to pr v {r} (refused e) = record {
       N = Nought H g M (G .bounded .servers-high) c;
-      facts = subst (Of c (Nought H g M (G .bounded .servers-high) c)) (sym e) (quiet-facts H g M (G .bounded .servers-high) c (home ks c .client) (rows ks c) (Nought H g M (G .bounded .servers-high) c) X);
+      facts = subst (Of c (Nought H g M (G .bounded .servers-high) c)) (sym e)
+          (quiet-facts H g M (G .bounded .servers-high) c (home ks c .client) (rows ks c) (Nought H g M (G .bounded .servers-high) c) X);
       brought = λ j m is ok n. absurd n;
     }
     by-frame c X from f lent result out to pr v {r} (taken m T room e) =
@@ -124,9 +129,13 @@ module _ (Z : Setup) (G : Assumed Z) (M : Small (Z .g)) where
         let lb : length (b .area) ≡ length a = shape-length H g c s a v (j .0) (shape-of H g c s a v (A.Server (j .0)) (message c (m .sequence) (m .body))) in
         record {
           N = N;
-          facts = subst (Of c N) (sym er) (subst (λ y. ClientFacts H g M (G .bounded .servers-high) c s y N (b .client) (roomy (b .area)) (b .sends) (b .event)) (sym (roomy-same a room))
-              (subst (λ y. ClientFacts H g M (G .bounded .servers-high) c s a N (b .client) y (b .sends) (b .event)) (sym (roomy-same (b .area) (omega (arith, room, lb))))
-              (effect-facts H g M (G .bounded .servers-high) c s a v (subst (ClientShape s) (roomy-same a room) X) (j .0) (m .sequence) (m .body) (j .2) (fm .body)
+          facts =
+              subst (Of c N) (sym er)
+              (subst (λ y. ClientFacts H g M (G .bounded .servers-high) c s y N (b .client) (roomy (b .area)) (b .sends) (b .event)) (sym (roomy-same a room))
+              (subst (λ y. ClientFacts H g M (G .bounded .servers-high) c s a N (b .client) y (b .sends) (b .event))
+              (sym (roomy-same (b .area) (omega (arith, room, lb))))
+              (effect-facts H g M (G .bounded .servers-high) c s a v (subst (ClientShape s) (roomy-same a room) X) (j .0) (m .sequence)
+              (m .body) (j .2) (fm .body)
               (subst (λ y. CT.orderTest H g c s y (m .sequence) (m .body) ≡ J.Fine) nb (P .order)))));
           brought = λ i m′ is ok n.
               let ef : from ≡ A.Server i = j .1 ∙ ap A.Server (n .0) in
@@ -135,11 +144,13 @@ module _ (Z : Setup) (G : Assumed Z) (M : Small (Z .g)) where
               subst (λ y. SentMessage Z G M ks y (A.Client c) m′) ef (subst (SentMessage Z G M ks from (A.Client c)) (em ∙ n .1) u);
         }
 
-    to-acts : (k : Call) (c : ℕ) (r : C.Effect) (h : ClientSide) → home (k ∷ ks) c ≡ h → h .client ≡ r .client → h .area ≡ r .area → sends Z (run Z ks) k ≡ r .sends → ended ks k ≡ r .event
-        → Acts′ c r → Acts ks k c
+    to-acts : (k : Call) (c : ℕ) (r : C.Effect) (h : ClientSide) → home (k ∷ ks) c ≡ h → h .client ≡ r .client → h .area ≡ r .area
+        → sends Z (run Z ks) k ≡ r .sends → ended ks k ≡ r .event → Acts′ c r → Acts ks k c
     to-acts k c r h e ec ea es ev Q = record {
       N = Q .N;
-      facts = subst (λ y. ClientFacts H g M (G .bounded .servers-high) c (home ks c .client) (rows ks c) (Q .N) (y .client) (roomy (y .area)) (sends Z (run Z ks) k) (ended ks k)) (sym e)
+      facts =
+          subst (λ y. ClientFacts H g M (G .bounded .servers-high) c (home ks c .client) (rows ks c) (Q .N) (y .client) (roomy (y .area))
+          (sends Z (run Z ks) k) (ended ks k)) (sym e)
           (rw (ec, ea, es, ev) (Q .facts));
       brought = Q .brought;
     }
@@ -150,7 +161,8 @@ module _ (Z : Setup) (G : Assumed Z) (M : Small (Z .g)) where
     on-client (toClient d from f lent result out to) pr c X e =
         let z : c ≡ d = cc in
         subst (λ y. Acts ks (toClient d from f lent result out to) y) (sym z)
-        (to-acts (toClient d from f lent result out to) d (clientEffect Z (run Z ks) d from f lent result out to) _ (put-at (run Z ks .clients) d _) refl refl refl refl
+        (to-acts (toClient d from f lent result out to) d (clientEffect Z (run Z ks) d from f lent result out to) _
+        (put-at (run Z ks .clients) d _) refl refl refl refl
         (by-frame d (subst (λ y. ClientShape (home ks y .client) (rows ks y)) z X) from f lent result out to pr _
         (delivered H g d (home ks d .client) (home ks d .area) (lentTo Z (run Z ks) d lent) from f result out to)))
     on-client (beginRead d out to) pr c X e =
@@ -159,7 +171,8 @@ module _ (Z : Setup) (G : Assumed Z) (M : Small (Z .g)) where
         subst (λ y. Acts ks (beginRead d out to) y) (sym z) (record {
           N = Nought H g M (G .bounded .servers-high) d;
           facts = subst
-              (λ y. ClientFacts H g M (G .bounded .servers-high) d (home ks d .client) (rows ks d) (Nought H g M (G .bounded .servers-high) d) (y .client) (roomy (y .area)) (readEffect Z (run Z ks) d out to .sends) (readEffect Z (run Z ks) d out to .event))
+              (λ y. ClientFacts H g M (G .bounded .servers-high) d (home ks d .client) (rows ks d) (Nought H g M (G .bounded .servers-high) d) (y .client)
+              (roomy (y .area)) (readEffect Z (run Z ks) d out to .sends) (readEffect Z (run Z ks) d out to .event))
               (sym (put-at (run Z ks .clients) d _)) (read-facts H g M (G .bounded .servers-high) d (home ks d .client) (rows ks d) Y out to);
           brought = λ j m is ok n. absurd n;
         })
@@ -169,7 +182,8 @@ module _ (Z : Setup) (G : Assumed Z) (M : Small (Z .g)) where
         subst (λ y. Acts ks (beginWrite d v out to) y) (sym z) (record {
           N = Nought H g M (G .bounded .servers-high) d;
           facts = subst
-              (λ y. ClientFacts H g M (G .bounded .servers-high) d (home ks d .client) (rows ks d) (Nought H g M (G .bounded .servers-high) d) (y .client) (roomy (y .area)) (writeEffect Z (run Z ks) d v out to .sends) (writeEffect Z (run Z ks) d v out to .event))
+              (λ y. ClientFacts H g M (G .bounded .servers-high) d (home ks d .client) (rows ks d) (Nought H g M (G .bounded .servers-high) d) (y .client)
+              (roomy (y .area)) (writeEffect Z (run Z ks) d v out to .sends) (writeEffect Z (run Z ks) d v out to .event))
               (sym (put-at (run Z ks .clients) d _)) (write-facts H g M (G .bounded .servers-high) d (home ks d .client) (rows ks d) Y v out to);
           brought = λ j m is ok n. absurd n;
         })
@@ -198,7 +212,8 @@ module _ (Z : Setup) (G : Assumed Z) (M : Small (Z .g)) where
     pub get-stamp-new : (c q : ℕ) → Vw .SentGetStamp (k ∷ ks) c q → Vw .SentGetStamp ks c q ⊎ (q ≤ Vw .writes (k ∷ ks) c)
     get-stamp-new c q u = ⊎-elim (λ w. inr (act c (w .0) .facts .g-sent (u .0) c q (w .1))) (λ o. inl (u .0, o)) (u .1)
 
-    pub ack-kept : (c j : ℕ) → Among (g .n) j → faultyServer j ≡ false → Vw .KeptAck (k ∷ ks) c j → (Vw .writes (k ∷ ks) c ≡ Vw .writes ks c) × (Vw .KeptAck ks c j ⊎ Vw .SentAck ks j c (Vw .writes ks c))
+    pub ack-kept : (c j : ℕ) → Among (g .n) j → faultyServer j ≡ false → Vw .KeptAck (k ∷ ks) c j
+        → (Vw .writes (k ∷ ks) c ≡ Vw .writes ks c) × (Vw .KeptAck ks c j ⊎ Vw .SentAck ks j c (Vw .writes ks c))
     ack-kept c j is ok u = ⊎-elim
         (λ e. (ap (λ h. h .client .writes) e, inl (subst (λ h. (h .client .phase ≡ F.Acking) × (heardOf (h .client) j ≡ true)) e u)))
         (λ e.
@@ -218,18 +233,26 @@ module _ (Z : Setup) (G : Assumed Z) (M : Small (Z .g)) where
         (cli-cases ks k c)
 
     -- what a client knows of a kept value
-    value-known : (c : ℕ) (e : caller k ≡ A.Client c) (j : ℕ) (y : Kept) (v : Stamped Z G M) → y .stamp ≡ v .0 → y .entry .digests ≡ v .1 → Among (g .n) j → faultyServer j ≡ false
-        → KnowsV H g M (G .bounded .servers-high) c (home ks c .client) (rows ks c) (act c e .N) j y → Vw .KeptValue ks c j v ⊎ Vw .SentValue ks j c (Vw .reads ks c) v
+    value-known : (c : ℕ) (e : caller k ≡ A.Client c) (j : ℕ) (y : Kept) (v : Stamped Z G M) → y .stamp ≡ v .0 → y .entry .digests ≡ v .1 → Among (g .n) j
+        → faultyServer j ≡ false
+        → KnowsV H g M (G .bounded .servers-high) c (home ks c .client) (rows ks c) (act c e .N) j y
+        → Vw .KeptValue ks c j v ⊎ Vw .SentValue ks j c (Vw .reads ks c) v
     value-known c e j y v es ed is ok (inl w) = inl (w .0, y, es, ed, w .1)
     value-known c e j y v es ed is ok (inr w) =
-        inr (y .entry, ed, subst (λ x. SentMessage Z G M ks (A.Server j) (A.Client c) (message c (home ks c .client .reads) (valueIs x (y .entry)))) es (act c e .brought j _ is ok w))
+        inr (
+          y .entry,
+          ed,
+          subst (λ x. SentMessage Z G M ks (A.Server j) (A.Client c) (message c (home ks c .client .reads) (valueIs x (y .entry)))) es
+              (act c e .brought j _ is ok w),
+        )
 
     pub value-kept : (c j : ℕ) (v : Stamped Z G M) → Among (g .n) j → faultyServer j ≡ false → Vw .KeptValue (k ∷ ks) c j v
         → (Vw .reads (k ∷ ks) c ≡ Vw .reads ks c) × (Vw .KeptValue ks c j v ⊎ Vw .SentValue ks j c (Vw .reads ks c) v)
     value-kept c j v is ok u = ⊎-elim
         (λ e. (
           ap (λ h. h .client .reads) e,
-          inl (subst (λ h. (h .client .phase ≡ F.Reading) × (y : Kept) × (y .stamp ≡ v .0) × (y .entry .digests ≡ v .1) × List·Memᴰ y (rowView g (h .client) (roomy (h .area)) j)) e u),
+          inl (subst (λ h. (h .client .phase ≡ F.Reading) × (y : Kept) × (y .stamp ≡ v .0) × (y .entry .digests ≡ v .1)
+              × List·Memᴰ y (rowView g (h .client) (roomy (h .area)) j)) e u),
         ))
         (λ e.
         let w = act c e .facts .v-kept j (u .1) is (u .0) (u .4) in
@@ -238,7 +261,8 @@ module _ (Z : Setup) (G : Assumed Z) (M : Small (Z .g)) where
 
     pub time-new : (c q T : ℕ) → Vw .SentTime (k ∷ ks) c q T
         → Vw .SentTime ks c q T
-        ⊎ ((q ≡ Vw .writes ks c) × AtLeast (g .n) (g .n - g .t) (λ j. faultyServer j ≡ false → (T′ : ℕ) × (T′ ≤ T) × (Vw .KeptStamp ks c j T′ ⊎ Vw .SentStamp ks j c (Vw .writes ks c) T′)))
+        ⊎ ((q ≡ Vw .writes ks c) × AtLeast (g .n) (g .n - g .t)
+        (λ j. faultyServer j ≡ false → (T′ : ℕ) × (T′ ≤ T) × (Vw .KeptStamp ks c j T′ ⊎ Vw .SentStamp ks j c (Vw .writes ks c) T′)))
     time-new c q T u = ⊎-elim
         (λ n.
         let Q = act c (n .0) in
@@ -252,14 +276,16 @@ module _ (Z : Setup) (G : Assumed Z) (M : Small (Z .g)) where
     wrote-ev (beginRead d out to) c q u = absurd u
     wrote-ev (beginWrite d v out to) c q u = absurd u
 
-    read-ev : (k′ : Call) (c q : ℕ) (x : Found) → Rn.StopsRead Z c q x ks k′ → (caller k′ ≡ A.Client c) × (home ks c .client .reads ≡ q) × (ended ks k′ ≡ C.stopped x)
+    read-ev : (k′ : Call) (c q : ℕ) (x : Found) → Rn.StopsRead Z c q x ks k′
+        → (caller k′ ≡ A.Client c) × (home ks c .client .reads ≡ q) × (ended ks k′ ≡ C.stopped x)
     read-ev (toServer i from f out to) c q x u = absurd u
     read-ev (toClient d from f lent result out to) c q x u = (ap A.Client (sym (u .0)), ap (λ y. home ks y .client .reads) (u .0) ∙ u .1, u .2)
     read-ev (beginRead d out to) c q x u = absurd u
     read-ev (beginWrite d v out to) c q x u = absurd u
 
     pub write-ended-new : (c q : ℕ) → Vw .WriteEnded (k ∷ ks) c q
-        → Vw .WriteEnded ks c q ⊎ ((q ≡ Vw .writes ks c) × AtLeast (g .n) (g .n - g .t) (λ j. faultyServer j ≡ false → Vw .KeptAck ks c j ⊎ Vw .SentAck ks j c (Vw .writes ks c)))
+        → Vw .WriteEnded ks c q
+        ⊎ ((q ≡ Vw .writes ks c) × AtLeast (g .n) (g .n - g .t) (λ j. faultyServer j ≡ false → Vw .KeptAck ks c j ⊎ Vw .SentAck ks j c (Vw .writes ks c)))
     write-ended-new c q u = ⊎-elim
         (λ n.
         let w = wrote-ev k c q (n .1) in
@@ -268,9 +294,14 @@ module _ (Z : Setup) (G : Assumed Z) (M : Small (Z .g)) where
         (λ o. inl (u .0, o)) (u .1)
 
     pub read-ended-new : (c q : ℕ) (v : Stamped Z G M) → Vw .ReadEnded (k ∷ ks) c q v
-        → Vw .ReadEnded ks c q v ⊎ ((q ≡ Vw .reads ks c) × AtLeast (g .n) (g .n - g .t) (λ j. faultyServer j ≡ false → Vw .KeptValue ks c j v ⊎ Vw .SentValue ks j c (Vw .reads ks c) v))
+        → Vw .ReadEnded ks c q v
+        ⊎ ((q ≡ Vw .reads ks c)
+        × AtLeast (g .n) (g .n - g .t) (λ j. faultyServer j ≡ false → Vw .KeptValue ks c j v ⊎ Vw .SentValue ks j c (Vw .reads ks c) v))
     read-ended-new c q v u = ⊎-elim
         (λ n.
         let w = read-ev k c q (u .0) (n .1) in
-        inr (sym (w .1), at-least-map (λ j is f ok. value-known c (w .0) j (f .0) v (f .1 ∙ u .3) (f .2 ∙ u .4) is ok (f .3)) (act c (w .0) .facts .read-why (u .0) (w .2))))
+        inr (
+          sym (w .1),
+          at-least-map (λ j is f ok. value-known c (w .0) j (f .0) v (f .1 ∙ u .3) (f .2 ∙ u .4) is ok (f .3)) (act c (w .0) .facts .read-why (u .0) (w .2)),
+        ))
         (λ o. inl (u .0, u .1, o, u .3, u .4)) (u .2)

@@ -47,7 +47,8 @@ module _ (Z : Setup) (G : Assumed Z) (M : Small (Z .g)) where
       let q : Proper Z ks (toServer j (C .from) (C .f) (C .out) (C .to)) = subst (Proper Z ks) (C .is) p in
       subst (Formed g) (C .took .says) (formed-opened g (C .f) (C .took .header) (q .1) (C .took .opens))
 
-  pub good-by : {ks : List Call} {k : Call} {j : ℕ} → InBounds (serverAt Z G M ks j .server) → Proper Z ks k → (C : Takes Z G M ks k j) → Good g (effectOf Z G M C)
+  pub good-by : {ks : List Call} {k : Call} {j : ℕ} → InBounds (serverAt Z G M ks j .server) → Proper Z ks k → (C : Takes Z G M ks k j)
+      → Good g (effectOf Z G M C)
   good-by {ks} {k} {j} B p C = effect-good H g (G .bounded) j (serverAt Z G M ks j .server) B (serverAt Z G M ks j .area) (initialOf Z j) (shape Z G M ks j)
       (C .from) (C .m) (heard p C) (C .took .passes) (initial-long j)
 

@@ -31,7 +31,8 @@ use Rattle.client_rules.specs.Beginning as CB
 use Rattle.client_rules.specs.Delivery as CD
 use Rattle.client_rules.specs.State as CS
 use Rattle.client_rules.specs.Steps as C
-use Rattle.client_rules.proofs.Shapes.{Keeps, drops, keeps, Shape, idle, hears, sends, shuts, counts, ends, waits, completes, Delivery, refused, taken, shape-delivered}
+use Rattle.client_rules.proofs.Shapes.{Keeps, drops, keeps, Shape, idle, hears, sends, shuts, counts, ends}
+use Rattle.client_rules.proofs.Shapes.{waits, completes, Delivery, refused, taken, shape-delivered}
 use Rattle.client_rules.specs.Tests as CT
 use Rattle.client_rules.proofs.Views as CV
 use Rattle.steps.proofs.ClientTaken.{passed, took, took-room}
@@ -41,7 +42,8 @@ use Rattle.server_rules.proofs.Taking.{message-sized}
 use Rattle.runs.specs.Admissible.{Admissible}
 use Rattle.runs.specs.Blocks.{InFrame}
 use Rattle.runs.specs.Events.{At, StopsRead}
-use Rattle.runs.specs.World.{Setup, Call, toServer, toClient, beginRead, beginWrite, ClientSide, clientDone, clientLeft, lentBy, start, run, step, put, lentTo, clientEffect, readEffect, writeEffect}
+use Rattle.runs.specs.World.{Setup, Call, toServer, toClient, beginRead, beginWrite, ClientSide, clientDone, clientLeft}
+use Rattle.runs.specs.World.{lentBy, start, run, step, put, lentTo, clientEffect, readEffect, writeEffect}
 use Rattle.runs.proofs.Agreement.{small}
 use Rattle.runs.proofs.Assumed.{Assumed}
 
@@ -115,7 +117,8 @@ module _ (H : List ℕ → List ℕ) (g : Params) (me : ℕ) where
         let w = passed H g me s from _ t in
         let (j, ej, is) = is-server g from (w .server) in
         let at : Among (g .n) (numberIn from) = rw ej is in
-        let y = CT.awaited (CS.reading (s .phase) && (eqb (m .sequence) (s .reads) && not (hasStamp (rowOf s (numberIn from) .stamps) (used (rowOf s (numberIn from))) x))) in
+        let y = CT.awaited (CS.reading (s .phase)
+        && (eqb (m .sequence) (s .reads) && not (hasStamp (rowOf s (numberIn from) .stamps) (used (rowOf s (numberIn from))) x))) in
         let o = ap (CT.orderTest H g me s (numberIn from) (m .sequence)) (sym p) ∙ w .order in
         ((at .0, omega (arith, at .1, few)), fine-is (fits H e (numberIn from)) R.Digest J.Fine (fine-both y (CT.fitTest H e (numberIn from)) o .1) .0)
 
@@ -166,16 +169,19 @@ module _ (Z : Setup) (G : Assumed Z) where
   in-value : (b : Body) (x : Stamp) (e : Entry) → b ≡ valueIs x e → Carries b (e .block)
   in-value b x e p = subst (λ z. Carries z (e .block)) (sym p) refl
 
-  homes-next : (ks : List Call) (k : Call) → ((c : ℕ) → Home g (Came (k ∷ ks)) (run Z ks .clients c)) → (c : ℕ) → Home g (Came (k ∷ ks)) (run Z (k ∷ ks) .clients c)
+  homes-next : (ks : List Call) (k : Call) → ((c : ℕ) → Home g (Came (k ∷ ks)) (run Z ks .clients c)) → (c : ℕ)
+      → Home g (Came (k ∷ ks)) (run Z (k ∷ ks) .clients c)
   unfolding run step
   homes-next ks (toServer i from f out to) X c = X c
   homes-next ks (toClient d from f lent result out to) X c =
-      home-put (Came (toClient d from f lent result out to ∷ ks)) (run Z ks .clients) d (clientDone Z (clientEffect Z (run Z ks) d from f lent result out to) (run Z ks .clients d .value)) X
+      home-put (Came (toClient d from f lent result out to ∷ ks)) (run Z ks .clients) d
+      (clientDone Z (clientEffect Z (run Z ks) d from f lent result out to) (run Z ks .clients d .value)) X
       (delivered-holds H g d (small Z G) (G .bounded .servers-high) (Came (toClient d from f lent result out to ∷ ks))
       (run Z ks .clients d .client) (run Z ks .clients d .area) (lentTo Z (run Z ks) d lent) from f result out to
       (λ j h x e o b t. (t, length ks, inl (refl, (h, o, in-value _ x e b)))) (X d)) c
   homes-next ks (beginRead d out to) X c =
-      home-put (Came (beginRead d out to ∷ ks)) (run Z ks .clients) d (clientLeft Z (readEffect Z (run Z ks) d out to) (run Z ks .clients d .area) (run Z ks .clients d .value)) X
+      home-put (Came (beginRead d out to ∷ ks)) (run Z ks .clients) d
+      (clientLeft Z (readEffect Z (run Z ks) d out to) (run Z ks .clients d .area) (run Z ks .clients d .value)) X
       (read-holds H g d (Came (beginRead d out to ∷ ks)) (run Z ks .clients d .client) (run Z ks .clients d .area) out to (X d)) c
   homes-next ks (beginWrite d v out to) X c =
       home-put (Came (beginWrite d v out to ∷ ks)) (run Z ks .clients) d (clientLeft Z (writeEffect Z (run Z ks) d v out to) (run Z ks .clients d .area)

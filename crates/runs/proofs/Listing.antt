@@ -4,7 +4,8 @@ use mathlib.Core.Bool.{true, false}
 use mathlib.Core.Path.{_≡_, refl, sym, ap, _∙_}
 use mathlib.Core.Option.{Option, none, some}
 use mathlib.Core.Logic.{inl, inr, ⊎-elim}
-use mathlib.Core.List.{List, [], _∷_, _++_, map, Memᴰ·map, Memᴰ·of-map, List·Memᴰ·head, List·Memᴰ·not-nil, List·Memᴰ·append-cases, Memᴰ·append-left, Memᴰ·append-right, List·Memᴰ·eq-of-singleton}
+use mathlib.Core.List.{List, [], _∷_, _++_, map, Memᴰ·map, Memᴰ·of-map, List·Memᴰ·head, List·Memᴰ·not-nil}
+use mathlib.Core.List.{List·Memᴰ·append-cases, Memᴰ·append-left, Memᴰ·append-right, List·Memᴰ·eq-of-singleton}
 use lib.ListN.{length}
 use Rattle.quorum.proofs.Logic.{impossible}
 use Rattle.frame.specs.declared.Stamp.{Stamp}
@@ -40,7 +41,8 @@ module _ (Z : Setup) where
   news : (ks : List Call) (k : Call) → Items (Now ks k)
   news ks (toServer j from f out to) = record {
     list = map writeItem (serverEffect Z (run Z ks) j from f out to .accepted);
-    sound = λ y m. let (x, u, e) = Memᴰ·of-map writeItem (serverEffect Z (run Z ks) j from f out to .accepted) m in rw (← e) (by-accept j (length ks) x (refl, (refl, u)));
+    sound = λ y m. let (x, u, e) = Memᴰ·of-map writeItem (serverEffect Z (run Z ks) j from f out to .accepted) m in
+        rw (← e) (by-accept j (length ks) x (refl, (refl, u)));
     reads = λ c q p x u. absurd (u .1 .0);
     accepts = λ i p x u. Memᴰ·map writeItem (u .1 .1);
   }

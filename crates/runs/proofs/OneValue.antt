@@ -77,7 +77,8 @@ module _ (Z : Setup) (G : Assumed Z) (ks : List Call) where
         let e : H (h .entry .block) ≡ part (h .entry .digests) (32 * p .number - 32) 32 = same-true _ _ (fit (p .number) (h .entry) i (h .is)) in
         let c = carried (p .number) (h .entry) i (h .is) in
         record {
-          digest = ap H (h .block) ∙ e ∙ ap (λ z. part z (32 * p .number - 32) 32) (h .list ∙ sym same-list) ∙ digest-of H g (G .digest-size) v (p .number) (i .0) (i .1);
+          digest = ap H (h .block) ∙ e ∙ ap (λ z. part z (32 * p .number - 32) 32) (h .list ∙ sym same-list)
+              ∙ digest-of H g (G .digest-size) v (p .number) (i .0) (i .1);
           one = rw (h .block) (in-frame (c .0) (c .1));
           other = S .from (p .number) i;
         }

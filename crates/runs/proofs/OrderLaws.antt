@@ -83,10 +83,16 @@ module _ (Z : Setup) (G : Assumed Z) (M : Small (Z .g)) where
     where
       go : (b : Verdict) → b ≡ J.Fine → _≡_ {A = Stamped Z G M} (
         SD.constructBy H g j b initialValue (stateAreas j) (initialAreas j) .server .stamp,
-        presentEntry g (SD.constructBy H g j b initialValue (stateAreas j) (initialAreas j) .server .stamp) (SD.constructBy H g j b initialValue (stateAreas j) (initialAreas j) .area) (SD.constructBy H g j b initialValue (stateAreas j) (initialAreas j) .initial) .digests,
+        presentEntry g (SD.constructBy H g j b initialValue (stateAreas j) (initialAreas j) .server .stamp)
+            (SD.constructBy H g j b initialValue (stateAreas j) (initialAreas j) .area)
+            (SD.constructBy H g j b initialValue (stateAreas j) (initialAreas j) .initial) .digests,
       ) (zeroStamp, digestsOf H g initialValue)
       go (J.Bad r) e = impossible (cc)
-      go J.Fine e = λ i. (zeroStamp, present-digests (stateAreas j) (digestsOf H g initialValue) (listed g) (digests-size H g j (G .digest-size) initialValue) (omega (arith, G .state-room j, M .list-room)) i)
+      go J.Fine e = λ i. (
+        zeroStamp,
+        present-digests (stateAreas j) (digestsOf H g initialValue) (listed g) (digests-size H g j (G .digest-size) initialValue)
+            (omega (arith, G .state-room j, M .list-room)) i,
+      )
 
   pub fresh : PL.Fresh (stamps Z G M) (views Z G M) (g .n) (g .t) faultyServer faultyClient
   unfolding run start freshClient
@@ -106,7 +112,8 @@ module _ (Z : Setup) (G : Assumed Z) (M : Small (Z .g)) where
     no-read-ended = λ c q v u. u .2;
   }
 
-  pub lawful : (ks : List Call) (k : Call) → Admissible Z ks → Proper Z ks k → PL.Lawful (stamps Z G M) (views Z G M) (g .n) (g .t) faultyServer faultyClient ks k
+  pub lawful : (ks : List Call) (k : Call) → Admissible Z ks → Proper Z ks k
+      → PL.Lawful (stamps Z G M) (views Z G M) (g .n) (g .t) faultyServer faultyClient ks k
   lawful ks k a p = record {
     present-up = SO.up Z G M ks k a p;
     reads-up = CO.reads-up Z G M ks k a p;

@@ -80,7 +80,8 @@ module _ (Z : Setup) (G : Assumed Z) where
         let t : y .time + 1 ≡ suc (T .0) = omega (arith, et) in
         let s : stampOf y ≡ record { time = suc (T .0); writer = d; sequence = r } = λ z. record { time = t z; writer = ec z; sequence = eq z } in
         inr (j, p′, y, v, s ∙ sym (ap (λ z. z .0) e), ed ∙ sym (ap (λ z. z .1) e)))
-        (PP.read-from Θ W (g .n) (g .t) faultyServer faultyClient (fresh Z G M) (G .faults) ks (lawful-run Z G M ks a) c q (x .stamp, x .digests) (read ks c q p x u))
+        (PP.read-from Θ W (g .n) (g .t) faultyServer faultyClient (fresh Z G M) (G .faults) ks (lawful-run Z G M ks a) c q
+        (x .stamp, x .digests) (read ks c q p x u))
 
     read-ranged : (c q p : ℕ) (x : Found) → At (StopsRead Z c q x) ks p → StampInBounds (x .stamp)
     read-ranged c q p x u = ⊎-elim
@@ -91,7 +92,8 @@ module _ (Z : Setup) (G : Assumed Z) where
     key-of : (x : Write) → key (stampOf x) ≡ key (record { time = suc (x .time); writer = x .client; sequence = x .sequence })
     key-of x = let t : x .time + 1 ≡ suc (x .time) = omega arith in ap (λ z. key (record { time = z; writer = x .client; sequence = x .sequence })) t
 
-    rose : (ks₀ ls : List Call) → PL.Extends ks₀ ls → PL.Run Θ W (g .n) (g .t) faultyServer faultyClient ls → (c : ℕ) → run Z ks₀ .clients c .client .reads ≤ run Z ls .clients c .client .reads
+    rose : (ks₀ ls : List Call) → PL.Extends ks₀ ls → PL.Run Θ W (g .n) (g .t) faultyServer faultyClient ls → (c : ℕ)
+        → run Z ks₀ .clients c .client .reads ≤ run Z ls .clients c .client .reads
     rose ks₀ [] x r c = rw x (omega arith)
     rose ks₀ (k ∷ ls) (inl e) r c = rw e (omega arith)
     rose ks₀ (k ∷ ls) (inr x) r c = omega (arith, rose ks₀ ls x (r .1) c, r .0 .reads-up c)
@@ -122,7 +124,8 @@ module _ (Z : Setup) (G : Assumed Z) where
               arith,
               opens-read Z (o .before) (o .call) c q (o .event),
               read-number (e .before) (e .call) c q x (e .event),
-              rose (e .before) (o .before) (e .ext) (PP.run-before Θ W (g .n) (g .t) faultyServer faultyClient (o .before) ks (o .ext) (lawful-run Z G M ks a)) c,
+              rose (e .before) (o .before) (e .ext)
+                  (PP.run-before Θ W (g .n) (g .t) faultyServer faultyClient (o .before) ks (o .ext) (lawful-run Z G M ks a)) c,
             ))
 
     -- The facts of the row.
@@ -135,29 +138,39 @@ module _ (Z : Setup) (G : Assumed Z) where
       write-begun = write-begun Z G ks a;
       read-begun = read-begun Z ks;
       wrote-accepted = λ c q p u.
-          let (j, b, T, (x, p′, w, ec, eq, et, ed)) = PP.write-accepted Θ W (g .n) (g .t) faultyServer faultyClient (fresh Z G M) (G .faults) ks (lawful-run Z G M ks a) c q (p, u) in
+          let (j, b, T, (x, p′, w, ec, eq, et, ed)) = PP.write-accepted Θ W (g .n) (g .t) faultyServer faultyClient (fresh Z G M) (G .faults) ks
+          (lawful-run Z G M ks a) c q (p, u) in
           (j, p′, x, w, ec, eq);
       read-read = λ c q p x d r p′ p″ y u o l w.
           let b = cut (OpensRead Z d r) ks p′ o in
           key-not-older (x .stamp) (y .stamp) (read-ranged c q p x u) (read-ranged d r p″ y w)
-          (PP.read-read Θ W (g .n) (g .t) faultyServer faultyClient (fresh Z G M) (G .faults) (b .before) ks (b .ext) (lawful-run Z G M ks a) c q (x .stamp, x .digests) d r (y .stamp, y .digests)
-          (reader-honest Z ks a d r p′ o) (read (b .before) c q p x (b .earlier (StopsRead Z c q x) p l u)) (opens-read Z (b .before) (b .call) d r (b .event)) (read ks d r p″ y w));
+          (PP.read-read Θ W (g .n) (g .t) faultyServer faultyClient (fresh Z G M) (G .faults) (b .before) ks (b .ext) (lawful-run Z G M ks a) c q
+          (x .stamp, x .digests) d r (y .stamp, y .digests)
+          (reader-honest Z ks a d r p′ o) (read (b .before) c q p x (b .earlier (StopsRead Z c q x) p l u)) (opens-read Z (b .before) (b .call) d r (b .event))
+          (read ks d r p″ y w));
       write-read = λ c q p i e x d r p′ p″ y u v ec eq o l w.
           let b = cut (OpensRead Z d r) ks p′ o in
           let h : key (record { time = suc (x .time); writer = x .client; sequence = x .sequence }) ≤ key (y .stamp) =
-          PP.write-read Θ W (g .n) (g .t) faultyServer faultyClient (fresh Z G M) (G .faults) (Admissible Z) agree valid (b .before) ks (b .ext) (lawful-run Z G M ks a) a (x .client) (x .sequence) i (x .time, x .entry .digests) d r (y .stamp, y .digests)
-          (reader-honest Z ks a d r p′ o) (p, rw (ec, eq) (b .earlier (EndsWrite Z c q) p l u)) (accepted i e x v) (opens-read Z (b .before) (b .call) d r (b .event)) (read ks d r p″ y w) in
+          PP.write-read Θ W (g .n) (g .t) faultyServer faultyClient (fresh Z G M) (G .faults) (Admissible Z) agree valid (b .before) ks (b .ext)
+          (lawful-run Z G M ks a) a (x .client) (x .sequence) i (x .time, x .entry .digests) d r (y .stamp, y .digests)
+          (reader-honest Z ks a d r p′ o) (p, rw (ec, eq) (b .earlier (EndsWrite Z c q) p l u)) (accepted i e x v)
+          (opens-read Z (b .before) (b .call) d r (b .event)) (read ks d r p″ y w) in
           key-not-older (stampOf x) (y .stamp) (ranged i e x v) (read-ranged d r p″ y w) (omega (arith, h, key-of x));
       read-write = λ c q p x d r p′ i e v y u o l w ec eq.
           let b = cut (OpensWrite Z d r v) ks p′ o in
           let h : key (x .stamp) < key (record { time = suc (y .time); writer = y .client; sequence = y .sequence }) =
-          PP.read-write Θ W (g .n) (g .t) faultyServer faultyClient (fresh Z G M) (G .faults) (Admissible Z) agree valid (b .before) ks (b .ext) (lawful-run Z G M ks a) a c q (x .stamp, x .digests) i (y .client) (y .sequence) (y .time, y .entry .digests)
-          (rw ec (writer-honest Z ks a d r p′ v o)) (read (b .before) c q p x (b .earlier (StopsRead Z c q x) p l u)) (rw (ec, eq) (opens-write Z (b .before) (b .call) d r v (b .event))) (accepted i e y w) in
+          PP.read-write Θ W (g .n) (g .t) faultyServer faultyClient (fresh Z G M) (G .faults) (Admissible Z) agree valid (b .before) ks (b .ext)
+          (lawful-run Z G M ks a) a c q (x .stamp, x .digests) i (y .client) (y .sequence) (y .time, y .entry .digests)
+          (rw ec (writer-honest Z ks a d r p′ v o)) (read (b .before) c q p x (b .earlier (StopsRead Z c q x) p l u))
+          (rw (ec, eq) (opens-write Z (b .before) (b .call) d r v (b .event))) (accepted i e y w) in
           key-older (x .stamp) (stampOf y) (read-ranged c q p x u) (ranged i e y w) (omega (arith, h, key-of y));
       write-write = λ c q p i e x d r p′ j e′ v y u s ec eq o l w fc fq.
           let b = cut (OpensWrite Z d r v) ks p′ o in
-          let h : key (record { time = suc (x .time); writer = x .client; sequence = x .sequence }) < key (record { time = suc (y .time); writer = y .client; sequence = y .sequence }) =
-          PP.write-write Θ W (g .n) (g .t) faultyServer faultyClient (fresh Z G M) (G .faults) (Admissible Z) agree valid (b .before) ks (b .ext) (lawful-run Z G M ks a) a (x .client) (x .sequence) i (x .time, x .entry .digests) j (y .client) (y .sequence) (y .time, y .entry .digests)
-          (rw fc (writer-honest Z ks a d r p′ v o)) (p, rw (ec, eq) (b .earlier (EndsWrite Z c q) p l u)) (accepted i e x s) (rw (fc, fq) (opens-write Z (b .before) (b .call) d r v (b .event))) (accepted j e′ y w) in
+          let h : key (record { time = suc (x .time); writer = x .client; sequence = x .sequence })
+          < key (record { time = suc (y .time); writer = y .client; sequence = y .sequence }) =
+          PP.write-write Θ W (g .n) (g .t) faultyServer faultyClient (fresh Z G M) (G .faults) (Admissible Z) agree valid (b .before) ks (b .ext)
+          (lawful-run Z G M ks a) a (x .client) (x .sequence) i (x .time, x .entry .digests) j (y .client) (y .sequence) (y .time, y .entry .digests)
+          (rw fc (writer-honest Z ks a d r p′ v o)) (p, rw (ec, eq) (b .earlier (EndsWrite Z c q) p l u)) (accepted i e x s)
+          (rw (fc, fq) (opens-write Z (b .before) (b .call) d r v (b .event))) (accepted j e′ y w) in
           key-older (stampOf x) (stampOf y) (ranged i e x s) (ranged j e′ y w) (omega (arith, h, key-of x, key-of y));
     }

@@ -40,7 +40,8 @@ unfolding pieces pick
 pieces-in f d j zero p u = absurd (List·Memᴰ·not-nil u)
 pieces-in f d j (suc m) p u = go (λ w. pieces-in f d (suc j) m p w) (f j) refl u
   where
-    go : (List·Memᴰ p (pieces f d (suc j) m) → Holds f d (suc j) m p) → (o : Option Entry) → f j ≡ o → List·Memᴰ p (pieceOf o d j (pieces f d (suc j) m)) → Holds f d j (suc m) p
+    go : (List·Memᴰ p (pieces f d (suc j) m) → Holds f d (suc j) m p) → (o : Option Entry) → f j ≡ o → List·Memᴰ p (pieceOf o d j (pieces f d (suc j) m))
+        → Holds f d j (suc m) p
     go i none e u = holds-next f d j m p (i u)
     go i (some x) e u = by (same (x .digests) d) refl u
       where
@@ -97,7 +98,8 @@ module _ (H : List ℕ → List ℕ) (g : Params) (size : (b : List ℕ) → len
       let k : suc a + i ≡ a + suc i = omega arith in
       let l = H (blockAt H g v a) ++ joined (λ j. H (blockAt H g v j)) (suc a) m in
       ap (λ z. take 32 (drop z l)) e
-      ∙ ap (take 32) (sym (drop-drop (32 * i) 32 l) ∙ ap (drop (32 * i)) (drop-at (H (blockAt H g v a)) (joined (λ j. H (blockAt H g v j)) (suc a) m) 32 (size _)))
+      ∙ ap (take 32) (sym (drop-drop (32 * i) 32 l)
+      ∙ ap (drop (32 * i)) (drop-at (H (blockAt H g v a)) (joined (λ j. H (blockAt H g v j)) (suc a) m) 32 (size _)))
       ∙ digest-at v (suc a) m i (omega arith)
       ∙ ap (λ z. H (blockAt H g v z)) k
 
@@ -109,7 +111,8 @@ module _ (H : List ℕ → List ℕ) (g : Params) (size : (b : List ℕ) → len
       ap (λ z. part (joined (λ j. H (blockAt H g v j)) 1 (g .n)) z 32) e ∙ digest-at v 1 (g .n) (j - 1) (omega arith) ∙ ap (λ z. H (blockAt H g v z)) k
 
   -- blocks of a value, one behind the other
-  pub joined-blocks : (v : List ℕ) (l : List Piece) → ((p : Piece) → List·Memᴰ p l → p .bytes ≡ blockAt H g v (p .number)) → joinedBytes l ≡ blocksOf (g .k) v (numbers l)
+  pub joined-blocks : (v : List ℕ) (l : List Piece) → ((p : Piece) → List·Memᴰ p l → p .bytes ≡ blockAt H g v (p .number))
+      → joinedBytes l ≡ blocksOf (g .k) v (numbers l)
   unfolding blocksOf
   joined-blocks v [] h = refl
   joined-blocks v (p ∷ l) h =

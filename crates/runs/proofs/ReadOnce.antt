@@ -27,13 +27,15 @@ use Rattle.client_rules.specs.Beginning as CB
 use Rattle.client_rules.specs.Delivery as CD
 use Rattle.client_rules.specs.State as CS
 use Rattle.client_rules.specs.Steps as C
-use Rattle.client_rules.proofs.Shapes.{Keeps, drops, keeps, Shape, idle, hears, sends, shuts, counts, ends, waits, completes, Delivery, refused, taken, shape-delivered}
+use Rattle.client_rules.proofs.Shapes.{Keeps, drops, keeps, Shape, idle, hears, sends, shuts, counts, ends}
+use Rattle.client_rules.proofs.Shapes.{waits, completes, Delivery, refused, taken, shape-delivered}
 use Rattle.client_rules.specs.Tests as CT
 use Rattle.steps.proofs.ClientTaken.{awaited-true, took}
 use Rattle.steps.proofs.ClientTaken as Passing
 use Rattle.runs.specs.Admissible.{Admissible}
 use Rattle.runs.specs.Events.{At, StopsRead, OpensWrite}
-use Rattle.runs.specs.World.{Setup, Call, toServer, toClient, beginRead, beginWrite, ClientSide, clientDone, clientLeft, lentBy, start, run, step, put, lentTo, clientEffect, readEffect, writeEffect}
+use Rattle.runs.specs.World.{Setup, Call, toServer, toClient, beginRead, beginWrite, ClientSide, clientDone, clientLeft}
+use Rattle.runs.specs.World.{lentBy, start, run, step, put, lentTo, clientEffect, readEffect, writeEffect}
 
 module _ (H : List ℕ → List ℕ) (g : Params) (me : ℕ) where
   value-awaited : (s : Client) (from : Party) (c q : ℕ) (x : Stamp) (e : Entry)
@@ -54,15 +56,16 @@ module _ (H : List ℕ → List ℕ) (g : Params) (me : ℕ) where
   quiet-does s a = record { number = refl; still = λ h. h; gives = λ x e. impossible (cc e); found = λ x e. impossible (cc e) }
 
   -- nothing of a read
-  none-does : (s : Client) (r : C.Effect) → r .client .reads ≡ s .reads → CS.reading (r .client .phase) ≡ false → ((x : Found) → r .event ≡ C.stopped x → ⊥) → Does s r
+  none-does : (s : Client) (r : C.Effect) → r .client .reads ≡ s .reads → CS.reading (r .client .phase) ≡ false → ((x : Found) → r .event ≡ C.stopped x → ⊥)
+      → Does s r
   none-does s r e p n = record { number = e; still = λ h. impossible (cc (p, h)); gives = λ x z. absurd (n x z); found = λ x z. absurd (n x z) }
 
   keeps-number : (s : Client) (a v : List ℕ) (j : ℕ) {x : Stamp} {e : Entry} {s′ : Client} {a′ : List ℕ} → Keeps H g me s a v j x e s′ a′ → s′ .reads ≡ s .reads
   keeps-number s a v j (drops z) = refl
   keeps-number s a v j (keeps i z) = refl
 
-  shape-does : (s : Client) (a v : List ℕ) (from : Party) (c q : ℕ) {b : Body} {r : C.Effect} → CT.messageTest H g me s from (record { client = c; sequence = q; body = b }) ≡ J.Fine
-      → Shape H g me s a v (numberIn from) b r → Does s r
+  shape-does : (s : Client) (a v : List ℕ) (from : Party) (c q : ℕ) {b : Body} {r : C.Effect}
+      → CT.messageTest H g me s from (record { client = c; sequence = q; body = b }) ≡ J.Fine → Shape H g me s a v (numberIn from) b r → Does s r
   unfolding rowView
   shape-does s a v from c q h (idle b) = quiet-does s a
   shape-does s a v from c q h (hears T z) = none-does s _ refl refl (λ x e. impossible (cc e))
@@ -92,7 +95,8 @@ module _ (H : List ℕ → List ℕ) (g : Params) (me : ℕ) where
 
 -- ---- in a run
 
-begin-by : (H : List ℕ → List ℕ) (g : Params) (me : ℕ) (b : Verdict) (s : Client) (r : C.Effect) → (CB.beginBy g me b s r .client ≡ r .client) ⊎ (CB.beginBy g me b s r .client ≡ s)
+begin-by : (H : List ℕ → List ℕ) (g : Params) (me : ℕ) (b : Verdict) (s : Client) (r : C.Effect)
+    → (CB.beginBy g me b s r .client ≡ r .client) ⊎ (CB.beginBy g me b s r .client ≡ s)
 unfolding CB.beginBy
 begin-by H g me J.Fine s r = inl refl
 begin-by H g me (J.Bad x) s r = inr refl
@@ -139,9 +143,12 @@ module _ (Z : Setup) where
   next : (ks : List Call) (k : Call) (c : ℕ) → Next (clientAt ks c) (clientAt (k ∷ ks) c)
   unfolding run step
   next ks (toServer j from f out to) c = next-same (clientAt ks c) (clientAt ks c) refl
-  next ks (toClient d from f lent result out to) c = next-put (run Z ks .clients) d (clientDone Z (clientEffect Z (run Z ks) d from f lent result out to) (run Z ks .clients d .value)) c
-      (next-does d (clientAt ks d) (clientEffect Z (run Z ks) d from f lent result out to) (delivered-does H g d (clientAt ks d) (run Z ks .clients d .area) (lentTo Z (run Z ks) d lent) from f result out to))
-  next ks (beginRead d out to) c = next-put (run Z ks .clients) d (clientLeft Z (readEffect Z (run Z ks) d out to) (run Z ks .clients d .area) (run Z ks .clients d .value)) c
+  next ks (toClient d from f lent result out to) c =
+      next-put (run Z ks .clients) d (clientDone Z (clientEffect Z (run Z ks) d from f lent result out to) (run Z ks .clients d .value)) c
+      (next-does d (clientAt ks d) (clientEffect Z (run Z ks) d from f lent result out to)
+      (delivered-does H g d (clientAt ks d) (run Z ks .clients d .area) (lentTo Z (run Z ks) d lent) from f result out to))
+  next ks (beginRead d out to) c =
+      next-put (run Z ks .clients) d (clientLeft Z (readEffect Z (run Z ks) d out to) (run Z ks .clients d .area) (run Z ks .clients d .value)) c
       (next-read d (clientAt ks d) out to)
   next ks (beginWrite d v out to) c = next-put (run Z ks .clients) d (clientLeft Z (writeEffect Z (run Z ks) d v out to) (run Z ks .clients d .area)
       (lentBy Z (CB.writeTest g d (clientAt ks d) v out to) v (run Z ks .clients d .value))) c
@@ -164,7 +171,8 @@ module _ (Z : Setup) where
       let w = delivered-does H g d (clientAt ks d) (run Z ks .clients d .area) (lentTo Z (run Z ks) d lent) from f result out to in
       let e = ap (λ h. h .client) (put-same (run Z ks .clients) d (clientDone Z m (run Z ks .clients d .value))) in
       subst (λ z. Ended (clientAt ks z) (put (run Z ks .clients) d (clientDone Z m (run Z ks .clients d .value)) z .client) q) (sym (u .0))
-      (subst (λ z. Ended (clientAt ks d) z q) (sym e) (record { was = w .gives x (u .2) .0; is = w .gives x (u .2) .1; number = u .1; number′ = w .number ∙ u .1 }))
+      (subst (λ z. Ended (clientAt ks d) z q) (sym e)
+      (record { was = w .gives x (u .2) .0; is = w .gives x (u .2) .1; number = u .1; number′ = w .number ∙ u .1 }))
 
   -- an open read has a number, and a completed one had the client's
   open-number : (ks : List Call) (c : ℕ) → rd (clientAt ks c) ≡ true → 1 ≤ clientAt ks c .reads

@@ -4,7 +4,8 @@ use native.Mathlib.Omega.{arith}
 use mathlib.Core.Bool.{Bool, true, false}
 use mathlib.Core.Path.{_≡_, refl, ap, sym, _∙_}
 use mathlib.Core.Logic.{_⊎_, inl, inr, ⊎-elim}
-use mathlib.Core.List.{List, [], _∷_, _++_, List·Memᴰ, List·Memᴰ·head, List·Memᴰ·tail, List·Memᴰ·cases-cons, List·Memᴰ·not-nil, Memᴰ·append-left, Memᴰ·append-right}
+use mathlib.Core.List.{List, [], _∷_, _++_, List·Memᴰ, List·Memᴰ·head, List·Memᴰ·tail}
+use mathlib.Core.List.{List·Memᴰ·cases-cons, List·Memᴰ·not-nil, Memᴰ·append-left, Memᴰ·append-right}
 use Rattle.quorum.proofs.Logic.{impossible}
 use Rattle.frame.specs.declared.Stamp.{Stamp}
 use Rattle.frame.specs.Stamps.{zeroStamp}
@@ -12,7 +13,8 @@ use Rattle.frame.proofs.StampOrder.{Less, AtMost, less-of, older-of, less-not, 
 use Rattle.server_rules.specs.Steps.{stampOf}
 use Rattle.client_rules.specs.Rows.{Found}
 use Rattle.runs.specs.Blocks.{Collision}
-use Rattle.runs.specs.Demand.{Operation, Stands, SameOperation, lastOf, BearsLast, NoWrite, Happened, Begins, Ends, InOrder, by-stamp, write-first, as-ended, Values, Demand3}
+use Rattle.runs.specs.Demand.{Operation, Stands, SameOperation, lastOf, BearsLast, NoWrite, Happened}
+use Rattle.runs.specs.Demand.{Begins, Ends, InOrder, by-stamp, write-first, as-ended, Values, Demand3}
 use Rattle.runs.specs.Events.{At, StopsRead, CompletesRead, EndsWrite, OpensRead, OpensWrite}
 use Rattle.runs.specs.World.{Setup, Call, toServer, toClient, beginRead, beginWrite}
 use Rattle.runs.proofs.Listing.{readItem, writeItem, Cause, by-read, by-accept, In, items}
@@ -75,7 +77,8 @@ walk-next row s o l S W false r = record {
 
 bears-walk : (row : List Item) (s : Stamp) (l : List Item) → Sorted l → Walk row s l → BearsLast s (ops l)
 bears-walk row s [] S W = tt
-bears-walk row s (o ∷ l) S W = (bears-head row s o l S W, bears-walk row (lastOf (o .op .reading) (o .op .stamp) s) l (S .1) (walk-next row s o l S W (o .op .reading) refl))
+bears-walk row s (o ∷ l) S W =
+    (bears-head row s o l S W, bears-walk row (lastOf (o .op .reading) (o .op .stamp) s) l (S .1) (walk-next row s o l S W (o .op .reading) refl))
 
 -- ---- between two reads
 
@@ -189,7 +192,8 @@ module _ (Z : Setup) (ks : List Call) (K : Known Z ks) where
       let h : p ≡ e = K .read-once c q p e f″ f (stops Z ks c q p f″ w) (stops Z ks c q e f u) in
       let k : e < p′ = omega (arith, h, l) in
       let m : e < e′ = omega (arith, k, K .read-after d r p′ e′ f′ w′ (stops Z ks d r e′ f′ v)) in
-      ⊎-elim (λ s. inr (s, inr (refl, refl, m))) (λ s. inl s) (at-most-of _ _ (K .read-read c q e f d r p′ e′ f′ (stops Z ks c q e f u) w′ k (stops Z ks d r e′ f′ v)))
+      ⊎-elim (λ s. inr (s, inr (refl, refl, m))) (λ s. inl s)
+      (at-most-of _ _ (K .read-read c q e f d r p′ e′ f′ (stops Z ks c q e f u) w′ k (stops Z ks d r e′ f′ v)))
   in-time-of x y (by-read c q e f u) (by-accept j e′ k v) p p′ s t l =
       let (f″, w) = end-read (readItem Z c q (f .stamp) e .op) refl p s in
       let (val, w′) = begin-write (writeItem Z k .op) refl p′ t in
@@ -197,10 +201,14 @@ module _ (Z : Setup) (ks : List Call) (K : Known Z ks) where
       inl (less-of _ _ (K .read-write c q e f (k .client) (k .sequence) p′ j e′ val k (stops Z ks c q e f u) w′ (omega (arith, h, l)) v refl refl))
   in-time-of x y (by-accept i e k u) (by-read d r e′ f′ v) p p′ s t l =
       ⊎-elim (λ s. inr (s, inl (refl, refl))) (λ s. inl s)
-      (at-most-of _ _ (K .write-read (k .client) (k .sequence) p i e k d r p′ e′ f′ (end-write (writeItem Z k .op) refl p s) u refl refl (begin-read (readItem Z d r (f′ .stamp) e′ .op) refl p′ t) l (stops Z ks d r e′ f′ v)))
+      (at-most-of _ _
+      (K .write-read (k .client) (k .sequence) p i e k d r p′ e′ f′ (end-write (writeItem Z k .op) refl p s) u refl refl
+      (begin-read (readItem Z d r (f′ .stamp) e′ .op) refl p′ t) l (stops Z ks d r e′ f′ v)))
   in-time-of x y (by-accept i e k u) (by-accept j e′ k′ v) p p′ s t l =
       let (val, w′) = begin-write (writeItem Z k′ .op) refl p′ t in
-      inl (less-of _ _ (K .write-write (k .client) (k .sequence) p i e k (k′ .client) (k′ .sequence) p′ j e′ val k′ (end-write (writeItem Z k .op) refl p s) u refl refl w′ l v refl refl))
+      inl (less-of _ _
+      (K .write-write (k .client) (k .sequence) p i e k (k′ .client) (k′ .sequence) p′ j e′ val k′
+      (end-write (writeItem Z k .op) refl p s) u refl refl w′ l v refl refl))
 
   -- ---- the row
 
@@ -224,7 +232,8 @@ module _ (Z : Setup) (ks : List Call) (K : Known Z ks) where
 
   all : (o : Operation) → Happened Z ks o → List·Memᴰ o (ops line)
   all o (inl (r, (x, p, u, e))) =
-      let h : o ≡ readItem Z (o .client) (o .sequence) (x .stamp) p .op = λ z. record { reading = r z; client = o .client; sequence = o .sequence; stamp = sym e z } in
+      let h : o ≡ readItem Z (o .client) (o .sequence) (x .stamp) p .op =
+      λ z. record { reading = r z; client = o .client; sequence = o .sequence; stamp = sym e z } in
       rw h (listed (readItem Z (o .client) (o .sequence) (x .stamp) p) (items Z ks .reads (o .client) (o .sequence) p x u))
   all o (inr (r, (i, x, p, u, ec, eq, e))) =
       let h : o ≡ writeItem Z x .op = λ z. record { reading = r z; client = sym ec z; sequence = sym eq z; stamp = sym e z } in
@@ -288,7 +297,8 @@ module _ (Z : Setup) (ks : List Call) (K : Known Z ks) where
           let k = up o b (ordered o b (rw e (stands-behind xs _ o b (inr (stands-across ys (b ∷ zs) o b m (List·Memᴰ·head refl)))))) in
           absurd (at-most-back _ _ k (rw (sym es) l))
 
-  same-stamp : (xs ys zs : List Operation) (a b : Operation) → ops line ≡ xs ++ (a ∷ (ys ++ (b ∷ zs))) → a .reading ≡ true → b .reading ≡ true → NoWrite ys → a .stamp ≡ b .stamp
+  same-stamp : (xs ys zs : List Operation) (a b : Operation) → ops line ≡ xs ++ (a ∷ (ys ++ (b ∷ zs))) → a .reading ≡ true → b .reading ≡ true → NoWrite ys
+      → a .stamp ≡ b .stamp
   same-stamp xs ys zs a b e ra rb n =
       let (s, h) = bears-behind zeroStamp xs (a ∷ (ys ++ (b ∷ zs))) (rw e at bears) in
       h .0 ra ∙ sym (bears-through s ys (b ∷ zs) n (bears-next s a (ys ++ (b ∷ zs)) ra h) .0 rb)

@@ -137,7 +137,9 @@ module _ (Z : Setup) (G : Assumed Z) (M : Small (Z .g)) where
         λ i. ((e ∙ p) i, f i)
 
     pub value-new : (j c q : ℕ) (v : Stamped Z G M) → Vw .SentValue (k ∷ ks) j c q v
-        → Vw .SentValue ks j c q v ⊎ (((faultyClient c ≡ false → Vw .SentRead ks c q) × (v ≡ Vw .present ks j)) ⊎ PL.ToListener Ks Vw (g .n) (g .t) faultyServer faultyClient ks k j c q v)
+        → Vw .SentValue ks j c q v
+        ⊎ (((faultyClient c ≡ false → Vw .SentRead ks c q) × (v ≡ Vw .present ks j))
+        ⊎ PL.ToListener Ks Vw (g .n) (g .t) faultyServer faultyClient ks k j c q v)
     unfolding presentEntry
     value-new j c q v u = ⊎-elim
         (λ o. inl (u .0, u .1, o))
@@ -162,7 +164,8 @@ module _ (Z : Setup) (G : Assumed Z) (M : Small (Z .g)) where
         (SF j (N .0) .value-written (A.Client c) c q (v .0) (u .0) (N .1))))
         (sent-new Z G M ks k j (A.Client c) _ (u .2))
 
-    pub stamp-new : (j c q T : ℕ) → Vw .SentStamp (k ∷ ks) j c q T → Vw .SentStamp ks j c q T ⊎ ((faultyClient c ≡ false → Vw .SentGetStamp ks c q) × (T ≡ Ks .time (Vw .present ks j)))
+    pub stamp-new : (j c q T : ℕ) → Vw .SentStamp (k ∷ ks) j c q T
+        → Vw .SentStamp ks j c q T ⊎ ((faultyClient c ≡ false → Vw .SentGetStamp ks c q) × (T ≡ Ks .time (Vw .present ks j)))
     stamp-new j c q T u = ⊎-elim
         (λ o. inl o)
         (λ N.
@@ -183,25 +186,30 @@ module _ (Z : Setup) (G : Assumed Z) (M : Small (Z .g)) where
         ⊎-elim
         (λ w. inl (same L (r ∙ w)))
         (λ w. inr (
-          asked j C c (message c (readerOf (serverAt Z G M (k ∷ ks) j .server) c .sequence) askRead) (w .0) (w .1 ∙ ap (λ y. message c (y .sequence) askRead) (sym r)) refl,
+          asked j C c (message c (readerOf (serverAt Z G M (k ∷ ks) j .server) c .sequence) askRead) (w .0)
+              (w .1 ∙ ap (λ y. message c (y .sequence) askRead) (sym r)) refl,
           ap (λ y. key (y .noted)) r ∙ ap key (w .2) ∙ sym (key-at ks j (one-of j C)),
         ))
         (SF j C .noting c (ap (λ y. y .listening) (sym r) ∙ L .1)))
         (server-next Z G M ks k j)
       where
-        same : Among 8 c × (readerOf (serverAt Z G M (k ∷ ks) j .server) c .listening ≡ true) → readerOf (serverAt Z G M (k ∷ ks) j .server) c ≡ readerOf (serverAt Z G M ks j .server) c
+        same : Among 8 c × (readerOf (serverAt Z G M (k ∷ ks) j .server) c .listening ≡ true)
+            → readerOf (serverAt Z G M (k ∷ ks) j .server) c ≡ readerOf (serverAt Z G M ks j .server) c
             → (Vw .listening ks j c ≡ true) × (Vw .newest (k ∷ ks) j c ≡ Vw .newest ks j c) × (Vw .noted (k ∷ ks) j c ≡ Vw .noted ks j c)
         same L e = (listening c _ (L .0) (ap (λ y. y .listening) (sym e) ∙ L .1), ap (λ y. y .sequence) e, ap (λ y. key (y .noted)) e)
 
-    pub present-new : (j : ℕ) → (Vw .present (k ∷ ks) j ≡ Vw .present ks j) ⊎ PL.Written Ks Vw (g .n) (g .t) faultyServer faultyClient (k ∷ ks) j (Vw .present (k ∷ ks) j)
+    pub present-new : (j : ℕ) → (Vw .present (k ∷ ks) j ≡ Vw .present ks j)
+        ⊎ PL.Written Ks Vw (g .n) (g .t) faultyServer faultyClient (k ∷ ks) j (Vw .present (k ∷ ks) j)
     unfolding presentEntry
     present-new j = ⊎-elim
         (λ is. ⊎-elim
-        (λ e. inl (stamp-at (k ∷ ks) j is ∙ (λ i. (e i .server .stamp, presentEntry g (e i .server .stamp) (e i .area) (initialOf Z j) .digests)) ∙ sym (stamp-at ks j is)))
+        (λ e. inl (stamp-at (k ∷ ks) j is ∙ (λ i. (e i .server .stamp, presentEntry g (e i .server .stamp) (e i .area) (initialOf Z j) .digests))
+        ∙ sym (stamp-at ks j is)))
         (λ N.
         let C = N .0 in
         let a = ap (λ h. h .server .stamp) (N .1) in
-        let b : presentEntry g (serverAt Z G M (k ∷ ks) j .server .stamp) (serverAt Z G M (k ∷ ks) j .area) (initialOf Z j) .digests ≡ presentEntry g (effectOf Z G M C .server .stamp) (effectOf Z G M C .area) (initialOf Z j) .digests =
+        let b : presentEntry g (serverAt Z G M (k ∷ ks) j .server .stamp) (serverAt Z G M (k ∷ ks) j .area) (initialOf Z j) .digests
+        ≡ presentEntry g (effectOf Z G M C .server .stamp) (effectOf Z G M C .area) (initialOf Z j) .digests =
         λ i. presentEntry g (N .1 i .server .stamp) (N .1 i .area) (initialOf Z j) .digests in
         ⊎-elim
         (λ w. inl (stamp-at (k ∷ ks) j is ∙ (λ i. ((a ∙ w .0) i, (b ∙ w .1) i)) ∙ sym (stamp-at ks j is)))

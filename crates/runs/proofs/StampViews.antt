@@ -71,7 +71,8 @@ module _ (Z : Setup) (G : Assumed Z) (M : Small (Z .g)) where
     KeptValue = λ ks c j v. (clientAt ks c .client .phase ≡ F.Reading)
         × (k : Kept) × (k .stamp ≡ v .0) × (k .entry .digests ≡ v .1) × List·Memᴰ k (rowView g (clientAt ks c .client) (roomy (clientAt ks c .area)) j);
     KeptStamp = λ ks c j T. (clientAt ks c .client .phase ≡ F.Asking) × (timeOf (clientAt ks c .client) j ≡ some T);
-    Accepted = λ ks j c q a. (x : S.Write) × (p : ℕ) × At (Accepts Z j x) ks p × (x .client ≡ c) × (x .sequence ≡ q) × (x .time ≡ a .0) × (x .entry .digests ≡ a .1);
+    Accepted = λ ks j c q a. (x : S.Write) × (p : ℕ) × At (Accepts Z j x) ks p × (x .client ≡ c) × (x .sequence ≡ q) × (x .time ≡ a .0)
+        × (x .entry .digests ≡ a .1);
     WriteEnded = λ ks c q. (p : ℕ) × At (EndsWrite Z c q) ks p;
     ReadEnded = λ ks c q v. (x : Found) × (p : ℕ) × At (StopsRead Z c q x) ks p × (x .stamp ≡ v .0) × (x .digests ≡ v .1);
   }

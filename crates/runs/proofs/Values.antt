@@ -125,7 +125,8 @@ module _ (Z : Setup) (G : Assumed Z) (ks : List Call) (K : Known Z ks) (L : Know
       let (size, bytes) = L .written-sized d r p v u in
       record { size = size; bytes = bytes; from = λ j is. of-written p d r j v u is refl }
 
-  value-is : (c q p : ℕ) (x : Found) → At (StopsRead Z c q x) ks p → (v : List ℕ) → Source v → digestsOf H g v ≡ x .digests → (x .bytes ≡ some v) ⊎ Collision Z ks
+  value-is : (c q p : ℕ) (x : Found) → At (StopsRead Z c q x) ks p → (v : List ℕ) → Source v → digestsOf H g v ≡ x .digests
+      → (x .bytes ≡ some v) ⊎ Collision Z ks
   value-is c q p x u v S e = gives x (L .read-rows c q p x u) v S e
 
   -- ---- digest lists

@@ -24,12 +24,14 @@ use Rattle.client_rules.specs.Delivery as CD
 use Rattle.client_rules.specs.State.{asking, writing}
 use Rattle.client_rules.specs.Steps as C
 use Rattle.client_rules.specs.Tests as CT
-use Rattle.client_rules.proofs.Shapes.{Keeps, drops, keeps, Shape, idle, hears, shuts, counts, ends, waits, completes, Delivery, refused, taken, shape-delivered, sends as disperses}
+use Rattle.client_rules.proofs.Shapes.{Keeps, drops, keeps, Shape, idle, hears, shuts, counts, ends, waits}
+use Rattle.client_rules.proofs.Shapes.{completes, Delivery, refused, taken, shape-delivered, sends as disperses}
 use Rattle.server_rules.proofs.Casts.{mem-all}
 use Rattle.steps.proofs.ClientTaken.{awaited-true, asking-writing, took, passed}
 use Rattle.runs.specs.Admissible.{Admissible}
 use Rattle.runs.specs.Events.{At, Accepts, OpensWrite}
-use Rattle.runs.specs.World.{Setup, Call, toServer, toClient, beginRead, beginWrite, caller, World, ClientSide, clientLeft, lentBy, lentTo, run, step, sends, put, clientEffect, readEffect, writeEffect}
+use Rattle.runs.specs.World.{Setup, Call, toServer, toClient, beginRead, beginWrite, caller, World, ClientSide}
+use Rattle.runs.specs.World.{clientLeft, lentBy, lentTo, run, step, sends, put, clientEffect, readEffect, writeEffect}
 use Rattle.runs.proofs.Agreement.{small}
 use Rattle.runs.proofs.Broadcasts.{SentMessage}
 use Rattle.runs.proofs.Formation.{validity}
@@ -62,7 +64,8 @@ module _ (H : List ℕ → List ℕ) (g : Params) (me : ℕ) where
   unfolding entryOf
   offer-own v j T o h = let w : o ≡ offer T (entryOf H g v j) = cc h in sym (ap (λ z. z .entry .digests) w)
 
-  keeps-number : (s : Client) (a v : List ℕ) (j : ℕ) {x : Stamp} {e : Entry} {s′ : Client} {a′ : List ℕ} → Keeps H g me s a v j x e s′ a′ → s′ .writes ≡ s .writes
+  keeps-number : (s : Client) (a v : List ℕ) (j : ℕ) {x : Stamp} {e : Entry} {s′ : Client} {a′ : List ℕ} → Keeps H g me s a v j x e s′ a′
+      → s′ .writes ≡ s .writes
   keeps-number s a v j (drops z) = refl
   keeps-number s a v j (keeps i z) = refl
 
@@ -210,10 +213,12 @@ module _ (Z : Setup) where
       (lent-own (run Z ks) d lent) from f result out to .own)
   sent-now ks (beginRead d out to) c e =
       let h : d ≡ c = cc e in
-      subst (λ y. SendsOwn H g y (wr ks y) (home ks y .value) (readEffect Z (run Z ks) d out to .sends)) h (read-tells H g d (home ks d .client) (home ks d .value) out to .own)
+      subst (λ y. SendsOwn H g y (wr ks y) (home ks y .value) (readEffect Z (run Z ks) d out to .sends)) h
+      (read-tells H g d (home ks d .client) (home ks d .value) out to .own)
   sent-now ks (beginWrite d v out to) c e =
       let h : d ≡ c = cc e in
-      subst (λ y. SendsOwn H g y (wr ks y) (home ks y .value) (writeEffect Z (run Z ks) d v out to .sends)) h (write-own H g d (home ks d .client) (home ks d .value) v out to)
+      subst (λ y. SendsOwn H g y (wr ks y) (home ks y .value) (writeEffect Z (run Z ks) d v out to .sends)) h
+      (write-own H g d (home ks d .client) (home ks d .value) v out to)
 
 module _ (Z : Setup) (G : Assumed Z) where
   open Setup Z using (H, g, faultyClient)
@@ -242,8 +247,8 @@ module _ (Z : Setup) (G : Assumed Z) where
       absurd (omega (arith, w, y))
   said-own (k ∷ ks) c b q o p v (inr s) (inr u) = said-own ks c b q o p v s u
 
-  pub written-from : (ks : List Call) → Admissible Z ks → (i p : ℕ) (y : Write) (d r p′ : ℕ) (v : List ℕ) → At (Accepts Z i y) ks p → At (OpensWrite Z d r v) ks p′
-      → y .client ≡ d → y .sequence ≡ r → digestsOf H g v ≡ y .entry .digests
+  pub written-from : (ks : List Call) → Admissible Z ks → (i p : ℕ) (y : Write) (d r p′ : ℕ) (v : List ℕ) → At (Accepts Z i y) ks p
+      → At (OpensWrite Z d r v) ks p′ → y .client ≡ d → y .sequence ≡ r → digestsOf H g v ≡ y .entry .digests
   written-from ks a i p y d r p′ v u o ec eq =
       let h = writer-honest Z ks a d r p′ v o in
       let w = validity Z G ks a i p y (ap faultyClient ec ∙ h) u in

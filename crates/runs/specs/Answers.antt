@@ -21,7 +21,8 @@ use Rattle.client_rules.specs.Rows.{Found}
 use Rattle.client_rules.specs.Steps as C
 use Rattle.client_rules.specs.Delivery as CD
 use Rattle.client_rules.specs.Beginning as CB
-use Rattle.runs.specs.World.{Setup, Sound, DigestSize, Call, toServer, toClient, beginRead, beginWrite, World, initialOf, lentTo, clientEffect, run, sends}
+use Rattle.runs.specs.World.{Setup, Sound, DigestSize, Call, toServer, toClient, beginRead}
+use Rattle.runs.specs.World.{beginWrite, World, initialOf, lentTo, clientEffect, run, sends}
 use Rattle.runs.specs.Admissible.{Admissible}
 
 -- m frames from the front of an out area

@@ -16,7 +16,8 @@ use Rattle.client_rules.specs.declared.Answer.{Answer}
 use Rattle.client_rules.specs.declared.Answer.the-variants as A
 use Rattle.client_rules.specs.Delivery as CD
 use Rattle.client_rules.specs.Beginning as CB
-use Rattle.runs.specs.World.{Setup, Call, toServer, toClient, beginRead, beginWrite, caller, ServerSide, ClientSide, World, initialOf, lentTo, serverEffect, step}
+use Rattle.runs.specs.World.{Setup, Call, toServer, toClient, beginRead, beginWrite, caller}
+use Rattle.runs.specs.World.{ServerSide, ClientSide, World, initialOf, lentTo, serverEffect, step}
 
 -- ---- the next state
 

@@ -179,13 +179,15 @@ module _ (Z : Setup) (G : Assumed Z) where
       kept-else (drops z) = (refl, refl, refl, refl)
       kept-else (keeps i z) = (refl, refl, refl, refl)
 
-      unheard : (p : Bool) → CT.awaited (p && (eqb (t .m .sequence) (s .writes) && not (heardOf s (t .j)))) ≡ J.Fine → (p ≡ true) × (t .m .sequence ≡ s .writes) × (heardOf s (t .j) ≡ false)
+      unheard : (p : Bool) → CT.awaited (p && (eqb (t .m .sequence) (s .writes) && not (heardOf s (t .j)))) ≡ J.Fine
+          → (p ≡ true) × (t .m .sequence ≡ s .writes) × (heardOf s (t .j) ≡ false)
       unheard p o =
           let w = and-split p _ (awaited-true H g c _ o) in
           let y = and-split (eqb (t .m .sequence) (s .writes)) _ (w .1) in
           (w .0, eqb-true (t .m .sequence) (s .writes) (y .0), not-true (heardOf s (t .j)) (y .1))
 
-      by-shape : {b : Body} {r : C.Effect} → CT.orderTest H g c s (t .j) (t .m .sequence) b ≡ J.Fine → Shape H g c s a (t .v) (t .j) b r → Onward (g .n) s (r .client)
+      by-shape : {b : Body} {r : C.Effect} → CT.orderTest H g c s (t .j) (t .m .sequence) b ≡ J.Fine → Shape H g c s a (t .v) (t .j) b r
+          → Onward (g .n) s (r .client)
       unfolding CT.orderTest
       by-shape o (idles b) = same-stage s s refl refl refl refl (λ j e. e) (λ j i x p. p)
       by-shape o (hears T q) =
@@ -275,7 +277,8 @@ module _ (Z : Setup) (G : Assumed Z) where
           go : (o : Option ℕ) → placeFor (rowOf s (t .j)) x ≡ o → AnswerPast (C.keepBy H g c o s a (t .j) x y .client) (t .j) (t .m .sequence) (valueIs x y)
           go none z = settled s a refl (past-dropped (rowOf s (t .j)) (four t) x n z) (search g (rowView g s a))
           go (some i) z = settled (withRow s (t .j) (rowWith (rowOf s (t .j)) i x)) (storeEntry a (placeAt (t .j) i) y) refl
-              (subst (λ r. RowPast r x) (sym (getD-set-same (s .rows) (t .j) (rowWith (rowOf s (t .j)) i x) noRow (omega (arith, low t, shaped .within .rows .rows-many))))
+              (subst (λ r. RowPast r x)
+              (sym (getD-set-same (s .rows) (t .j) (rowWith (rowOf s (t .j)) i x) noRow (omega (arith, low t, shaped .within .rows .rows-many))))
               (past-kept (rowOf s (t .j)) (four t) x i z)) (search g _)
 
       body-taken : (b : Body) → CT.orderTest H g c s (t .j) (t .m .sequence) b ≡ J.Fine

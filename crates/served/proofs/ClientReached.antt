@@ -26,7 +26,8 @@ use Rattle.frame.specs.declared.Verdict.the-variants as J
 use Rattle.frame.specs.Chunks.{rowsBytes}
 use Rattle.frame.specs.Frames.{build, opened, messageIn, headerFor}
 use Rattle.frame.specs.declared.Stamp.{Stamp}
-use Rattle.frame.specs.Messages.{send, echo, ready, Body, getStamp, ack, askRead, readComplete, stampIs, blockIs, valueIs, Message, message, sending, good, judgedBy, Formed}
+use Rattle.frame.specs.Messages.{send, echo, ready, Body, getStamp, ack, askRead, readComplete, stampIs}
+use Rattle.frame.specs.Messages.{blockIs, valueIs, Message, message, sending, good, judgedBy, Formed}
 use Rattle.frame.specs.Params.{clientFrames, outRoom, toRoom}
 use Rattle.frame.specs.Refusals.{numberOf, andThen}
 use Rattle.frame.proofs.RoundTrip.{opened-build}
@@ -131,7 +132,8 @@ module _ (Z : Setup) (G : Assumed Z) where
       → Begun Z G (home Z ks c .client) q b
   begun ks adm j c h q getStamp u = tt
   begun ks adm j c h q ack u =
-      let (T, (x, p, v, ec, eq, et, ed), l) = PP.ack-accepted (stamps Z G M) (views Z G M) (g .n) (g .t) faultyServer faultyClient (fresh Z G M) ks (lawful-run Z G M ks adm) j c q u in
+      let (T, (x, p, v, ec, eq, et, ed), l) = PP.ack-accepted (stamps Z G M) (views Z G M) (g .n) (g .t) faultyServer faultyClient (fresh Z G M) ks
+      (lawful-run Z G M ks adm) j c q u in
       let w = validity Z G ks adm j p x (ap faultyClient ec ∙ h) v in
       let s : SentBy Z G ks (A.Client c) (w .0) (message c q (blockIs send (w .1))) =
       subst (λ q. SentBy Z G ks (A.Client c) (w .0) (message c q (blockIs send (w .1)))) eq
@@ -143,7 +145,8 @@ module _ (Z : Setup) (G : Assumed Z) where
       PP.time-begun (stamps Z G M) (views Z G M) (g .n) (g .t) faultyServer faultyClient (fresh Z G M) ks (lawful-run Z G M ks adm) j c q T h u
   begun ks adm j c h q (blockIs z o) u = tt
   begun ks adm j c h q (valueIs x e) u =
-      PP.value-begun (stamps Z G M) (views Z G M) (g .n) (g .t) faultyServer faultyClient (fresh Z G M) ks (lawful-run Z G M ks adm) j c q (x, e .digests) h (e, refl, u)
+      PP.value-begun (stamps Z G M) (views Z G M) (g .n) (g .t) faultyServer faultyClient (fresh Z G M) ks (lawful-run Z G M ks adm) j c q
+      (x, e .digests) h (e, refl, u)
 
   -- ---- the lent value of an open write has its length
 
@@ -153,7 +156,8 @@ module _ (Z : Setup) (G : Assumed Z) where
   working ks c F.Acking e d = d .0
   working ks c F.Reading e d = impossible (cc e)
 
-  value-fine : (ks : List Call) → Admissible Z ks → (c : ℕ) (lent : List ℕ) → CT.valueTest g (home Z ks c .client) (length (lentTo Z (run Z ks) c lent)) ≡ J.Fine
+  value-fine : (ks : List Call) → Admissible Z ks → (c : ℕ) (lent : List ℕ)
+      → CT.valueTest g (home Z ks c .client) (length (lentTo Z (run Z ks) c lent)) ≡ J.Fine
   unfolding CT.valueTest pick
   value-fine ks adm c lent = go (writing (home Z ks c .client .phase)) refl
     where
@@ -263,7 +267,6 @@ module _ (Z : Setup) (G : Assumed Z) where
     past-here : SentBy Z G ks (A.Server j) (A.Client c) m → (lent result out to : List ℕ)
         → Final (clientAnswer Z (run Z ks) c (home Z ks c .area) (A.Server j) (build m) lent result out to)
         → Past (toClient c (A.Server j) (build m) lent result out to ∷ ks)
-    unfolding numberOf
     past-here u lent result out to N = go (room-cases g (length (home Z ks c .area)) (length result) (length out) (length to))
         (order c s j (m .sequence) (m .body) (W .fit))
       where
@@ -333,7 +336,8 @@ module _ (Z : Setup) (G : Assumed Z) where
       let ef = u .1 .2 in
       let N = u .1 .3 in
       let cd : c ≡ d = cc (u .1 .0) in
-      let call : toClient c (A.Server j) (build m) lent result out to ≡ toClient d from f lent result out to = λ z. toClient (cd z) (ea z) (ef z) lent result out to in
+      let call : toClient c (A.Server j) (build m) lent result out to ≡ toClient d from f lent result out to =
+      λ z. toClient (cd z) (ea z) (ef z) lent result out to in
       let pr : Proper Z ks (toClient c (A.Server j) (build m) lent result out to) = subst (Proper Z ks) (sym call) (adm .0) in
       subst (λ k. AnswerPast (home Z (k ∷ ks) c .client) j (m .sequence) (m .body)) call
       (past-here j c m W ks (adm .1) (sent-before ks (adm .1) j c m W (build m) lent result out to refl pr) lent result out to

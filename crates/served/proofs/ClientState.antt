@@ -33,7 +33,8 @@ use Rattle.client_rules.specs.State.{freshRow, freshClient, noRow, rowOf, idle,
 use Rattle.client_rules.specs.Beginning as CB
 use Rattle.client_rules.specs.Steps as C
 use Rattle.client_rules.specs.Tests as CT
-use Rattle.client_rules.proofs.Shapes.{largestNow, dispersed, Keeps, drops, keeps, Shape, hears, shuts, counts, ends, waits, completes, sends as disperses, idle as idles}
+use Rattle.client_rules.proofs.Shapes.{largestNow, dispersed, Keeps, drops, keeps, Shape, hears, shuts}
+use Rattle.client_rules.proofs.Shapes.{counts, ends, waits, completes, sends as disperses, idle as idles}
 use Rattle.client_rules.proofs.CallFacts.{awaited-true}
 use Rattle.runs.specs.Events.{At, EndsWrite, OpensWrite}
 use Rattle.runs.specs.World.{Setup, Call, caller, ClientSide, clientDone, clientLeft, start, run, sends}
@@ -59,7 +60,9 @@ unfolding C.quorate
 none-quorate g L = go (leb (g .n) (count (λ j. getD (replicate 11 false) j false) (g .n) + g .t)) refl
   where
     go : (b : Bool) → leb (g .n) (count (λ j. getD (replicate 11 false) j false) (g .n) + g .t) ≡ b → b ≡ false
-    go true e = absurd (omega (arith, leb-true (g .n) (count (λ j. getD (replicate 11 false) j false) (g .n) + g .t) e, no-flags 11 (g .n), L .faults-high, L .faults-low))
+    go true e =
+        let l = leb-true (g .n) (count (λ j. getD (replicate 11 false) j false) (g .n) + g .t) e in
+        absurd (omega (arith, l, no-flags 11 (g .n), L .faults-high, L .faults-low))
     go false e = refl
 
 fresh-count : (m j : ℕ) → getD (replicate m freshRow) j noRow .count ≡ 0

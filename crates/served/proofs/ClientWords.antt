@@ -11,7 +11,8 @@ use Rattle.frame.specs.declared.Stamp.{Stamp}
 use Rattle.frame.specs.declared.Party.{Party}
 use Rattle.frame.specs.declared.Party.the-variants as A
 use Rattle.frame.specs.declared.Verdict.the-variants as J
-use Rattle.frame.specs.Messages.{Entry, Offer, offer, send, echo, ready, Body, getStamp, ack, askRead, readComplete, stampIs, blockIs, valueIs, Message, message, Sending, sending, toAll}
+use Rattle.frame.specs.Messages.{Entry, Offer, offer, send, echo, ready, Body, getStamp, ack, askRead, readComplete}
+use Rattle.frame.specs.Messages.{stampIs, blockIs, valueIs, Message, message, Sending, sending, toAll}
 use Rattle.server_rules.proofs.Thresholds.{agreed}
 use Rattle.client_rules.specs.declared.Client.{Client}
 use Rattle.client_rules.specs.State.{asking}
@@ -92,7 +93,8 @@ module _ (Z : Setup) (G : Assumed Z) where
       (j, (l, omega (arith, h)), ap (λ x. x .receiver) e, ap (λ x. x .says) e)
 
   -- a word for a message that is the expected one
-  worded : (s : Client) (c : ℕ) (b : Party) (m m′ : Message) → m ≡ m′ → Word s c b (m′ .client) (m′ .sequence) (m′ .body) → Word s c b (m .client) (m .sequence) (m .body)
+  worded : (s : Client) (c : ℕ) (b : Party) (m m′ : Message) → m ≡ m′ → Word s c b (m′ .client) (m′ .sequence) (m′ .body)
+      → Word s c b (m .client) (m .sequence) (m .body)
   worded s c b m m′ e w = subst (λ m. Word s c b (m .client) (m .sequence) (m .body)) (sym e) w
 
   module _ (ks : List Call) (k : Call) (c : ℕ) (t : TakesFrame Z ks k c) where
@@ -129,7 +131,8 @@ module _ (Z : Setup) (G : Assumed Z) where
     One l = (b b′ : Party) (d q d′ q′ : ℕ) (o o′ : Offer) → List·Memᴰ (sending b (message d q (blockIs send o))) l
         → List·Memᴰ (sending b′ (message d′ q′ (blockIs send o′))) l → agreed o ≡ agreed o′
 
-    shape-offers : {x : Body} {r : C.Effect} → CT.orderTest H g c s (t .j) (t .m .sequence) x ≡ J.Fine → Shape H g c s a (t .v) (t .j) x r → Offers (r .sends) × One (r .sends)
+    shape-offers : {x : Body} {r : C.Effect} → CT.orderTest H g c s (t .j) (t .m .sequence) x ≡ J.Fine → Shape H g c s a (t .v) (t .j) x r
+        → Offers (r .sends) × One (r .sends)
     unfolding CT.orderTest entryOf
     shape-offers o (idles x) = ((λ b d q y u. absurd (List·Memᴰ·not-nil u)), λ b b′ d q d′ q′ y y′ u w. absurd (List·Memᴰ·not-nil u))
     shape-offers o (hears T z) = ((λ b d q y u. absurd (List·Memᴰ·not-nil u)), λ b b′ d q d′ q′ y y′ u w. absurd (List·Memᴰ·not-nil u))
@@ -183,7 +186,8 @@ module _ (Z : Setup) (G : Assumed Z) where
         → List·Memᴰ (sending b′ (message d′ q′ (blockIs send o′))) (sends Z (run Z ks) k) → agreed o ≡ agreed o′
     unfolding CB.openRead CB.openWrite
     call-one (rests h f) b b′ d q d′ q′ o o′ u w = absurd (f b _ e u)
-    call-one (takes t) b b′ d q d′ q′ o o′ u w = shape-offers ks k c t (t .order) (t .shape) .1 b b′ d q d′ q′ o o′ (subst (List·Memᴰ _) (t .sent) u) (subst (List·Memᴰ _) (t .sent) w)
+    call-one (takes t) b b′ d q d′ q′ o o′ u w =
+        shape-offers ks k c t (t .order) (t .shape) .1 b b′ d q d′ q′ o o′ (subst (List·Memᴰ _) (t .sent) u) (subst (List·Memᴰ _) (t .sent) w)
     call-one (begins-read out to _ t h l) b b′ d q d′ q′ o o′ u w =
         let (j, i, x, y) = from-all (λ j. message c (home Z ks c .client .reads + 1) askRead) b _ (subst (List·Memᴰ _) l u) in
         impossible (cc (ap (λ m. m .body) y))
@@ -200,15 +204,16 @@ module _ (Z : Setup) (G : Assumed Z) where
   words (k ∷ ks) adm c b m (inr u) = word-onward (client-onward Z G ks k (adm .1) c) c b (m .client) (m .sequence) (m .body) (words ks (adm .1) c b m u)
 
   -- two of one write, of which the first is older
-  not-later : (ks : List Call) (k : Call) → Admissible Z ks → (c : ℕ) (b b′ : Party) (q : ℕ) (o o′ : Offer) → SentBy Z G ks (A.Client c) b (message c q (blockIs send o))
+  not-later : (ks : List Call) (k : Call) → Admissible Z ks → (c : ℕ) (b b′ : Party) (q : ℕ) (o o′ : Offer)
+      → SentBy Z G ks (A.Client c) b (message c q (blockIs send o))
       → caller k ≡ A.Client c → List·Memᴰ (sending b′ (message c q (blockIs send o′))) (sends Z (run Z ks) k) → ⊥
   not-later ks k adm c b b′ q o o′ u e w =
       let l = words ks adm c b (message c q (blockIs send o)) u .4 in
       let (n, z) = call-offers ks k c e (client-turn Z ks k c) b′ c q o′ w in
       ⊎-elim (λ h. omega (arith, h, n)) (λ h. omega (arith, h .1, z)) l
 
-  pub sent-once : (ks : List Call) → Admissible Z ks → (c : ℕ) (b b′ : Party) (q : ℕ) (o o′ : Offer) → SentBy Z G ks (A.Client c) b (message c q (blockIs send o))
-      → SentBy Z G ks (A.Client c) b′ (message c q (blockIs send o′)) → agreed o ≡ agreed o′
+  pub sent-once : (ks : List Call) → Admissible Z ks → (c : ℕ) (b b′ : Party) (q : ℕ) (o o′ : Offer)
+      → SentBy Z G ks (A.Client c) b (message c q (blockIs send o)) → SentBy Z G ks (A.Client c) b′ (message c q (blockIs send o′)) → agreed o ≡ agreed o′
   sent-once [] adm c b b′ q o o′ u w = absurd u
   sent-once (k ∷ ks) adm c b b′ q o o′ (inr u) (inr w) = sent-once ks (adm .1) c b b′ q o o′ u w
   sent-once (k ∷ ks) adm c b b′ q o o′ (inr u) (inl (e, w)) = absurd (not-later ks k (adm .1) c b b′ q o o′ u e w)

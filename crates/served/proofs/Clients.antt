@@ -25,7 +25,8 @@ use Rattle.client_rules.specs.Tests as CT
 use Rattle.client_rules.proofs.Shapes.{Shape, shape-of}
 use Rattle.steps.proofs.ClientTaken.{Taken, Delivered, refused, taken, took, took-room, delivered, passed}
 use Rattle.runs.specs.Events.{EndsWrite, OpensWrite}
-use Rattle.runs.specs.World.{Setup, Call, toServer, toClient, beginRead, beginWrite, caller, ClientSide, clientDone, clientLeft, lentBy, lentTo, clientEffect, readEffect, writeEffect, run, step, sends, put}
+use Rattle.runs.specs.World.{Setup, Call, toServer, toClient, beginRead, beginWrite, caller, ClientSide, clientDone}
+use Rattle.runs.specs.World.{clientLeft, lentBy, lentTo, clientEffect, readEffect, writeEffect, run, step, sends, put}
 use Rattle.runs.proofs.Written.{lent-own}
 
 module _ (Z : Setup) where
@@ -55,7 +56,8 @@ module _ (Z : Setup) where
     pub ends : r .event ≡ C.written → EndsWrite Z c (home ks c .client .writes) ks k
 
   pub data ClientTurn (ks : List Call) (k : Call) (c : ℕ) : Type 0 where
-    rests : home (k ∷ ks) c ≡ home ks c → ((b : Party) (m : Message) → caller k ≡ A.Client c → List·Memᴰ (sending b m) (sends Z (run Z ks) k) → ⊥) → ClientTurn ks k c
+    rests : home (k ∷ ks) c ≡ home ks c → ((b : Party) (m : Message) → caller k ≡ A.Client c → List·Memᴰ (sending b m) (sends Z (run Z ks) k) → ⊥)
+        → ClientTurn ks k c
     takes : TakesFrame ks k c → ClientTurn ks k c
     begins-read : (out to : List ℕ) → caller k ≡ A.Client c → CB.readTest g c (home ks c .client) out to ≡ J.Fine
         → home (k ∷ ks) c ≡ clientLeft Z (CB.openRead g c (home ks c .client)) (home ks c .area) (home ks c .value)
@@ -125,7 +127,8 @@ module _ (Z : Setup) where
       (λ b m _ u. List·Memᴰ·not-nil (subst (λ r. List·Memᴰ (sending b m) (r .sends)) (q ∙ z) u))
   by-frame ks c from f lent result out to q (taken m T room z) = takes (taken-frame ks c from f lent result out to m T room (q ∙ z) .0)
 
-  read-turn : (ks : List Call) (c : ℕ) (out to : List ℕ) → home (beginRead c out to ∷ ks) c ≡ clientLeft Z (readEffect Z (run Z ks) c out to) (home ks c .area) (home ks c .value)
+  read-turn : (ks : List Call) (c : ℕ) (out to : List ℕ)
+      → home (beginRead c out to ∷ ks) c ≡ clientLeft Z (readEffect Z (run Z ks) c out to) (home ks c .area) (home ks c .value)
       → ClientTurn ks (beginRead c out to) c
   unfolding sends CB.readBegun CB.beginBy
   read-turn ks c out to h = go (CB.readTest g c (home ks c .client) out to) refl
@@ -139,7 +142,8 @@ module _ (Z : Setup) where
           (λ y m _ u. List·Memᴰ·not-nil (subst (λ b. List·Memᴰ (sending y m) (left b .sends)) e u))
 
   write-turn : (ks : List Call) (c : ℕ) (v out to : List ℕ)
-      → home (beginWrite c v out to ∷ ks) c ≡ clientLeft Z (writeEffect Z (run Z ks) c v out to) (home ks c .area) (lentBy Z (CB.writeTest g c (home ks c .client) v out to) v (home ks c .value))
+      → home (beginWrite c v out to ∷ ks) c
+      ≡ clientLeft Z (writeEffect Z (run Z ks) c v out to) (home ks c .area) (lentBy Z (CB.writeTest g c (home ks c .client) v out to) v (home ks c .value))
       → ClientTurn ks (beginWrite c v out to) c
   unfolding sends CB.writeBegun CB.beginBy
   write-turn ks c v out to h = go (CB.writeTest g c (home ks c .client) v out to) refl
@@ -148,7 +152,8 @@ module _ (Z : Setup) where
       left b = CB.beginBy g c b (home ks c .client) (CB.openWrite g c (home ks c .client))
 
       go : (b : Verdict) → CB.writeTest g c (home ks c .client) v out to ≡ b → ClientTurn ks (beginWrite c v out to) c
-      go J.Fine e = begins-write v out to refl e (h ∙ ap (λ b. clientLeft Z (left b) (home ks c .area) (lentBy Z b v (home ks c .value))) e) (ap (λ b. left b .sends) e)
+      go J.Fine e =
+          begins-write v out to refl e (h ∙ ap (λ b. clientLeft Z (left b) (home ks c .area) (lentBy Z b v (home ks c .value))) e) (ap (λ b. left b .sends) e)
           (refl, refl, refl, e)
       go (J.Bad x) e = rests (h ∙ ap (λ b. clientLeft Z (left b) (home ks c .area) (lentBy Z b v (home ks c .value))) e)
           (λ y m _ u. List·Memᴰ·not-nil (subst (λ b. List·Memᴰ (sending y m) (left b .sends)) e u))

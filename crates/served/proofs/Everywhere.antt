@@ -39,8 +39,10 @@ module _ (Z : Setup) (G : Assumed Z) where
   server-each [] j b m k u i is = absurd u
   server-each (c ∷ ks) j b m k u i is = ⊎-elim
       (λ o. inr (server-each ks j b m k o i is))
-      (λ (C, v). sent-now Z G ks c j C _ _ (step-all H g j (serverAt Z G M ks j .server) (serverAt Z G M ks j .area) (initialOf Z j) (numberIn (C .from)) (C .m .client) (C .m .sequence)
-      (shape-of H g j (serverAt Z G M ks j .server) (serverAt Z G M ks j .area) (initialOf Z j) (C .from) (C .m)) b m k v i is))
+      (λ (C, v).
+      let h = serverAt Z G M ks j in
+      sent-now Z G ks c j C _ _ (step-all H g j (h .server) (h .area) (initialOf Z j) (numberIn (C .from)) (C .m .client) (C .m .sequence)
+      (shape-of H g j (h .server) (h .area) (initialOf Z j) (C .from) (C .m)) b m k v i is))
       (sent-new Z G M ks c j b m u)
 
   -- ---- a client
@@ -81,7 +83,8 @@ module _ (Z : Setup) (G : Assumed Z) where
   taken-each c s a v j (CS.counts z) b d q o u = absurd (List·Memᴰ·not-nil u)
   taken-each c s a v j (CS.ends z) b d q o u = absurd (List·Memᴰ·not-nil u)
   taken-each c s a v j (CS.waits x e K z) b d q o u = absurd (List·Memᴰ·not-nil u)
-  taken-each c s a v j (CS.completes x e {s′} K y z) b d q o u = absurd (none-sent (λ i. message c (s′ .reads) readComplete) b d q o (λ i e. impossible (cc e)) u)
+  taken-each c s a v j (CS.completes x e {s′} K y z) b d q o u =
+      absurd (none-sent (λ i. message c (s′ .reads) readComplete) b d q o (λ i e. impossible (cc e)) u)
 
   call-each : (ks : List Call) (k : Call) (c : ℕ) → caller k ≡ A.Client c → ClientTurn Z ks k c → (b : Party) (d q : ℕ) (o : Offer)
       → List·Memᴰ (sending b (message d q (blockIs send o))) (sends Z (run Z ks) k) → Alike d q o (sends Z (run Z ks) k)
@@ -94,8 +97,8 @@ module _ (Z : Setup) (G : Assumed Z) where
   call-each ks k c e (begins-write v out to _ t h l _) b d q o u =
       absurd (none-sent (λ j. message c (home Z ks c .client .writes + 1) getStamp) b d q o (λ i e. impossible (cc e)) (subst (List·Memᴰ _) l u))
 
-  pub client-each : (ks : List Call) (c : ℕ) (b : Party) (d q : ℕ) (o : Offer) → SentBy Z G ks (A.Client c) b (message d q (blockIs send o)) → (i : ℕ) → Among (g .n) i
-      → (p : Offer) × (agreed p ≡ agreed o) × SentBy Z G ks (A.Client c) (A.Server i) (message d q (blockIs send p))
+  pub client-each : (ks : List Call) (c : ℕ) (b : Party) (d q : ℕ) (o : Offer) → SentBy Z G ks (A.Client c) b (message d q (blockIs send o))
+      → (i : ℕ) → Among (g .n) i → (p : Offer) × (agreed p ≡ agreed o) × SentBy Z G ks (A.Client c) (A.Server i) (message d q (blockIs send p))
   client-each [] c b d q o u i is = absurd u
   client-each (k ∷ ks) c b d q o (inl (e, u)) i is = let (p, a, v) = call-each ks k c e (client-turn Z ks k c) b d q o u i is in (p, a, inl (e, v))
   client-each (k ∷ ks) c b d q o (inr u) i is = let (p, a, v) = client-each ks c b d q o u i is in (p, a, inr v)

@@ -71,7 +71,8 @@ module _ (Z : Setup) (G : Assumed Z) (ks : List Call) (adm : Admissible Z ks) wh
   module _ (fin : Finished Z ks) where
     above : (j c s : ℕ) (x : Agreed) → Acc j c s x → Ks .key (Ks .stamped x c s) ≤ Ks .key (W .present ks j)
     above j c s x u =
-        let (T, a, l) = PP.ack-accepted Ks W (g .n) (g .t) faultyServer faultyClient (fresh Z G M) ks (lawful-run Z G M ks adm) j c s (its-passed Z G ks adm j c s x u .acked) in
+        let (T, a, l) = PP.ack-accepted Ks W (g .n) (g .t) faultyServer faultyClient (fresh Z G M) ks (lawful-run Z G M ks adm) j c s
+        (its-passed Z G ks adm j c s x u .acked) in
         let e : x ≡ T = ST.one-accepted (protocol Z G) (ended Z G ks adm fin) j j c s x T u (same-accepted j c s T a) in
         subst (λ x. Ks .key (Ks .stamped x c s) ≤ Ks .key (W .present ks j)) (sym e) l
 

@@ -85,7 +85,8 @@ module _ (Z : Setup) (G : Assumed Z) where
       let es : stampAt (k ∷ ks) j ≡ stampAt ks j = ap (λ h. h .server .stamp) e in
       let el : listAt (k ∷ ks) j ≡ listAt ks j = ap (λ h. entryAt g (h .area) presentAt .digests) e in
       record {
-        asked = λ u. inr (subst (λ x. SentBy Z G ks (A.Client c) (A.Server j) (message c (x .sequence) askRead)) (sym er) (S .asked (sym (ap (λ x. x .listening) er) ∙ u)));
+        asked = λ u. inr (subst (λ x. SentBy Z G ks (A.Client c) (A.Server j) (message c (x .sequence) askRead)) (sym er)
+            (S .asked (sym (ap (λ x. x .listening) er) ∙ u)));
         told = λ u.
             let (y, q, v) = S .told (sym (ap (λ x. x .listening) er) ∙ u) in (
               y,
@@ -93,7 +94,8 @@ module _ (Z : Setup) (G : Assumed Z) where
               inr (subst (λ x. SentBy Z G ks (A.Server j) (A.Client c) (message c (x .sequence) (valueIs (stampAt (k ∷ ks) j) y))) (sym er)
                   (subst (λ x. SentBy Z G ks (A.Server j) (A.Client c) (message c (reader ks j c .sequence) (valueIs x y))) (sym es) v)),
             );
-        noted = λ u. subst (λ x. AtMost (x .noted) (stampAt (k ∷ ks) j)) (sym er) (subst (AtMost (reader ks j c .noted)) (sym es) (S .noted (sym (ap (λ x. x .listening) er) ∙ u)));
+        noted = λ u. subst (λ x. AtMost (x .noted) (stampAt (k ∷ ks) j)) (sym er)
+            (subst (AtMost (reader ks j c .noted)) (sym es) (S .noted (sym (ap (λ x. x .listening) er) ∙ u)));
         ended = λ u l. inr (subst (λ x. SentBy Z G ks (A.Client c) (A.Server j) (message c (x .sequence) readComplete)) (sym er)
             (S .ended (sym (ap (λ x. x .listening) er) ∙ u) (subst (λ x. 1 ≤ x .sequence) er l)));
       }
@@ -140,8 +142,11 @@ module _ (Z : Setup) (G : Assumed Z) where
     stays = ⊎-elim
         (λ (e, f). record {
           asked = λ u. inr (T .asked u);
-          told = λ u. let (y, q, v) = T .told u in
-              (y, q ∙ ap (λ e. e .digests) (sym f), inr (subst (λ x. SentBy Z G ks (A.Server j) (A.Client c) (message c (reader ks j c .sequence) (valueIs x y))) (sym e) v));
+          told = λ u. let (y, q, v) = T .told u in (
+            y,
+            q ∙ ap (λ e. e .digests) (sym f),
+            inr (subst (λ x. SentBy Z G ks (A.Server j) (A.Client c) (message c (reader ks j c .sequence) (valueIs x y))) (sym e) v),
+          );
           noted = λ u. subst (AtMost (reader ks j c .noted)) (sym e) (T .noted u);
           ended = λ u l. inr (T .ended u l);
         })
@@ -161,7 +166,8 @@ module _ (Z : Setup) (G : Assumed Z) where
           noted = λ u. subst (AtMost (reader ks j c .noted)) (sym e) (inr (above u));
           ended = λ u l. inr (T .ended u l);
         })
-        (presents H g j sv (C .from) (G .bounded) (serverAt Z G M ks j .area) (initialOf Z j) (shape Z G M ks j) (C .m) (C .took .client) (C .took .sized) (C .took .passes))
+        (presents H g j sv (C .from) (G .bounded) (serverAt Z G M ks j .area) (initialOf Z j) (shape Z G M ks j) (C .m) (C .took .client)
+        (C .took .sized) (C .took .passes))
 
     -- a read leaves the present value
     read-stamp : (q : ℕ) → C .m ≡ message c q askRead → r .server .stamp ≡ sv .stamp
@@ -180,7 +186,9 @@ module _ (Z : Setup) (G : Assumed Z) where
       told = λ u. (
         presentEntry g (sv .stamp) (serverAt Z G M ks j .area) (initialOf Z j),
         read-list q x,
-        sent-now Z G ks k j C _ _ (subst (λ y. List·Memᴰ (sending (A.Client c) (message c q (valueIs y (presentEntry g (sv .stamp) (serverAt Z G M ks j .area) (initialOf Z j))))) (r .sends))
+        sent-now Z G ks k j C _ _
+            (subst (λ y. List·Memᴰ
+            (sending (A.Client c) (message c q (valueIs y (presentEntry g (sv .stamp) (serverAt Z G M ks j .area) (initialOf Z j))))) (r .sends))
             (sym (read-stamp q x)) (value-told H g j sv (serverAt Z G M ks j .area) (initialOf Z j) (C .from) (C .m) c q x)),
       );
       noted = λ u. inl (sym (read-stamp q x));
@@ -194,7 +202,8 @@ module _ (Z : Setup) (G : Assumed Z) where
     })
 
     next : ReaderStands (k ∷ ks) j c
-    next = to-stands (by-note (note H g j sv (shape Z G M ks j .within) (serverAt Z G M ks j .area) (initialOf Z j) (C .from) (C .m) (C .took .client) (C .took .passes) c))
+    next = to-stands (by-note
+        (note H g j sv (shape Z G M ks j .within) (serverAt Z G M ks j .area) (initialOf Z j) (C .from) (C .m) (C .took .client) (C .took .passes) c))
 
   pub reader-stands : (ks : List Call) → Admissible Z ks → (j c : ℕ) → Among 8 c → Z .faultyClient c ≡ false → ReaderStands ks j c
   reader-stands [] adm j c ic hc = let (a, b) = start-reader j c in record {
@@ -213,7 +222,9 @@ module _ (Z : Setup) (G : Assumed Z) where
   reader-up ks k j c = ⊎-elim
       (λ e. let q = ap (λ h. readerOf (h .server) c .sequence) e in omega (arith, q))
       (λ N. let q = ap (λ h. readerOf (h .server) c .sequence) (N .1) in
-      let l = go (N .0) (note H g j (serverAt Z G M ks j .server) (shape Z G M ks j .within) (serverAt Z G M ks j .area) (initialOf Z j) (N .0 .from) (N .0 .m) (N .0 .took .client) (N .0 .took .passes) c) in
+      let l = go (N .0)
+      (note H g j (serverAt Z G M ks j .server) (shape Z G M ks j .within) (serverAt Z G M ks j .area) (initialOf Z j)
+      (N .0 .from) (N .0 .m) (N .0 .took .client) (N .0 .took .passes) c) in
       omega (arith, q, l))
       (server-next Z G M ks k j)
     where

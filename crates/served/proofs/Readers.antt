@@ -7,7 +7,8 @@ use mathlib.Core.Bool.{Bool, true, false}
 use mathlib.Core.Path.{_≡_, refl, ap, sym, _∙_, subst}
 use mathlib.Core.Logic.{_⊎_, inl, inr, ⊎-elim}
 use mathlib.Core.Option.{Option, none, some}
-use mathlib.Core.List.{List, [], _∷_, _++_, List·Memᴰ, List·Memᴰ·head, List·Memᴰ·tail, List·Memᴰ·not-nil, List·Memᴰ·cases-cons, Memᴰ·append-left, Memᴰ·append-right}
+use mathlib.Core.List.{List, [], _∷_, _++_, List·Memᴰ, List·Memᴰ·head, List·Memᴰ·tail}
+use mathlib.Core.List.{List·Memᴰ·not-nil, List·Memᴰ·cases-cons, Memᴰ·append-left, Memᴰ·append-right}
 use lib.ListN.{length, getD, replicate}
 use borrow.Author.Tests.{le-leb}
 use Rattle.quorum.specs.Quorum.{count, Among}
@@ -64,8 +65,8 @@ unfolding atStamp pick
 at-found [] x k u e = absurd (List·Memᴰ·not-nil u)
 at-found (y ∷ l) x k u e = go (sameStamp (y .stamp) x) refl (λ v. at-found l x k v e) (List·Memᴰ·cases-cons u)
   where
-    go : (b : Bool) → sameStamp (y .stamp) x ≡ b → (List·Memᴰ k l → (j : Kept) × List·Memᴰ j l × (j .stamp ≡ x) × (atStamp l x ≡ some (j .entry))) → (k ≡ y) ⊎ List·Memᴰ k l
-        → (j : Kept) × List·Memᴰ j (y ∷ l) × (j .stamp ≡ x) × (pick b (some (y .entry)) (atStamp l x) ≡ some (j .entry))
+    go : (b : Bool) → sameStamp (y .stamp) x ≡ b → (List·Memᴰ k l → (j : Kept) × List·Memᴰ j l × (j .stamp ≡ x) × (atStamp l x ≡ some (j .entry)))
+        → (k ≡ y) ⊎ List·Memᴰ k l → (j : Kept) × List·Memᴰ j (y ∷ l) × (j .stamp ≡ x) × (pick b (some (y .entry)) (atStamp l x) ≡ some (j .entry))
     go true q f w = (y, List·Memᴰ·head refl, stamp-of _ _ q, refl)
     go false q f (inl z) = impossible (cc (q, same-of (y .stamp) x (ap (λ k. k .stamp) (sym z) ∙ e)))
     go false q f (inr v) = let (j, w, s, t) = f v in (j, List·Memᴰ·tail w, s, t)
@@ -76,7 +77,8 @@ module _ (g : Params) (f : ℕ → List Kept) where
   first-some [] k u a e = List·Memᴰ·not-nil u
   first-some (y ∷ l) k u a e = go (agreed g f y) refl (λ v. first-some l k v a) (List·Memᴰ·cases-cons u) e
     where
-      go : (b : Bool) → agreed g f y ≡ b → (List·Memᴰ k l → firstAgreed g f l ≡ none → ⊥) → (k ≡ y) ⊎ List·Memᴰ k l → firstBy g f b y (firstAgreed g f l) ≡ none → ⊥
+      go : (b : Bool) → agreed g f y ≡ b → (List·Memᴰ k l → firstAgreed g f l ≡ none → ⊥) → (k ≡ y) ⊎ List·Memᴰ k l
+          → firstBy g f b y (firstAgreed g f l) ≡ none → ⊥
       go true q h w e = impossible (cc e)
       go false q h (inl z) e = impossible (cc (q, ap (agreed g f) (sym z), a))
       go false q h (inr v) e = h v e
@@ -123,7 +125,8 @@ rows-room Z G (k ∷ ks) c e = go (client-turn Z ks k c) e (rows-room Z G ks c)
     go : ClientTurn Z ks k c → home Z (k ∷ ks) c .client .phase ≡ F.Reading
         → (home Z ks c .client .phase ≡ F.Reading → (rowsBytes ≤ length (home Z ks c .area)) ⊎ (home Z ks c .client .rows ≡ replicate 11 freshRow))
         → (rowsBytes ≤ length (home Z (k ∷ ks) c .area)) ⊎ (home Z (k ∷ ks) c .client .rows ≡ replicate 11 freshRow)
-    go (rests h f) e r = subst (λ h. (rowsBytes ≤ length (h .area)) ⊎ (h .client .rows ≡ replicate 11 freshRow)) (sym h) (r (sym (ap (λ h. h .client .phase) h) ∙ e))
+    go (rests h f) e r =
+        subst (λ h. (rowsBytes ≤ length (h .area)) ⊎ (h .client .rows ≡ replicate 11 freshRow)) (sym h) (r (sym (ap (λ h. h .client .phase) h) ∙ e))
     go (takes t) e r =
         let l = shape-length (Z .H) (Z .g) c (home Z ks c .client) (home Z ks c .area) (t .v) (t .j) (t .shape) in
         let q = ap (λ h. length (h .area)) (t .left) in
@@ -199,8 +202,10 @@ module _ (Z : Setup) (G : Assumed Z) (ks : List Call) (adm : Admissible Z ks) (N
         (e, k, refl, refl, subst (λ a. List·Memᴰ k (rowView g s a j)) (sym (roomy-same a (room j hj))) u)
 
     written : (k : Kept) → List·Memᴰ k (rows j) → (key (k .stamp) ≤ stamps Z G M .key (views Z G M .present ks j))
-        × (((k .stamp, k .entry .digests) ≡ stamps Z G M .initial) ⊎ PL.Written (stamps Z G M) (views Z G M) (g .n) (g .t) faultyServer faultyClient ks j (k .stamp, k .entry .digests))
-    written k u = PP.value-written (stamps Z G M) (views Z G M) (g .n) (g .t) faultyServer faultyClient (fresh Z G M) ks (lawful-run Z G M ks adm) j c (s .reads)
+        × (((k .stamp, k .entry .digests) ≡ stamps Z G M .initial)
+        ⊎ PL.Written (stamps Z G M) (views Z G M) (g .n) (g .t) faultyServer faultyClient ks j (k .stamp, k .entry .digests))
+    written k u =
+        PP.value-written (stamps Z G M) (views Z G M) (g .n) (g .t) faultyServer faultyClient (fresh Z G M) ks (lawful-run Z G M ks adm) j c (s .reads)
         (k .stamp, k .entry .digests) (kept-sent k u)
 
     shows : views Z G M .present ks j ≡ shown Z G M ks j
@@ -239,8 +244,10 @@ module _ (Z : Setup) (G : Assumed Z) (ks : List Call) (adm : Admissible Z ks) (N
     one-list k u q = go (written k u .1)
         (PP.present-of (stamps Z G M) (views Z G M) (g .n) (g .t) faultyServer faultyClient (fresh Z G M) ks (lawful-run Z G M ks adm) j)
       where
-        go : ((k .stamp, k .entry .digests) ≡ stamps Z G M .initial) ⊎ PL.Written (stamps Z G M) (views Z G M) (g .n) (g .t) faultyServer faultyClient ks j (k .stamp, k .entry .digests)
-            → (views Z G M .present ks j ≡ stamps Z G M .initial) ⊎ PL.Written (stamps Z G M) (views Z G M) (g .n) (g .t) faultyServer faultyClient ks j (views Z G M .present ks j)
+        go : ((k .stamp, k .entry .digests) ≡ stamps Z G M .initial)
+            ⊎ PL.Written (stamps Z G M) (views Z G M) (g .n) (g .t) faultyServer faultyClient ks j (k .stamp, k .entry .digests)
+            → (views Z G M .present ks j ≡ stamps Z G M .initial)
+            ⊎ PL.Written (stamps Z G M) (views Z G M) (g .n) (g .t) faultyServer faultyClient ks j (views Z G M .present ks j)
             → k .entry .digests ≡ listAt Z G ks j
         go (inl x) (inl y) = ap (λ v. v .1) x ∙ sym (ap (λ v. v .1) y) ∙ ap (λ v. v .1) shows ∙ shown-list
         go (inl x) (inr (d, n, T, w, y)) =
@@ -266,7 +273,8 @@ module _ (Z : Setup) (G : Assumed Z) (ks : List Call) (adm : Admissible Z ks) (N
       → ((stampAt Z G ks i ≡ stampAt Z G ks j) × (listAt Z G ks i ≡ listAt Z G ks j)) ⊎ X) → X
   unfolding agreed
   not-reading {X} one =
-      let (j, is, h, _) = honest-member (G .faults) (at-least-fewer {Q = λ j. Unit {0}} (omega (arith, G .faults .many)) (honest-servers (G .faults) (λ j is h. tt))) in
+      let (j, is, h, _) = honest-member (G .faults)
+      (at-least-fewer {Q = λ j. Unit {0}} (omega (arith, G .faults .many)) (honest-servers (G .faults) (λ j is h. tt))) in
       let hj : Honest Z (A.Server j) = (is, h) in
       let (k, u, q) = has-present j hj in
       let d = one-list j hj k u q in
@@ -274,7 +282,9 @@ module _ (Z : Setup) (G : Assumed Z) (ks : List Call) (adm : Admissible Z ks) (N
       (λ f.
       let l = at-least-count (λ i. hasList (atStamp (rows i) (k .stamp)) (k .entry .digests)) (honest-servers (G .faults) (λ i ii hi.
       let (es, el) = f i (ii, hi) in
-      ap (λ x. hasList (atStamp (rows i) x) (k .entry .digests)) (q ∙ sym es) ∙ ap (hasList (atStamp (rows i) (stampAt Z G ks i))) (d ∙ sym el) ∙ row-has i (ii, hi))) in
-      absurd (search-some g rows j is k u (le-leb (g .n) (count (λ i. hasList (atStamp (rows i) (k .stamp)) (k .entry .digests)) (g .n) + g .t) (omega (arith, l))) (doing .1)))
+      ap (λ x. hasList (atStamp (rows i) x) (k .entry .digests)) (q ∙ sym es) ∙ ap (hasList (atStamp (rows i) (stampAt Z G ks i))) (d ∙ sym el)
+      ∙ row-has i (ii, hi))) in
+      absurd (search-some g rows j is k u
+      (le-leb (g .n) (count (λ i. hasList (atStamp (rows i) (k .stamp)) (k .entry .digests)) (g .n) + g .t) (omega (arith, l))) (doing .1)))
       (λ x. x)
       (all-honest (λ i. (stampAt Z G ks i ≡ stampAt Z G ks j) × (listAt Z G ks i ≡ listAt Z G ks j)) (g .n) faultyServer (λ i hi. one i j hi hj))

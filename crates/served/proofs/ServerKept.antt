@@ -108,7 +108,8 @@ module _ (Z : Setup) (G : Assumed Z) where
       (server-next Z G M ks k j)
 
   -- what it accepts is its own entry of a value
-  pub accepts-coded : (ks : List Call) (k : Call) (j : ℕ) (C : Takes Z G M ks k j) (x : S.Write) → List·Memᴰ x (effectOf Z G M C .accepted) → Encodes H g j (x .entry)
+  pub accepts-coded : (ks : List Call) (k : Call) (j : ℕ) (C : Takes Z G M ks k j) (x : S.Write) → List·Memᴰ x (effectOf Z G M C .accepted)
+      → Encodes H g j (x .entry)
   accepts-coded ks k j C x u =
       let is : Among 8 (x .client) = facts ks k j C .took-why x u .0 in
       ⊎-elim

@@ -1,5 +1,5 @@
--- A server does not go back: a frame that it has counted, answered or gone beyond stays past. In a finished run each frame that an honest party sent to an honest
--- server is past there, or its write is ahead. Assumes nothing.
+-- A server does not go back: a frame that it has counted, answered or gone beyond stays past. In a finished run each frame that an honest party sent to an
+-- honest server is past there, or its write is ahead. Assumes nothing.
 use Prim.Native.Nat.{ℕ, _≤_, _<_}
 use native.Mathlib.Omega.{arith}
 use mathlib.Core.Bool.{Bool, true, false, not, _&&_}
@@ -23,7 +23,9 @@ use Rattle.frame.specs.declared.Refusal.the-variants as X
 use Rattle.frame.specs.declared.Verdict.the-variants as J
 use Rattle.frame.specs.Chunks.{areaBytes}
 use Rattle.frame.specs.Frames.{build}
-use Rattle.frame.specs.Messages.{Offer, Stage, send, echo, ready, Body, getStamp, ack, askRead, readComplete, stampIs, blockIs, valueIs, Message, message, sending, numberIn, Judged, good, judgedBy, Formed}
+use Rattle.frame.specs.Messages.{Offer, Stage, send, echo, ready, Body}
+use Rattle.frame.specs.Messages.{getStamp, ack, askRead, readComplete, stampIs, blockIs, valueIs}
+use Rattle.frame.specs.Messages.{Message, message, sending, numberIn, Judged, good, judgedBy, Formed}
 use Rattle.frame.specs.Params.{width, serverFrames, outRoom, toRoom}
 use Rattle.frame.specs.Refusals.{numberOf, andThen}
 use Rattle.frame.proofs.RoundTrip.{opened-build}
@@ -49,7 +51,7 @@ use Rattle.served.specs.Finished.{Final, replyRefusal, serverAnswer, Ans
 use Rattle.served.proofs.ClientState.{SentBy}
 use Rattle.served.proofs.ClientWords.{Word, words}
 use Rattle.served.proofs.ReaderState.{reader, reader-up}
-use Rattle.served.proofs.ServerState.{seq, part, seq-up, rises, sent-now}
+use Rattle.served.proofs.ServerState.{seq, part, sent-now, left-part, left-seq, seq-up, rises}
 use Rattle.served.proofs.ServerWords.{entry-fits, Fitting, server-word}
 
 -- with what number a verdict turns down
@@ -117,16 +119,10 @@ module _ (Z : Setup) (G : Assumed Z) where
     abbrev h : ServerSide
     h = serverAt Z G M ks j
 
-    left-part : (c : ℕ) → part Z G (k ∷ ks) j c ≡ partAt g (effectOf Z G M C .server) (effectOf Z G M C .area) c
-    left-part c = ap (λ h. partAt g (h .server) (h .area) c) (server-left Z G M ks k j C)
-
-    left-seq : (c : ℕ) → seq Z G (k ∷ ks) j c ≡ slotOf (effectOf Z G M C .server) c .sequence
-    left-seq c = ap (λ h. slotOf (h .server) c .sequence) (server-left Z G M ks k j C)
-
     keeps-got : (c : ℕ) → Among 8 c → (z : Stage) (i : ℕ) → seq Z G (k ∷ ks) j c ≡ seq Z G ks j c → Got z (part Z G ks j c) i → Got z (part Z G (k ∷ ks) j c) i
-    keeps-got c is z i e u = subst (λ w. Got z w i) (sym (left-part c))
-        (D.keeps-got H g (G .bounded) j (h .server) (h .area) (initialOf Z j) (shape Z G M ks j) (C .from) (C .m) (C .took .client) (C .took .sized) (C .took .passes)
-        c is z i (sym (left-seq c) ∙ e) u)
+    keeps-got c is z i e u = subst (λ w. Got z w i) (sym (left-part Z G ks k j C c))
+        (D.keeps-got H g (G .bounded) j (h .server) (h .area) (initialOf Z j) (shape Z G M ks j) (C .from) (C .m)
+        (C .took .client) (C .took .sized) (C .took .passes) c is z i (sym (left-seq Z G ks k j C c) ∙ e) u)
 
     -- ---- what is taken is past
 
@@ -136,8 +132,8 @@ module _ (Z : Setup) (G : Assumed Z) where
         let (n, w) = D.takes-got H g (G .bounded) j (h .server) (h .area) (initialOf Z j) (shape Z G M ks j) (C .from) (C .m)
         (C .took .client) (C .took .sized) (C .took .passes) c q is z o e in
         ⊎-elim
-        (λ r. inl (omega (arith, n, r, left-seq c)))
-        (λ (r, u). inr (n ∙ sym (left-seq c ∙ r), subst (λ w. Got z w (numberIn (C .from))) (sym (left-part c)) u))
+        (λ r. inl (omega (arith, n, r, left-seq Z G ks k j C c)))
+        (λ (r, u). inr (n ∙ sym (left-seq Z G ks k j C c ∙ r), subst (λ w. Got z w (numberIn (C .from))) (sym (left-part Z G ks k j C c)) u))
         w
 
     read-taken : (c q : ℕ) → C .m ≡ message c q askRead → q ≤ reader Z G (k ∷ ks) j c .sequence
@@ -313,7 +309,7 @@ module _ (Z : Setup) (G : Assumed Z) where
 
     -- answered with a step or a number other than 10 and 13, it is past
     past-here : (out to : List ℕ) → Final (serverAnswer Z (run Z ks) j a (build m) out to) → Past (toServer j a (build m) out to ∷ ks)
-    unfolding numberOf takes
+    unfolding takes
     past-here out to F = go (room out to) (room-cases g (length (sv .area)) (length (initialOf Z j)) (length out) (length to)) refl its-order
       where
         final : (v : Verdict) → andThen (room out to) ordered ≡ v → Final (refusalIn v)
@@ -339,13 +335,19 @@ module _ (Z : Setup) (G : Assumed Z) where
         to : List ℕ
         to = replicate (toRoom (serverFrames g)) 0
 
+        many : outRoom g (serverFrames g) ≤ length out
+        many = omega (arith, length-replicate {A = ℕ} (outRoom g (serverFrames g)) 0)
+
+        named : toRoom (serverFrames g) ≤ length to
+        named = omega (arith, length-replicate {A = ℕ} (toRoom (serverFrames g)) 0)
+
         fine : room out to ≡ J.Fine
         fine = room-fine g (length (sv .area)) (length (initialOf Z j)) (length out) (length to) (shape Z G M ks j .room) (initial-long Z G M j)
-            (omega (arith, length-replicate {A = ℕ} (outRoom g (serverFrames g)) 0)) (omega (arith, length-replicate {A = ℕ} (toRoom (serverFrames g)) 0))
+            many named
 
         go : Order ks j a (m .client) (m .sequence) (m .body) ordered → Past ks ⊎ Ahead ks j (m .client) (m .sequence) (m .body)
         go (inl o) =
-            let (r, e) = N out to (omega (arith, length-replicate {A = ℕ} (outRoom g (serverFrames g)) 0)) (omega (arith, length-replicate {A = ℕ} (toRoom (serverFrames g)) 0)) in
+            let (r, e) = N out to many named in
             impossible (cc (e, answer-is out to J.Fine (ap (λ r. andThen r ordered) fine ∙ o)))
         go (inr (inl (o, p))) = inl p
         go (inr (inr (o, p))) = inr p

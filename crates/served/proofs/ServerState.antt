@@ -1,5 +1,5 @@
--- How an honest server stands after any calls: nothing is left due, what its flags say has gone out to all, and each sequence that it has passed was accepted, with
--- a ready and an ack. Assumes nothing.
+-- How an honest server stands after any calls: nothing is left due, what its flags say has gone out to all, and each sequence that it has passed was accepted,
+-- with a ready and an ack. Assumes nothing.
 use Prim.Native.Nat.{ℕ, suc, _+_, _≤_, _<_}
 use native.Mathlib.Omega.{arith}
 use native.Mathlib.Decide.{ℕ-discrete}
@@ -148,7 +148,11 @@ module _ (Z : Setup) (G : Assumed Z) where
               (subst (λ c. List·Memᴰ (sending (A.Client c) (message c (w .sequence) ack)) (effectOf Z G M C .sends)) ec (E .acked)));
           readied = ⊎-elim
               (λ h. all-later ks k j c (seq ks j c) ready (T .readied (ap (λ c. part ks j c .ready) (sym ec) ∙ h)))
-              (λ (y, f). (y, λ i is. sent-now _ _ (subst (λ c. List·Memᴰ (sending (A.Server i) (message c (seq ks j c) (blockIs ready y))) (effectOf Z G M C .sends)) ec (f i is))))
+              (λ (y, f). (
+                y,
+                λ i is. sent-now _ _
+                    (subst (λ c. List·Memᴰ (sending (A.Server i) (message c (seq ks j c) (blockIs ready y))) (effectOf Z G M C .sends)) ec (f i is)),
+              ))
               (E .ready-out);
         }
 
@@ -180,7 +184,8 @@ module _ (Z : Setup) (G : Assumed Z) where
             → ServerStands (k ∷ ks) j c
         risen (e, w, u, ec, eq) =
             let n : part (k ∷ ks) j c ≡ noPart = left-part c
-            ∙ D.risen-empty H g (G .bounded) j sv ar (initialOf Z j) (shape Z G M ks j) (C .from) (C .m) (C .took .client) (C .took .sized) (C .took .passes) c i (sym (left-seq c) ∙ e) in
+            ∙ D.risen-empty H g (G .bounded) j sv ar (initialOf Z j) (shape Z G M ks j) (C .from) (C .m) (C .took .client) (C .took .sized)
+            (C .took .passes) c i (sym (left-seq c) ∙ e) in
             record {
               still = still;
               begun = omega (arith, e);

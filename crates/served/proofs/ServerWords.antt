@@ -20,7 +20,8 @@ use Rattle.frame.specs.declared.Verdict.{Verdict}
 use Rattle.frame.specs.declared.Party.the-variants as A
 use Rattle.frame.specs.declared.Verdict.the-variants as J
 use Rattle.frame.specs.Chunks.{entryAt, presentAt}
-use Rattle.frame.specs.Messages.{Entry, entry, Offer, send, echo, ready, Body, getStamp, ack, askRead, readComplete, stampIs, blockIs, valueIs, Message, message, sending}
+use Rattle.frame.specs.Messages.{Entry, entry, Offer, send, echo, ready, Body}
+use Rattle.frame.specs.Messages.{getStamp, ack, askRead, readComplete, stampIs, blockIs, valueIs, Message, message, sending}
 use Rattle.frame.specs.Params.{width}
 use Rattle.frame.specs.Stamps.{zeroStamp}
 use Rattle.frame.proofs.Sizes.{Small}
@@ -109,7 +110,8 @@ module _ (Z : Setup) (G : Assumed Z) where
       let e = sym (SL.stamp-at Z G M [] j is) ∙ OL.fresh Z G M .initial-stamp j in
       let t : h .server .stamp .time ≡ 0 = ap (λ v. v .0 .time) e in
       let b : presentOf j h .block ≡ take (width g) (initialOf Z j) =
-      ap (λ y. y .block) (shown (h .server .stamp) (h .area) (initialOf Z j)) ∙ ap (λ T. pick (eqb T 0) (take (width g) (initialOf Z j)) (entryAt g (h .area) presentAt .block)) t in
+      ap (λ y. y .block) (shown (h .server .stamp) (h .area) (initialOf Z j))
+      ∙ ap (λ T. pick (eqb T 0) (take (width g) (initialOf Z j)) (entryAt g (h .area) presentAt .block)) t in
       (initialValue, λ i. entry (e i .1) ((b ∙ initial-block j is) i))
 
   pub present-coded : (ks : List Call) (j : ℕ) → Among (g .n) j → Encodes H g j (presentOf j (serverAt Z G M ks j))
@@ -127,7 +129,8 @@ module _ (Z : Setup) (G : Assumed Z) where
           (λ (s, q). subst (Encodes H g j) (sym (shown-same (h .server .stamp) (r .server .stamp) (h .area) (r .area) (initialOf Z j) s q)) E)
           (λ (w, u, s, q, o). subst (Encodes H g j) (sym (shown-written (r .server .stamp) (w .time) (r .area) (initialOf Z j) (ap (λ x. x .time) s) ∙ q))
           (accepts-coded Z G ks k j C w u))
-          (presents H g j (h .server) (C .from) (G .bounded) (h .area) (initialOf Z j) (shape Z G M ks j) (C .m) (C .took .client) (C .took .sized) (C .took .passes))
+          (presents H g j (h .server) (C .from) (G .bounded) (h .area) (initialOf Z j) (shape Z G M ks j) (C .m)
+          (C .took .client) (C .took .sized) (C .took .passes))
 
   -- ---- its words
 

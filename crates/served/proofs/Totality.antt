@@ -1,5 +1,5 @@
--- A finished run is one in which the broadcast has ended: what one honest server accepted every honest server accepted, and a write that an honest client has sent its
--- blocks of is accepted everywhere, or two different blocks with one digest are shown. Assumes nothing.
+-- A finished run is one in which the broadcast has ended: what one honest server accepted every honest server accepted, and a write of which an honest client
+-- has sent its blocks is accepted everywhere, or two different blocks with one digest are shown. Assumes nothing.
 use Prim.Native.Nat.{ℕ, suc, _+_, _-_, _≤_, _<_}
 use native.Mathlib.Omega.{arith}
 use mathlib.Core.Bool.{Bool, true, false, not, _&&_}
@@ -83,9 +83,16 @@ module _ (Z : Setup) (G : Assumed Z) where
 
   -- ---- the broadcast of writes
 
+  abbrev W : BL.Views Call Agreed
+  W = views Z G M (formed Z G M)
+
+  -- server i said z of x for client c's write s
+  abbrev Said : Stage → List Call → ℕ → ℕ → ℕ → Agreed → Type 0
+  Said = SaidBy Z G M (formed Z G M)
+
   abbrev pub protocol : SF.Protocol Call Agreed
   protocol = record {
-    views = views Z G M (formed Z G M);
+    views = W;
     n = g .n;
     t = g .t;
     few = R .few;
@@ -103,14 +110,14 @@ module _ (Z : Setup) (G : Assumed Z) where
   }
 
   module _ (ks : List Call) (adm : Admissible Z ks) where
-    pub invariant : BA.Invariant (views Z G M (formed Z G M)) (g .n) (g .t) (R .few) (R .all) faultyServer faultyClient ks
-    invariant = BA.invariant (views Z G M (formed Z G M)) (g .n) (g .t) (R .few) (R .all) faultyServer faultyClient (G .faults)
+    pub invariant : BA.Invariant W (g .n) (g .t) (R .few) (R .all) faultyServer faultyClient ks
+    invariant = BA.invariant W (g .n) (g .t) (R .few) (R .all) faultyServer faultyClient (G .faults)
         (blocks-sane H g .few-many) (blocks-sane H g .all-many) (empty Z G (formed Z G M)) (lawful-run Z G M (formed Z G M) ks adm)
 
     -- ---- values of the run
 
     -- an honest server's ready is of one
-    ready-backed : (i c s : ℕ) (x : Agreed) → SaidBy Z G M (formed Z G M) ready ks i c s x → Backed Z G ks x
+    ready-backed : (i c s : ℕ) (x : Agreed) → Said ready ks i c s x → Backed Z G ks x
     ready-backed i c s x (b, o, e, u) =
         let (v, p, d, q, l, y) = ready-from Z G ks i b c s o u in
         (v, record { size = l; bytes = y; from = λ j is. of-decoded p j v d is refl }, q ∙ ap (λ x. x .1) e)
@@ -118,19 +125,22 @@ module _ (Z : Setup) (G : Assumed Z) where
     -- ---- nothing is left due
 
     -- so many frames of offers alike o
-    votes-of : (f : ℕ → Option Offer) (o : Offer) {m : ℕ} → AtLeast (g .n) m (λ i. (p : Offer) × (agreed p ≡ agreed o) × (f i ≡ some p)) → m ≤ votes R (g .n) (g .t) f o
+    votes-of : (f : ℕ → Option Offer) (o : Offer) {m : ℕ} → AtLeast (g .n) m (λ i. (p : Offer) × (agreed p ≡ agreed o) × (f i ≡ some p))
+        → m ≤ votes R (g .n) (g .t) f o
     unfolding votes
     votes-of f o s = at-least-count (λ i. isLike R (g .n) (g .t) (f i) o)
         (at-least-map (λ i is (p, e, u). ap (λ y. isLike R (g .n) (g .t) y o) u ∙ alike-of H g p o e) s)
 
-    to-all : (j c s : ℕ) (z : Stage) → ToAllSent Z G ks j c s z → (y : Agreed) × SaidBy Z G M (formed Z G M) z ks j c s y
+    to-all : (j c s : ℕ) (z : Stage) → ToAllSent Z G ks j c s z → (y : Agreed) × Said z ks j c s y
     to-all j c s z (o, f) = (agreed o, (A.Server 1, o, refl, f 1 (omega arith, omega (arith, G .bounded .servers-low))))
 
     ready-out : (j c : ℕ) → Among 8 c → (o : Offer) → Backed Z G ks (agreed o) → enough R (g .n) (g .t) (part Z G ks j c) o ≡ true
-        → ((y : Agreed) × SaidBy Z G M (formed Z G M) ready ks j c (seq Z G ks j c) y) ⊎ Collision Z ks
+        → ((y : Agreed) × Said ready ks j c (seq Z G ks j c) y) ⊎ Collision Z ks
     unfolding due
     ready-out j c is o b e = ⊎-elim
-        (λ s. inl (to-all j c (seq Z G ks j c) ready (server-stands Z G ks j c is .readied (go (part Z G ks j c .ready) s (server-stands Z G ks j c is .still .0 .nothing-due o)))))
+        (λ s.
+        let T = server-stands Z G ks j c is in
+        inl (to-all j c (seq Z G ks j c) ready (T .readied (go (part Z G ks j c .ready) s (T .still .0 .nothing-due o)))))
         (λ z. inr z)
         (true-group Z G ks j c is o b e)
       where
@@ -140,7 +150,8 @@ module _ (Z : Setup) (G : Assumed Z) where
         go false s d = impossible (cc (d, and-true _ _ e s))
 
     -- kept frames of one payload, as frames alike one of them
-    alike : (f : ℕ → Option Offer) (c m : ℕ) (x : Agreed) (o : Offer) → agreed o ≡ x → AtLeast (g .n) m (λ i. Among 8 c × (p : Offer) × (agreed p ≡ x) × (f i ≡ some p))
+    alike : (f : ℕ → Option Offer) (c m : ℕ) (x : Agreed) (o : Offer) → agreed o ≡ x
+        → AtLeast (g .n) m (λ i. Among 8 c × (p : Offer) × (agreed p ≡ x) × (f i ≡ some p))
         → m ≤ votes R (g .n) (g .t) f o
     alike f c m x o e s = votes-of f o (at-least-map (λ i is (ic, p, q, u). (p, q ∙ sym e, u)) s)
 
@@ -154,7 +165,7 @@ module _ (Z : Setup) (G : Assumed Z) where
 
     ready-of-echoes : (j c : ℕ) (x : Agreed) → SF.Correct protocol j → Backed Z G ks x
         → AtLeast (g .n) (g .n - g .t) (λ i. Among 8 c × (o : Offer) × (agreed o ≡ x) × (part Z G ks j c .echoes i ≡ some o))
-        → ((y : Agreed) × SaidBy Z G M (formed Z G M) ready ks j c (seq Z G ks j c) y) ⊎ Collision Z ks
+        → ((y : Agreed) × Said ready ks j c (seq Z G ks j c) y) ⊎ Collision Z ks
     ready-of-echoes j c x h b s =
         let (i, is, f, (ic, o, e, u)) = quorum-member (G .faults) s in
         let l = alike (part Z G ks j c .echoes) c (g .n - g .t) x o e s in
@@ -162,7 +173,7 @@ module _ (Z : Setup) (G : Assumed Z) where
 
     ready-of-readies : (j c : ℕ) (x : Agreed) → SF.Correct protocol j → Backed Z G ks x
         → AtLeast (g .n) (R .few) (λ i. Among 8 c × (o : Offer) × (agreed o ≡ x) × (part Z G ks j c .readies i ≡ some o))
-        → ((y : Agreed) × SaidBy Z G M (formed Z G M) ready ks j c (seq Z G ks j c) y) ⊎ Collision Z ks
+        → ((y : Agreed) × Said ready ks j c (seq Z G ks j c) y) ⊎ Collision Z ks
     ready-of-readies j c x h b s =
         let (i, is, f, (ic, o, e, u)) = honest-member (G .faults) (at-least-fewer (blocks-sane H g .few-many) s) in
         ready-out j c ic o (subst (Backed Z G ks) (sym e) b) (enough-readies j c o (alike (part Z G ks j c .readies) c (R .few) x o e s))
@@ -194,17 +205,17 @@ module _ (Z : Setup) (G : Assumed Z) where
         still : Still Z G (part Z G ks j c)
         still = server-stands Z G ks j c ic .still
 
-        readies : BA.Readies (views Z G M (formed Z G M)) (g .n) (g .t) (R .few) (R .all) faultyServer faultyClient ks c (seq Z G ks j c) x
-        readies = at-least-map (λ i is k f. invariant .ready-heard j c i x is f k) s
+        -- all readies of it make y supported
+        supported : (y : Agreed) → BA.Readies W (g .n) (g .t) (R .few) (R .all) faultyServer faultyClient ks c (seq Z G ks j c) y
+            → BA.Support W (g .n) (g .t) (R .few) (R .all) faultyServer faultyClient ks c (seq Z G ks j c) y
+        supported = BA.readies-supported W (g .n) (g .t) (R .few) (R .all) faultyServer faultyClient (G .faults) invariant (blocks-sane H g .all-many)
+            c (seq Z G ks j c)
 
         -- what is complete there is x
         same : (y : Offer) → part Z G ks j c .done ≡ some y → agreed y ≡ x
-        same y d = BA.supports-agree (views Z G M (formed Z G M)) (g .n) (g .t) (R .few) (R .all) faultyServer faultyClient (G .faults) invariant
-            c (seq Z G ks j c) (agreed y) x
-            (BA.readies-supported (views Z G M (formed Z G M)) (g .n) (g .t) (R .few) (R .all) faultyServer faultyClient (G .faults) invariant (blocks-sane H g .all-many)
-            c (seq Z G ks j c) (agreed y) (invariant .delivered-readies j c (agreed y) (ic, y, refl, d)))
-            (BA.readies-supported (views Z G M (formed Z G M)) (g .n) (g .t) (R .few) (R .all) faultyServer faultyClient (G .faults) invariant (blocks-sane H g .all-many)
-            c (seq Z G ks j c) x readies)
+        same y d = BA.supports-agree W (g .n) (g .t) (R .few) (R .all) faultyServer faultyClient (G .faults) invariant c (seq Z G ks j c) (agreed y) x
+            (supported (agreed y) (invariant .delivered-readies j c (agreed y) (ic, y, refl, d)))
+            (supported x (at-least-map (λ i is k f. invariant .ready-heard j c i x is f k) s))
 
         go : (d : Option Offer) → part Z G ks j c .done ≡ d → undone d ≡ false → ⊥
         go none d u = impossible (cc u)
@@ -213,7 +224,7 @@ module _ (Z : Setup) (G : Assumed Z) where
     -- ---- acceptances
 
     abbrev Acc : ℕ → ℕ → ℕ → Agreed → Type 0
-    Acc = views Z G M (formed Z G M) .Accepted ks
+    Acc = W .Accepted ks
 
     of-passed : (j c s : ℕ) → Passed Z G ks j c s → (x : Agreed) × Acc j c s x
     of-passed j c s P = (agreed (offerOf (P .x)), (P .x, P .p, P .accepted, P .client, P .sequence, refl))
@@ -239,8 +250,8 @@ module _ (Z : Setup) (G : Assumed Z) where
 
     module _ (fin : Finished Z ks) where
       -- of the open sequence, what was sent is counted
-      arrived : (a : Party) (j c s : ℕ) (z : Stage) (o : Offer) → SF.Correct protocol j → SentBy Z G ks a (A.Server j) (message c s (blockIs z o)) → s ≡ seq Z G ks j c
-          → Among 8 c × Got z (part Z G ks j c) (numberIn a)
+      arrived : (a : Party) (j c s : ℕ) (z : Stage) (o : Offer) → SF.Correct protocol j → SentBy Z G ks a (A.Server j) (message c s (blockIs z o))
+          → s ≡ seq Z G ks j c → Among 8 c × Got z (part Z G ks j c) (numberIn a)
       arrived a j c s z o h u e =
           let ha = sender-honest ks adm a (A.Server j) _ u in
           let f = formed Z G M ks adm a (A.Server j) _ ha u in (
@@ -251,23 +262,20 @@ module _ (Z : Setup) (G : Assumed Z) where
                 (reached Z G ks adm fin a j (message c s (blockIs z o)) ha h u),
           )
 
-      abbrev W : BL.Views Call Agreed
-      W = views Z G M (formed Z G M)
-
       send-in : (c j s : ℕ) (x : Agreed) → faultyClient c ≡ false → SF.Correct protocol j → W .ClientSent ks c s x → s ≡ seq Z G ks j c
-          → (y : Agreed) × SaidBy Z G M (formed Z G M) echo ks j c s y
+          → (y : Agreed) × Said echo ks j c s y
       send-in c j s x hc h (b, o, e, u) n =
           let (p, q, v) = client-each Z G ks c b c s o u j (h .0) in
           let (ic, k) = arrived (A.Client c) j c s send p h v n in
-          subst (λ s. (y : Agreed) × SaidBy Z G M (formed Z G M) echo ks j c s y) (sym n) (to-all j c (seq Z G ks j c) echo (server-stands Z G ks j c ic .echoed k))
+          subst (λ s. (y : Agreed) × Said echo ks j c s y) (sym n) (to-all j c (seq Z G ks j c) echo (server-stands Z G ks j c ic .echoed k))
 
-      echo-in : (i j c s : ℕ) (x : Agreed) → SF.Correct protocol i → SF.Correct protocol j → SaidBy Z G M (formed Z G M) echo ks i c s x → s ≡ seq Z G ks j c
+      echo-in : (i j c s : ℕ) (x : Agreed) → SF.Correct protocol i → SF.Correct protocol j → Said echo ks i c s x → s ≡ seq Z G ks j c
           → (y : Agreed) × W .KeptEcho ks j c i y
       echo-in i j c s x hi h (b, o, e, u) n =
           let (ic, (p, k)) = arrived (A.Server i) j c s echo o h (server-each Z G ks i b _ tt u j (h .0)) n in
           (agreed p, (ic, p, refl, k))
 
-      ready-in : (i j c s : ℕ) (x : Agreed) → SF.Correct protocol i → SF.Correct protocol j → SaidBy Z G M (formed Z G M) ready ks i c s x → s ≡ seq Z G ks j c
+      ready-in : (i j c s : ℕ) (x : Agreed) → SF.Correct protocol i → SF.Correct protocol j → Said ready ks i c s x → s ≡ seq Z G ks j c
           → (y : Agreed) × W .KeptReady ks j c i y
       ready-in i j c s x hi h (b, o, e, u) n =
           let (ic, (p, k)) = arrived (A.Server i) j c s ready o h (server-each Z G ks i b _ tt u j (h .0)) n in
@@ -305,7 +313,8 @@ module _ (Z : Setup) (G : Assumed Z) where
 
       -- a write that one honest server accepted, every honest server accepted
       pub total : (i j p : ℕ) (x : S.Write) → Honest Z (A.Server j) → At (Accepts Z i x) ks p → (x .sequence < seq Z G ks j (x .client)) ⊎ Collision Z ks
-      total i j p x h u = ST.total protocol ended i (x .client) (x .sequence) (agreed (offerOf x)) (accepts-honest ks adm i p x u) (x, p, u, refl, refl, refl) j h
+      total i j p x h u = ST.total protocol ended i (x .client) (x .sequence) (agreed (offerOf x)) (accepts-honest ks adm i p x u)
+          (x, p, u, refl, refl, refl) j h
 
       -- ---- an honest client's write
 

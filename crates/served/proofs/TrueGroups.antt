@@ -1,5 +1,5 @@
--- A true group is seen as such: where an honest server keeps enough echoes or readies of an offer whose digest list is that of a value of the run, they support it, or
--- two different blocks with one digest are shown. Assumes nothing.
+-- A true group is seen as such: where an honest server keeps enough echoes or readies of an offer whose digest list is that of a value of the run, they support
+-- it, or two different blocks with one digest are shown. Assumes nothing.
 use Prim.Native.Nat.{ℕ, _+_, _≤_}
 use native.Mathlib.Omega.{arith}
 use mathlib.Core.Bool.{Bool, true, false}

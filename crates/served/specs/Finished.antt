@@ -1,6 +1,6 @@
--- Request F-6, "Everybody is served in the end": "when every frame between honest parties has been delivered, and none answered only 10 or 13 would give a step if
--- offered again with room, no operation begun by an honest client is still open." Nothing is said about time: a run that goes on is not finished, and nothing
--- promises that one ever is. These are definitions.
+-- Request F-6, "Everybody is served in the end": "when every frame between honest parties has been delivered, and none answered only 10 or 13 would give a step
+-- if offered again with room, no operation begun by an honest client is still open." Nothing is said about time: a run that goes on is not finished, and
+-- nothing promises that one ever is. These are definitions.
 use Prim.Native.Nat.{ℕ, _≤_}
 use mathlib.Core.Path.{_≡_}
 use mathlib.Core.Logic.{_⊎_}
@@ -72,8 +72,8 @@ module _ (Z : Setup) where
   Answered a b f ks (beginRead c out to) = ⊥
   Answered a b f ks (beginWrite c v out to) = ⊥
 
-  -- It "would give" no "step if offered again with room": whatever is lent, if it is large enough. A client's rows area is one of the lent areas, so where it is
-  -- too short the frame is offered with another one; which does not matter, since the tests ask of it only its length.
+  -- It "would give" no "step if offered again with room": whatever is lent, if it is large enough. A client's rows area is one of the lent areas, so where it
+  -- is too short the frame is offered with another one; which does not matter, since the tests ask of it only its length.
   abbrev pub NoStep : World → Party → Party → List ℕ → Type 0
   NoStep w a (P.Server i) f = (out to : List ℕ) → outRoom g (serverFrames g) ≤ length out → toRoom (serverFrames g) ≤ length to
       → (r : Refusal) × (serverAnswer w i a f out to ≡ some r)
@@ -81,8 +81,8 @@ module _ (Z : Setup) where
       → outRoom g (clientFrames g) ≤ length out → toRoom (clientFrames g) ≤ length to
       → (r : Refusal) × (clientAnswer w c rows a f lent result out to ≡ some r)
 
-  -- Each frame that an honest party sent to an honest one was answered with something other than 10 and 13, or would give no step. Frames that a server sends to
-  -- itself are among them: "To all" names it, too.
+  -- Each frame that an honest party sent to an honest one was answered with something other than 10 and 13, or would give no step. Frames that a server sends
+  -- to itself are among them: "To all" names it, too.
   abbrev pub Finished : List Call → Type 0
   Finished ks = (a b : Party) (f : List ℕ) → Honest Z a → Honest Z b → Sent Z ks a b f → ((p : ℕ) × At (Answered a b f) ks p) ⊎ NoStep (run Z ks) a b f
 
@@ -95,8 +95,8 @@ module _ (Z : Setup) where
 
   -- ---- everybody is served
 
-  -- "no operation begun by an honest client is still open": one is open exactly where the phase is not idle (15). "A write closed as out of stamps counts here as
-  -- ended".
+  -- "no operation begun by an honest client is still open": one is open exactly where the phase is not idle (15). "A write closed as out of stamps counts here
+  -- as ended".
   abbrev pub Served : List Call → Type 0
   Served ks = (c : ℕ) → Honest Z (P.Client c) → run Z ks .clients c .client .phase ≡ F.Idle
 

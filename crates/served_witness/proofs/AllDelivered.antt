@@ -3,7 +3,7 @@
 use Prim.Native.Nat.{ℕ, _+_, _≤_}
 use mathlib.Core.Bool.{true, false, _&&_}
 use mathlib.Core.Path.{_≡_, refl, ap, sym, _∙_}
-use mathlib.Core.Logic.{inl}
+use mathlib.Core.Logic.{_⊎_, inl}
 use mathlib.Core.List.{[], _∷_}
 use mathlib.Core.Option.{none, some}
 use lib.ListN.{length, length-replicate}
@@ -13,7 +13,6 @@ use Rattle.frame.specs.declared.Party.the-variants as P
 use Rattle.frame.specs.declared.Refusal.the-variants as R
 use Rattle.frame.specs.declared.Verdict.the-variants as J
 use Rattle.frame.specs.Params.{serverFrames, clientFrames, outRoom, toRoom, Bounded}
-use Rattle.frame.specs.Refusals as FrRefusals
 use Rattle.frame.specs.Messages.{echo, ready}
 use Rattle.frame.specs.Frames.{build}
 use Rattle.client_rules.specs.declared.Phase.the-variants as F
@@ -21,7 +20,9 @@ use Rattle.client_rules.specs.Steps.{written, stopped}
 use Rattle.runs.specs.World.{Sound}
 use Rattle.runs.specs.Admissible.{Sent, Admissible}
 use Rattle.runs.specs.Events.{At, CompletesRead, EndsWrite, OpensRead, OpensWrite}
-use Rattle.served.specs.Finished.{Finished}
+use Rattle.runs.specs.Blocks.{Collision}
+use Rattle.served.specs.Finished.{Finished, Served, EverybodyServed}
+use Rattle.served.proofs.Theorem.{everybody-served}
 use Rattle.quorum.specs.Quorum as QuQuorum
 use Rattle.area.specs.Area as ArArea
 use Rattle.area.specs.Numbers as ArNumbers
@@ -52,12 +53,18 @@ use Rattle.client_rules.specs.Tests as ClTests
 use Rattle.witness.specs.Toy as Toy
 use Rattle.witness.specs.Refusals.{Refuses}
 use Rattle.witness.proofs.Setups as Setups
-use Rattle.witness.proofs.Served as Served
+use Rattle.witness.proofs.Served as Deliveries
 use Rattle.witness.proofs.Asked as Asked
-use Rattle.witness.proofs.Images.{sameParty, amongSends, wasSent, allBytes, judgedBad, verdictBad, isFrame, honest, properFrame, properCall, advance, image, refusedIn, endIn}
-use Rattle.witness.proofs.Depicted.{Exact, admissible-by, depicts, logged, sent-by, honest-is, stops-by, ends-by, opens-read-by, opens-write-by, refuses-by, at-drop}
-use Rattle.served_witness.specs.AllDelivered.{g, initial, value, Z, stamp, entryFor, stampAsked, stampFrom, blockTo, saying, block, noRoom, ackFrom, readAsked, initialFrom, valueFrom, readEnded, asking, opening, echoing, waiting, accepted, told, calls, found, Shown}
-use Rattle.served_witness.proofs.Traces.{isHand, amongHands, handOf, isOne, handedIn, isFrom, speaks, isFinal, idle, withHand, follow, trace, allOf, allAnswered, allIdle, trace-seen, finished-by, delivered-by, served-by, never-handed, never-speaks, unfinished-by}
+use Rattle.witness.proofs.Images.{sameParty, amongSends, wasSent, allBytes, judgedBad, verdictBad, isFrame}
+use Rattle.witness.proofs.Images.{honest, properFrame, properCall, advance, image, refusedIn, endIn}
+use Rattle.witness.proofs.Depicted.{Exact, admissible-by, depicts, logged, sent-by, honest-is, stops-by}
+use Rattle.witness.proofs.Depicted.{ends-by, opens-read-by, opens-write-by, refuses-by, at-drop}
+use Rattle.served_witness.specs.AllDelivered.{g, initial, value, Z, stamp, entryFor, stampAsked, stampFrom, blockTo, saying}
+use Rattle.served_witness.specs.AllDelivered.{block, noRoom, ackFrom, readAsked, initialFrom, valueFrom, readEnded}
+use Rattle.served_witness.specs.AllDelivered.{asking, opening, echoing, waiting, accepted, told, calls, found, Shown}
+use Rattle.served_witness.proofs.Traces.{isHand, amongHands, handOf, isOne, handedIn, isFrom, speaks, isFinal, idle}
+use Rattle.served_witness.proofs.Traces.{withHand, follow, trace, allOf, allAnswered, allIdle, trace-seen, finished-by}
+use Rattle.served_witness.proofs.Traces.{delivered-by, served-by, never-handed, never-speaks, unfinished-by}
 
 -- ---- the setup
 
@@ -101,7 +108,33 @@ record Computed : Type 0 where
   pub completed-is : (image Z told .clients 2 .client .reads ≡ 1) × (endIn Z (image Z told) (valueFrom 3) ≡ stopped found)
 
 delivering : Delivering
-unfolding FrChunks.entryAt RuWorld.start SeDelivery.constructBy SeDelivery.constructTest SeDelivery.construction Toy.toy Toy.zeros Toy.four Toy.setup Toy.handServer Toy.handClient Toy.startRead Toy.startWrite g initial value Z entryFor stamp stampAsked stampFrom blockTo saying block noRoom ackFrom readAsked initialFrom valueFrom readEnded asking opening echoing waiting accepted told calls found Served.freeBy Served.freedBy Served.settledBy Served.votedBy Served.blockBy Served.bodyBy Served.servedBy Served.judgeBy Served.served Asked.searchedBy Asked.keptBy Asked.bodyBy Asked.heardBy Asked.judgeBy Asked.asked sameParty amongSends wasSent allBytes judgedBad verdictBad isFrame honest properFrame properCall advance image refusedIn endIn isHand amongHands handOf isOne handedIn isFrom speaks isFinal idle withHand follow trace allOf allAnswered allIdle FrRefusals.numberOf QuQuorum.count ArArea.pick ArArea.same ArArea.compared ArArea.tableFrom ArArea.table ArArea.joined ArNumbers.be2 ArNumbers.be4 ArNumbers.be8 ArNumbers.bytes2 ArNumbers.bytes4 ArNumbers.bytes8 _⊕_ FiField.reduction FiField.xtime FiField.shiftAdd _⊗_ FiField.powerOf FiField.Powers FiField.Logs BlCode.blockLength BlCode.padded BlCode.stripe BlCode.blockByte BlCode.blockOf BlCode.encoded BlCode.row BlCode.valueOf BlCode.blocksOf BlCode.candidate BlCode.agree BlCode.decodedAll BlParams.partiesFit BlParams.thresholdFits BlParams.lengthFits BlPoly.eval BlPoly.plus BlPoly.scale BlPoly.withRoot BlPoly.vanishing BlPoly.newtonStep BlPoly.through FrCoded.pieces FrCoded.lowestValue FrCoded.agreeing FrCoded.decoded FrCoded.digestsOf FrCoded.entryOf FrCoded.fits FrFrames.kindOf FrFrames.retired FrFrames.lengthOf FrFrames.bodyLength FrFrames.entryBytes FrFrames.offerBytes FrFrames.stampBytes FrFrames.bodyBytes FrFrames.headerBytes FrFrames.frameOf FrFrames.build FrFrames.framingTest FrFrames.headerIn FrFrames.headerTest FrFrames.bodyTest FrFrames.stampIn FrFrames.stampTest FrFrames.contentTest FrFrames.frameTest FrFrames.opened FrFrames.openedUnder FrFrames.bodyIn FrFrames.messageIn FrMessages.toFrom FrMessages.toAll FrParams.width FrParams.quota FrParams.largestFrame FrParams.outRoom FrParams.toRoom FrParams.ownTest FrParams.codeTest FrParams.boundsTest FrParams.paramsTest FrStamps.older FrStamps.sameStamp FrStamps.zeroStamp FrStamps.partsAgree SeBroadcast.votes SeBroadcast.enough SeBroadcast.due SeBroadcast.full SeBroadcast.matters SeRules.atTime SeRules.chosen SeRules.regained SeRules.unanimous SeState.freshBlocks SeState.freshSlot SeState.freshReader SeState.freshServer SeState.blockView SeState.presentBlock SeState.presentEntry SeSteps.votedBlock SeSteps.onBlock SeSteps.tellFrom SeSteps.accept SeSteps.ripeBy SeSteps.ripe SeSteps.freeBy SeSteps.free SeSteps.freed SeSteps.settle SeSteps.onRead SeSteps.onReadComplete SeSteps.onBody SeSteps.effect SeTests.roomTest SeTests.senderRight SeTests.counted SeTests.openTest SeTests.readTest SeTests.doneTest SeTests.fitTest SeTests.orderTest SeTests.messageTest SeTests.judgeOpened SeTests.judge CB.idleTest CB.closedTest CB.lengthTest CB.readTest CB.writeTest CB.openRead CB.openWrite CB.beginBy CB.readBegun CB.writeBegun CB.beginAnswer CB.begunOf CB.readBeginning CB.writeBeginning ClRows.placesFrom ClRows.rowView ClRows.hasStamp ClRows.smallest ClRows.placeFor ClRows.atStamp ClRows.rowsFrom ClRows.agreed ClRows.firstBy ClRows.firstAgreed ClRows.foundOf ClRows.foundBy ClRows.search ClState.freshRow ClState.freshClient ClState.largest ClSteps.quorate ClSteps.sendBelow ClSteps.gatherBy ClSteps.onStamp ClSteps.endBy ClSteps.onAck ClSteps.completeBy ClSteps.settle ClSteps.keepBy ClSteps.onValue ClSteps.onBody ClSteps.effect ClTests.sendRoom ClTests.roomTest ClTests.valueTest ClTests.answers ClTests.awaited ClTests.fitTest ClTests.orderTest ClTests.messageTest ClTests.judgeOpened ClTests.judge
+unfolding FrChunks.entryAt RuWorld.start SeDelivery.constructBy SeDelivery.constructTest SeDelivery.construction Toy.toy Toy.zeros Toy.four Toy.setup
+    Toy.handServer Toy.handClient Toy.startRead Toy.startWrite g initial value Z entryFor stamp stampAsked stampFrom blockTo saying block noRoom ackFrom
+    readAsked initialFrom valueFrom readEnded asking opening echoing waiting accepted told calls found Deliveries.freeBy Deliveries.freedBy Deliveries.settledBy
+    Deliveries.votedBy Deliveries.blockBy Deliveries.bodyBy Deliveries.servedBy Deliveries.judgeBy Deliveries.served Asked.searchedBy Asked.keptBy
+    Asked.bodyBy Asked.heardBy
+    Asked.judgeBy Asked.asked sameParty amongSends wasSent allBytes judgedBad verdictBad isFrame honest properFrame properCall advance image refusedIn endIn
+    isHand amongHands handOf isOne handedIn isFrom speaks isFinal idle withHand follow trace allOf allAnswered allIdle QuQuorum.count
+    ArArea.pick ArArea.same ArArea.tableFrom ArArea.table ArArea.joined ArNumbers.be2 ArNumbers.be4 ArNumbers.be8 ArNumbers.bytes2
+    ArNumbers.bytes4 ArNumbers.bytes8 _⊕_ FiField.reduction FiField.xtime FiField.shiftAdd _⊗_ FiField.powerOf FiField.Powers FiField.Logs BlCode.blockLength
+    BlCode.padded BlCode.stripe BlCode.blockByte BlCode.blockOf BlCode.encoded BlCode.row BlCode.valueOf BlCode.blocksOf BlCode.candidate BlCode.agree
+    BlCode.decodedAll BlParams.partiesFit BlParams.thresholdFits BlParams.lengthFits BlPoly.eval BlPoly.plus BlPoly.scale BlPoly.withRoot BlPoly.vanishing
+    BlPoly.newtonStep BlPoly.through FrCoded.pieces FrCoded.lowestValue FrCoded.agreeing FrCoded.decoded FrCoded.digestsOf FrCoded.entryOf FrCoded.fits
+    FrFrames.kindOf FrFrames.retired FrFrames.lengthOf FrFrames.bodyLength FrFrames.entryBytes FrFrames.offerBytes FrFrames.stampBytes FrFrames.bodyBytes
+    FrFrames.headerBytes FrFrames.frameOf FrFrames.build FrFrames.framingTest FrFrames.headerIn FrFrames.headerTest FrFrames.bodyTest FrFrames.stampIn
+    FrFrames.stampTest FrFrames.contentTest FrFrames.frameTest FrFrames.opened FrFrames.openedUnder FrFrames.bodyIn FrFrames.messageIn FrMessages.toFrom
+    FrMessages.toAll FrParams.width FrParams.quota FrParams.largestFrame FrParams.outRoom FrParams.toRoom FrParams.ownTest FrParams.codeTest FrParams.boundsTest
+    FrParams.paramsTest FrStamps.older FrStamps.sameStamp FrStamps.zeroStamp FrStamps.partsAgree SeBroadcast.votes SeBroadcast.enough SeBroadcast.due
+    SeBroadcast.full SeBroadcast.matters SeRules.atTime SeRules.chosen SeRules.regained SeRules.unanimous SeState.freshBlocks SeState.freshSlot
+    SeState.freshReader SeState.freshServer SeState.blockView SeState.presentBlock SeState.presentEntry SeSteps.votedBlock SeSteps.onBlock SeSteps.tellFrom
+    SeSteps.accept SeSteps.ripeBy SeSteps.ripe SeSteps.freeBy SeSteps.free SeSteps.freed SeSteps.settle SeSteps.onRead SeSteps.onReadComplete SeSteps.onBody
+    SeSteps.effect SeTests.roomTest SeTests.senderRight SeTests.counted SeTests.openTest SeTests.readTest SeTests.doneTest SeTests.fitTest SeTests.orderTest
+    SeTests.messageTest SeTests.judgeOpened SeTests.judge CB.idleTest CB.closedTest CB.lengthTest CB.readTest CB.writeTest CB.openRead CB.openWrite CB.beginBy
+    CB.readBegun CB.writeBegun CB.beginAnswer CB.begunOf CB.readBeginning CB.writeBeginning ClRows.placesFrom ClRows.rowView ClRows.hasStamp ClRows.smallest
+    ClRows.placeFor ClRows.atStamp ClRows.rowsFrom ClRows.agreed ClRows.firstBy ClRows.firstAgreed ClRows.foundOf ClRows.foundBy ClRows.search ClState.freshRow
+    ClState.freshClient ClState.largest ClSteps.quorate ClSteps.sendBelow ClSteps.gatherBy ClSteps.onStamp ClSteps.endBy ClSteps.onAck ClSteps.completeBy
+    ClSteps.settle ClSteps.keepBy ClSteps.onValue ClSteps.onBody ClSteps.effect ClTests.sendRoom ClTests.roomTest ClTests.valueTest ClTests.answers
+    ClTests.awaited ClTests.fitTest ClTests.orderTest ClTests.messageTest ClTests.judgeOpened ClTests.judge
 delivering = record {
   whole = refl;
   nothing-from = refl;
@@ -109,7 +142,33 @@ delivering = record {
 }
 
 computed : Computed
-unfolding FrChunks.entryAt RuWorld.start SeDelivery.constructBy SeDelivery.constructTest SeDelivery.construction Toy.toy Toy.zeros Toy.four Toy.setup Toy.handServer Toy.handClient Toy.startRead Toy.startWrite g initial value Z entryFor stamp stampAsked stampFrom blockTo saying block noRoom ackFrom readAsked initialFrom valueFrom readEnded asking opening echoing waiting accepted told calls found Served.freeBy Served.freedBy Served.settledBy Served.votedBy Served.blockBy Served.bodyBy Served.servedBy Served.judgeBy Served.served Asked.searchedBy Asked.keptBy Asked.bodyBy Asked.heardBy Asked.judgeBy Asked.asked sameParty amongSends wasSent allBytes judgedBad verdictBad isFrame honest properFrame properCall advance image refusedIn endIn isHand amongHands handOf isOne handedIn isFrom speaks isFinal idle withHand follow trace allOf allAnswered allIdle FrRefusals.numberOf QuQuorum.count ArArea.pick ArArea.same ArArea.compared ArArea.tableFrom ArArea.table ArArea.joined ArNumbers.be2 ArNumbers.be4 ArNumbers.be8 ArNumbers.bytes2 ArNumbers.bytes4 ArNumbers.bytes8 _⊕_ FiField.reduction FiField.xtime FiField.shiftAdd _⊗_ FiField.powerOf FiField.Powers FiField.Logs BlCode.blockLength BlCode.padded BlCode.stripe BlCode.blockByte BlCode.blockOf BlCode.encoded BlCode.row BlCode.valueOf BlCode.blocksOf BlCode.candidate BlCode.agree BlCode.decodedAll BlParams.partiesFit BlParams.thresholdFits BlParams.lengthFits BlPoly.eval BlPoly.plus BlPoly.scale BlPoly.withRoot BlPoly.vanishing BlPoly.newtonStep BlPoly.through FrCoded.pieces FrCoded.lowestValue FrCoded.agreeing FrCoded.decoded FrCoded.digestsOf FrCoded.entryOf FrCoded.fits FrFrames.kindOf FrFrames.retired FrFrames.lengthOf FrFrames.bodyLength FrFrames.entryBytes FrFrames.offerBytes FrFrames.stampBytes FrFrames.bodyBytes FrFrames.headerBytes FrFrames.frameOf FrFrames.build FrFrames.framingTest FrFrames.headerIn FrFrames.headerTest FrFrames.bodyTest FrFrames.stampIn FrFrames.stampTest FrFrames.contentTest FrFrames.frameTest FrFrames.opened FrFrames.openedUnder FrFrames.bodyIn FrFrames.messageIn FrMessages.toFrom FrMessages.toAll FrParams.width FrParams.quota FrParams.largestFrame FrParams.outRoom FrParams.toRoom FrParams.ownTest FrParams.codeTest FrParams.boundsTest FrParams.paramsTest FrStamps.older FrStamps.sameStamp FrStamps.zeroStamp FrStamps.partsAgree SeBroadcast.votes SeBroadcast.enough SeBroadcast.due SeBroadcast.full SeBroadcast.matters SeRules.atTime SeRules.chosen SeRules.regained SeRules.unanimous SeState.freshBlocks SeState.freshSlot SeState.freshReader SeState.freshServer SeState.blockView SeState.presentBlock SeState.presentEntry SeSteps.votedBlock SeSteps.onBlock SeSteps.tellFrom SeSteps.accept SeSteps.ripeBy SeSteps.ripe SeSteps.freeBy SeSteps.free SeSteps.freed SeSteps.settle SeSteps.onRead SeSteps.onReadComplete SeSteps.onBody SeSteps.effect SeTests.roomTest SeTests.senderRight SeTests.counted SeTests.openTest SeTests.readTest SeTests.doneTest SeTests.fitTest SeTests.orderTest SeTests.messageTest SeTests.judgeOpened SeTests.judge CB.idleTest CB.closedTest CB.lengthTest CB.readTest CB.writeTest CB.openRead CB.openWrite CB.beginBy CB.readBegun CB.writeBegun CB.beginAnswer CB.begunOf CB.readBeginning CB.writeBeginning ClRows.placesFrom ClRows.rowView ClRows.hasStamp ClRows.smallest ClRows.placeFor ClRows.atStamp ClRows.rowsFrom ClRows.agreed ClRows.firstBy ClRows.firstAgreed ClRows.foundOf ClRows.foundBy ClRows.search ClState.freshRow ClState.freshClient ClState.largest ClSteps.quorate ClSteps.sendBelow ClSteps.gatherBy ClSteps.onStamp ClSteps.endBy ClSteps.onAck ClSteps.completeBy ClSteps.settle ClSteps.keepBy ClSteps.onValue ClSteps.onBody ClSteps.effect ClTests.sendRoom ClTests.roomTest ClTests.valueTest ClTests.answers ClTests.awaited ClTests.fitTest ClTests.orderTest ClTests.messageTest ClTests.judgeOpened ClTests.judge
+unfolding FrChunks.entryAt RuWorld.start SeDelivery.constructBy SeDelivery.constructTest SeDelivery.construction Toy.toy Toy.zeros Toy.four Toy.setup
+    Toy.handServer Toy.handClient Toy.startRead Toy.startWrite g initial value Z entryFor stamp stampAsked stampFrom blockTo saying block noRoom ackFrom
+    readAsked initialFrom valueFrom readEnded asking opening echoing waiting accepted told calls found Deliveries.freeBy Deliveries.freedBy Deliveries.settledBy
+    Deliveries.votedBy Deliveries.blockBy Deliveries.bodyBy Deliveries.servedBy Deliveries.judgeBy Deliveries.served Asked.searchedBy Asked.keptBy
+    Asked.bodyBy Asked.heardBy
+    Asked.judgeBy Asked.asked sameParty amongSends wasSent allBytes judgedBad verdictBad isFrame honest properFrame properCall advance image refusedIn endIn
+    isHand amongHands handOf isOne handedIn isFrom speaks isFinal idle withHand follow trace allOf allAnswered allIdle QuQuorum.count
+    ArArea.pick ArArea.same ArArea.tableFrom ArArea.table ArArea.joined ArNumbers.be2 ArNumbers.be4 ArNumbers.be8 ArNumbers.bytes2
+    ArNumbers.bytes4 ArNumbers.bytes8 _⊕_ FiField.reduction FiField.xtime FiField.shiftAdd _⊗_ FiField.powerOf FiField.Powers FiField.Logs BlCode.blockLength
+    BlCode.padded BlCode.stripe BlCode.blockByte BlCode.blockOf BlCode.encoded BlCode.row BlCode.valueOf BlCode.blocksOf BlCode.candidate BlCode.agree
+    BlCode.decodedAll BlParams.partiesFit BlParams.thresholdFits BlParams.lengthFits BlPoly.eval BlPoly.plus BlPoly.scale BlPoly.withRoot BlPoly.vanishing
+    BlPoly.newtonStep BlPoly.through FrCoded.pieces FrCoded.lowestValue FrCoded.agreeing FrCoded.decoded FrCoded.digestsOf FrCoded.entryOf FrCoded.fits
+    FrFrames.kindOf FrFrames.retired FrFrames.lengthOf FrFrames.bodyLength FrFrames.entryBytes FrFrames.offerBytes FrFrames.stampBytes FrFrames.bodyBytes
+    FrFrames.headerBytes FrFrames.frameOf FrFrames.build FrFrames.framingTest FrFrames.headerIn FrFrames.headerTest FrFrames.bodyTest FrFrames.stampIn
+    FrFrames.stampTest FrFrames.contentTest FrFrames.frameTest FrFrames.opened FrFrames.openedUnder FrFrames.bodyIn FrFrames.messageIn FrMessages.toFrom
+    FrMessages.toAll FrParams.width FrParams.quota FrParams.largestFrame FrParams.outRoom FrParams.toRoom FrParams.ownTest FrParams.codeTest FrParams.boundsTest
+    FrParams.paramsTest FrStamps.older FrStamps.sameStamp FrStamps.zeroStamp FrStamps.partsAgree SeBroadcast.votes SeBroadcast.enough SeBroadcast.due
+    SeBroadcast.full SeBroadcast.matters SeRules.atTime SeRules.chosen SeRules.regained SeRules.unanimous SeState.freshBlocks SeState.freshSlot
+    SeState.freshReader SeState.freshServer SeState.blockView SeState.presentBlock SeState.presentEntry SeSteps.votedBlock SeSteps.onBlock SeSteps.tellFrom
+    SeSteps.accept SeSteps.ripeBy SeSteps.ripe SeSteps.freeBy SeSteps.free SeSteps.freed SeSteps.settle SeSteps.onRead SeSteps.onReadComplete SeSteps.onBody
+    SeSteps.effect SeTests.roomTest SeTests.senderRight SeTests.counted SeTests.openTest SeTests.readTest SeTests.doneTest SeTests.fitTest SeTests.orderTest
+    SeTests.messageTest SeTests.judgeOpened SeTests.judge CB.idleTest CB.closedTest CB.lengthTest CB.readTest CB.writeTest CB.openRead CB.openWrite CB.beginBy
+    CB.readBegun CB.writeBegun CB.beginAnswer CB.begunOf CB.readBeginning CB.writeBeginning ClRows.placesFrom ClRows.rowView ClRows.hasStamp ClRows.smallest
+    ClRows.placeFor ClRows.atStamp ClRows.rowsFrom ClRows.agreed ClRows.firstBy ClRows.firstAgreed ClRows.foundOf ClRows.foundBy ClRows.search ClState.freshRow
+    ClState.freshClient ClState.largest ClSteps.quorate ClSteps.sendBelow ClSteps.gatherBy ClSteps.onStamp ClSteps.endBy ClSteps.onAck ClSteps.completeBy
+    ClSteps.settle ClSteps.keepBy ClSteps.onValue ClSteps.onBody ClSteps.effect ClTests.sendRoom ClTests.roomTest ClTests.valueTest ClTests.answers
+    ClTests.awaited ClTests.fitTest ClTests.orderTest ClTests.messageTest ClTests.judgeOpened ClTests.judge
 computed = record {
   would = (refl, refl, refl);
   write-opens = (refl, refl);
@@ -205,3 +264,8 @@ shown = record {
   ready-missing = never-handed Z exact waiting (P.Server 1) (P.Server 3) (build (saying ready 1)) (delivering .not-handed);
   unfinished = unfinished;
 }
+
+-- so the theorem gives that nobody waits, or a collision
+pub nobody-waits : Served Z calls ⊎ Collision Z calls
+unfolding EverybodyServed Z Toy.setup
+nobody-waits = everybody-served Z sound Setups.toy-size calls admissible (shown .finished)

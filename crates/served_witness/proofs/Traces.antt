@@ -284,8 +284,10 @@ module _ (Z : Setup) (G : Exact Z) where
 
   not-handed : (k : Call) (ks : List Call) (a b : Party) (f : List ℕ) → isOne (handOf k) a b f ≡ false → HandedIn Z a b f ks k → ⊥
   unfolding isOne handOf
-  not-handed (toServer i from f′ out to) ks a b f e w = impossible (cc (e, is-hand (record { from = from; to = P.Server i; frame = f′ }) a b f (w .0) (w .1) (w .2)))
-  not-handed (toClient c from f′ lent result out to) ks a b f e w = impossible (cc (e, is-hand (record { from = from; to = P.Client c; frame = f′ }) a b f (w .0) (w .1) (w .2)))
+  not-handed (toServer i from f′ out to) ks a b f e w =
+      impossible (cc (e, is-hand (record { from = from; to = P.Server i; frame = f′ }) a b f (w .0) (w .1) (w .2)))
+  not-handed (toClient c from f′ lent result out to) ks a b f e w =
+      impossible (cc (e, is-hand (record { from = from; to = P.Client c; frame = f′ }) a b f (w .0) (w .1) (w .2)))
   not-handed (beginRead c out to) ks a b f e w = w
   not-handed (beginWrite c v out to) ks a b f e w = w
 

@@ -1,6 +1,6 @@
--- A run, as a list of calls, latest first, in which all frames between honest parties are handed in: client 1 writes 01 02, and client 2 begins to read before the
--- write is accepted, is told of it, and reads it. Server 4 is false and silent. One frame is at first answered 10, for want of room, and offered again. And the same
--- run up to where two acks have come: the write is open, and no ready has come to server 3. k = 2. These are definitions.
+-- A run, as a list of calls, latest first, in which all frames between honest parties are handed in: client 1 writes 01 02, and client 2 begins to read before
+-- the write is accepted, is told of it, and reads it. Server 4 is false and silent. One frame is at first answered 10, for want of room, and offered again. And
+-- the same run up to where two acks have come: the write is open, and no ready has come to server 3. k = 2. These are definitions.
 use Prim.Native.Nat.{ℕ}
 use mathlib.Core.Bool.{true, false}
 use mathlib.Core.Path.{_≡_}

@@ -29,19 +29,19 @@ use Rattle.server_rules.specs.Scopes.{scopeOf, withScope}
 use Rattle.server_rules.specs.Tests.{fromOwner, openTest}
 use Rattle.server_rules.specs.Steps.{Effect, sendOnly}
 use Rattle.server.specs.Stages.{Progress, progress, moved, outcomeIn, stepped, answered}
-use Rattle.server.proofs.Senders.{server-number}
+use Rattle.frame.proofs.PartyLaws.{server-number}
 use Rattle.server.proofs.Scopes.{as-it-was}
 
 -- turned down
-pub refused-is : (v u : Verdict) (r : Refusal) (w : Server) (c : ℕ) (s : Scope) (a : List ℕ) (x : Effect) (out to : List ℕ) → s ≡ scopeOf w c → v ≡ u → v ≡ J.Bad r
-    → outcomeIn w c (record { reply = Y.Refused r; scope = s }) a out to ≡ answered u w a x out to
+pub refused-is : (v u : Verdict) (r : Refusal) (w : Server) (c : ℕ) (s : Scope) (a : List ℕ) (x : Effect) (out to : List ℕ) → s ≡ scopeOf w c → v ≡ u
+    → v ≡ J.Bad r → outcomeIn w c (record { reply = Y.Refused r; scope = s }) a out to ≡ answered u w a x out to
 unfolding answered
 refused-is v u r w c s a x out to h e f =
     ap (λ (z : Server). answered (J.Bad r) z a x out to) (as-it-was w c s h) ∙ ap (λ (z : Verdict). answered z w a x out to) (sym f ∙ e)
 
 -- a step
-pub step-is : (v u : Verdict) (s : Server) (a a′ : List ℕ) (x : Effect) (out to out′ to′ : List ℕ) (c : ℕ) (y : Scope) (p : Place) (r : Taken) → v ≡ u → v ≡ J.Fine
-    → progress (withScope s c y) a′ (outbox out′ to′ p) ≡ moved x (outbox out to firstPlace)
+pub step-is : (v u : Verdict) (s : Server) (a a′ : List ℕ) (x : Effect) (out to out′ to′ : List ℕ) (c : ℕ) (y : Scope) (p : Place) (r : Taken) → v ≡ u
+    → v ≡ J.Fine → progress (withScope s c y) a′ (outbox out′ to′ p) ≡ moved x (outbox out to firstPlace)
     → r .reply ≡ Y.Step (p .count) → r .scope ≡ y
     → outcomeIn s c r a′ out′ to′ ≡ answered u s a x out to
 unfolding answered stepped moved sent

@@ -38,7 +38,8 @@ module _ (H : List ℕ → List ℕ) (g : Params) (me : ℕ) (v : List ℕ) (are
   unfolding constructTest pick
   area-short f l a = go-second _ _ p _ e f (rw (eq-eqb _ _ l, lt-ltb _ _ a))
 
-  pub initial-short : (w : ℕ) → p ≡ J.Fine → length v ≡ g .size → areaBytes ≤ area → w ≡ width g → initial < w → J.Bad R.Room ≡ constructTest H g me v area initial
+  pub initial-short : (w : ℕ) → p ≡ J.Fine → length v ≡ g .size → areaBytes ≤ area → w ≡ width g → initial < w
+      → J.Bad R.Room ≡ constructTest H g me v area initial
   unfolding constructTest pick
   initial-short w f l a k i = go-second _ _ p _ e f (rw (eq-eqb _ _ l, le-ltb _ _ a, ← k, lt-ltb _ _ i))
 
@@ -70,11 +71,13 @@ sound-of H g me v area initial u e f =
 
 -- ---- the outcome
 
-module _ (H : List ℕ → List ℕ) (g : Params) (me : ℕ) (v a initial : List ℕ) (s : Server) (u : Verdict) (k : s ≡ freshServer) (e : u ≡ constructTest H g me v (length a) (length initial)) where
+module _ (H : List ℕ → List ℕ) (g : Params) (me : ℕ) (v a initial : List ℕ) (s : Server) (u : Verdict) (k : s ≡ freshServer)
+    (e : u ≡ constructTest H g me v (length a) (length initial)) where
   pub construct-bad : (r : Refusal) → u ≡ J.Bad r → constructed (record { reply = Y.Refused r; server = s }) a initial ≡ construction H g me v a initial
   unfolding construction constructBy
   construct-bad r f =
-      ap (λ (z : Server). constructed (record { reply = Y.Refused r; server = z }) a initial) k ∙ ap (λ (z : Verdict). constructBy H g me z v a initial) (sym f ∙ e)
+      ap (λ (z : Server). constructed (record { reply = Y.Refused r; server = z }) a initial) k
+      ∙ ap (λ (z : Verdict). constructBy H g me z v a initial) (sym f ∙ e)
 
   pub construct-fine : (a′ initial′ : List ℕ) → u ≡ J.Fine → a′ ≡ sets a 0 (digestsOf H g v) → initial′ ≡ sets initial 0 (blockAt H g v me)
       → constructed (record { reply = Y.Step 0; server = s }) a′ initial′ ≡ construction H g me v a initial

@@ -1,4 +1,3 @@
-pub mod Senders
 pub mod Sending
 pub mod Scopes
 pub mod Present

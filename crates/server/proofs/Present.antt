@@ -16,7 +16,7 @@ use Rattle.frame.specs.Params.{width, listed, largestFrame, Bounded}
 use Rattle.frame.specs.declared.Party.the-variants as P
 use Rattle.frame.specs.Messages.{Entry, entry, message, sending, valueIs}
 use Rattle.frame.specs.Outbox.{Outbox, sent}
-use Rattle.frame.specs.Chunks.{entryAt}
+use Rattle.frame.specs.Chunks.{entryAt, listBytes, chunkBytes}
 use Rattle.frame.proofs.Sizes.{small}
 use Rattle.frame.specs.declared.Stamp.{Stamp}
 use Rattle.server_rules.specs.State.{presentBlock, presentEntry}
@@ -25,16 +25,18 @@ module _ (g : Params) (s : Stamp) (a i : List ℕ) (w : ℕ) (e : w ≡ width g)
   pub from-initial : s .time ≡ 0 → w ≤ length i → (take w i ≡ presentBlock g s a i) × (length (take w i) ≡ width g)
   unfolding presentBlock pick
   from-initial h l = (
-    ap (λ (k : ℕ). take k i) e ∙ sym (ap (λ (b : Bool). pick b (take (width g) i) (part a 320 (width g))) (eq-eqb (s .time) 0 h)),
+    ap (λ (k : ℕ). take k i) e ∙ sym (ap (λ (b : Bool). pick b (take (width g) i) (part a listBytes (width g))) (eq-eqb (s .time) 0 h)),
     length-take-le w i l ∙ e,
   )
 
-  pub from-state : (s .time ≡ 0 → ⊥) → 320 + w ≤ length a → (take (320 + w - 320) (drop 320 a) ≡ presentBlock g s a i) × (length (take (320 + w - 320) (drop 320 a)) ≡ width g)
+  pub from-state : (s .time ≡ 0 → ⊥) → listBytes + w ≤ length a
+      → (take (listBytes + w - listBytes) (drop listBytes a) ≡ presentBlock g s a i)
+      × (length (take (listBytes + w - listBytes) (drop listBytes a)) ≡ width g)
   unfolding presentBlock pick
   from-state h l =
-      let k : 320 + w - 320 ≡ w = add-sub-cancel-left 320 w in (
-        ap (part a 320) (k ∙ e) ∙ sym (ap (λ (b : Bool). pick b (take (width g) i) (part a 320 (width g))) (ne-eqb (s .time) 0 h)),
-        ap (λ (j : ℕ). length (part a 320 j)) k ∙ length-part a 320 w l ∙ e,
+      let k : listBytes + w - listBytes ≡ w = add-sub-cancel-left listBytes w in (
+        ap (part a listBytes) (k ∙ e) ∙ sym (ap (λ (b : Bool). pick b (take (width g) i) (part a listBytes (width g))) (ne-eqb (s .time) 0 h)),
+        ap (λ (j : ℕ). length (part a listBytes j)) k ∙ length-part a listBytes w l ∙ e,
       )
 
 -- both parts of the entry
@@ -42,7 +44,7 @@ pub present-parts : (g : Params) (s : Stamp) (a i d b : List ℕ) → d ≡ entr
 unfolding presentEntry entryAt
 present-parts g s a i d b e f = λ k. entry (e k) (f k)
 
-pub present-size : (g : Params) (a d b : List ℕ) → Bounded g → 576 ≤ length a → d ≡ entryAt g a 0 .digests → length b ≡ width g
+pub present-size : (g : Params) (a d b : List ℕ) → Bounded g → chunkBytes ≤ length a → d ≡ entryAt g a 0 .digests → length b ≡ width g
     → 22 + (length d + length b) ≡ largestFrame g
 unfolding largestFrame entryAt
 present-size g a d b B h e f =

@@ -1,47 +1,24 @@
 -- How much room the frames of a step take. Assumes nothing.
 use Prim.Native.Nat.{ℕ, zero, suc, _+_, _*_, _≤_}
 use native.Mathlib.Omega.{arith}
-use native.Mathlib.Nat.{add-mul, suc-mul, mul-le-mul-right}
+use native.Mathlib.Nat.{suc-mul}
 use mathlib.Core.Path.{_≡_, ap, _∙_}
 use mathlib.Core.Bool.{Bool, true, false}
 use mathlib.Core.List.{List, [], _∷_, _++_}
 use lib.ListN.{length, length-append}
-use lib.Seq.{length-sets}
 use Rattle.area.specs.Area.{pick}
 use Rattle.area.proofs.Sets.{length-part}
 use Rattle.blocks.specs.declared.Params.{Params}
 use Rattle.frame.specs.Params.{width, listed, largestFrame, Bounded}
-use Rattle.frame.specs.Chunks.{entryAt}
+use Rattle.frame.specs.Chunks.{entryAt, chunkBytes, chunkAt, blockPlace}
 use Rattle.frame.proofs.Sizes.{small}
 use Rattle.frame.specs.declared.Stamp.{Stamp}
 use Rattle.frame.specs.declared.Place.{Place}
 use Rattle.frame.specs.Messages.{Entry, message, Message, Sending, valueIs, toFrom, toAll}
 use Rattle.frame.specs.Frames.{kindOf, entryBytes, stampBytes, bodyBytes, build}
-use Rattle.frame.specs.Outbox.{frames, receivers, Outbox, outbox, sent, Room}
+use Rattle.frame.specs.Outbox.{frames, outbox, sent, Room}
 use Rattle.frame.proofs.RoundTrip.{length-frame, length-stamp}
-
--- after at most k of k + m frames there is room for m
-pub room-after : (p r : Place) (o t o₀ t₀ : List ℕ) (xs : List Sending) (k m size : ℕ)
-    → outbox o t r ≡ sent (outbox o₀ t₀ p) xs → length (frames xs) ≤ k * size → length xs ≤ k
-    → Room p (k + m) size (length o₀) (length t₀) → Room r m size (length o) (length t)
-unfolding sent
-room-after p r o t o₀ t₀ xs k m size e f l R =
-    let a : r .at ≡ p .at + length (frames xs) = ap (λ (q : Outbox). q .place .at) e in
-    let c : r .count ≡ p .count + length xs = ap (λ (q : Outbox). q .place .count) e in
-    let u : length o ≡ length o₀ = ap (λ (q : Outbox). length (q .out)) e ∙ length-sets o₀ (p .at) (frames xs) in
-    let v : length t ≡ length t₀ = ap (λ (q : Outbox). length (q .to)) e ∙ length-sets t₀ (2 * p .count) (receivers xs) in
-    let d : (k + m) * size ≡ k * size + m * size = add-mul k m size in
-    record { out-room = omega (arith, R .out-room); to-room = omega (arith, R .to-room) }
-
--- fewer frames
-pub room-fewer : (p : Place) (m k size out to : ℕ) → k ≤ m → Room p m size out to → Room p k size out to
-room-fewer p m k size out to h R =
-    let d : k * size ≤ m * size = mul-le-mul-right size h in
-    record { out-room = omega (arith, R .out-room); to-room = omega (arith, R .to-room) }
-
--- smaller frames
-pub room-smaller : (p : Place) (m size size′ out to : ℕ) → m * size ≤ m * size′ → Room p m size′ out to → Room p m size out to
-room-smaller p m size size′ out to h R = record { out-room = omega (arith, R .out-room); to-room = R .to-room }
+use Rattle.frame.proofs.Rooms.{room-within, room-left}
 
 -- ---- values
 
@@ -82,13 +59,13 @@ few-more true y l m size e F = record {
 few-more false y l m size e F = record { bytes = omega (arith, F .bytes, suc-mul m size); number = omega (arith, F .number) }
 
 -- the size of a value, of which the entry lies in chunk f
-pub value-size : (g : Params) (a : List ℕ) (f : ℕ) (d b : List ℕ) → Bounded g → 576 * f + 576 ≤ length a → d ≡ entryAt g a f .digests → b ≡ entryAt g a f .block
-    → 22 + (length d + length b) ≡ largestFrame g
+pub value-size : (g : Params) (a : List ℕ) (f : ℕ) (d b : List ℕ) → Bounded g → chunkAt f + chunkBytes ≤ length a → d ≡ entryAt g a f .digests
+    → b ≡ entryAt g a f .block → 22 + (length d + length b) ≡ largestFrame g
 unfolding largestFrame entryAt
 value-size g a f d b B h i j =
     let M = small g B in
-    let u : length d ≡ listed g = ap length i ∙ length-part a (576 * f) (listed g) (omega (arith, M .list-room)) in
-    let v : length b ≡ width g = ap length j ∙ length-part a (576 * f + 320) (width g) (omega (arith, M .block-room)) in
+    let u : length d ≡ listed g = ap length i ∙ length-part a (chunkAt f) (listed g) (omega (arith, M .list-room)) in
+    let v : length b ≡ width g = ap length j ∙ length-part a (blockPlace f) (width g) (omega (arith, M .block-room)) in
     omega arith
 
 -- ---- one message to all servers
@@ -114,9 +91,9 @@ pub all-room : (g : Params) (d : Bool) (m : Message) (p r : Place) (o t o₀ t�
 unfolding toAll
 all-room g d m p r o t o₀ t₀ k size h f R =
     let F = due-few d (toFrom (λ j. m) 1 (g .n)) (g .n) size (from-few m 1 (g .n) size h) in
-    room-after p r o t o₀ t₀ (pick d (toFrom (λ j. m) 1 (g .n)) []) (g .n) k size f (F .bytes) (F .number) R
+    room-left p r o t o₀ t₀ (pick d (toFrom (λ j. m) 1 (g .n)) []) (g .n) k (g .n + k) size size f (F .bytes) (F .number) (omega arith) (omega arith) R
 
 pub stamp-room : (g : Params) (p : Place) (k out to : ℕ) → 1 ≤ k → Room p (g .n + k) (largestFrame g) out to → Room p 1 17 out to
 unfolding largestFrame
 stamp-room g p k out to l R =
-    room-smaller p 1 17 (largestFrame g) out to (omega arith) (room-fewer p (g .n + k) 1 (largestFrame g) out to (omega arith) R)
+    room-within p (g .n + k) 1 (largestFrame g) 17 out to (omega arith) (omega arith) R

@@ -1,5 +1,5 @@
--- How the code takes a step: stage by stage, each with what it leaves and its outbox. The entry points' promises (Delivery.antt of server_rules) do not speak of
--- stages. These are definitions.
+-- How the code takes a step: stage by stage, each with what it leaves and its outbox. The entry points' promises (Delivery.antt of server_rules) do not speak
+-- of stages. These are definitions.
 use Prim.Native.Nat.{ℕ, _≤_, _<_}
 use mathlib.Core.Path.{_≡_}
 use mathlib.Core.List.{List}
@@ -10,7 +10,7 @@ use Rattle.blocks.specs.declared.Params.{Params}
 use Rattle.frame.specs.declared.Place.{Place}
 use Rattle.frame.specs.declared.Verdict.{Verdict}
 use Rattle.frame.specs.declared.Verdict.the-variants as J
-use Rattle.frame.specs.declared.Refusal.the-variants as R
+use Rattle.frame.specs.Refusals.{refused}
 use Rattle.frame.specs.Params.{Bounded, largestFrame}
 use Rattle.frame.specs.Messages.{Offer, Stage, Body, blockIs, numberIn}
 use Rattle.frame.specs.Outbox.{frames, receivers, Outbox, outbox, sent, Room}
@@ -73,7 +73,7 @@ handledBy J.Fine x a p q = record { verdict = J.Fine; slot = p .slot; area = p .
 
 -- 11, or what v says, of a frame with the body b
 unfoldable pub sentBy : Call → Body → Verdict → Verdict
-sentBy k b v = pick (senderRight (k .params) (k .from) (k .header .client) b) v (J.Bad R.Sender)
+sentBy k b v = pick (senderRight (k .params) (k .from) (k .header .client) b) v (refused 11)
 
 -- the frame k, of the stage z and with the offer o, of the write whose slot is x
 unfoldable pub blockFrame : (List ℕ → List ℕ) → Call → Slot → List ℕ → Stage → Offer → Outbox → Handled

@@ -2,7 +2,7 @@
 use crate::Taken;
 use crate::reads::send_present;
 use crate::replies::taken;
-use crate::state::with_reader;
+use crate::state::reader_in;
 use crate::tests::done_test;
 use crate::tests::from_owner;
 use crate::tests::read_test;
@@ -22,9 +22,8 @@ ghost use Prim.Native.Nat.{ℕ, _+_, _≤_};
 ghost use mathlib.Core.List.{List, _∷_, []};
 ghost use lib.ListN.{length};
 ghost use Rattle.area.specs.Area.{pick};
+ghost use Rattle.frame.specs.Refusals.{refused};
 ghost use Rattle.frame.specs.declared.Party.the-variants as P;
-ghost use Rattle.frame.specs.declared.Refusal.the-variants as R;
-ghost use Rattle.frame.specs.declared.Verdict.the-variants as J;
 ghost use Rattle.frame.specs.Params.{width, largestFrame, Bounded};
 ghost use Rattle.frame.specs.Messages.{message, sending, stampIs, getStamp, askRead, readComplete};
 ghost use Rattle.frame.specs.Chunks.{areaBytes};
@@ -37,7 +36,7 @@ ghost use Rattle.server.specs.Stages.{outcomeIn, answered};
 
 // 11 and 12 of a read.
 fn ask_test(from: Party, h: Header, r: Reader) -> Verdict
-    ensures { λ v. ⌜ v ≡ pick (fromOwner from (h .client)) (readTest r (h .sequence)) (J.Bad R.Sender) ⌝ }
+    ensures { λ v. ⌜ v ≡ pick (fromOwner from (h .client)) (readTest r (h .sequence)) (refused 11) ⌝ }
 {
     if !from_owner(from, h.client) {
         return Verdict::Bad(Refusal::Sender);
@@ -47,7 +46,7 @@ fn ask_test(from: Party, h: Header, r: Reader) -> Verdict
 
 // 11 and 12 of a read-complete.
 fn end_test(from: Party, h: Header, r: Reader) -> Verdict
-    ensures { λ v. ⌜ v ≡ pick (fromOwner from (h .client)) (doneTest r (h .sequence)) (J.Bad R.Sender) ⌝ }
+    ensures { λ v. ⌜ v ≡ pick (fromOwner from (h .client)) (doneTest r (h .sequence)) (refused 11) ⌝ }
 {
     if !from_owner(from, h.client) {
         return Verdict::Bad(Refusal::Sender);
@@ -65,7 +64,11 @@ pub fn on_get_stamp(
     to: &mut [u8],
 ) -> Taken
     requires { ⌜ Bounded g × Room firstPlace (g .n + 9) (largestFrame g) (length (now out)) (length (now to)) ⌝ }
-    ensures { λ r. ⌜ ((w : Server) → s ≡ scopeOf w (h .client) → (a : List ℕ) → outcomeIn w (h .client) r a (now (out .exit)) (now (to .exit)) ≡ answered (messageTest digestOf g 0 w from (message (h .client) (h .sequence) getStamp)) w a (sendOnly w a (sending (P.Client (h .client)) (message (h .client) (h .sequence) (stampIs (w .stamp .time))) ∷ [])) (now (out .entry)) (now (to .entry))) ⌝ }
+    ensures { λ r. ⌜ ((w : Server) → s ≡ scopeOf w (h .client) → (a : List ℕ)
+        → outcomeIn w (h .client) r a (now (out .exit)) (now (to .exit))
+        ≡ answered (messageTest digestOf g 0 w from (message (h .client) (h .sequence) getStamp)) w a
+        (sendOnly w a (sending (P.Client (h .client)) (message (h .client) (h .sequence) (stampIs (w .stamp .time))) ∷ []))
+        (now (out .entry)) (now (to .entry))) ⌝ }
 {
     if !from_owner(from, h.client) {
         return Taken {
@@ -90,8 +93,12 @@ pub fn on_read<'a>(
     out: &mut [u8],
     to: &mut [u8],
 ) -> Taken
-    requires { ⌜ Bounded g × (areaBytes ≤ length (now area)) × (width g ≤ length (now initial)) × Room firstPlace (g .n + 9) (largestFrame g) (length (now out)) (length (now to)) ⌝ }
-    ensures { λ r. ⌜ ((w : Server) → s ≡ scopeOf w (h .client) → outcomeIn w (h .client) r (now (area .entry)) (now (out .exit)) (now (to .exit)) ≡ answered (messageTest digestOf g 0 w from (message (h .client) (h .sequence) askRead)) w (now (area .entry)) (onRead digestOf g 0 w (now (area .entry)) (now (initial .entry)) (h .client) (h .sequence)) (now (out .entry)) (now (to .entry))) ⌝ }
+    requires { ⌜ Bounded g × (areaBytes ≤ length (now area)) × (width g ≤ length (now initial))
+        × Room firstPlace (g .n + 9) (largestFrame g) (length (now out)) (length (now to)) ⌝ }
+    ensures { λ r. ⌜ ((w : Server) → s ≡ scopeOf w (h .client)
+        → outcomeIn w (h .client) r (now (area .entry)) (now (out .exit)) (now (to .exit))
+        ≡ answered (messageTest digestOf g 0 w from (message (h .client) (h .sequence) askRead)) w (now (area .entry))
+        (onRead digestOf g 0 w (now (area .entry)) (now (initial .entry)) (h .client) (h .sequence)) (now (out .entry)) (now (to .entry))) ⌝ }
 {
     let old = s.reader;
     let v = ask_test(from, h, old);
@@ -109,13 +116,16 @@ pub fn on_read<'a>(
         listening: true,
         noted,
     };
-    let scope = with_reader(s, x);
+    let scope = reader_in(s, x);
     taken(scope, place)
 }
 
 // 12: that read and older ones are ended; nothing is sent.
 pub fn on_read_complete(s: Scope, g: Params, from: Party, h: Header) -> Taken
-    ensures { λ r. ⌜ ((w : Server) → s ≡ scopeOf w (h .client) → (a out to : List ℕ) → outcomeIn w (h .client) r a out to ≡ answered (messageTest digestOf g 0 w from (message (h .client) (h .sequence) readComplete)) w a (onReadComplete digestOf g 0 w a (h .client) (h .sequence)) out to) ⌝ }
+    ensures { λ r. ⌜ ((w : Server) → s ≡ scopeOf w (h .client) → (a out to : List ℕ)
+        → outcomeIn w (h .client) r a out to
+        ≡ answered (messageTest digestOf g 0 w from (message (h .client) (h .sequence) readComplete)) w a
+        (onReadComplete digestOf g 0 w a (h .client) (h .sequence)) out to) ⌝ }
 {
     let old = s.reader;
     let v = end_test(from, h, old);
@@ -131,7 +141,7 @@ pub fn on_read_complete(s: Scope, g: Params, from: Party, h: Header) -> Taken
         listening: false,
         noted,
     };
-    let scope = with_reader(s, x);
+    let scope = reader_in(s, x);
     let place = Place { at: 0, count: 0 };
     taken(scope, place)
 }

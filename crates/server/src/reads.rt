@@ -4,6 +4,7 @@ use frame::Place;
 use frame::Stamp;
 use frame::bounds::width;
 use frame::entries::digests_at;
+use frame::layout::BLOCK_AT;
 use frame::send::send_value;
 ghost use mathlib.Core.Path.{_≡_};
 ghost use mathlib.Core.List.{_∷_, []};
@@ -25,8 +26,8 @@ pub fn present_block<'a>(g: Params, x: Stamp, area: &'a [u8], initial: &'a [u8])
     if x.time == 0 {
         return &initial[..w];
     }
-    let end = 320 + w;
-    &area[320..end]
+    let end = BLOCK_AT + w;
+    &area[BLOCK_AT..end]
 }
 
 // Answers client c's read q with the present value.
@@ -41,8 +42,11 @@ pub fn send_present<'a>(
     to: &mut [u8],
     p: Place,
 ) -> Place
-    requires { ⌜ Bounded g × (areaBytes ≤ length (now area)) × (width g ≤ length (now initial)) × Room p 1 (largestFrame g) (length (now out)) (length (now to)) ⌝ }
-    ensures { λ r. ⌜ outbox (now (out .exit)) (now (to .exit)) r ≡ sent (outbox (now (out .entry)) (now (to .entry)) p) (sending (P.Client c) (message c q (valueIs x (presentEntry g x (now (area .entry)) (now (initial .entry))))) ∷ []) ⌝ }
+    requires { ⌜ Bounded g × (areaBytes ≤ length (now area)) × (width g ≤ length (now initial))
+        × Room p 1 (largestFrame g) (length (now out)) (length (now to)) ⌝ }
+    ensures { λ r. ⌜ outbox (now (out .exit)) (now (to .exit)) r
+        ≡ sent (outbox (now (out .entry)) (now (to .entry)) p)
+        (sending (P.Client c) (message c q (valueIs x (presentEntry g x (now (area .entry)) (now (initial .entry))))) ∷ []) ⌝ }
 {
     let block = present_block(g, x, area, initial);
     let digests = digests_at(area, 0, g);

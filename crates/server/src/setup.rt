@@ -42,7 +42,8 @@ pub fn construct_test(g: Params, me: u8, value: &[u8], area: usize, initial: usi
 // The digests of a value's blocks go to the state area, the own block to the initial area.
 pub fn store_initial(g: Params, me: u8, value: &[u8], area: &mut [u8], initial: &mut [u8])
     requires { ⌜ Bounded g × (length (now value) ≡ g .size) × (areaBytes ≤ length (now area)) × (width g ≤ length (now initial)) ⌝ }
-    ensures { λ _. ⌜ (now (area .exit) ≡ sets (now (area .entry)) 0 (digestsOf digestOf g (now (value .entry)))) × (now (initial .exit) ≡ sets (now (initial .entry)) 0 (blockAt digestOf g (now (value .entry)) me)) ⌝ }
+    ensures { λ _. ⌜ (now (area .exit) ≡ sets (now (area .entry)) 0 (digestsOf digestOf g (now (value .entry))))
+        × (now (initial .exit) ≡ sets (now (initial .entry)) 0 (blockAt digestOf g (now (value .entry)) me)) ⌝ }
 {
     let ps = field::powers();
     let ls = field::logs();
@@ -52,7 +53,8 @@ pub fn store_initial(g: Params, me: u8, value: &[u8], area: &mut [u8], initial: 
 
 // A fresh server with the digests of the initial value; its own block of it goes to the initial area.
 pub fn construct(g: Params, me: u8, value: &[u8], area: &mut [u8], initial: &mut [u8]) -> Served
-    ensures { λ r. ⌜ constructed r (now (area .exit)) (now (initial .exit)) ≡ construction digestOf g me (now (value .entry)) (now (area .entry)) (now (initial .entry)) ⌝ }
+    ensures { λ r. ⌜ constructed r (now (area .exit)) (now (initial .exit))
+        ≡ construction digestOf g me (now (value .entry)) (now (area .entry)) (now (initial .entry)) ⌝ }
 {
     let server = Server::fresh();
     let v = construct_test(g, me, value, area.len(), initial.len());

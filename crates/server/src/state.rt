@@ -48,7 +48,7 @@ pub fn with_scope(s: Server, c: usize, x: Scope) -> Server
     }
 }
 
-pub fn with_slot(s: Scope, x: Slot) -> Scope
+pub fn slot_in(s: Scope, x: Slot) -> Scope
     ensures { λ r. ⌜ r ≡ slotIn s x ⌝ }
 {
     let mut y = s;
@@ -56,7 +56,7 @@ pub fn with_slot(s: Scope, x: Slot) -> Scope
     y
 }
 
-pub fn with_reader(s: Scope, x: Reader) -> Scope
+pub fn reader_in(s: Scope, x: Reader) -> Scope
     ensures { λ r. ⌜ r ≡ readerIn s x ⌝ }
 {
     let mut y = s;

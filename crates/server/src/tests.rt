@@ -15,10 +15,9 @@ ghost use mathlib.Core.Path.{_≡_};
 ghost use mathlib.Core.Bool.{false};
 ghost use lib.ListN.{getD};
 ghost use Rattle.area.specs.Area.{pick};
+ghost use Rattle.frame.specs.Refusals.{refused};
 ghost use Rattle.frame.specs.Params.{Bounded};
 ghost use Rattle.frame.specs.Messages.{numberIn, fromServer};
-ghost use Rattle.frame.specs.declared.Verdict.the-variants as J;
-ghost use Rattle.frame.specs.declared.Refusal.the-variants as R;
 ghost use Rattle.server_rules.specs.Tests.{roomTest, fromOwner, openTest, readTest, doneTest};
 
 // 10: whether the lent areas are long enough, of which only the lengths count.
@@ -96,7 +95,7 @@ pub fn done_test(r: Reader, q: u32) -> Verdict
 
 // 11 to 13 of a frame of the write q that only its owner c sends.
 pub fn owner_test(from: Party, c: u8, x: Slot, q: u32, again: bool) -> Verdict
-    ensures { λ r. ⌜ r ≡ pick (fromOwner from c) (openTest x q again) (J.Bad R.Sender) ⌝ }
+    ensures { λ r. ⌜ r ≡ pick (fromOwner from c) (openTest x q again) (refused 11) ⌝ }
 {
     if !from_owner(from, c) {
         return Verdict::Bad(Refusal::Sender);
@@ -107,7 +106,7 @@ pub fn owner_test(from: Party, c: u8, x: Slot, q: u32, again: bool) -> Verdict
 // 11 to 13 of a frame of the write q that only servers send; on says of which one was counted already.
 pub fn server_test(g: Params, from: Party, x: Slot, q: u32, on: [bool; 11]) -> Verdict
     requires { ⌜ Bounded g ⌝ }
-    ensures { λ r. ⌜ r ≡ pick (fromServer g from) (openTest x q (getD on (numberIn from) false)) (J.Bad R.Sender) ⌝ }
+    ensures { λ r. ⌜ r ≡ pick (fromServer g from) (openTest x q (getD on (numberIn from) false)) (refused 11) ⌝ }
 {
     if !from_server(g, from) {
         return Verdict::Bad(Refusal::Sender);

@@ -9,7 +9,7 @@ use Rattle.area.specs.Area.{part}
 use Rattle.area.proofs.Sets.{sets-more, length-part, part-sets-after}
 use Rattle.blocks.specs.declared.Params.{Params}
 use Rattle.frame.specs.Params.{width}
-use Rattle.frame.specs.Chunks.{entryAt, storeEntry, presentAt}
+use Rattle.frame.specs.Chunks.{entryAt, storeEntry, presentAt, chunkBytes, listBytes, chunkAt, blockPlace}
 
 first-of : (l : List ℕ) (k : ℕ) → getD (part l k 1) 0 0 ≡ getD l k 0
 first-of l k = getD-take 1 (drop k l) 0 0 (omega arith) ∙ getD-drop k l 0 0 ∙ ap (λ (i : ℕ). getD l i 0) (omega arith)
@@ -32,11 +32,11 @@ copy-turn a b at from n j u v h e =
     ap (λ (z : List ℕ). set z (at + j) (getD b (from + j) 0)) e ∙ ap (set (sets a at (take j (part a from n))) (at + j)) w ∙ sets-more a at (part a from n) j i
 
 -- both parts of chunk p were copied
-pub replaced : (g : Params) (a b d : List ℕ) (p w : ℕ) → 1 ≤ p → 32 * g .n ≤ 320 → 576 * p + 576 ≤ length a → w ≡ width g
-    → b ≡ sets a 0 (part a (576 * p) (32 * g .n)) → d ≡ sets b 320 (part b (576 * p + 320) w) → d ≡ storeEntry a presentAt (entryAt g a p)
+pub replaced : (g : Params) (a b d : List ℕ) (p w : ℕ) → 1 ≤ p → 32 * g .n ≤ listBytes → chunkAt p + chunkBytes ≤ length a → w ≡ width g
+    → b ≡ sets a 0 (part a (chunkAt p) (32 * g .n)) → d ≡ sets b listBytes (part b (blockPlace p) w) → d ≡ storeEntry a presentAt (entryAt g a p)
 unfolding storeEntry entryAt
 replaced g a b d p w h n l k e f =
-    let m : length (part a (576 * p) (32 * g .n)) ≡ 32 * g .n = length-part a (576 * p) (32 * g .n) (omega arith) in
-    let o : part b (576 * p + 320) w ≡ part a (576 * p + 320) w =
-    ap (λ (z : List ℕ). part z (576 * p + 320) w) e ∙ part-sets-after a 0 (part a (576 * p) (32 * g .n)) (576 * p + 320) w (omega arith) in
-    f ∙ ap (sets b 320) (o ∙ ap (part a (576 * p + 320)) k) ∙ ap (λ (z : List ℕ). sets z 320 (part a (576 * p + 320) (width g))) e
+    let m : length (part a (chunkAt p) (32 * g .n)) ≡ 32 * g .n = length-part a (chunkAt p) (32 * g .n) (omega arith) in
+    let o : part b (blockPlace p) w ≡ part a (blockPlace p) w =
+    ap (λ (z : List ℕ). part z (blockPlace p) w) e ∙ part-sets-after a 0 (part a (chunkAt p) (32 * g .n)) (blockPlace p) w (omega arith) in
+    f ∙ ap (sets b listBytes) (o ∙ ap (part a (blockPlace p)) k) ∙ ap (λ (z : List ℕ). sets z listBytes (part a (blockPlace p) (width g))) e

@@ -1,5 +1,6 @@
 -- How much room the values of an acceptance take. Assumes nothing.
-use Prim.Native.Nat.{ℕ, zero, suc, _+_, _-_, _<_}
+use Prim.Native.Nat.{ℕ, zero, suc, _+_, _-_, _<_, _≤_}
+use native.Mathlib.Nat.{le-refl}
 use native.Mathlib.Omega.{arith}
 use mathlib.Core.Path.{_≡_}
 use mathlib.Core.Bool.{_&&_}
@@ -13,7 +14,8 @@ use Rattle.frame.specs.Outbox.{outbox, sent, Room}
 use Rattle.server_rules.specs.declared.Reader.{Reader}
 use Rattle.server_rules.specs.State.{readerAt}
 use Rattle.server_rules.specs.Steps.{tellFrom}
-use Rattle.server.proofs.Sending.{room-after, room-fewer, room-smaller, length-value, Few, few-none, few-one, few-more}
+use Rattle.frame.proofs.Rooms.{room-within, room-left}
+use Rattle.server.proofs.Sending.{length-value, Few, few-none, few-one, few-more}
 use Rattle.server_accept.specs.Telling.{toldTo}
 
 pub told-few : (r : Reader) (c : ℕ) (x : Stamp) (e : Entry) → Few (toldTo r c x e) 1 (22 + (length (e .digests) + length (e .block)))
@@ -27,8 +29,9 @@ pub room-told : (r : Reader) (x : Stamp) (e : Entry) (c : ℕ) (p p′ : Place) 
     → Room p′ (9 - (c + 1)) (22 + (length (e .digests) + length (e .block))) (length o) (length t)
 room-told r x e c p p′ o t o₀ t₀ h f R =
     let F = told-few r c x e in
-    let m : 9 - c ≡ 1 + (9 - (c + 1)) = omega arith in
-    room-after p p′ o t o₀ t₀ (toldTo r c x e) 1 (9 - (c + 1)) (22 + (length (e .digests) + length (e .block))) f (F .bytes) (F .number) (rw (← m) R)
+    let m : 1 + (9 - (c + 1)) ≤ 9 - c = omega arith in
+    let size : ℕ = 22 + (length (e .digests) + length (e .block)) in
+    room-left p p′ o t o₀ t₀ (toldTo r c x e) 1 (9 - (c + 1)) (9 - c) size size f (F .bytes) (F .number) m (le-refl size) R
 
 -- at most one value to each of m clients
 tell-few : (s : List Reader) (x : Stamp) (e : Entry) (c m : ℕ) → Few (tellFrom s x e c m) m (22 + (length (e .digests) + length (e .block)))
@@ -40,11 +43,10 @@ tell-few s x e c (suc m) =
 
 -- room for the values, and after them for the ack
 pub tell-room : (p : Place) (size size′ out to : ℕ) → size ≡ size′ → Room p 9 size′ out to → Room p 8 size out to
-tell-room p size size′ out to e R = room-fewer p 9 8 size out to (omega arith) (rw e R)
+tell-room p size size′ out to e R = room-within p 9 8 size′ size out to (omega arith) (omega arith) R
 
 pub ack-room : (s : List Reader) (x : Stamp) (d b : List ℕ) (p r : Place) (o t o₀ t₀ : List ℕ) (size : ℕ) → 22 + (length d + length b) ≡ size
     → outbox o t r ≡ sent (outbox o₀ t₀ p) (tellFrom s x (entry d b) 1 8) → Room p 9 size (length o₀) (length t₀) → Room r 1 9 (length o) (length t)
 ack-room s x d b p r o t o₀ t₀ size e f R =
     let F = tell-few s x (entry d b) 1 8 in
-    let A = room-after p r o t o₀ t₀ (tellFrom s x (entry d b) 1 8) 8 1 (22 + (length d + length b)) f (F .bytes) (F .number) (rw e R) in
-    room-smaller r 1 9 (22 + (length d + length b)) (length o) (length t) (omega arith) A
+    room-left p r o t o₀ t₀ (tellFrom s x (entry d b) 1 8) 8 1 9 (22 + (length d + length b)) 9 f (F .bytes) (F .number) (omega arith) (omega arith) (rw e R)

@@ -5,6 +5,10 @@ use frame::Stamp;
 use frame::bounds::width;
 use frame::entries::block_at;
 use frame::entries::digests_at;
+use frame::layout::BLOCK_AT;
+use frame::layout::CHUNK_BYTES;
+use frame::layout::CLIENT_CHUNKS;
+use frame::layout::ECHOES_BACK;
 use frame::send::send_ack;
 use frame::send::send_value;
 use frame::stamps::is_older;
@@ -59,7 +63,7 @@ fn tell_one(
 
 // The value goes to each listener whose noted stamp is smaller, by rising client number.
 fn tell(
-    readers: [Reader; 9],
+    readers: [Reader; Server::PLACES],
     x: Stamp,
     digests: &[u8],
     block: &[u8],
@@ -73,7 +77,7 @@ fn tell(
 {
     let mut q = p;
     let mut c: usize = 1;
-    while c < 9 {
+    while c < Server::PLACES {
         let r = readers[c];
         q = tell_one(r, c as u8, x, digests, block, out, to, q);
         c += 1;
@@ -100,8 +104,8 @@ fn replace(newer: bool, area: &mut [u8], g: Params, p: usize)
 {
     if newer {
         let w = width(g);
-        copy_down(area, 0, 576 * p, 32 * g.n);
-        copy_down(area, 320, 576 * p + 320, w);
+        copy_down(area, 0, CHUNK_BYTES * p, 32 * g.n);
+        copy_down(area, BLOCK_AT, CHUNK_BYTES * p + BLOCK_AT, w);
     }
 }
 
@@ -142,7 +146,7 @@ pub fn is_ripe(x: Slot) -> bool
 // The write of client c's scope is accepted, with the time and the entry that were completed.
 pub fn accept(
     s: Scope,
-    readers: [Reader; 9],
+    readers: [Reader; Server::PLACES],
     g: Params,
     c: u8,
     area: &mut [u8],
@@ -156,7 +160,7 @@ pub fn accept(
         (outbox (now (out .entry)) (now (to .entry)) p) r (now (area .exit)) (now (out .exit)) (now (to .exit)) ⌝ }
 {
     let i = c as usize;
-    let from = 21 * i - 20;
+    let from = CLIENT_CHUNKS * i - ECHOES_BACK;
     let slot = s.slot;
     let b = slot.blocks;
     let q = slot.sequence as u32;

@@ -15,6 +15,7 @@ use Rattle.blocks.specs.declared.Params.{Params}
 use Rattle.blocks.specs.Code.{blockLength, blockOf}
 use Rattle.blocks.proofs.Values.{length-valueOf}
 use Rattle.blocks.proofs.Stripes.{length-blockOf}
+use Rattle.frame.specs.Chunks.{echoesFrom, readiesFrom}
 use Rattle.frame.specs.Params.{quota, width, listed}
 use Rattle.group_rules.specs.Coded.{digestsOf}
 use Rattle.group.specs.Entries.{marked, placesFrom, Within}
@@ -36,20 +37,20 @@ quota-least g = omega arith
 
 -- which of the two it is
 module _ (g : Params) (v : Voters) (c q : ℕ) (at : List ℕ) (q-is : q ≡ quota g) where
-  pub chose-readies : q ≤ v .readied → at ≡ placesFrom (21 * c - 10) → _≡_ {A = Group} (record { on = v .readies; at = at }) (groupOf g v c)
+  pub chose-readies : q ≤ v .readied → at ≡ placesFrom (readiesFrom c) → _≡_ {A = Group} (record { on = v .readies; at = at }) (groupOf g v c)
   unfolding groupOf pick
   chose-readies h e =
       let k : quota g ≤ v .readied = omega (arith, q-is, h) in
       (λ i. record { on = v .readies; at = e i })
-      ∙ sym (ap (λ (t : Bool). pick t (record { on = v .readies; at = placesFrom (21 * c - 10) }) (record { on = v .echoes; at = placesFrom (21 * c - 20) }))
+      ∙ sym (ap (λ (t : Bool). pick t (record { on = v .readies; at = placesFrom (readiesFrom c) }) (record { on = v .echoes; at = placesFrom (echoesFrom c) }))
       (le-leb (quota g) (v .readied) k))
 
-  pub chose-echoes : v .readied < q → at ≡ placesFrom (21 * c - 20) → _≡_ {A = Group} (record { on = v .echoes; at = at }) (groupOf g v c)
+  pub chose-echoes : v .readied < q → at ≡ placesFrom (echoesFrom c) → _≡_ {A = Group} (record { on = v .echoes; at = at }) (groupOf g v c)
   unfolding groupOf pick
   chose-echoes h e =
       let k : v .readied < quota g = omega (arith, q-is, h) in
       (λ i. record { on = v .echoes; at = e i })
-      ∙ sym (ap (λ (t : Bool). pick t (record { on = v .readies; at = placesFrom (21 * c - 10) }) (record { on = v .echoes; at = placesFrom (21 * c - 20) }))
+      ∙ sym (ap (λ (t : Bool). pick t (record { on = v .readies; at = placesFrom (readiesFrom c) }) (record { on = v .echoes; at = placesFrom (echoesFrom c) }))
       (lt-leb (quota g) (v .readied) k))
 
 module _ (g : Params) (v : Voters) (c : ℕ) (a : List ℕ) (R : Regaining g v c (length a)) where
@@ -63,14 +64,14 @@ module _ (g : Params) (v : Voters) (c : ℕ) (a : List ℕ) (R : Regaining g v c
 
   -- the chosen ones are enough, and lie in the area
   chosen-right : (b : Bool) → leb (quota g) (v .readied) ≡ b
-      → Right (pick b (record { on = v .readies; at = placesFrom (21 * c - 10) }) (record { on = v .echoes; at = placesFrom (21 * c - 20) }))
+      → Right (pick b (record { on = v .readies; at = placesFrom (readiesFrom c) }) (record { on = v .echoes; at = placesFrom (echoesFrom c) }))
   unfolding pick
   chosen-right true e = record {
-    within = within-places (21 * c - 10) a (omega (arith, R .stored .client-low, R .stored .client-high, R .stored .whole));
+    within = within-places (readiesFrom c) a (omega (arith, R .stored .client-low, R .stored .client-high, R .stored .whole));
     enough = many-readies (leb-true (quota g) (v .readied) e);
   }
   chosen-right false e = record {
-    within = within-places (21 * c - 20) a (omega (arith, R .stored .client-low, R .stored .client-high, R .stored .whole));
+    within = within-places (echoesFrom c) a (omega (arith, R .stored .client-low, R .stored .client-high, R .stored .whole));
     enough = R .enough (leb-false (quota g) (v .readied) e);
   }
 

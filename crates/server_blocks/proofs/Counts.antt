@@ -17,9 +17,8 @@ use Rattle.blocks.specs.declared.Params.{Params}
 use Rattle.frame.specs.declared.Place.{Place}
 use Rattle.frame.specs.Params.{Bounded, quota}
 use Rattle.frame.specs.Messages.{Entry, entry, Offer, offer}
-use Rattle.frame.specs.Chunks.{chunkAt, entryAt}
+use Rattle.frame.specs.Chunks.{chunkAt, entryAt, echoesFrom, readiesFrom}
 use Rattle.group_rules.specs.Coded.{hasList, digestsOf, lowestValue, agreeing}
-use Rattle.group.specs.Entries as E
 use Rattle.group.specs.Entries.{marked, timed, entries, sentList, flags, placesFrom}
 use Rattle.group.specs.Choice.{valueFrom, allOf}
 use Rattle.group.specs.Needs.{Comparing}
@@ -44,10 +43,6 @@ quota-small g B = omega (arith, B .servers-high, B .faults-high, B .faults-low, 
 
 -- ---- entries
 
-kept-same : (b : Bool) (e : Entry) → E.kept b e ≡ kept b e
-kept-same true e = refl
-kept-same false e = refl
-
 module _ (g : Params) (B : Bounded g) (a d : List ℕ) (T : ℕ) where
   -- what server j sent with the time T, kept with its flag and its time
   timed-agree : (on : List Bool) (ts : List ℕ) (p j : ℕ) → j ≤ g .n
@@ -56,7 +51,6 @@ module _ (g : Params) (B : Bounded g) (a d : List ℕ) (T : ℕ) where
   timed-agree on ts p j h =
       let m : j ≤ 10 = omega (arith, h, B .servers-high) in
       entry-law g (timed on ts T) (placesFrom p) a d j (p + j) (place-law p j m)
-      ∙ kept-same (getD (timed on ts T) j false) (entryAt g a (p + j))
       ∙ ap (λ (b : Bool). kept b (entryAt g a (p + j))) (marked-timed on ts T j m)
       ∙ sym (by-flag (getD on j false) (getD ts j 0) T (entryAt g a (p + j)))
 
@@ -67,13 +61,13 @@ module _ (g : Params) (B : Bounded g) (a d : List ℕ) (T : ℕ) where
     abbrev readies : ℕ → Option Entry
     readies = atTime (blockView g a c x .readies) T
 
-    echo-agree : (j : ℕ) → 1 ≤ j → j ≤ g .n → entries g (timed (x .blocks .echoes) (x .blocks .echoed) T) (placesFrom (21 * c - 20)) a j ≡ echoes j
+    echo-agree : (j : ℕ) → 1 ≤ j → j ≤ g .n → entries g (timed (x .blocks .echoes) (x .blocks .echoed) T) (placesFrom (echoesFrom c)) a j ≡ echoes j
     unfolding blockView atTime
-    echo-agree j l h = timed-agree (x .blocks .echoes) (x .blocks .echoed) (21 * c - 20) j h
+    echo-agree j l h = timed-agree (x .blocks .echoes) (x .blocks .echoed) (echoesFrom c) j h
 
-    ready-agree : (j : ℕ) → 1 ≤ j → j ≤ g .n → entries g (timed (x .blocks .readies) (x .blocks .readied) T) (placesFrom (21 * c - 10)) a j ≡ readies j
+    ready-agree : (j : ℕ) → 1 ≤ j → j ≤ g .n → entries g (timed (x .blocks .readies) (x .blocks .readied) T) (placesFrom (readiesFrom c)) a j ≡ readies j
     unfolding blockView atTime
-    ready-agree j l h = timed-agree (x .blocks .readies) (x .blocks .readied) (21 * c - 10) j h
+    ready-agree j l h = timed-agree (x .blocks .readies) (x .blocks .readied) (readiesFrom c) j h
 
 -- what the flagged servers of a group hold is what f says
 record Taken (g : Params) (a d : List ℕ) (r : Group) (f : ℕ → Option Entry) : Type 0 where
@@ -81,7 +75,8 @@ record Taken (g : Params) (a d : List ℕ) (r : Group) (f : ℕ → Option Entry
   pub all : allOf g (r .on) (r .at) a (valueFrom g (r .on) (r .at) a) ≡ agreeing g f d
 
 -- readies or echoes: their value, and whether all have its blocks
-picked : (g : Params) (a d : List ℕ) (r e : Group) (f h : ℕ → Option Entry) → Taken g a d r f → Taken g a d e h → (t : Bool) → Taken g a d (pick t r e) (pick t f h)
+picked : (g : Params) (a d : List ℕ) (r e : Group) (f h : ℕ → Option Entry) → Taken g a d r f → Taken g a d e h → (t : Bool)
+    → Taken g a d (pick t r e) (pick t f h)
 unfolding pick
 picked g a d r e f h p q true = p
 picked g a d r e f h p q false = q
@@ -101,13 +96,13 @@ module _ (H : List ℕ → List ℕ) (g : Params) (a d b : List ℕ) (T c : ℕ)
   echo-number : w .echoed ≡ count (λ j. hasList (echoes g B a d T c x j) d) (g .n)
   unfolding votersOf
   echo-number =
-      matched-count g (timed (x .blocks .echoes) (x .blocks .echoed) T) (placesFrom (21 * c - 20)) a d (echoes g B a d T c x) (echo-agree g B a d T c x)
+      matched-count g (timed (x .blocks .echoes) (x .blocks .echoed) T) (placesFrom (echoesFrom c)) a d (echoes g B a d T c x) (echo-agree g B a d T c x)
       (B .servers-high)
 
   ready-number : w .readied ≡ count (λ j. hasList (readies g B a d T c x j) d) (g .n)
   unfolding votersOf
   ready-number =
-      matched-count g (timed (x .blocks .readies) (x .blocks .readied) T) (placesFrom (21 * c - 10)) a d (readies g B a d T c x) (ready-agree g B a d T c x)
+      matched-count g (timed (x .blocks .readies) (x .blocks .readied) T) (placesFrom (readiesFrom c)) a d (readies g B a d T c x) (ready-agree g B a d T c x)
       (B .servers-high)
 
   echo-votes : votes (blockRules H g) (g .n) (g .t) (blockView g a c x .echoes) o ≡ w .echoed
@@ -124,17 +119,17 @@ module _ (H : List ℕ → List ℕ) (g : Params) (a d b : List ℕ) (T c : ℕ)
       let rs = readies g B a d T c x in
       let re = timed (x .blocks .readies) (x .blocks .readied) T in
       let ec = timed (x .blocks .echoes) (x .blocks .echoed) T in
-      let u = within-places (21 * c - 10) a (omega (arith, S .client-low, S .client-high, S .whole)) in
-      let v = within-places (21 * c - 20) a (omega (arith, S .client-low, S .client-high, S .whole)) in
+      let u = within-places (readiesFrom c) a (omega (arith, S .client-low, S .client-high, S .whole)) in
+      let v = within-places (echoesFrom c) a (omega (arith, S .client-low, S .client-high, S .whole)) in
       subst (λ (m : ℕ). Taken g a d (groupOf g w c) (pick (leb (quota g) m) rs es)) ready-number
       (picked g a d _ _ rs es
       (record {
-        value = matched-value g re (placesFrom (21 * c - 10)) a d rs (ready-agree g B a d T c x) (B .servers-high) B u;
-        all = matched-all g re (placesFrom (21 * c - 10)) a d rs (ready-agree g B a d T c x) (B .servers-high) B u;
+        value = matched-value g re (placesFrom (readiesFrom c)) a d rs (ready-agree g B a d T c x) (B .servers-high) B u;
+        all = matched-all g re (placesFrom (readiesFrom c)) a d rs (ready-agree g B a d T c x) (B .servers-high) B u;
       })
       (record {
-        value = matched-value g ec (placesFrom (21 * c - 20)) a d es (echo-agree g B a d T c x) (B .servers-high) B v;
-        all = matched-all g ec (placesFrom (21 * c - 20)) a d es (echo-agree g B a d T c x) (B .servers-high) B v;
+        value = matched-value g ec (placesFrom (echoesFrom c)) a d es (echo-agree g B a d T c x) (B .servers-high) B v;
+        all = matched-all g ec (placesFrom (echoesFrom c)) a d es (echo-agree g B a d T c x) (B .servers-high) B v;
       })
       (leb (quota g) (w .readied)))
 
@@ -247,8 +242,8 @@ pub flags-at : (g : Params) (on ts : List Bool) (at a d : List ℕ) (p : ℕ) (r
 flags-at g on ts at a d p r h e k = k ∙ ap₂ (λ (o : List Bool) (l : List ℕ). flags (sentList g o l a d) (g .n)) h e
 
 pub voters-are : (g : Params) (a : List ℕ) (c : ℕ) (b : BlockPart) (T : ℕ) (d : List ℕ) (es rs : List Bool) (e r : ℕ)
-    → es ≡ flags (sentList g (timed (b .echoes) (b .echoed) T) (placesFrom (21 * c - 20)) a d) (g .n)
-    → rs ≡ flags (sentList g (timed (b .readies) (b .readied) T) (placesFrom (21 * c - 10)) a d) (g .n)
+    → es ≡ flags (sentList g (timed (b .echoes) (b .echoed) T) (placesFrom (echoesFrom c)) a d) (g .n)
+    → rs ≡ flags (sentList g (timed (b .readies) (b .readied) T) (placesFrom (readiesFrom c)) a d) (g .n)
     → e ≡ count (marked es) (g .n)
     → r ≡ count (marked rs) (g .n)
     → _≡_ {A = Voters} (record { echoes = es; readies = rs; echoed = e; readied = r }) (votersOf g a c b T d)

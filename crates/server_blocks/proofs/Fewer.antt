@@ -1,6 +1,6 @@
 -- The echoes and readies that have a time and a list are at most those that were counted: where nothing hangs on these, nothing hangs on them. Assumes
 -- nothing.
-use Prim.Native.Nat.{ℕ, zero, suc, _+_, _*_, _-_, _≤_}
+use Prim.Native.Nat.{ℕ, _+_, _*_, _-_, _≤_}
 use native.Mathlib.Omega.{arith}
 use mathlib.Core.Path.{_≡_, refl, ap, ap₂, sym, _∙_}
 use mathlib.Core.Bool.{Bool, true, false, not, _&&_, _||_}
@@ -9,16 +9,16 @@ use lib.ListN.{length, getD}
 use lib.Dec.{leb}
 use borrow.Author.Tests.{leb-false, lt-leb}
 use Rattle.area.proofs.Tests.{and-left}
-use Rattle.quorum.specs.Quorum.{bit, count}
+use Rattle.quorum.specs.Quorum.{count}
+use Rattle.quorum.proofs.Counting.{count-mono}
 use Rattle.quorum.proofs.Logic.{or-false, and-false}
 use Rattle.blocks.specs.declared.Params.{Params}
 use Rattle.frame.specs.Params.{Bounded, quota}
-use Rattle.frame.specs.Messages.{Entry, entry, offer}
+use Rattle.frame.specs.Messages.{entry, offer}
 use Rattle.frame.specs.Outbox.{Outbox}
-use Rattle.frame.specs.Chunks.{entryAt}
-use Rattle.group_rules.specs.Coded.{hasList}
-use Rattle.group.specs.Entries.{kept, marked, timed, entries, sentList, flags, placesFrom}
-use Rattle.group.proofs.Matched.{marked-timed, count-flags}
+use Rattle.frame.specs.Chunks.{echoesFrom, readiesFrom}
+use Rattle.group.specs.Entries.{marked, timed, sentList, flags, placesFrom}
+use Rattle.group.proofs.Matched.{marked-timed, count-flags, sent-flagged}
 use Rattle.server_rules.specs.declared.Slot.{Slot}
 use Rattle.server_rules.specs.Steps.{votedBlock}
 use Rattle.server.specs.declared.Call.{Call}
@@ -29,34 +29,19 @@ use Rattle.server_blocks.proofs.Voting.{skipped}
 
 -- ---- fewer have the time and the list than are flagged
 
-bit-le : (a b : Bool) → (a ≡ true → b ≡ true) → bit a ≤ bit b
-bit-le true b h = rw (h refl) (omega arith)
-bit-le false b h = omega arith
-
-count-le-count : (p q : ℕ → Bool) (n : ℕ) → ((j : ℕ) → j ≤ n → p j ≡ true → q j ≡ true) → count p n ≤ count q n
-unfolding count
-count-le-count p q zero h = omega arith
-count-le-count p q (suc n) h =
-    omega (arith, bit-le (p (suc n)) (q (suc n)) (h (suc n) (omega arith)), count-le-count p q n (λ j l. h j (omega (arith, l))))
-
-kept-list : (b : Bool) (e : Entry) (d : List ℕ) → hasList (kept b e) d ≡ true → b ≡ true
-kept-list true e d q = refl
-kept-list false e d q = q
-
-sent-flagged : (g : Params) (on : List Bool) (ts : List ℕ) (T : ℕ) (at a d : List ℕ) (j : ℕ) → j ≤ 10 → sentList g (timed on ts T) at a d j ≡ true
+timed-flagged : (g : Params) (on : List Bool) (ts : List ℕ) (T : ℕ) (at a d : List ℕ) (j : ℕ) → j ≤ 10 → sentList g (timed on ts T) at a d j ≡ true
     → marked on j ≡ true
-unfolding sentList entries marked
-sent-flagged g on ts T at a d j h e =
-    let m = kept-list (getD (timed on ts T) j false) (entryAt g a (getD at j 0)) d e in
-    and-left (getD on j false) _ (sym (marked-timed on ts T j h) ∙ m)
+unfolding marked
+timed-flagged g on ts T at a d j h e =
+    and-left (getD on j false) _ (sym (marked-timed on ts T j h) ∙ sent-flagged g (timed on ts T) at a d j e)
 
 in-group-le : (g : Params) (on : List Bool) (ts : List ℕ) (T : ℕ) (at a d : List ℕ) → Bounded g
     → count (marked (flags (sentList g (timed on ts T) at a d) (g .n))) (g .n) ≤ count (marked on) (g .n)
 in-group-le g on ts T at a d B =
     let e = count-flags (sentList g (timed on ts T) at a d) (g .n) (B .servers-high) in
     let l =
-    count-le-count (sentList g (timed on ts T) at a d) (marked on) (g .n)
-    (λ j h. sent-flagged g on ts T at a d j (omega (arith, h, B .servers-high))) in
+    count-mono (sentList g (timed on ts T) at a d) (marked on) (g .n)
+    (λ j h. timed-flagged g on ts T at a d j (omega (arith, h .1, B .servers-high))) in
     omega (arith, e, l)
 
 -- ---- fewer echoes and readies: nothing more hangs on them
@@ -91,8 +76,8 @@ matters-fewer g went complete e r E R h k =
     (fewer-and (leb (quota g + g .t) r) (leb (quota g + g .t) R) (not complete) (leb-fewer (quota g + g .t) r R k))
 
 -- no list is compared: nothing hangs on the e echoes and r readies that were counted
-pub unlisted : (H : List ℕ → List ℕ) (k : Call) (a d b : List ℕ) → Stored (k .params) (k .header .client) (length a) → (T : ℕ) (x : Slot) → x .sequence ≡ k .header .sequence
-    → (q : Outbox) (e r : ℕ)
+pub unlisted : (H : List ℕ → List ℕ) (k : Call) (a d b : List ℕ) → Stored (k .params) (k .header .client) (length a) → (T : ℕ) (x : Slot)
+    → x .sequence ≡ k .header .sequence → (q : Outbox) (e r : ℕ)
     → e ≡ count (marked (x .blocks .echoes)) (k .params .n)
     → r ≡ count (marked (x .blocks .readies)) (k .params .n)
     → mattersBy (k .params) (x .blocks .ready) (x .blocks .complete) e r ≡ false
@@ -103,6 +88,6 @@ unlisted H k a d b S T x o q e r u w h =
     let B = S .bounded in
     let c = k .header .client in
     let v = votersOf g a c (x .blocks) T d in
-    let i : v .echoed ≤ e = rw u (in-group-le g (x .blocks .echoes) (x .blocks .echoed) T (placesFrom (21 * c - 20)) a d B) in
-    let j : v .readied ≤ r = rw w (in-group-le g (x .blocks .readies) (x .blocks .readied) T (placesFrom (21 * c - 10)) a d B) in
+    let i : v .echoed ≤ e = rw u (in-group-le g (x .blocks .echoes) (x .blocks .echoed) T (placesFrom (echoesFrom c)) a d B) in
+    let j : v .readied ≤ r = rw w (in-group-le g (x .blocks .readies) (x .blocks .readied) T (placesFrom (readiesFrom c)) a d B) in
     skipped H k a d b S T x o q v refl (matters-fewer g (x .blocks .ready) (x .blocks .complete) (v .echoed) (v .readied) e r i j h)

@@ -1,7 +1,6 @@
 -- Room for the frames of a write, and what is left after them. Assumes nothing.
 use Prim.Native.Nat.{ℕ, _+_, _≤_}
 use native.Mathlib.Omega.{arith}
-use native.Mathlib.Nat.{mul-le-mul-left}
 use mathlib.Core.Path.{_≡_, ap, _∙_}
 use mathlib.Core.Bool.{Bool, true}
 use mathlib.Core.List.{List, []}
@@ -17,7 +16,8 @@ use Rattle.frame.specs.Frames.{kindOf, offerBytes, bodyBytes, build}
 use Rattle.frame.proofs.RoundTrip.{length-frame, length-offer}
 use Rattle.frame.proofs.Chunks.{length-store}
 use Rattle.frame.proofs.Sizes.{small}
-use Rattle.server.proofs.Sending.{room-fewer, room-smaller, all-room}
+use Rattle.frame.proofs.Rooms.{room-within}
+use Rattle.server.proofs.Sending.{all-room}
 use Rattle.server_blocks.specs.Stage.{Carried}
 
 -- room for an offer to all servers
@@ -25,8 +25,7 @@ pub offer-room : (g : Params) (p : Place) (k d b out to : ℕ) → Carried g d b
 unfolding largestFrame
 offer-room g p k d b out to C R =
     let h : 17 + (d + b) ≤ largestFrame g = omega (arith, C .list-is, C .block-is) in
-    room-smaller p (g .n) (17 + (d + b)) (largestFrame g) out to (mul-le-mul-left (g .n) h)
-    (room-fewer p (g .n + k) (g .n) (largestFrame g) out to (omega arith) R)
+    room-within p (g .n + k) (g .n) (largestFrame g) (17 + (d + b)) out to (omega arith) h R
 
 -- an entry fits into its chunk
 pub entry-fits : (g : Params) (d b : ℕ) → Bounded g → Carried g d b → (d ≤ 320) × (b ≤ 256)
@@ -40,7 +39,7 @@ whole-after a a′ p e k h = let n = ap length k ∙ length-store a p e in omega
 
 -- no frames were sent: there is room for those of an acceptance
 pub room-before : (g : Params) (out to : ℕ) → Room firstPlace (g .n + 9) (largestFrame g) out to → Room firstPlace 9 (largestFrame g) out to
-room-before g out to R = room-fewer firstPlace (g .n + 9) 9 (largestFrame g) out to (omega arith) R
+room-before g out to R = room-within firstPlace (g .n + 9) 9 (largestFrame g) (largestFrame g) out to (omega arith) (omega arith) R
 
 -- an offer went to all, where it was due: there still is
 module _ (g : Params) (o₀ t₀ : List ℕ) (R : Room firstPlace (g .n + 9) (largestFrame g) (length o₀) (length t₀)) (c q : ℕ) (z : Stage) (T : ℕ) (d b : List ℕ)

@@ -9,9 +9,7 @@ use Rattle.area.specs.Area.{pick}
 use Rattle.blocks.specs.declared.Params.{Params}
 use Rattle.sha256.specs.Hash.{digestOf}
 use Rattle.frame.specs.declared.Verdict.{Verdict}
-use Rattle.frame.specs.declared.Verdict.the-variants as J
-use Rattle.frame.specs.declared.Refusal.the-variants as R
-use Rattle.frame.specs.Refusals.{andThen}
+use Rattle.frame.specs.Refusals.{andThen, refused}
 use Rattle.frame.specs.Params.{Bounded, width, listed, largestFrame}
 use Rattle.frame.specs.Messages.{Entry, entry, Offer, offer, Stage, echo, ready, message, Sending, toAll, blockIs, numberIn, fromServer}
 use Rattle.frame.specs.Outbox.{outbox, firstPlace, Room}
@@ -70,7 +68,7 @@ verdictOf k x z o = sentBy k (blockIs z o) (blockTest digestOf (k .params) (k .m
 -- the same of the owner's frame, whose time is tested against nothing
 unfoldable pub sendVerdict : Call → Slot → Entry → Verdict
 sendVerdict k x e =
-    pick (fromOwner (k .from) (k .header .client)) (andThen (openTest x (k .header .sequence) (x .blocks .sent)) (fitTest digestOf e (k .me))) (J.Bad R.Sender)
+    pick (fromOwner (k .from) (k .header .client)) (andThen (openTest x (k .header .sequence) (x .blocks .sent)) (fitTest digestOf e (k .me))) (refused 11)
 
 -- whether the sender's echo or ready was counted already
 unfoldable pub votedBefore : Call → Slot → Bool
@@ -80,7 +78,7 @@ votedBefore k x = getD (pick (eqb (k .header .kind) 4) (x .blocks .echoes) (x .b
 unfoldable pub voteVerdict : Call → Slot → Entry → Verdict
 voteVerdict k x e =
     pick (fromServer (k .params) (k .from)) (andThen (openTest x (k .header .sequence) (votedBefore k x)) (fitTest digestOf e (numberIn (k .from))))
-    (J.Bad R.Sender)
+    (refused 11)
 
 -- ---- what they leave
 

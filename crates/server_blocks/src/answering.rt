@@ -5,6 +5,8 @@ use frame::Broadcast;
 use frame::Place;
 use frame::WriteTime;
 use frame::entries::put_entry;
+use frame::layout::CLIENT_CHUNKS;
+use frame::layout::ECHOES_BACK;
 use frame::send::block_all;
 use server::Call;
 use server::Moved;
@@ -47,7 +49,7 @@ fn complete_if(test: bool, area: &mut [u8], c: u8, list: &[u8], block: &[u8])
     ensures { λ _. ⌜ now (area .exit) ≡ storeIf test (now (area .entry)) (completeAt c) (entry (now (list .entry)) (now (block .entry))) ⌝ }
 {
     if test {
-        let p = 21 * (c as usize) - 20;
+        let p = CLIENT_CHUNKS * (c as usize) - ECHOES_BACK;
         put_entry(area, p, list, block);
     }
 }

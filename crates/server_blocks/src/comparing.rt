@@ -4,6 +4,9 @@ use crate::Voters;
 use blocks::Params;
 use blocks::encoder::encode_block;
 use frame::bounds::quota;
+use frame::layout::CLIENT_CHUNKS;
+use frame::layout::ECHOES_BACK;
+use frame::layout::READIES_BACK;
 use group::decoding::regain;
 use group::digesting::agrees;
 use group::matching::places;
@@ -25,11 +28,11 @@ fn chosen_group(g: Params, v: Voters, c: u8) -> Group
     let i = c as usize;
     if quota(g) <= v.readied {
         let on = v.readies;
-        let at = places(21 * i - 10);
+        let at = places(CLIENT_CHUNKS * i - READIES_BACK);
         return Group { on, at };
     }
     let on = v.echoes;
-    let at = places(21 * i - 20);
+    let at = places(CLIENT_CHUNKS * i - ECHOES_BACK);
     Group { on, at }
 }
 

@@ -7,6 +7,9 @@ use frame::Refusal;
 use frame::Verdict;
 use frame::WriteTime;
 use frame::entries::put_entry;
+use frame::layout::CLIENT_CHUNKS;
+use frame::layout::ECHOES_BACK;
+use frame::layout::READIES_BACK;
 use frame::parties::number_in;
 use frame::send::block_all;
 use group::fitting::block_fits;
@@ -144,9 +147,9 @@ fn votes_from(echo: bool, c: u8) -> usize
 {
     let i = c as usize;
     if echo {
-        return 21 * i - 20;
+        return CLIENT_CHUNKS * i - ECHOES_BACK;
     }
-    21 * i - 10
+    CLIENT_CHUNKS * i - READIES_BACK
 }
 
 // 4 and 5: a server's echo or ready, kept.

@@ -3,6 +3,9 @@ use crate::Due;
 use crate::Voters;
 use blocks::Params;
 use frame::bounds::quota;
+use frame::layout::CLIENT_CHUNKS;
+use frame::layout::ECHOES_BACK;
+use frame::layout::READIES_BACK;
 use group::matching::at_time;
 use group::matching::matching;
 use group::matching::places;
@@ -44,10 +47,26 @@ pub fn voters_of(g: Params, b: BlockPart, c: u8, time: u64, area: &[u8], list: &
     let i = c as usize;
     let on = b.echoes;
     let times = b.echoed;
-    let echoes = in_group(g, on, times, time, 21 * i - 20, area, list);
+    let echoes = in_group(
+        g,
+        on,
+        times,
+        time,
+        CLIENT_CHUNKS * i - ECHOES_BACK,
+        area,
+        list,
+    );
     let on = b.readies;
     let times = b.readied;
-    let readies = in_group(g, on, times, time, 21 * i - 10, area, list);
+    let readies = in_group(
+        g,
+        on,
+        times,
+        time,
+        CLIENT_CHUNKS * i - READIES_BACK,
+        area,
+        list,
+    );
     let echoed = tally(echoes, g.n);
     let readied = tally(readies, g.n);
     Voters {

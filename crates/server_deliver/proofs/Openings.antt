@@ -34,13 +34,13 @@ use Rattle.server_rules.specs.Delivery.{Outcome, outcome, effectBy, delivered, 
 use Rattle.server.specs.declared.Call.{Call}
 use Rattle.server.specs.declared.Taken.{Taken}
 use Rattle.server.specs.Stages.{outcomeIn, stepped, answered}
-use Rattle.server_deliver.specs.Handed.{Handed, refusalIn, admitted, stepFor}
+use Rattle.server_deliver.specs.Handed.{Handed, admitted, stepFor}
 
 -- ---- the tests one after the other: p says what 1 to 3 find, t what 4 to 9 and v what 10
 
 bad-opened : (v : Verdict) (h : Header) (r : Refusal) → openedBy v h ≡ O.Refused r → v ≡ J.Bad r
 bad-opened J.Fine h r e = impossible (cc e)
-bad-opened (J.Bad s) h r e = ap J.Bad (ap refusalIn e)
+bad-opened (J.Bad s) h r e = let q : s ≡ r = cc in ap J.Bad q
 
 module _ (g : Params) (me : ℕ) (f : List ℕ) (area initial out to : ℕ) where
   all-said : (p t v : Verdict) → p ≡ paramsTest g me (g .n) → t ≡ frameTest g f → v ≡ roomTest g area initial out to
@@ -190,12 +190,11 @@ module _ (H : List ℕ → List ℕ) (g : Params) (me : ℕ) (s : Server) (a ini
   answered-by J.Fine m = refl
 
   -- 1 to 10: nothing is changed
-  pub refused-delivery : (q : Opened) (r r′ : Refusal) → q ≡ admitted g me f (length a) (length initial) (length out) (length to)
-      → q ≡ O.Refused r → r′ ≡ refusalIn q → outcome (record { reply = Y.Refused r′; server = s }) a out to ≡ delivery H g me s a initial from f out to
+  pub refused-delivery : (q : Opened) (r : Refusal) → q ≡ admitted g me f (length a) (length initial) (length out) (length to)
+      → q ≡ O.Refused r → outcome (record { reply = Y.Refused r; server = s }) a out to ≡ delivery H g me s a initial from f out to
   unfolding admitted
-  refused-delivery q r r′ e p i =
-      ap (λ (z : Refusal). outcome (record { reply = Y.Refused z; server = s }) a out to) (i ∙ ap refusalIn p)
-      ∙ refused-by r
+  refused-delivery q r e p =
+      refused-by r
       ∙ delivery-by (J.Bad r) (bad-opened before (headerIn f) r (sym e ∙ p))
 
   -- 11 to 14, and the step

@@ -7,9 +7,6 @@ use mathlib.Core.Bool.{false}
 use Rattle.blocks.specs.declared.Params.{Params}
 use Rattle.sha256.specs.Hash.{digestOf}
 use Rattle.frame.specs.declared.Opened.{Opened}
-use Rattle.frame.specs.declared.Opened.the-variants as O
-use Rattle.frame.specs.declared.Refusal.{Refusal}
-use Rattle.frame.specs.declared.Refusal.the-variants as R
 use Rattle.frame.specs.Refusals.{andThen}
 use Rattle.frame.specs.declared.Place.{Place}
 use Rattle.frame.specs.declared.Verdict.{Verdict}
@@ -35,11 +32,6 @@ use Rattle.server.specs.Stages.{slotIn, Holds, outcomeIn, answered, Lent}
 unfoldable pub admitted : Params → ℕ → List ℕ → ℕ → ℕ → ℕ → ℕ → Opened
 admitted g me f area initial out to =
     openedBy (andThen (paramsTest g me (g .n)) (andThen (frameTest g f) (roomTest g area initial out to))) (headerIn f)
-
--- why a frame was not let in; of one that was it is not asked
-abbrev pub refusalIn : Opened → Refusal
-refusalIn (O.Frame h) = R.Framing
-refusalIn (O.Refused r) = r
 
 -- ---- 11 to 14, and the step
 

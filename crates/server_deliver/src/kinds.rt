@@ -11,7 +11,7 @@ use server::asking::on_get_stamp;
 use server::asking::on_read;
 use server::asking::on_read_complete;
 use server::replies::taken;
-use server::state::with_slot;
+use server::state::slot_in;
 use server_accept::accept;
 use server_accept::is_ripe;
 use server_blocks::storing::on_block_send;
@@ -19,6 +19,7 @@ use server_blocks::storing::on_block_vote;
 use server_rules::Reader;
 use server_rules::Reply;
 use server_rules::Scope;
+use server_rules::Server;
 use server_rules::Slot;
 ghost use Prim.Native.Nat.{ℕ, _≤_, _<_};
 ghost use mathlib.Core.Path.{_≡_};
@@ -44,7 +45,7 @@ fn stored(s: Scope, n: Counted) -> Taken
     }
     let slot = n.slot;
     let place = n.place;
-    let y = with_slot(s, slot);
+    let y = slot_in(s, slot);
     taken(y, place)
 }
 
@@ -90,7 +91,7 @@ fn count_vote(x: Slot, k: Call, f: &[u8], area: &mut [u8], out: &mut [u8], to: &
 // Counted; then the write is accepted if it can be.
 fn step_of_vote(
     s: Scope,
-    readers: [Reader; 9],
+    readers: [Reader; Server::PLACES],
     k: Call,
     f: &[u8],
     area: &mut [u8],
@@ -114,7 +115,7 @@ fn step_of_vote(
     }
     let slot = n.slot;
     let place = n.place;
-    let y = with_slot(s, slot);
+    let y = slot_in(s, slot);
     if !is_ripe(slot) {
         return taken(y, place);
     }
@@ -129,7 +130,7 @@ fn step_of_vote(
 // Kinds 3 to 5, of a write.
 fn step_of_write(
     s: Scope,
-    readers: [Reader; 9],
+    readers: [Reader; Server::PLACES],
     k: Call,
     f: &[u8],
     area: &mut [u8],
@@ -150,7 +151,7 @@ fn step_of_write(
 // Kinds 1 to 5 and 9 to 12; 2, 9 and 11 do not go to servers.
 pub fn step_of_kind(
     s: Scope,
-    readers: [Reader; 9],
+    readers: [Reader; Server::PLACES],
     k: Call,
     f: &[u8],
     area: &mut [u8],

@@ -3,7 +3,6 @@ use crate::kinds::step_of_kind;
 use blocks::Params;
 use frame::Opened;
 use frame::Party;
-use frame::Refusal;
 use frame::Verdict;
 use frame::bounds::params_test;
 use frame::opener::open_frame;
@@ -17,19 +16,9 @@ use server_rules::Server;
 ghost use mathlib.Core.Path.{_≡_};
 ghost use Rattle.sha256.specs.Hash.{digestOf};
 ghost use Rattle.server_rules.specs.Delivery.{outcome, delivery};
-ghost use Rattle.server_deliver.specs.Handed.{refusalIn, admitted};
+ghost use Rattle.server_deliver.specs.Handed.{admitted};
 
 pub mod kinds;
-
-// Why a frame was not let in; of one that was it is not asked.
-pub fn refusal(o: Opened) -> Refusal
-    ensures { λ r. ⌜ r ≡ refusalIn o ⌝ }
-{
-    match o {
-        Opened::Frame(_) => Refusal::Framing,
-        Opened::Refused(r) => r,
-    }
-}
 
 // 1 to 10, for which no state is looked at; of the lent areas only the lengths count.
 pub fn admit(
@@ -74,25 +63,26 @@ pub fn deliver(
         ≡ delivery digestOf g me s (now (area .entry)) (now (initial .entry)) from (now (f .entry)) (now (out .entry)) (now (to .entry)) ⌝ }
 {
     let opened = admit(g, me, f, area.len(), initial.len(), out.len(), to.len());
-    let Opened::Frame(header) = opened else {
-        let r = refusal(opened);
-        return Served {
+    match opened {
+        Opened::Refused(r) => Served {
             reply: Reply::Refused(r),
             server: s,
-        };
-    };
-    let c = header.client as usize;
-    let x = scope_of(s, c);
-    let readers = s.readers;
-    let k = Call {
-        params: g,
-        me,
-        from,
-        header,
-    };
-    let done = step_of_kind(x, readers, k, f, area, initial, out, to);
-    let reply = done.reply;
-    let scope = done.scope;
-    let server = with_scope(s, c, scope);
-    Served { reply, server }
+        },
+        Opened::Frame(header) => {
+            let c = header.client as usize;
+            let x = scope_of(s, c);
+            let readers = s.readers;
+            let k = Call {
+                params: g,
+                me,
+                from,
+                header,
+            };
+            let done = step_of_kind(x, readers, k, f, area, initial, out, to);
+            let reply = done.reply;
+            let scope = done.scope;
+            let server = with_scope(s, c, scope);
+            Served { reply, server }
+        }
+    }
 }

@@ -71,7 +71,8 @@ tell-mem rs x e c (suc m) y u = go (tell-mem rs x e (suc c) m y) (readerAt rs c 
 
     go : (List·Memᴰ y (S.tellFrom rs x e (suc c) m) → (d : ℕ) × (suc c ≤ d) × (d < suc c + m) × Told rs x e d y)
         → (b : Bool) → (readerAt rs c .listening && older (readerAt rs c .noted) x) ≡ b
-        → List·Memᴰ y (pick b (sending (P.Client c) (message c (readerAt rs c .sequence) (valueIs x e)) ∷ S.tellFrom rs x e (suc c) m) (S.tellFrom rs x e (suc c) m))
+        → List·Memᴰ y (pick b (sending (P.Client c) (message c (readerAt rs c .sequence) (valueIs x e)) ∷ S.tellFrom rs x e (suc c) m)
+        (S.tellFrom rs x e (suc c) m))
         → (d : ℕ) × (c ≤ d) × (d < c + suc m) × Told rs x e d y
     go f true q v = ⊎-elim
         (λ w. let h = and-split (readerAt rs c .listening) (older (readerAt rs c .noted) x) q in
@@ -81,17 +82,18 @@ tell-mem rs x e c (suc m) y u = go (tell-mem rs x e (suc c) m y) (readerAt rs c 
     go f false q v = later (f v)
 
 -- each of clients c to c + m - 1 that listens, with a smaller noted stamp, is told
-pub tell-all : (rs : List Reader) (x : Stamp) (e : Entry) (c m d : ℕ) → c ≤ d → d < c + m → readerAt rs d .listening ≡ true → older (readerAt rs d .noted) x ≡ true
-    → List·Memᴰ (sending (P.Client d) (message d (readerAt rs d .sequence) (valueIs x e))) (S.tellFrom rs x e c m)
+pub tell-all : (rs : List Reader) (x : Stamp) (e : Entry) (c m d : ℕ) → c ≤ d → d < c + m → readerAt rs d .listening ≡ true
+    → older (readerAt rs d .noted) x ≡ true → List·Memᴰ (sending (P.Client d) (message d (readerAt rs d .sequence) (valueIs x e))) (S.tellFrom rs x e c m)
 unfolding S.tellFrom pick
 tell-all rs x e c zero d l h u v = absurd (omega (arith, l, h))
-tell-all rs x e c (suc m) d l h u v = go (λ k. tell-all rs x e (suc c) m d k (omega (arith, h)) u v) (readerAt rs c .listening && older (readerAt rs c .noted) x) refl (ℕ-discrete d c)
+tell-all rs x e c (suc m) d l h u v =
+    go (λ k. tell-all rs x e (suc c) m d k (omega (arith, h)) u v) (readerAt rs c .listening && older (readerAt rs c .noted) x) refl (ℕ-discrete d c)
   where
     word : ℕ → Sending
     word c = sending (P.Client c) (message c (readerAt rs c .sequence) (valueIs x e))
 
-    go : (suc c ≤ d → List·Memᴰ (word d) (S.tellFrom rs x e (suc c) m)) → (b : Bool) → (readerAt rs c .listening && older (readerAt rs c .noted) x) ≡ b → Dec (d ≡ c)
-        → List·Memᴰ (word d) (pick b (word c ∷ S.tellFrom rs x e (suc c) m) (S.tellFrom rs x e (suc c) m))
+    go : (suc c ≤ d → List·Memᴰ (word d) (S.tellFrom rs x e (suc c) m)) → (b : Bool) → (readerAt rs c .listening && older (readerAt rs c .noted) x) ≡ b
+        → Dec (d ≡ c) → List·Memᴰ (word d) (pick b (word c ∷ S.tellFrom rs x e (suc c) m) (S.tellFrom rs x e (suc c) m))
     go f true q (yes k) = List·Memᴰ·head (ap word k)
     go f true q (no k) = List·Memᴰ·tail (f (omega (arith, l, k)))
     go f false q (yes k) =
@@ -105,7 +107,8 @@ tell-length rs x e c zero = omega arith
 tell-length rs x e c (suc m) = go (tell-length rs x e (suc c) m) (readerAt rs c .listening && older (readerAt rs c .noted) x)
   where
     go : length (S.tellFrom rs x e (suc c) m) ≤ m → (b : Bool)
-        → length (pick b (sending (P.Client c) (message c (readerAt rs c .sequence) (valueIs x e)) ∷ S.tellFrom rs x e (suc c) m) (S.tellFrom rs x e (suc c) m)) ≤ suc m
+        → length (pick b (sending (P.Client c) (message c (readerAt rs c .sequence) (valueIs x e)) ∷ S.tellFrom rs x e (suc c) m) (S.tellFrom rs x e (suc c) m))
+        ≤ suc m
     go h true = omega (arith, h)
     go h false = omega (arith, h)
 

@@ -3,12 +3,12 @@ use Prim.Native.Nat.{ℕ, zero, suc, _+_, _≤_, _<_}
 use native.Mathlib.Omega.{arith}
 use native.Mathlib.Decide.{ℕ-discrete}
 use mathlib.Core.Path.{_≡_, refl, ap}
-use mathlib.Core.Logic.{⊎-elim}
-use mathlib.Core.List.{_∷_, List·Memᴰ, List·Memᴰ·head, List·Memᴰ·tail, List·Memᴰ·not-nil, List·Memᴰ·cases-cons}
+use mathlib.Core.List.{_∷_, List·Memᴰ, List·Memᴰ·head, List·Memᴰ·tail}
 use lib.ListN.{length}
 use Rattle.blocks.specs.declared.Params.{Params}
 use Rattle.frame.specs.declared.Party.the-variants as P
-use Rattle.frame.specs.Messages.{Body, getStamp, ack, askRead, readComplete, stampIs, blockIs, valueIs, Message, Sending, sending, toFrom, toAll}
+use Rattle.frame.specs.Messages.{Body, getStamp, ack, askRead, readComplete, stampIs, blockIs, valueIs, Message, sending, toFrom, toAll}
+pub use Rattle.frame.proofs.PartyLaws.{mem-all}
 
 -- a frame of a write's broadcast
 abbrev pub IsCast : Body → Type 0
@@ -20,12 +20,7 @@ IsCast (stampIs T) = ⊥
 IsCast (blockIs z o) = Unit {0}
 IsCast (valueIs x e) = ⊥
 
-pub mem-all : (f : ℕ → Message) (j m : ℕ) (x : Sending) → List·Memᴰ x (toFrom f j m) → (i : ℕ) × (x .says ≡ f i)
-unfolding toFrom
-mem-all f j zero x u = absurd (List·Memᴰ·not-nil u)
-mem-all f j (suc m) x u = ⊎-elim (λ e. (j, ap (λ y. y .says) e)) (λ w. mem-all f (suc j) m x w) (List·Memᴰ·cases-cons u)
-
--- each of them gets its own
+-- each server gets its own
 pub all-mem : (f : ℕ → Message) (j m i : ℕ) → j ≤ i → i < j + m → List·Memᴰ (sending (P.Server i) (f i)) (toFrom f j m)
 unfolding toFrom
 all-mem f j zero i l h = absurd (omega arith)

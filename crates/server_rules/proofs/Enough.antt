@@ -1,5 +1,6 @@
--- What is enough, so that nobody waits for a false server (request F-6): n - t echoes or q readies for a ready, n - t readies for the completion, the owner's block
--- for an echo; and 13 is answered above the open write only. An edit by which a server waits for more is refused here. Assumes nothing.
+-- What is enough, so that nobody waits for a false server (request F-6): n - t echoes or q readies for a ready, n - t readies for the completion, the owner's
+-- block for an echo; a completion leaves enough for the others; and 13 is answered above the open write only. An edit by which a server may wait in vain is
+-- refused here. Assumes nothing.
 use Prim.Native.Nat.{ℕ, _+_, _≤_, _<_}
 use native.Mathlib.Omega.{arith}
 use mathlib.Core.Bool.{Bool, true, false, not, _&&_, _||_}
@@ -9,7 +10,7 @@ use mathlib.Core.List.{List, List·Memᴰ}
 use lib.Dec.{leb, ltb, eqb}
 use borrow.Author.Tests.{le-leb, ltb-true}
 use Rattle.quorum.specs.Quorum.{Among}
-use Rattle.quorum.proofs.Logic.{impossible, and-true, or-right}
+use Rattle.quorum.proofs.Logic.{impossible, and-true, or-left, or-right}
 use Rattle.area.specs.Area.{pick}
 use Rattle.blocks.specs.declared.Params.{Params}
 use Rattle.frame.specs.declared.Party.{Party}
@@ -19,7 +20,8 @@ use Rattle.frame.specs.declared.Refusal.the-variants as R
 use Rattle.frame.specs.declared.Verdict.the-variants as J
 use Rattle.frame.specs.Refusals.{andThen}
 use Rattle.frame.specs.Params.{quota, Bounded}
-use Rattle.frame.specs.Messages.{Entry, Offer, send, echo, Body, getStamp, ack, askRead, readComplete, stampIs, blockIs, valueIs, Message, message, sending, toAll, numberIn}
+use Rattle.frame.specs.Messages.{Entry, Offer, send, echo, Body, getStamp, ack, askRead, readComplete}
+use Rattle.frame.specs.Messages.{stampIs, blockIs, valueIs, Message, message, sending, toAll, numberIn}
 use Rattle.group_rules.specs.Coded.{fits}
 use Rattle.server_rules.specs.declared.Slot.{Slot}
 use Rattle.server_rules.specs.declared.Reader.{Reader}
@@ -32,10 +34,6 @@ use Rattle.server_rules.specs.Tests as ST
 use Rattle.server_rules.proofs.Casts.{all-mem}
 
 -- ---- frames of a write
-
-or-left : (a b : Bool) → a ≡ true → (a || b) ≡ true
-or-left true b e = refl
-or-left false b e = impossible (cc e)
 
 -- n - t echoes, or the few readies, bring forth a ready, if none went out and the payload is supported
 pub due-of : {P : Type 0} (R : Rules P) (n t : ℕ) (w : Part P) (x : P) → w .ready ≡ false
@@ -52,6 +50,10 @@ module _ (H : List ℕ → List ℕ) (g : Params) where
   all-reached : Bounded g → blockRules H g .all + g .t ≤ g .n
   unfolding quota
   all-reached L = omega (arith, L .faults-high, L .blocks-high)
+
+  -- of the readies that complete a write, those that bring forth a ready are of honest servers
+  pub few-honest : blockRules H g .few + g .t ≤ blockRules H g .all
+  few-honest = omega arith
 
   -- n - t readies complete a write
   pub full-of : Bounded g → (w : Part Offer) (o : Offer) → g .n ≤ votes (blockRules H g) (g .n) (g .t) (w .readies) o + g .t

@@ -11,6 +11,7 @@ use lib.ListN.{length, drop, length-drop}
 use lib.Seq.{getD-set-same, getD-set-other, length-take-le}
 use Rattle.quorum.specs.Quorum.{Among}
 use Rattle.area.specs.Area.{pick}
+use Rattle.area.proofs.Tests.{not-true}
 use Rattle.blocks.specs.declared.Params.{Params}
 use Rattle.frame.specs.Chunks.{entryAt, storeIf, presentAt, completeAt, areaBytes}
 use Rattle.frame.specs.Messages.{Offer, offer, Sending, Sized}
@@ -122,17 +123,13 @@ module _ {g : Params} {s : Server} {a : List ℕ} {c : ℕ} where
   freed-stamp nothing = (inl refl, λ w u. absurd (List·Memᴰ·not-nil u))
   freed-stamp (accepts k e R) = go (older (s .stamp) (S.stampOf k)) refl
     where
-      never : (b : Bool) → (b ≡ true → ⊥) → b ≡ false
-      never true f = absurd (f refl)
-      never false f = refl
-
       go : (b : Bool) → older (s .stamp) (S.stampOf k) ≡ b
           → ((pick b (S.stampOf k) (s .stamp) ≡ s .stamp) ⊎ (older (s .stamp) (pick b (S.stampOf k) (s .stamp)) ≡ true))
           × ((w : S.Write) → List·Memᴰ w (k ∷ []) → older (pick b (S.stampOf k) (s .stamp)) (S.stampOf w) ≡ false)
       go true e = (
         inr e,
         λ w u. ap (λ w. older (S.stampOf k) (S.stampOf w)) (List·Memᴰ·eq-of-singleton u)
-            ∙ never _ (stamps-ordered .irreflexive (S.stampOf k)),
+            ∙ not-true _ (stamps-ordered .irreflexive (S.stampOf k)),
       )
       go false e = (inl refl, λ w u. ap (λ w. older (s .stamp) (S.stampOf w)) (List·Memᴰ·eq-of-singleton u) ∙ e)
 

@@ -11,6 +11,7 @@ use borrow.Author.Tests.{eqb-true}
 use Rattle.quorum.specs.Quorum.{Among}
 use Rattle.quorum.proofs.Logic.{impossible}
 use Rattle.area.specs.Area.{pick}
+use Rattle.area.proofs.Tests.{by-pick}
 use Rattle.blocks.specs.declared.Params.{Params}
 use Rattle.frame.specs.declared.Party.{Party}
 use Rattle.frame.specs.declared.Header.{Header}
@@ -35,11 +36,6 @@ use Rattle.server_rules.proofs.Within.{Grants, step-within}
 
 -- ---- opening
 
-pub by-pick {ℓ} : {A : Type 0} (Q : A → Type ℓ) (b : Bool) (x y : A) → (b ≡ true → Q x) → Q y → Q (pick b x y)
-unfolding pick
-by-pick Q true x y f q = f refl
-by-pick Q false x y f q = q
-
 pub entry-in : (g : Params) (f : List ℕ) (i : ℕ) → i + (listed g + width g) ≤ length f → Sized g (entryIn g f i)
 entry-in g f i h = record {
   list-is = length-take-le (listed g) (drop i f) (rw length-drop (omega arith));
@@ -53,14 +49,14 @@ pub body-sized : (g : Params) (f : List ℕ) (k : ℕ) → length f ≡ 9 + body
 unfolding bodyIn bodyLength lengthOf pick
 body-sized g f k l =
     by-pick (SizedIn g) (eqb k 1) _ _ (λ q. tt)
-    (by-pick (SizedIn g) (eqb k 2) _ _ (λ q. tt)
-    (by-pick (SizedIn g) (eqb k 3) _ _ (λ q. offered 3 refl q)
-    (by-pick (SizedIn g) (eqb k 4) _ _ (λ q. offered 4 refl q)
-    (by-pick (SizedIn g) (eqb k 5) _ _ (λ q. offered 5 refl q)
-    (by-pick (SizedIn g) (eqb k 9) _ _ (λ q. tt)
-    (by-pick (SizedIn g) (eqb k 10) _ _ (λ q. tt)
-    (by-pick (SizedIn g) (eqb k 11) _ _ (λ q. entry-in g f 22 (let h = long g f k 11 (13 + (listed g + width g)) l refl q in omega (arith, h)))
-    tt)))))))
+    (λ u. by-pick (SizedIn g) (eqb k 2) _ _ (λ q. tt)
+    (λ u. by-pick (SizedIn g) (eqb k 3) _ _ (λ q. offered 3 refl q)
+    (λ u. by-pick (SizedIn g) (eqb k 4) _ _ (λ q. offered 4 refl q)
+    (λ u. by-pick (SizedIn g) (eqb k 5) _ _ (λ q. offered 5 refl q)
+    (λ u. by-pick (SizedIn g) (eqb k 9) _ _ (λ q. tt)
+    (λ u. by-pick (SizedIn g) (eqb k 10) _ _ (λ q. tt)
+    (λ u. by-pick (SizedIn g) (eqb k 11) _ _ (λ q. entry-in g f 22 (let h = long g f k 11 (13 + (listed g + width g)) l refl q in omega (arith, h)))
+    (λ u. tt))))))))
   where
     offered : (k′ : ℕ) → bodyLength g k′ ≡ 8 + (listed g + width g) → eqb k k′ ≡ true → Sized g (entryIn g f offerAt)
     offered k′ e q = entry-in g f offerAt (let h = long g f k k′ (8 + (listed g + width g)) l e q in omega (arith, h))

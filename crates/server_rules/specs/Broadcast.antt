@@ -5,6 +5,7 @@ use mathlib.Core.Bool.{Bool, true, false, not, _&&_, _||_}
 use mathlib.Core.Option.{Option, none, some}
 use lib.Dec.{leb}
 use Rattle.quorum.specs.Quorum.{count}
+pub use Rattle.area.specs.Area.{kept}
 
 -- What a broadcast asks: which payloads are equal, whether the kept ones support a payload, what server i then says itself, how many readies
 -- bring forth a ready, and how many the delivery.
@@ -22,11 +23,6 @@ pub record Part (P : Type 0) : Type 0 where
   pub echoes : ℕ → Option P
   pub readies : ℕ → Option P
   pub done : Option P
-
--- a payload beside its flag
-abbrev pub kept : {P : Type 0} → Bool → P → Option P
-kept true p = some p
-kept false p = none
 
 abbrev pub undone : {P : Type 0} → Option P → Bool
 undone none = true

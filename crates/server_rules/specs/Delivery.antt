@@ -10,9 +10,8 @@ use Rattle.area.specs.Area.{pick}
 use Rattle.blocks.specs.declared.Params.{Params}
 use Rattle.frame.specs.declared.Party.{Party}
 use Rattle.frame.specs.declared.Verdict.{Verdict}
-use Rattle.frame.specs.declared.Refusal.the-variants as R
 use Rattle.frame.specs.declared.Verdict.the-variants as J
-use Rattle.frame.specs.Refusals.{andThen}
+use Rattle.frame.specs.Refusals.{andThen, refused}
 use Rattle.frame.specs.Params.{width, paramsTest}
 use Rattle.frame.specs.Messages.{Judged, bad, good}
 use Rattle.frame.specs.Outbox.{frames, receivers}
@@ -83,9 +82,9 @@ module _ (H : List ℕ → List ℕ) (g : Params) (me : ℕ) where
   unfoldable pub constructTest : List ℕ → ℕ → ℕ → Verdict
   constructTest v area initial =
       andThen (paramsTest g me (g .n))
-      (pick (not (eqb (length v) (g .size))) (J.Bad R.Length)
-      (pick (ltb area areaBytes) (J.Bad R.Room)
-      (pick (ltb initial (width g)) (J.Bad R.Room)
+      (pick (not (eqb (length v) (g .size))) (refused 3)
+      (pick (ltb area areaBytes) (refused 10)
+      (pick (ltb initial (width g)) (refused 10)
       J.Fine)))
 
   unfoldable pub constructBy : Verdict → List ℕ → List ℕ → List ℕ → Constructed

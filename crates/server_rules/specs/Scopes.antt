@@ -1,5 +1,5 @@
--- One client's part of a server: the stamp, and that client's slot and reader. A step whose frame names the client changes nothing else; the exported call reads
--- and writes these bytes of a record alone. These are definitions.
+-- One client's part of a server: the stamp, and that client's slot and reader. A step whose frame names the client changes nothing else; the exported call
+-- reads and writes these bytes of a record alone. These are definitions.
 use Prim.Native.Nat.{ℕ}
 use lib.ListN.{set}
 use Rattle.server_rules.specs.declared.Server.{Server}

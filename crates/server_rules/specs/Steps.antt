@@ -1,5 +1,5 @@
--- What a frame that passes the tests does to a server, by document 01's "Steps": a frame of a write is counted, readies go out, and the write is accepted if it can
--- be. H is the digest, g the parameters, me the server's number, s the server, a its state area, c the client that the frame names. These are definitions.
+-- What a frame that passes the tests does to a server, by document 01's "Steps": a frame of a write is counted, readies go out, and the write is accepted if it
+-- can be. H is the digest, g the parameters, me the server's number, s the server, a its state area, c the client that the frame names. These are definitions.
 use Prim.Native.Nat.{ℕ, zero, suc, _+_}
 use mathlib.Core.Bool.{Bool, true, false, not, _&&_}
 use mathlib.Core.Option.{Option, none, some}

@@ -11,10 +11,9 @@ use Rattle.frame.specs.declared.Party.{Party}
 use Rattle.frame.specs.declared.Verdict.{Verdict}
 use Rattle.frame.specs.declared.Opened.{Opened}
 use Rattle.frame.specs.declared.Party.the-variants as P
-use Rattle.frame.specs.declared.Refusal.the-variants as R
 use Rattle.frame.specs.declared.Verdict.the-variants as J
 use Rattle.frame.specs.declared.Opened.the-variants as O
-use Rattle.frame.specs.Refusals.{andThen}
+use Rattle.frame.specs.Refusals.{andThen, refused}
 use Rattle.frame.specs.Params.{width, serverFrames, outRoom, toRoom, paramsTest}
 use Rattle.frame.specs.Messages.{Entry, Offer, Stage, send, echo, ready, Body, getStamp, ack, askRead, readComplete, stampIs, blockIs, valueIs, Message}
 use Rattle.frame.specs.Messages.{numberIn, fromServer, Judged, bad, judgedBy, after}
@@ -29,10 +28,10 @@ use Rattle.server_rules.specs.State.{slotOf, readerOf}
 -- 10, of the lengths of the lent areas: "frames out need n + 9 largest frames (server) ..; others their full content"
 unfoldable pub roomTest : Params → ℕ → ℕ → ℕ → ℕ → Verdict
 roomTest g area initial out to =
-    pick (ltb area areaBytes) (J.Bad R.Room)
-    (pick (ltb initial (width g)) (J.Bad R.Room)
-    (pick (ltb out (outRoom g (serverFrames g))) (J.Bad R.Room)
-    (pick (ltb to (toRoom (serverFrames g))) (J.Bad R.Room)
+    pick (ltb area areaBytes) (refused 10)
+    (pick (ltb initial (width g)) (refused 10)
+    (pick (ltb out (outRoom g (serverFrames g))) (refused 10)
+    (pick (ltb to (toRoom (serverFrames g))) (refused 10)
     J.Fine)))
 
 -- ---- 11: "sender or receiver not the kind's or, where a client, not the owner; a server not 1 to n"
@@ -70,27 +69,27 @@ counted x j (valueIs s e) = false
 -- of a frame of the write q: 12 where it is old or counted again, 13 where it is "above the open sequence; offer again"
 unfoldable pub openTest : Slot → ℕ → Bool → Verdict
 openTest x q again =
-    pick (ltb q (x .sequence)) (J.Bad R.Stale)
-    (pick (ltb (x .sequence) q) (J.Bad R.Ahead)
-    (pick again (J.Bad R.Stale)
+    pick (ltb q (x .sequence)) (refused 12)
+    (pick (ltb (x .sequence) q) (refused 13)
+    (pick again (refused 12)
     J.Fine))
 
 -- "A read .. below the newest noted or ended, a read equal to it .. is old"
 unfoldable pub readTest : Reader → ℕ → Verdict
-readTest r q = pick (leb q (r .sequence)) (J.Bad R.Stale) J.Fine
+readTest r q = pick (leb q (r .sequence)) (refused 12) J.Fine
 
 -- "A .. read-complete below the newest noted or ended .. or a repeated read-complete is old"
 unfoldable pub doneTest : Reader → ℕ → Verdict
 doneTest r q =
-    pick (ltb q (r .sequence)) (J.Bad R.Stale)
-    (pick (eqb q (r .sequence) && not (r .listening)) (J.Bad R.Stale)
+    pick (ltb q (r .sequence)) (refused 12)
+    (pick (eqb q (r .sequence) && not (r .listening)) (refused 12)
     J.Fine)
 
 -- ---- 12 to 14
 
 -- 14: "block against its digest"
 unfoldable pub fitTest : (List ℕ → List ℕ) → Entry → ℕ → Verdict
-fitTest H e j = pick (fits H e j) J.Fine (J.Bad R.Digest)
+fitTest H e j = pick (fits H e j) J.Fine (refused 14)
 
 -- the place in the digest list of the block that party j sends to server me
 abbrev pub placeIn : ℕ → Stage → ℕ → ℕ
@@ -116,7 +115,7 @@ module _ (H : List ℕ → List ℕ) (g : Params) (me : ℕ) where
   -- 11 to 14
   unfoldable pub messageTest : Server → Party → Message → Verdict
   messageTest s from m =
-      pick (senderRight g from (m .client) (m .body)) (orderTest s (numberIn from) (m .client) (m .sequence) (m .body)) (J.Bad R.Sender)
+      pick (senderRight g from (m .client) (m .body)) (orderTest s (numberIn from) (m .client) (m .sequence) (m .body)) (refused 11)
 
   -- ---- all of them: the lowest number, or what the frame says
 

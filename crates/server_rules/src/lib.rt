@@ -3,6 +3,7 @@ use crate::fresh::fresh_reader;
 use crate::fresh::fresh_slot;
 use frame::Refusal;
 use frame::Stamp;
+use frame::layout;
 use frame::stamps::zero_stamp;
 ghost use mathlib.Core.Path.{_≡_};
 ghost use Rattle.server_rules.specs.State.{freshServer};
@@ -37,14 +38,17 @@ pub struct Reader {
 
 pub struct Server {
     pub stamp: Stamp,
-    pub slots: [Slot; 9],
-    pub readers: [Reader; 9],
+    pub slots: [Slot; Server::PLACES],
+    pub readers: [Reader; Server::PLACES],
 }
 
 impl Server {
-    pub const CLIENTS: usize = 8;
+    pub const CLIENTS: usize = layout::CLIENTS;
 
-    pub const LAST_TIME: u64 = 18446744073709551615;
+    // Slots and readers stand at their client's number; place 0 is nobody's.
+    pub const PLACES: usize = layout::CLIENTS + 1;
+
+    pub const LAST_TIME: u64 = layout::LAST_TIME;
 
     // A fresh server: stamp 0, client 0 and sequence 0; every client's write 1 is open.
     pub fn fresh() -> Server
@@ -53,8 +57,8 @@ impl Server {
         let stamp = zero_stamp();
         let slot = fresh_slot(1);
         let reader = fresh_reader();
-        let slots = [slot; 9];
-        let readers = [reader; 9];
+        let slots = [slot; Server::PLACES];
+        let readers = [reader; Server::PLACES];
         Server {
             stamp,
             slots,

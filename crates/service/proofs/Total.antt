@@ -141,7 +141,8 @@ module _ {K P : Type 0} (Q : Protocol K P) {ks : List K} {C : Type 0} (E : S.End
 
     due-by-readies : (k : ℕ) → Honest k → s ≡ sequence ks k c → ((y : P) × SentReady ks k c (sequence ks k c) y) ⊎ C
     due-by-readies k hk e =
-        let honest : AtLeast n few (λ m. (faultyServer m ≡ false) × SentReady ks m c s x) = honest-part (E .faults) (omega (arith, E .thresholds .reach)) readies in
+        let honest : AtLeast n few (λ m. (faultyServer m ≡ false) × SentReady ks m c s x) =
+        honest-part (E .faults) (omega (arith, E .thresholds .reach)) readies in
         R .ready-of-readies k c x hk backed (at-least-map (λ m is z. kept-ready m k c x (is, z .0) hk (rw (sym e) (z .1))) honest)
 
     spread-step : Spread (rank i c s x u) → Each (λ j. (s < sequence ks j c) ⊎ C)

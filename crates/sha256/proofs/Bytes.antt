@@ -45,7 +45,8 @@ pub eight-words : (s : State) (a r : List ℕ) → a ≡ sets (replicate 32 0) 0
     → r ≡ sets a 16 (fourWords (s .e) (s .f) (s .g) (s .h)) → r ≡ concatenated s
 eight-words s a r p q =
     let e : sets a 16 (fourWords (s .e) (s .f) (s .g) (s .h)) ≡ sets (replicate 32 0) 0 (concatenated s)
-    = rw (p, ← two-halves s) (sets-next (replicate 32 0) 0 (fourWords (s .a) (s .b) (s .c) (s .d)) (fourWords (s .e) (s .f) (s .g) (s .h)) 16 (length-fourWords _ _ _ _)) in
+    = rw (p, ← two-halves s)
+    (sets-next (replicate 32 0) 0 (fourWords (s .a) (s .b) (s .c) (s .d)) (fourWords (s .e) (s .f) (s .g) (s .h)) 16 (length-fourWords _ _ _ _)) in
     q ∙ e ∙ whole (concatenated s) (length-concatenated s)
 
 -- ---- what every digest is

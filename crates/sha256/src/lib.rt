@@ -6,7 +6,8 @@ ghost use lib.ListN.{length};
 ghost use lib.Seq.{sets};
 ghost use Rattle.sha256.specs.Words.{rotr, ch, maj, bigSigma0, bigSigma1, sigma0, sigma1};
 ghost use Rattle.sha256.specs.Constants.{constants, initialHash};
-ghost use Rattle.sha256.specs.Hash.{schedule as scheduleOf, t1, t2, round as roundOf, rounds as roundsOf, added, compressed, hashed, concatenated, digestOf};
+ghost use Rattle.sha256.specs.Hash.{schedule as scheduleOf, t1, t2, round as roundOf, rounds as roundsOf};
+ghost use Rattle.sha256.specs.Hash.{added, compressed, hashed, concatenated, digestOf};
 ghost use Rattle.sha256.specs.Steps.{zeros, laid, four, wordFrom, stored, storedFrom, fourWords};
 
 // The hash value between blocks, and the working variables within one.

@@ -21,7 +21,9 @@ pub fn deliver(
     out: &mut [u8],
     to: &mut [u8],
 ) -> Answer
-    ensures { λ r. ⌜ outcome (record { answer = r; client = now (rec .exit) }) (now (area .exit)) (now (result .exit)) (now (out .exit)) (now (to .exit)) ≡ delivery digestOf g me (now (rec .entry)) (now (area .entry)) (now (value .entry)) from (now (f .entry)) (now (result .entry)) (now (out .entry)) (now (to .entry)) ⌝ }
+    ensures { λ r. ⌜ outcome (record { answer = r; client = now (rec .exit) }) (now (area .exit)) (now (result .exit)) (now (out .exit)) (now (to .exit))
+        ≡ delivery digestOf g me (now (rec .entry)) (now (area .entry)) (now (value .entry)) from (now (f .entry)) (now (result .entry))
+        (now (out .entry)) (now (to .entry)) ⌝ }
 {
     let stepped = client_deliver::deliver(g, me, *rec, value, from, f, area, result, out, to);
     *rec = stepped.client;
@@ -41,7 +43,9 @@ pub fn lend(
     out: &mut [u8],
     to: &mut [u8],
 ) -> Answered
-    ensures { λ r. ⌜ outcome r (now (area .exit)) (now (result .exit)) (now (out .exit)) (now (to .exit)) ≡ delivery digestOf g me s (now (area .entry)) (now (value .entry)) from (now (f .entry)) (now (result .entry)) (now (out .entry)) (now (to .entry)) ⌝ }
+    ensures { λ r. ⌜ outcome r (now (area .exit)) (now (result .exit)) (now (out .exit)) (now (to .exit))
+        ≡ delivery digestOf g me s (now (area .entry)) (now (value .entry)) from (now (f .entry)) (now (result .entry))
+        (now (out .entry)) (now (to .entry)) ⌝ }
 {
     let mut rec = s;
     let answer = deliver(&mut rec, g, me, value, from, f, area, result, out, to);

@@ -66,8 +66,8 @@ module _ (H : List ℕ → List ℕ) (g : Params) (me : ℕ) where
     refused : r ≡ C.quiet s a → Delivered s a v from f r
     taken : (m : Message) → Taken s v from f m → rowsBytes ≤ length a → r ≡ C.effect H g me s a v from m → Delivered s a v from f r
 
-  took-by : (o : Opened) (room : Verdict) (s : Client) (v : List ℕ) (from : Party) (f : List ℕ) (m : Message) → CT.valueTest g s (length v) ≡ J.Fine → opened g f ≡ o
-      → CT.judgeOpened H g me o room s from f ≡ good m → Taken s v from f m
+  took-by : (o : Opened) (room : Verdict) (s : Client) (v : List ℕ) (from : Party) (f : List ℕ) (m : Message) → CT.valueTest g s (length v) ≡ J.Fine
+      → opened g f ≡ o → CT.judgeOpened H g me o room s from f ≡ good m → Taken s v from f m
   unfolding CT.judgeOpened
   took-by (O.Refused r) room s v from f m t p q = impossible (cc)
   took-by (O.Frame h) room s v from f m t p q = go (andThen room (CT.messageTest H g me s from (messageIn g h f))) refl q
@@ -78,12 +78,14 @@ module _ (H : List ℕ → List ℕ) (g : Params) (me : ℕ) where
           let is : messageIn g h f ≡ m = cc in
           record { header = h; opens = p; says = is; passes = subst (λ x. CT.messageTest H g me s from x ≡ J.Fine) is (fine-both room _ e .1); value = t }
 
-  pub took : (s : Client) (a v : List ℕ) (from : Party) (f result out to : List ℕ) (m : Message) → CT.judge H g me s a v from f result out to ≡ good m → Taken s v from f m
+  pub took : (s : Client) (a v : List ℕ) (from : Party) (f result out to : List ℕ) (m : Message) → CT.judge H g me s a v from f result out to ≡ good m
+      → Taken s v from f m
   unfolding CT.judge CT.judgeOpened
   took s a v from f result out to m e = go (andThen (paramsTest g me 8) (CT.valueTest g s (length v))) refl e
     where
       go : (y : Verdict) → andThen (paramsTest g me 8) (CT.valueTest g s (length v)) ≡ y
-          → after y (CT.judgeOpened H g me (opened g f) (CT.roomTest g (length a) (length result) (length out) (length to)) s from f) ≡ good m → Taken s v from f m
+          → after y (CT.judgeOpened H g me (opened g f) (CT.roomTest g (length a) (length result) (length out) (length to)) s from f) ≡ good m
+          → Taken s v from f m
       go J.Fine p e = took-by (opened g f) _ s v from f m (fine-both (paramsTest g me 8) _ p .1) refl e
       go (J.Bad r) p e = impossible (cc)
 
@@ -119,7 +121,8 @@ module _ (H : List ℕ → List ℕ) (g : Params) (me : ℕ) where
           let p₃ = send-room out to (p₂ .1) in
           record { rows-room = ltb-false _ _ (p₁ .0); value-room = ltb-false _ _ (p₂ .0); out-room = p₃ .0; to-room = p₃ .1 }
 
-  pub delivered : (s : Client) (a v : List ℕ) (from : Party) (f result out to : List ℕ) → Delivered s a v from f (CD.delivered H g me s a v from f result out to)
+  pub delivered : (s : Client) (a v : List ℕ) (from : Party) (f result out to : List ℕ)
+      → Delivered s a v from f (CD.delivered H g me s a v from f result out to)
   unfolding CD.delivered CT.answers CT.orderTest CD.effectBy
   delivered s a v from f result out to = go (CT.judge H g me s a v from f result out to) refl
     where
@@ -177,7 +180,8 @@ module _ (H : List ℕ → List ℕ) (g : Params) (me : ℕ) where
     said : (q : ℕ) → 1 ≤ q → q < 4294967296 → (b : Body) → FormedBody g b → Formed g (message me q b)
     said q lo hi b f = record { client-low = is .0; client-high = is .1; sequence-low = lo; sequence-high = hi; body = f }
 
-    keeps-reads : (s : Client) (a v : List ℕ) (j : ℕ) {x : Stamp} {e : Entry} {s′ : Client} {a′ : List ℕ} → Keeps H g me s a v j x e s′ a′ → s′ .reads ≡ s .reads
+    keeps-reads : (s : Client) (a v : List ℕ) (j : ℕ) {x : Stamp} {e : Entry} {s′ : Client} {a′ : List ℕ} → Keeps H g me s a v j x e s′ a′
+        → s′ .reads ≡ s .reads
     keeps-reads s a v j (drops z) = refl
     keeps-reads s a v j (keeps i z) = refl
 
@@ -203,14 +207,16 @@ module _ (H : List ℕ → List ℕ) (g : Params) (me : ℕ) where
         let n = keeps-reads s a v j k in
         formed-all g _ (λ i. said (s′ .reads) (omega (arith, h, n, f .sequence-low)) (omega (arith, h, n, f .sequence-high)) readComplete tt)
 
-    pub delivered-formed : (s : Client) (a v : List ℕ) (from : Party) (f result out to : List ℕ) → Bytes f → AllFormed g (CD.delivered H g me s a v from f result out to .sends)
+    pub delivered-formed : (s : Client) (a v : List ℕ) (from : Party) (f result out to : List ℕ) → Bytes f
+        → AllFormed g (CD.delivered H g me s a v from f result out to .sends)
     delivered-formed s a v from f result out to bs = go (delivered s a v from f result out to)
       where
         go : {r : C.Effect} → Delivered s a v from f r → AllFormed g (r .sends)
         go {r} (refused e) = rw e none-formed
         go {r} (taken m T z e) =
             let F′ : Formed g m = subst (Formed g) (T .says) (formed-opened g f (T .header) bs (T .opens)) in
-            rw e (shape-formed s a v (numberIn from) (m .client) (m .sequence) F′ (passed s from m (T .passes) .order) (T .value) (shape-of H g me s a v from m))
+            rw e (shape-formed s a v (numberIn from) (m .client) (m .sequence) F′ (passed s from m (T .passes) .order) (T .value)
+            (shape-of H g me s a v from m))
 
     idle-low : (s : Client) (last : ℕ) → CB.idleTest s last ≡ J.Fine → last < lastSequence
     unfolding CB.idleTest

@@ -34,9 +34,11 @@ older-key a b P Q e = ⊎-elim
     (λ l. omega (arith, t, ltb-true (a .writer) (b .writer) l, P .writer-high, P .sequence-high, Q .writer-high, Q .sequence-high))
     (λ r.
     let y = and-split (eqb (a .writer) (b .writer)) _ r in
-    omega (arith, t, eqb-true (a .writer) (b .writer) (y .0), ltb-true (a .sequence) (b .sequence) (y .1), P .writer-high, P .sequence-high, Q .writer-high, Q .sequence-high))
+    let n = eqb-true (a .writer) (b .writer) (y .0) in
+    omega (arith, t, n, ltb-true (a .sequence) (b .sequence) (y .1), P .writer-high, P .sequence-high, Q .writer-high, Q .sequence-high))
     (or-split (ltb (a .writer) (b .writer)) (eqb (a .writer) (b .writer) && ltb (a .sequence) (b .sequence)) (w .1)))
-    (or-split (ltb (a .time) (b .time)) (eqb (a .time) (b .time) && (ltb (a .writer) (b .writer) || (eqb (a .writer) (b .writer) && ltb (a .sequence) (b .sequence)))) e)
+    (or-split (ltb (a .time) (b .time))
+    (eqb (a .time) (b .time) && (ltb (a .writer) (b .writer) || (eqb (a .writer) (b .writer) && ltb (a .sequence) (b .sequence)))) e)
 
 pub not-older : (a b : Stamp) → StampInBounds a → StampInBounds b → older a b ≡ false → key b ≤ key a
 unfolding older
@@ -45,12 +47,17 @@ not-older a b P Q e =
     let t = ltb-false (a .time) (b .time) (w .0) in
     by-time t (eqb (a .time) (b .time)) refl (w .1)
   where
-    by-writer : a .time ≡ b .time → b .writer ≤ a .writer → (z : Bool) → eqb (a .writer) (b .writer) ≡ z → (z && ltb (a .sequence) (b .sequence)) ≡ false → key b ≤ key a
-    by-writer t l true z e = omega (arith, t, eqb-true (a .writer) (b .writer) z, ltb-false (a .sequence) (b .sequence) e, P .writer-high, P .sequence-high, Q .writer-high, Q .sequence-high)
-    by-writer t l false z e = let n = eqb-false (a .writer) (b .writer) z in omega (arith, t, l, n, P .writer-high, P .sequence-high, Q .writer-high, Q .sequence-high)
-
-    by-time : b .time ≤ a .time → (z : Bool) → eqb (a .time) (b .time) ≡ z → (z && (ltb (a .writer) (b .writer) || (eqb (a .writer) (b .writer) && ltb (a .sequence) (b .sequence)))) ≡ false
+    by-writer : a .time ≡ b .time → b .writer ≤ a .writer → (z : Bool) → eqb (a .writer) (b .writer) ≡ z → (z && ltb (a .sequence) (b .sequence)) ≡ false
         → key b ≤ key a
+    by-writer t l true z e =
+        let n = eqb-true (a .writer) (b .writer) z in
+        omega (arith, t, n, ltb-false (a .sequence) (b .sequence) e, P .writer-high, P .sequence-high, Q .writer-high, Q .sequence-high)
+    by-writer t l false z e =
+        let n = eqb-false (a .writer) (b .writer) z in
+        omega (arith, t, l, n, P .writer-high, P .sequence-high, Q .writer-high, Q .sequence-high)
+
+    by-time : b .time ≤ a .time → (z : Bool) → eqb (a .time) (b .time) ≡ z
+        → (z && (ltb (a .writer) (b .writer) || (eqb (a .writer) (b .writer) && ltb (a .sequence) (b .sequence)))) ≡ false → key b ≤ key a
     by-time t true z e =
         let w = or-false (ltb (a .writer) (b .writer)) _ e in
         by-writer (eqb-true (a .time) (b .time) z) (ltb-false (a .writer) (b .writer) (w .0)) (eqb (a .writer) (b .writer)) refl (w .1)

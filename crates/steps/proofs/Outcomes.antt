@@ -137,6 +137,7 @@ module _ (H : List ℕ → List ℕ) (g : Params) (me : ℕ) where
     client-refused r = go (CT.judge H g me s a v from f result out to)
       where
         go : (j : Judged) → CD.answerOf j (CD.effectBy H g me j s a v from) ≡ Z.Refused r
-            → CD.outcomeOf j (CD.effectBy H g me j s a v from) result out to ≡ record { answer = Z.Refused r; client = s; area = a; result = result; out = out; to = to }
+            → CD.outcomeOf j (CD.effectBy H g me j s a v from) result out to
+            ≡ record { answer = Z.Refused r; client = s; area = a; result = result; out = out; to = to }
         go (bad x) e = ap (λ y. record { answer = y; client = s; area = a; result = result; out = out; to = to }) e
         go (good m) e = event-answers (C.effect H g me s a v from m .event) _ r e

@@ -51,7 +51,9 @@ module _ (H : List ℕ → List ℕ) (g : Params) (me : ℕ) where
   shape-sends s a v j (counts z) = none-sent _ a
   shape-sends s a v j (ends z) = record { few = omega arith; event = refl }
   shape-sends s a v j (waits x e {s′} {a′} k z) = none-sent s′ a′
-  shape-sends s a v j (completes x e {s′} k y z) = let w = all-length g (λ i. message me (s′ .reads) readComplete) in record { few = omega (arith, w); event = omega (arith, w) }
+  shape-sends s a v j (completes x e {s′} k y z) =
+      let w = all-length g (λ i. message me (s′ .reads) readComplete) in
+      record { few = omega (arith, w); event = omega (arith, w) }
 
   -- "The client's largest need is now n frames" (request F-4)
   pub client-sends : (s : Client) (a v : List ℕ) (from : Party) (m : Message) → Sends (C.effect H g me s a v from m)

@@ -44,7 +44,8 @@ flagged true o e = (o, refl)
 flagged false o e = impossible (cc e)
 
 -- the flag of the test says so
-pub counted-got : (g : Params) (a : List ℕ) (c : ℕ) (x : Slot) (j : ℕ) (z : Stage) (o : Offer) → ST.counted x j (blockIs z o) ≡ true → Got z (blockView g a c x) j
+pub counted-got : (g : Params) (a : List ℕ) (c : ℕ) (x : Slot) (j : ℕ) (z : Stage) (o : Offer) → ST.counted x j (blockIs z o) ≡ true
+    → Got z (blockView g a c x) j
 unfolding ST.counted blockView
 counted-got g a c x j send o e = e
 counted-got g a c x j echo o e = flagged _ _ e
@@ -115,7 +116,8 @@ module _ (H : List ℕ → List ℕ) (g : Params) (L : Bounded g) (me : ℕ) (s 
       go (counts k p x y q v t f) =
           let same : message d n (blockIs z o) ≡ message d (seq s d) (blockIs k p) = sym e ∙ x in
           let ez : k ≡ z = cc (ap (λ m. m .body) same) in
-          (ap (λ m. m .sequence) same, inr (q, subst (λ w. Got z w j) (sym v) (subst (λ k. Got z (counted R (g .n) (g .t) me (before d) j k p) j) (sym ez) (counted-new (before d) z p))))
+          let new = subst (λ k. Got z (counted R (g .n) (g .t) me (before d) j k p) j) (sym ez) (counted-new (before d) z p) in
+          (ap (λ m. m .sequence) same, inr (q, subst (λ w. Got z w j) (sym v) new))
       go (accepts-one k p x y w f c q t v h l) = (ap (λ m. m .sequence) (sym e ∙ x), inl t)
 
   -- ---- the open sequence
@@ -166,7 +168,8 @@ module _ (H : List ℕ → List ℕ) (g : Params) (L : Bounded g) (me : ℕ) (s 
       → ((i : ℕ) → Among (g .n) i → List·Memᴰ (sending (P.Server i) (message d (seq s d) (blockIs z y))) (S.onBlock H g me a d (slotOf s d) j k o .sends))
       → ToAll d z y
   unfolding S.effect S.onBody S.settle
-  behind-all d k o e z y f i ii = subst (λ m. List·Memᴰ (sending (P.Server i) (message d (seq s d) (blockIs z y))) (S.effect H g me s a initial from m .sends)) (sym e)
+  behind-all d k o e z y f i ii =
+      subst (λ m. List·Memᴰ (sending (P.Server i) (message d (seq s d) (blockIs z y))) (S.effect H g me s a initial from m .sends)) (sym e)
       (Memᴰ·append-left _ (f i ii))
 
   module _ (d : ℕ) (id : Among 8 d) (k : Stage) (o : Offer) (x : m ≡ message d (seq s d) (blockIs k o)) where
@@ -205,7 +208,8 @@ module _ (H : List ℕ → List ℕ) (g : Params) (L : Bounded g) (me : ℕ) (s 
       go (accepts-one k o x y w f c q n v t l) = absurd (omega (arith, n, e))
 
   -- what is complete was so, or is the server's own entry of a value
-  pub done-why : (d : ℕ) → Among 8 d → (y : Offer) → after d .done ≡ some y → ((seq (r .server) d ≡ seq s d) × (before d .done ≡ some y)) ⊎ Encodes H g me (y .entry)
+  pub done-why : (d : ℕ) → Among 8 d → (y : Offer) → after d .done ≡ some y
+      → ((seq (r .server) d ≡ seq s d) × (before d .done ≡ some y)) ⊎ Encodes H g me (y .entry)
   done-why d id y u = go (its-turn d id)
     where
       go : Turn H g me s a from m r d → ((seq (r .server) d ≡ seq s d) × (before d .done ≡ some y)) ⊎ Encodes H g me (y .entry)

@@ -42,7 +42,8 @@ module _ (H : List ℕ → List ℕ) (g : Params) (me : ℕ) (s : Server) (from 
       let t = test-split H g me s from m e .1 in
       let t′ : ST.orderTest H g me s (numberIn from) c q (blockIs z o) ≡ J.Fine =
       subst (λ m. ST.orderTest H g me s (numberIn from) (m .client) (m .sequence) (m .body) ≡ J.Fine) x t in
-      fine-is (fits H (o .entry) (ST.placeIn me z (numberIn from))) X.Digest J.Fine (fine-both (ST.openTest (slotOf s c) q (ST.counted (slotOf s c) (numberIn from) (blockIs z o)))
+      fine-is (fits H (o .entry) (ST.placeIn me z (numberIn from))) X.Digest J.Fine
+      (fine-both (ST.openTest (slotOf s c) q (ST.counted (slotOf s c) (numberIn from) (blockIs z o)))
       (ST.fitTest H (o .entry) (ST.placeIn me z (numberIn from))) t′ .1) .0
 
   module _ (L : Bounded g) (a initial : List ℕ) (F : ServerShape s a) where
@@ -53,8 +54,8 @@ module _ (H : List ℕ → List ℕ) (g : Params) (me : ℕ) (s : Server) (from 
         × (older (s .stamp) (S.stampOf w) ≡ true))
 
     -- behind a counted frame
-    freed-presents : {s₁ : Server} {a₁ : List ℕ} {c : ℕ} {r : S.Effect} → Freed g s₁ a₁ c r → s₁ .stamp ≡ s .stamp → entryAt g a₁ presentAt ≡ entryAt g a presentAt
-        → areaBytes ≤ length a₁ → Among 8 c → Presents r
+    freed-presents : {s₁ : Server} {a₁ : List ℕ} {c : ℕ} {r : S.Effect} → Freed g s₁ a₁ c r → s₁ .stamp ≡ s .stamp
+        → entryAt g a₁ presentAt ≡ entryAt g a presentAt → areaBytes ≤ length a₁ → Among 8 c → Presents r
     unfolding S.accept pick
     freed-presents nothing e f room is = inl (e, f)
     freed-presents {s₁} {a₁} (accepts w ec R) e f room is = go (older (s₁ .stamp) (S.stampOf w)) refl
@@ -86,5 +87,6 @@ module _ (H : List ℕ → List ℕ) (g : Params) (me : ℕ) (s : Server) (from 
         go (settles b p k f) Q h =
             let at = counted-from g from (m .client) is (L .servers-high) k h in
             let l = counted-length H g me s a initial (numberIn from) (m .client) k in
-            freed-presents f refl (counted-present H g L me s a initial (F .room) (numberIn from) at (m .client) is (slot-within shapes (F .within) (m .client) (is .1)) k Q)
+            freed-presents f refl
+            (counted-present H g L me s a initial (F .room) (numberIn from) at (m .client) is (slot-within shapes (F .within) (m .client) (is .1)) k Q)
             (omega (arith, l, F .room)) is

@@ -94,7 +94,8 @@ with-used : (r : Row) (i : ℕ) (x : Stamp) → ((r .count < 4) × (used (rowWit
 unfolding pick
 with-used r i x = go (ltb (r .count) 4) refl
   where
-    go : (b : Bool) → ltb (r .count) 4 ≡ b → ((r .count < 4) × (min (pick b (r .count + 1) (r .count)) 4 ≡ r .count + 1) × (pick b (r .count + 1) (r .count) ≡ r .count + 1))
+    go : (b : Bool) → ltb (r .count) 4 ≡ b
+        → ((r .count < 4) × (min (pick b (r .count + 1) (r .count)) 4 ≡ r .count + 1) × (pick b (r .count + 1) (r .count) ≡ r .count + 1))
         ⊎ ((4 ≤ r .count) × (min (pick b (r .count + 1) (r .count)) 4 ≡ 4) × (pick b (r .count + 1) (r .count) ≡ r .count))
     go true e = let h = ltb-true (r .count) 4 e in inl (h, omega (arith, h), refl)
     go false e = let h = ltb-false (r .count) 4 e in inr (h, omega (arith, h), refl)
@@ -157,7 +158,8 @@ module _ (r : Row) (many : length (r .stamps) ≡ 4) where
       s : ℕ
       s = smallest (r .stamps) 3
 
-      all : ((j : ℕ) → j < m → Less x (at (set (r .stamps) s y) j)) → Less x (at (set (r .stamps) s y) m) → (j : ℕ) → j < suc m → Less x (at (set (r .stamps) s y) j)
+      all : ((j : ℕ) → j < m → Less x (at (set (r .stamps) s y) j)) → Less x (at (set (r .stamps) s y) m) → (j : ℕ) → j < suc m
+          → Less x (at (set (r .stamps) s y) j)
       all f z j k = go (ℕ-discrete j m)
         where
           go : Dec (j ≡ m) → Less x (at (set (r .stamps) s y) j)
@@ -183,7 +185,8 @@ module _ (r : Row) (many : length (r .stamps) ≡ 4) where
       (λ (m, u, c). absurd (omega (arith, m, h)))
       (with-used r (r .count) y)
 
-  stays-instead : (x y : Stamp) → 4 ≤ r .count → Less (at (r .stamps) (smallest (r .stamps) 3)) y → RowPast r x → RowPast (rowWith r (smallest (r .stamps) 3) y) x
+  stays-instead : (x y : Stamp) → 4 ≤ r .count → Less (at (r .stamps) (smallest (r .stamps) 3)) y → RowPast r x
+      → RowPast (rowWith r (smallest (r .stamps) 3) y) x
   stays-instead x y h l p = ⊎-elim
       (λ (m, u, c). absurd (omega (arith, m, h)))
       (λ (m, u, c). go p u c)

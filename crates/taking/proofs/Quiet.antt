@@ -79,7 +79,8 @@ module _ (H : List ℕ → List ℕ) (g : Params) where
   calm-empty L =
       let few = quota-faults g in
       let zeros = no-votes (g .n) in
-      let n : leb (g .n) (count (λ j. false) (g .n) + g .t) ≡ false = leb-short (g .n) (count (λ j. false) (g .n) + g .t) (omega (arith, zeros, L .faults-high)) in
+      let n : leb (g .n) (count (λ j. false) (g .n) + g .t) ≡ false =
+      leb-short (g .n) (count (λ j. false) (g .n) + g .t) (omega (arith, zeros, L .faults-high)) in
       let q : leb (quota g) (count (λ j. false) (g .n)) ≡ false = leb-short (quota g) (count (λ j. false) (g .n)) (omega (arith, zeros, few)) in
       let a : leb (quota g + g .t) (count (λ j. false) (g .n)) ≡ false = leb-short (quota g + g .t) (count (λ j. false) (g .n)) (omega (arith, zeros, few)) in
       record { nothing-due = λ x. rw (n, q) refl; full-done = λ x e. impossible (cc (ap (λ b. b && R .supports (λ j. none) (λ j. none) x) a, e)) }

@@ -1,12 +1,13 @@
--- What a server does to its readers and tells them: a read is noted and answered with the present value, only its client ends it, and who listens is told of every
--- larger stamp. Assumes nothing.
+-- What a server does to its readers and tells them: a read is noted and answered with the present value, only its client ends it, and who listens is told of
+-- every larger stamp. Assumes nothing.
 use Prim.Native.Nat.{ℕ, zero, suc, _+_, _≤_, _<_}
 use native.Mathlib.Omega.{arith}
 use native.Mathlib.Decide.{ℕ-discrete}
 use mathlib.Core.Bool.{Bool, true, false}
 use mathlib.Core.Path.{_≡_, refl, ap, sym, _∙_, subst}
 use mathlib.Core.Logic.{⊎-elim}
-use mathlib.Core.List.{List, [], List·Memᴰ, List·Memᴰ·head, List·Memᴰ·not-nil, List·Memᴰ·cases-cons, List·Memᴰ·append-cases, List·Memᴰ·eq-of-singleton, Memᴰ·append-left, Memᴰ·append-right}
+use mathlib.Core.List.{List, [], List·Memᴰ, List·Memᴰ·head, List·Memᴰ·not-nil, List·Memᴰ·cases-cons}
+use mathlib.Core.List.{List·Memᴰ·append-cases, List·Memᴰ·eq-of-singleton, Memᴰ·append-left, Memᴰ·append-right}
 use lib.ListN.{getD}
 use lib.Seq.{getD-set-same, getD-set-other}
 use borrow.Author.Tests.{leb-false, ltb-false}
@@ -18,7 +19,8 @@ use Rattle.frame.specs.declared.Party.{Party}
 use Rattle.frame.specs.declared.Party.the-variants as P
 use Rattle.frame.specs.declared.Verdict.the-variants as J
 use Rattle.frame.specs.Stamps.{older}
-use Rattle.frame.specs.Messages.{Offer, Stage, send, echo, ready, Body, getStamp, ack, askRead, readComplete, stampIs, blockIs, valueIs, Message, message, Sending, sending, toFrom, toAll, numberIn}
+use Rattle.frame.specs.Messages.{Offer, Stage, send, echo, ready, Body, getStamp, ack, askRead, readComplete, stampIs}
+use Rattle.frame.specs.Messages.{blockIs, valueIs, Message, message, Sending, sending, toFrom, toAll, numberIn}
 use Rattle.frame.proofs.Verdicts.{fine-not}
 use Rattle.server_rules.specs.declared.Reader.{Reader}
 use Rattle.server_rules.specs.declared.Server.{Server}
@@ -49,14 +51,16 @@ freed-tells g s {s₁} {a₁} (accepts k ec R) e w v d i l o =
     let n : readerOf s₁ d ≡ readerOf s d = ap (λ rs. getD rs d noReader) e in
     subst (λ x. List·Memᴰ (sending (P.Client d) (message d (x .sequence) (valueIs (S.stampOf w) (w .entry)))) (S.accept s₁ a₁ k .sends)) n
     (subst (λ w. List·Memᴰ (sending (P.Client d) (message d (readerOf s₁ d .sequence) (valueIs (S.stampOf w) (w .entry)))) (S.accept s₁ a₁ k .sends)) (sym z)
-    (accept-tells s₁ a₁ k d i (ap (λ x. x .listening) n ∙ l) (ap (λ x. older (x .noted) (S.stampOf k)) n ∙ ap (λ w. older (readerOf s d .noted) (S.stampOf w)) (sym z) ∙ o)))
+    (accept-tells s₁ a₁ k d i (ap (λ x. x .listening) n ∙ l)
+    (ap (λ x. older (x .noted) (S.stampOf k)) n ∙ ap (λ w. older (readerOf s d .noted) (S.stampOf w)) (sym z) ∙ o)))
 
 module _ (H : List ℕ → List ℕ) (g : Params) (me : ℕ) (s : Server) (a initial : List ℕ) (from : Party) (m : Message) where
   abbrev r : S.Effect
   r = S.effect H g me s a initial from m
 
   -- each listener with an older noted stamp is told of what is accepted
-  pub tells : (w : S.Write) → List·Memᴰ w (r .accepted) → (d : ℕ) → Among 8 d → readerOf s d .listening ≡ true → older (readerOf s d .noted) (S.stampOf w) ≡ true
+  pub tells : (w : S.Write) → List·Memᴰ w (r .accepted) → (d : ℕ) → Among 8 d → readerOf s d .listening ≡ true
+      → older (readerOf s d .noted) (S.stampOf w) ≡ true
       → List·Memᴰ (sending (P.Client d) (message d (readerOf s d .sequence) (valueIs (S.stampOf w) (w .entry)))) (r .sends)
   tells w u d i l o = go (shape-of H g me s a initial from m) u
     where

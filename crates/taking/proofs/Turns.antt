@@ -19,7 +19,8 @@ use Rattle.blocks.specs.declared.Params.{Params}
 use Rattle.frame.specs.declared.Party.{Party}
 use Rattle.frame.specs.declared.Verdict.the-variants as J
 use Rattle.frame.specs.Stamps.{lastTime}
-use Rattle.frame.specs.Messages.{Offer, Stage, send, echo, ready, Body, getStamp, ack, askRead, readComplete, stampIs, blockIs, valueIs, Message, message, numberIn, Sized}
+use Rattle.frame.specs.Messages.{Offer, Stage, send, echo, ready, Body, getStamp, ack, askRead, readComplete}
+use Rattle.frame.specs.Messages.{stampIs, blockIs, valueIs, Message, message, numberIn, Sized}
 use Rattle.frame.specs.Params.{Bounded}
 use Rattle.frame.proofs.Verdicts.{fine-both}
 use Rattle.server_rules.specs.declared.Slot.{Slot}

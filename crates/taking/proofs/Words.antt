@@ -1,5 +1,5 @@
--- What a server says as it takes a frame of a write: an echo of the client's own frame to all, a ready that is due to all, and the ack of a write that it accepts.
--- What its ready and its completed write hold is its own entry of a value that it decodes. Assumes nothing.
+-- What a server says as it takes a frame of a write: an echo of the client's own frame to all, a ready that is due to all, and the ack of a write that it
+-- accepts. What its ready and its completed write hold is its own entry of a value that it decodes. Assumes nothing.
 use Prim.Native.Nat.{ℕ, _≤_}
 use native.Mathlib.Omega.{arith}
 use mathlib.Core.Bool.{Bool, true, false, not, _&&_, _||_}
@@ -68,7 +68,9 @@ module _ (H : List ℕ → List ℕ) (g : Params) where
   unfolding pick
   regained-bytes w o = subst Bytes (sym (regained-cases H g (w .echoes) (w .readies) o)) (go (leb (quota g) (votes R (g .n) (g .t) (w .readies) o)))
     where
-      go : (b : Bool) → Bytes (pick b (lowestValue g (atTime (w .readies) (o .time)) (o .entry .digests)) (lowestValue g (atTime (w .echoes) (o .time)) (o .entry .digests)))
+      go : (b : Bool)
+          → Bytes (pick b (lowestValue g (atTime (w .readies) (o .time)) (o .entry .digests))
+          (lowestValue g (atTime (w .echoes) (o .time)) (o .entry .digests)))
       go true = lowest-bytes _ (o .entry .digests)
       go false = lowest-bytes _ (o .entry .digests)
 
@@ -81,7 +83,8 @@ module _ (H : List ℕ → List ℕ) (g : Params) where
       by f l = lowest-size H g (L .blocks-low) (atTime f (o .time)) (o .entry .digests) (omega (arith, l, votes-are H g f o))
 
       go : (b : Bool) → leb (quota g) (votes R (g .n) (g .t) (w .readies) o) ≡ b
-          → length (pick b (lowestValue g (atTime (w .readies) (o .time)) (o .entry .digests)) (lowestValue g (atTime (w .echoes) (o .time)) (o .entry .digests)))
+          → length (pick b (lowestValue g (atTime (w .readies) (o .time)) (o .entry .digests))
+          (lowestValue g (atTime (w .echoes) (o .time)) (o .entry .digests)))
           ≡ g .size
       go true e = by (w .readies) (omega (arith, leb-true (quota g) (votes R (g .n) (g .t) (w .readies) o) e, quota-blocks g))
       go false e = ⊎-elim
@@ -135,7 +138,8 @@ module _ (H : List ℕ → List ℕ) (g : Params) where
     voted-all : due R (g .n) (g .t) w o ≡ true → (i : ℕ) → Among (g .n) i
         → List·Memᴰ (sending (P.Server i) (message c (x .sequence) (blockIs ready (R .own me (w .echoes) (w .readies) o)))) (S.votedBlock H g me a c x o .sends)
     unfolding S.votedBlock toAll pick
-    voted-all e i is = rw e (all-mem (λ i. message c (x .sequence) (blockIs ready (R .own me (w .echoes) (w .readies) o))) 1 (g .n) i (is .0) (omega (arith, is .1)))
+    voted-all e i is =
+        rw e (all-mem (λ i. message c (x .sequence) (blockIs ready (R .own me (w .echoes) (w .readies) o))) 1 (g .n) i (is .0) (omega (arith, is .1)))
 
     in-pick : (b : Bool) (v : List ℕ) → b ≡ true → List·Memᴰ v (pick b (v ∷ []) [])
     unfolding pick
@@ -200,7 +204,8 @@ module _ (H : List ℕ → List ℕ) (g : Params) where
   counted-coded L me s a initial j c (block echo o) b d n y u = voted-coded me c _ _ o L b d n y u
   counted-coded L me s a initial j c (block ready o) b d n y u = voted-coded me c _ _ o L b d n y u
 
-  alone : {b b′ : Party} {m : Message} {d n : ℕ} {z : Stage} {y : Offer} → List·Memᴰ (sending b (message d n (blockIs z y))) (sending b′ m ∷ []) → blockIs z y ≡ m .body
+  alone : {b b′ : Party} {m : Message} {d n : ℕ} {z : Stage} {y : Offer} → List·Memᴰ (sending b (message d n (blockIs z y))) (sending b′ m ∷ [])
+      → blockIs z y ≡ m .body
   alone u = ap (λ x. x .says .body) (List·Memᴰ·eq-of-singleton u)
 
   pub ready-coded : Bounded g → (me : ℕ) (s : Server) (a initial : List ℕ) (from : Party) (m : Message) (b : Party) (d n : ℕ) (y : Offer)
@@ -225,7 +230,8 @@ module _ (H : List ℕ → List ℕ) (g : Params) where
       → List·Memᴰ w (S.effect H g me s a initial from m .accepted) → List·Memᴰ (ackOf w) (S.effect H g me s a initial from m .sends)
   accepted-acked me s a initial from m w = go (shape-of H g me s a initial from m)
     where
-      go : {x : Body} {r : S.Effect} → Shape H g me s a initial (numberIn from) (m .client) (m .sequence) x r → List·Memᴰ w (r .accepted) → List·Memᴰ (ackOf w) (r .sends)
+      go : {x : Body} {r : S.Effect} → Shape H g me s a initial (numberIn from) (m .client) (m .sequence) x r → List·Memᴰ w (r .accepted)
+          → List·Memᴰ (ackOf w) (r .sends)
       go (idle x) u = absurd (List·Memᴰ·not-nil u)
       go answers u = absurd (List·Memᴰ·not-nil u)
       go notes u = absurd (List·Memᴰ·not-nil u)

@@ -63,6 +63,6 @@ pub fn opening(line: &[u8], at: usize)
     };
     let mut buffer = [0u8; 1024];
     let len = bytes(line, f.start, f.end, &mut buffer);
-    let o = frame::opener::opened(params, &buffer[..len]);
+    let o = frame::opener::opened_under(params, &buffer[..len]);
     shown(line, f.next, o);
 }

@@ -14,7 +14,8 @@ use Rattle.frame.specs.Params.{Bounded, paramsTest}
 use Rattle.frame.specs.Stamps.{lastTime, lastClient}
 use Rattle.frame.specs.Refusals.{andThen}
 use Rattle.frame.specs.Frames.{opened}
-use Rattle.frame.specs.Messages.{Entry, Sized, Body, getStamp, ack, askRead, readComplete, stampIs, blockIs, valueIs, Sending, numberIn, Judged, bad, good, after}
+use Rattle.frame.specs.Messages.{Entry, Sized, Body, getStamp, ack, askRead, readComplete, stampIs}
+use Rattle.frame.specs.Messages.{blockIs, valueIs, Sending, numberIn, Judged, bad, good, after}
 use Rattle.frame.specs.Chunks.{entryAt, storeEntry, placeAt, rowsBytes}
 use Rattle.frame.proofs.Sizes.{Small}
 use Rattle.client_rules.specs.declared.Row.{Row}
@@ -89,7 +90,8 @@ pub record Hears (g : Params) (r : C.Effect) (m : Heard) : Type 0 where
   pub event : r .event ≡ m .event
   pub area : Shows g rowsBytes (r .area) (m .entries)
 
-places-seen : (g : Params) (a : List ℕ) (f : ℕ → Entry) → ((p : ℕ) → entryAt g a p ≡ f p) → (j : ℕ) (r : Row) (i m : ℕ) → placesFrom g a j r i m ≡ placesBy f j r i m
+places-seen : (g : Params) (a : List ℕ) (f : ℕ → Entry) → ((p : ℕ) → entryAt g a p ≡ f p) → (j : ℕ) (r : Row) (i m : ℕ)
+    → placesFrom g a j r i m ≡ placesBy f j r i m
 unfolding placesFrom
 places-seen g a f h j r i zero = refl
 places-seen g a f h j r i (suc m) =
@@ -97,7 +99,8 @@ places-seen g a f h j r i (suc m) =
     λ d. record { stamp = getD (r .stamps) i noStamp; entry = h (placeAt j i) d } ∷ w d
 
 module _ (H : List ℕ → List ℕ) (g : Params) (B : Bounded g) (M : Small g) (me : ℕ) where
-  complete-seen : (s : Client) (a : List ℕ) (f : ℕ → Entry) → Shows g rowsBytes a f → (o : Option Found) → Hears g (C.completeBy H g me o s a) (heard (C.completeBy H g me o s []) f)
+  complete-seen : (s : Client) (a : List ℕ) (f : ℕ → Entry) → Shows g rowsBytes a f → (o : Option Found)
+      → Hears g (C.completeBy H g me o s a) (heard (C.completeBy H g me o s []) f)
   unfolding C.completeBy
   complete-seen s a f X none = record { client = refl; sends = refl; event = refl; area = X }
   complete-seen s a f X (some x) = record { client = refl; sends = refl; event = refl; area = X }
@@ -115,7 +118,8 @@ module _ (H : List ℕ → List ℕ) (g : Params) (B : Bounded g) (M : Small g) 
   keep-seen s a f X j lo hi x e Q none h = search-seen s a f X
   keep-seen s a f X j lo hi x e Q (some i) h =
       let G = CV.goes (rowOf s j) x i h in
-      search-seen (withRow s j (rowWith (rowOf s j) i x)) (storeEntry a (placeAt j i) e) _ (stored g M rowsBytes a f X (placeAt j i) (omega (arith, lo, hi, G .small)) e Q)
+      search-seen (withRow s j (rowWith (rowOf s j) i x)) (storeEntry a (placeAt j i) e) _
+      (stored g M rowsBytes a f X (placeAt j i) (omega (arith, lo, hi, G .small)) e Q)
 
   send-seen : (s : Client) (a : List ℕ) (f : ℕ → Entry) → Shows g rowsBytes a f → (v : List ℕ) (T : ℕ) (b : Bool)
       → Hears g (C.sendBelow H g me b s a v T) (heard (C.sendBelow H g me b s [] v T) f)
@@ -123,12 +127,14 @@ module _ (H : List ℕ → List ℕ) (g : Params) (B : Bounded g) (M : Small g) 
   send-seen s a f X v T true = record { client = refl; sends = refl; event = refl; area = X }
   send-seen s a f X v T false = record { client = refl; sends = refl; event = refl; area = X }
 
-  gather-seen : (s : Client) (a : List ℕ) (f : ℕ → Entry) → Shows g rowsBytes a f → (v : List ℕ) (b : Bool) → Hears g (C.gatherBy H g me b s a v) (heard (C.gatherBy H g me b s [] v) f)
+  gather-seen : (s : Client) (a : List ℕ) (f : ℕ → Entry) → Shows g rowsBytes a f → (v : List ℕ) (b : Bool)
+      → Hears g (C.gatherBy H g me b s a v) (heard (C.gatherBy H g me b s [] v) f)
   unfolding C.gatherBy
   gather-seen s a f X v true = send-seen s a f X v _ (ltb (largest (λ j. getD (s .times) j 0) (g .n)) lastTime)
   gather-seen s a f X v false = record { client = refl; sends = refl; event = refl; area = X }
 
-  end-seen : (s : Client) (a : List ℕ) (f : ℕ → Entry) → Shows g rowsBytes a f → (h : List Bool) (b : Bool) → Hears g (C.endBy H g me b s a h) (heard (C.endBy H g me b s [] h) f)
+  end-seen : (s : Client) (a : List ℕ) (f : ℕ → Entry) → Shows g rowsBytes a f → (h : List Bool) (b : Bool)
+      → Hears g (C.endBy H g me b s a h) (heard (C.endBy H g me b s [] h) f)
   unfolding C.endBy
   end-seen s a f X h true = record { client = refl; sends = refl; event = refl; area = X }
   end-seen s a f X h false = record { client = refl; sends = refl; event = refl; area = X }

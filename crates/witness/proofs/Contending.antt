@@ -47,8 +47,11 @@ use Rattle.witness.proofs.Setups as Setups
 use Rattle.witness.proofs.Served as Served
 use Rattle.witness.proofs.Asked as Asked
 use Rattle.witness.specs.Refusals.{Refuses}
-use Rattle.witness.specs.Contending.{g, initial, value, nobodys, Z, largest, stamp, entryFor, offerFor, stampAsked, stampFrom, blockTo, block, readAsked, initialFrom, valueFrom, falseValue, falseEcho, falseTime, noFrame, timeAlone, falseBlock, noRoom, opening, asking, refused, rounds, spread, first, second, told, calls, write, found, writing, reading, Shown}
-use Rattle.witness.proofs.Images.{sameParty, amongSends, wasSent, allBytes, judgedBad, verdictBad, isFrame, honest, properFrame, properCall, advance, image, refusedIn, acceptedIn, endIn}
+use Rattle.witness.specs.Contending.{g, initial, value, nobodys, Z, largest, stamp, entryFor, offerFor, stampAsked, stampFrom, blockTo, block}
+use Rattle.witness.specs.Contending.{readAsked, initialFrom, valueFrom, falseValue, falseEcho, falseTime, noFrame, timeAlone, falseBlock, noRoom}
+use Rattle.witness.specs.Contending.{opening, asking, refused, rounds, spread, first, second, told, calls, write, found, writing, reading, Shown}
+use Rattle.witness.proofs.Images.{sameParty, amongSends, wasSent, allBytes, judgedBad, verdictBad, isFrame, honest}
+use Rattle.witness.proofs.Images.{properFrame, properCall, advance, image, refusedIn, acceptedIn, endIn}
 use Rattle.witness.proofs.Depicted.{Exact, admissible-by, accepts-by, stops-by, refuses-by, at-drop}
 
 bounded : Bounded g
@@ -81,7 +84,32 @@ record Computed : Type 0 where
   pub number : image Z told .clients 3 .client .reads ≡ 1
 
 computed : Computed
-unfolding judgedBad verdictBad refusedIn FrChunks.entryAt RuWorld.start SeDelivery.constructTest SeDelivery.constructBy SeDelivery.construction Toy.toy Toy.startWrite g initial value nobodys Z largest stamp entryFor offerFor stampAsked stampFrom blockTo block readAsked initialFrom valueFrom falseValue falseEcho falseTime noFrame timeAlone falseBlock noRoom opening asking refused rounds spread first second told calls write found Toy.zeros Toy.four Toy.setup Toy.handServer Toy.handClient Toy.startRead Served.freeBy Served.freedBy Served.settledBy Served.votedBy Served.blockBy Served.bodyBy Served.servedBy Served.judgeBy Served.served Asked.searchedBy Asked.keptBy Asked.bodyBy Asked.heardBy Asked.judgeBy Asked.asked sameParty amongSends wasSent allBytes isFrame honest properFrame properCall advance image acceptedIn endIn QuQuorum.count ArArea.pick ArArea.same ArArea.compared ArArea.tableFrom ArArea.table ArArea.joined ArNumbers.be2 ArNumbers.be4 ArNumbers.be8 ArNumbers.bytes2 ArNumbers.bytes4 ArNumbers.bytes8 _⊕_ FiField.reduction FiField.xtime FiField.shiftAdd _⊗_ FiField.powerOf FiField.Powers FiField.Logs BlCode.blockLength BlCode.padded BlCode.stripe BlCode.blockByte BlCode.blockOf BlCode.encoded BlCode.row BlCode.valueOf BlCode.blocksOf BlCode.candidate BlCode.agree BlCode.decodedAll BlParams.partiesFit BlParams.thresholdFits BlParams.lengthFits BlPoly.eval BlPoly.plus BlPoly.scale BlPoly.withRoot BlPoly.vanishing BlPoly.newtonStep BlPoly.through FrCoded.pieces FrCoded.lowestValue FrCoded.agreeing FrCoded.decoded FrCoded.digestsOf FrCoded.entryOf FrCoded.fits FrFrames.kindOf FrFrames.retired FrFrames.lengthOf FrFrames.bodyLength FrFrames.entryBytes FrFrames.offerBytes FrFrames.stampBytes FrFrames.bodyBytes FrFrames.headerBytes FrFrames.frameOf FrFrames.build FrFrames.framingTest FrFrames.headerIn FrFrames.headerTest FrFrames.bodyTest FrFrames.stampIn FrFrames.stampTest FrFrames.contentTest FrFrames.frameTest FrFrames.opened FrFrames.openedUnder FrFrames.bodyIn FrFrames.messageIn FrMessages.toFrom FrMessages.toAll FrParams.width FrParams.quota FrParams.largestFrame FrParams.outRoom FrParams.toRoom FrParams.ownTest FrParams.codeTest FrParams.boundsTest FrParams.paramsTest FrStamps.older FrStamps.sameStamp FrStamps.zeroStamp FrStamps.partsAgree SeBroadcast.votes SeBroadcast.enough SeBroadcast.due SeBroadcast.full SeBroadcast.matters SeRules.atTime SeRules.chosen SeRules.regained SeRules.unanimous SeState.freshBlocks SeState.freshSlot SeState.freshReader SeState.freshServer SeState.blockView SeState.presentBlock SeState.presentEntry SeSteps.votedBlock SeSteps.onBlock SeSteps.tellFrom SeSteps.accept SeSteps.ripeBy SeSteps.ripe SeSteps.freeBy SeSteps.free SeSteps.freed SeSteps.settle SeSteps.onRead SeSteps.onReadComplete SeSteps.onBody SeSteps.effect SeTests.roomTest SeTests.senderRight SeTests.counted SeTests.openTest SeTests.readTest SeTests.doneTest SeTests.fitTest SeTests.orderTest SeTests.messageTest SeTests.judgeOpened SeTests.judge CB.idleTest CB.closedTest CB.lengthTest CB.readTest CB.writeTest CB.openRead CB.openWrite CB.beginBy CB.readBegun CB.writeBegun CB.beginAnswer CB.begunOf CB.readBeginning CB.writeBeginning ClRows.placesFrom ClRows.rowView ClRows.hasStamp ClRows.smallest ClRows.placeFor ClRows.atStamp ClRows.rowsFrom ClRows.agreed ClRows.firstBy ClRows.firstAgreed ClRows.foundOf ClRows.foundBy ClRows.search ClState.freshRow ClState.freshClient ClState.largest ClSteps.quorate ClSteps.sendBelow ClSteps.gatherBy ClSteps.onStamp ClSteps.endBy ClSteps.onAck ClSteps.completeBy ClSteps.settle ClSteps.keepBy ClSteps.onValue ClSteps.onBody ClSteps.effect ClTests.sendRoom ClTests.roomTest ClTests.valueTest ClTests.answers ClTests.awaited ClTests.fitTest ClTests.orderTest ClTests.messageTest ClTests.judgeOpened ClTests.judge
+unfolding judgedBad verdictBad refusedIn FrChunks.entryAt RuWorld.start SeDelivery.constructTest SeDelivery.constructBy SeDelivery.construction Toy.toy
+    Toy.startWrite g initial value nobodys Z largest stamp entryFor offerFor stampAsked stampFrom blockTo block readAsked initialFrom valueFrom falseValue
+    falseEcho falseTime noFrame timeAlone falseBlock noRoom opening asking refused rounds spread first second told calls write found Toy.zeros Toy.four
+    Toy.setup Toy.handServer Toy.handClient Toy.startRead Served.freeBy Served.freedBy Served.settledBy Served.votedBy Served.blockBy Served.bodyBy
+    Served.servedBy Served.judgeBy Served.served Asked.searchedBy Asked.keptBy Asked.bodyBy Asked.heardBy Asked.judgeBy Asked.asked sameParty amongSends wasSent
+    allBytes isFrame honest properFrame properCall advance image acceptedIn endIn QuQuorum.count ArArea.pick ArArea.same ArArea.tableFrom
+    ArArea.table ArArea.joined ArNumbers.be2 ArNumbers.be4 ArNumbers.be8 ArNumbers.bytes2 ArNumbers.bytes4 ArNumbers.bytes8 _⊕_ FiField.reduction FiField.xtime
+    FiField.shiftAdd _⊗_ FiField.powerOf FiField.Powers FiField.Logs BlCode.blockLength BlCode.padded BlCode.stripe BlCode.blockByte BlCode.blockOf
+    BlCode.encoded BlCode.row BlCode.valueOf BlCode.blocksOf BlCode.candidate BlCode.agree BlCode.decodedAll BlParams.partiesFit BlParams.thresholdFits
+    BlParams.lengthFits BlPoly.eval BlPoly.plus BlPoly.scale BlPoly.withRoot BlPoly.vanishing BlPoly.newtonStep BlPoly.through FrCoded.pieces
+    FrCoded.lowestValue FrCoded.agreeing FrCoded.decoded FrCoded.digestsOf FrCoded.entryOf FrCoded.fits FrFrames.kindOf FrFrames.retired FrFrames.lengthOf
+    FrFrames.bodyLength FrFrames.entryBytes FrFrames.offerBytes FrFrames.stampBytes FrFrames.bodyBytes FrFrames.headerBytes FrFrames.frameOf FrFrames.build
+    FrFrames.framingTest FrFrames.headerIn FrFrames.headerTest FrFrames.bodyTest FrFrames.stampIn FrFrames.stampTest FrFrames.contentTest FrFrames.frameTest
+    FrFrames.opened FrFrames.openedUnder FrFrames.bodyIn FrFrames.messageIn FrMessages.toFrom FrMessages.toAll FrParams.width FrParams.quota
+    FrParams.largestFrame FrParams.outRoom FrParams.toRoom FrParams.ownTest FrParams.codeTest FrParams.boundsTest FrParams.paramsTest FrStamps.older
+    FrStamps.sameStamp FrStamps.zeroStamp FrStamps.partsAgree SeBroadcast.votes SeBroadcast.enough SeBroadcast.due SeBroadcast.full SeBroadcast.matters
+    SeRules.atTime SeRules.chosen SeRules.regained SeRules.unanimous SeState.freshBlocks SeState.freshSlot SeState.freshReader SeState.freshServer
+    SeState.blockView SeState.presentBlock SeState.presentEntry SeSteps.votedBlock SeSteps.onBlock SeSteps.tellFrom SeSteps.accept SeSteps.ripeBy SeSteps.ripe
+    SeSteps.freeBy SeSteps.free SeSteps.freed SeSteps.settle SeSteps.onRead SeSteps.onReadComplete SeSteps.onBody SeSteps.effect SeTests.roomTest
+    SeTests.senderRight SeTests.counted SeTests.openTest SeTests.readTest SeTests.doneTest SeTests.fitTest SeTests.orderTest SeTests.messageTest
+    SeTests.judgeOpened SeTests.judge CB.idleTest CB.closedTest CB.lengthTest CB.readTest CB.writeTest CB.openRead CB.openWrite CB.beginBy CB.readBegun
+    CB.writeBegun CB.beginAnswer CB.begunOf CB.readBeginning CB.writeBeginning ClRows.placesFrom ClRows.rowView ClRows.hasStamp ClRows.smallest ClRows.placeFor
+    ClRows.atStamp ClRows.rowsFrom ClRows.agreed ClRows.firstBy ClRows.firstAgreed ClRows.foundOf ClRows.foundBy ClRows.search ClState.freshRow
+    ClState.freshClient ClState.largest ClSteps.quorate ClSteps.sendBelow ClSteps.gatherBy ClSteps.onStamp ClSteps.endBy ClSteps.onAck ClSteps.completeBy
+    ClSteps.settle ClSteps.keepBy ClSteps.onValue ClSteps.onBody ClSteps.effect ClTests.sendRoom ClTests.roomTest ClTests.valueTest ClTests.answers
+    ClTests.awaited ClTests.fitTest ClTests.orderTest ClTests.messageTest ClTests.judgeOpened ClTests.judge
 computed = record {
   proper = refl;
   stale = refl;

@@ -35,7 +35,8 @@ use Rattle.client_rules.specs.Steps as C
 use Rattle.client_rules.specs.Tests as CT
 use Rattle.client_rules.specs.Delivery as CD
 use Rattle.client_rules.specs.Beginning as CB
-use Rattle.runs.specs.World.{Setup, Call, toServer, toClient, beginRead, beginWrite, caller, ServerSide, ClientSide, World, put, initialOf, start, lentBy, lentTo, step, run, sends, serverEffect, clientEffect}
+use Rattle.runs.specs.World.{Setup, Call, toServer, toClient, beginRead, beginWrite, caller, ServerSide, ClientSide, World}
+use Rattle.runs.specs.World.{put, initialOf, start, lentBy, lentTo, step, run, sends, serverEffect, clientEffect}
 use Rattle.server_rules.specs.Steps.{Write}
 use Rattle.client_rules.specs.Rows.{Found}
 use Rattle.runs.specs.Events.{Event, At, Accepts, StopsRead, EndsWrite, OpensRead, OpensWrite}
@@ -46,10 +47,12 @@ use Rattle.witness.proofs.Served.{Sees, served, server-seen, judge-seen
 use Rattle.witness.proofs.Served as Served
 use Rattle.witness.proofs.Asked.{Hears, asked, client-seen, judge-seen as judge-client}
 use Rattle.witness.proofs.Asked as Asked
-use Rattle.witness.proofs.Images.{ServerImage, ClientImage, Answer, Image, sameParty, amongSends, wasSent, allBytes, judgedBad, verdictBad, isFrame, honest, properFrame, properCall, lentIn, seenServer, seenClient, advance, image, refusedIn, acceptedIn, endIn}
+use Rattle.witness.proofs.Images.{ServerImage, ClientImage, Answer, Image, sameParty, amongSends, wasSent, allBytes, judgedBad, verdictBad, isFrame}
+use Rattle.witness.proofs.Images.{honest, properFrame, properCall, lentIn, seenServer, seenClient, advance, image, refusedIn, acceptedIn, endIn}
 
 -- f with x at i and h with y at i are alike where f and h are
-put-both : {A B : Type 0} (R : A → B → Type 0) (f : ℕ → A) (h : ℕ → B) (i : ℕ) (x : A) (y : B) → R x y → ((j : ℕ) → R (f j) (h j)) → (j : ℕ) → R (put f i x j) (put h i y j)
+put-both : {A B : Type 0} (R : A → B → Type 0) (f : ℕ → A) (h : ℕ → B) (i : ℕ) (x : A) (y : B) → R x y → ((j : ℕ) → R (f j) (h j)) → (j : ℕ)
+    → R (put f i x j) (put h i y j)
 put-both R f h i x y p q j = go (eqb j i)
   where
     go : (b : Bool) → R (cond b x (f j)) (cond b y (h j))
@@ -67,7 +70,8 @@ among : (l : List Sending) (b : Party) (f : List ℕ) → amongSends l b f ≡ t
 unfolding amongSends
 among [] b f e = impossible (cc)
 among (x ∷ l) b f e = ⊎-elim
-    (λ u. let w = and-split (sameParty (x .receiver) b) _ u in (x, List·Memᴰ·head refl, party-same (x .receiver) b (w .0), same-true (build (x .says)) f (w .1)))
+    (λ u. let w = and-split (sameParty (x .receiver) b) _ u in
+    (x, List·Memᴰ·head refl, party-same (x .receiver) b (w .0), same-true (build (x .says)) f (w .1)))
     (λ u. let w = among l b f u in (w .0, List·Memᴰ·tail (w .1), w .2, w .3))
     (or-split (sameParty (x .receiver) b && same (build (x .says)) f) (amongSends l b f) e)
 
@@ -128,7 +132,8 @@ module _ (Z : Setup) (G : Exact Z) where
       → Sees g (serverEffect Z w i from f out to) (seenServer Z v i from f out to)
   server-at w v D i from f out to =
       subst (λ s. Sees g (serverEffect Z w i from f out to) (served H g i s (v .servers i .entries) (initialOf Z i) from f out to)) (D .servers i .server)
-      (server-seen H g (G .bounded) M i (w .servers i .server) (w .servers i .area) (v .servers i .entries) (D .servers i .area) (initialOf Z i) (initial-is i) from f out to)
+      (server-seen H g (G .bounded) M i (w .servers i .server) (w .servers i .area) (v .servers i .entries) (D .servers i .area) (initialOf Z i)
+      (initial-is i) from f out to)
 
   -- what a host lends
   lent-at : (w : World) (v : Image) → Depicts w v → (c : ℕ) (lent : List ℕ) → lentTo Z w c lent ≡ lentIn Z v c lent
@@ -137,9 +142,12 @@ module _ (Z : Setup) (G : Exact Z) where
   client-at : (w : World) (v : Image) → Depicts w v → (c : ℕ) (from : Party) (f lent result out to : List ℕ)
       → Hears g (clientEffect Z w c from f lent result out to) (seenClient Z v c from f lent result out to)
   client-at w v D c from f lent result out to =
-      subst (λ s. Hears g (clientEffect Z w c from f lent result out to) (asked H g c s (v .clients c .entries) (lentIn Z v c lent) from f result out to)) (D .clients c .client)
-      (subst (λ u. Hears g (clientEffect Z w c from f lent result out to) (asked H g c (w .clients c .client) (v .clients c .entries) u from f result out to)) (lent-at w v D c lent)
-      (client-seen H g (G .bounded) M c (w .clients c .client) (w .clients c .area) (v .clients c .entries) (D .clients c .area) (lentTo Z w c lent) from f result out to))
+      subst (λ s. Hears g (clientEffect Z w c from f lent result out to) (asked H g c s (v .clients c .entries) (lentIn Z v c lent) from f result out to))
+      (D .clients c .client)
+      (subst (λ u. Hears g (clientEffect Z w c from f lent result out to) (asked H g c (w .clients c .client) (v .clients c .entries) u from f result out to))
+      (lent-at w v D c lent)
+      (client-seen H g (G .bounded) M c (w .clients c .client) (w .clients c .area) (v .clients c .entries) (D .clients c .area)
+      (lentTo Z w c lent) from f result out to))
 
   advances : (w : World) (v : Image) → Depicts w v → (k : Call) → Depicts (step Z w k) (advance Z v k)
   unfolding step advance
@@ -158,7 +166,8 @@ module _ (Z : Setup) (G : Exact Z) where
   advances w v D (beginRead c out to) = record {
     servers = D .servers;
     clients = put-both ClientLike (w .clients) (v .clients) c _ _
-        (record { client = ap (λ s. CB.readBegun g c s out to .client) (D .clients c .client); area = D .clients c .area; value = D .clients c .value }) (D .clients);
+        (record { client = ap (λ s. CB.readBegun g c s out to .client) (D .clients c .client); area = D .clients c .area; value = D .clients c .value })
+        (D .clients);
   }
   advances w v D (beginWrite c u out to) = record {
     servers = D .servers;

@@ -24,7 +24,6 @@ use Rattle.frame.specs.Frames as FrFrames
 use Rattle.frame.specs.Messages as FrMessages
 use Rattle.frame.specs.Outbox as FrOutbox
 use Rattle.frame.specs.Params as FrParams
-use Rattle.frame.specs.Refusals as FrRefusals
 use Rattle.frame.specs.Stamps as FrStamps
 use Rattle.server_rules.specs.Broadcast as SeBroadcast
 use Rattle.server_rules.specs.Delivery as SeDelivery
@@ -48,7 +47,33 @@ use Rattle.witness.proofs.Depicted.{are-bytes}
 
 -- both, computed
 computed : At (CompletesRead Z 2 1 found) calls 6 × Admissible Z calls
-unfolding allBytes Toy.toy Toy.zeros Toy.four Toy.setup Toy.handServer Toy.handClient Toy.startRead g initial Z falseBlock question answer calls found QuQuorum.count ArArea.pick ArArea.same ArArea.compared ArArea.tableFrom ArArea.table ArArea.joined ArNumbers.be2 ArNumbers.be4 ArNumbers.be8 ArNumbers.bytes2 ArNumbers.bytes4 ArNumbers.bytes8 _⊕_ FiField.reduction FiField.xtime FiField.shiftAdd _⊗_ FiField.powerOf FiField.Powers FiField.Logs BlCalls.written BlCalls.encodeTest BlCalls.encoding BlCalls.absent BlCalls.numberFits BlCalls.numbersFit BlCalls.decodeTest BlCalls.decoding BlCode.blockLength BlCode.padded BlCode.stripe BlCode.blockByte BlCode.blockOf BlCode.encoded BlCode.row BlCode.valueOf BlCode.blocksOf BlCode.candidate BlCode.agree BlCode.decodedAll BlParams.numberOf BlParams.partiesFit BlParams.thresholdFits BlParams.lengthFits BlParams.demand BlParams.andThen BlParams.paramsTest BlPoly.eval BlPoly.plus BlPoly.scale BlPoly.withRoot BlPoly.vanishing BlPoly.newtonStep BlPoly.through FrChunks.entryAt FrChunks.storeEntry FrCoded.pieces FrCoded.lowestValue FrCoded.agreeing FrCoded.decoded FrCoded.digestsOf FrCoded.entryOf FrCoded.fits FrFrames.kindOf FrFrames.retired FrFrames.lengthOf FrFrames.bodyLength FrFrames.entryBytes FrFrames.offerBytes FrFrames.stampBytes FrFrames.bodyBytes FrFrames.headerBytes FrFrames.frameOf FrFrames.build FrFrames.framingTest FrFrames.headerIn FrFrames.headerTest FrFrames.bodyTest FrFrames.stampIn FrFrames.stampTest FrFrames.contentTest FrFrames.frameTest FrFrames.opened FrFrames.openedUnder FrFrames.bodyIn FrFrames.messageIn FrMessages.toFrom FrMessages.toAll FrOutbox.frames FrOutbox.partyBytes FrOutbox.receivers FrOutbox.sent FrOutbox.wrote FrOutbox.wroteTo FrParams.width FrParams.quota FrParams.largestFrame FrParams.outRoom FrParams.toRoom FrParams.ownTest FrParams.codeTest FrParams.boundsTest FrParams.paramsTest FrRefusals.numberOf FrStamps.older FrStamps.sameStamp FrStamps.zeroStamp FrStamps.partsAgree SeBroadcast.votes SeBroadcast.enough SeBroadcast.due SeBroadcast.full SeBroadcast.matters SeDelivery.effectBy SeDelivery.delivered SeDelivery.replyOf SeDelivery.outcomeOf SeDelivery.delivery SeDelivery.constructTest SeDelivery.constructBy SeDelivery.construction SeRules.atTime SeRules.chosen SeRules.regained SeRules.unanimous SeState.freshBlocks SeState.freshSlot SeState.freshReader SeState.freshServer SeState.blockView SeState.presentBlock SeState.presentEntry SeSteps.votedBlock SeSteps.onBlock SeSteps.tellFrom SeSteps.accept SeSteps.ripeBy SeSteps.ripe SeSteps.freeBy SeSteps.free SeSteps.freed SeSteps.settle SeSteps.onRead SeSteps.onReadComplete SeSteps.onBody SeSteps.effect SeTests.roomTest SeTests.senderRight SeTests.counted SeTests.openTest SeTests.readTest SeTests.doneTest SeTests.fitTest SeTests.orderTest SeTests.messageTest SeTests.judgeOpened SeTests.judge ClBeginning.idleTest ClBeginning.closedTest ClBeginning.lengthTest ClBeginning.readTest ClBeginning.writeTest ClBeginning.openRead ClBeginning.openWrite ClBeginning.beginBy ClBeginning.readBegun ClBeginning.writeBegun ClBeginning.beginAnswer ClBeginning.begunOf ClBeginning.readBeginning ClBeginning.writeBeginning ClDelivery.eventAnswer ClDelivery.answerOf ClDelivery.resultOf ClDelivery.outcomeOf ClDelivery.effectBy ClDelivery.delivered ClDelivery.delivery ClRows.placesFrom ClRows.rowView ClRows.hasStamp ClRows.smallest ClRows.placeFor ClRows.atStamp ClRows.rowsFrom ClRows.agreed ClRows.firstBy ClRows.firstAgreed ClRows.foundOf ClRows.foundBy ClRows.search ClState.freshRow ClState.freshClient ClState.largest ClSteps.quorate ClSteps.sendBelow ClSteps.gatherBy ClSteps.onStamp ClSteps.endBy ClSteps.onAck ClSteps.completeBy ClSteps.settle ClSteps.keepBy ClSteps.onValue ClSteps.onBody ClSteps.effect ClTests.sendRoom ClTests.roomTest ClTests.valueTest ClTests.answers ClTests.awaited ClTests.fitTest ClTests.orderTest ClTests.messageTest ClTests.judgeOpened ClTests.judge RuWorld.start RuWorld.step RuWorld.run RuWorld.sends
+unfolding allBytes Toy.toy Toy.zeros Toy.four Toy.setup Toy.handServer Toy.handClient Toy.startRead g initial Z falseBlock question answer calls found
+    QuQuorum.count ArArea.pick ArArea.same ArArea.tableFrom ArArea.table ArArea.joined ArNumbers.be2 ArNumbers.be4 ArNumbers.be8
+    ArNumbers.bytes2 ArNumbers.bytes4 ArNumbers.bytes8 _⊕_ FiField.reduction FiField.xtime FiField.shiftAdd _⊗_ FiField.powerOf FiField.Powers FiField.Logs
+    BlCalls.written BlCalls.encodeTest BlCalls.encoding BlCalls.absent BlCalls.numberFits BlCalls.numbersFit BlCalls.decodeTest BlCalls.decoding
+    BlCode.blockLength BlCode.padded BlCode.stripe BlCode.blockByte BlCode.blockOf BlCode.encoded BlCode.row BlCode.valueOf BlCode.blocksOf BlCode.candidate
+    BlCode.agree BlCode.decodedAll BlParams.partiesFit BlParams.thresholdFits BlParams.lengthFits BlParams.demand BlParams.andThen
+    BlParams.paramsTest BlPoly.eval BlPoly.plus BlPoly.scale BlPoly.withRoot BlPoly.vanishing BlPoly.newtonStep BlPoly.through FrChunks.entryAt
+    FrChunks.storeEntry FrCoded.pieces FrCoded.lowestValue FrCoded.agreeing FrCoded.decoded FrCoded.digestsOf FrCoded.entryOf FrCoded.fits FrFrames.kindOf
+    FrFrames.retired FrFrames.lengthOf FrFrames.bodyLength FrFrames.entryBytes FrFrames.offerBytes FrFrames.stampBytes FrFrames.bodyBytes FrFrames.headerBytes
+    FrFrames.frameOf FrFrames.build FrFrames.framingTest FrFrames.headerIn FrFrames.headerTest FrFrames.bodyTest FrFrames.stampIn FrFrames.stampTest
+    FrFrames.contentTest FrFrames.frameTest FrFrames.opened FrFrames.openedUnder FrFrames.bodyIn FrFrames.messageIn FrMessages.toFrom FrMessages.toAll
+    FrOutbox.frames FrOutbox.partyBytes FrOutbox.receivers FrOutbox.sent FrOutbox.wrote FrOutbox.wroteTo FrParams.width FrParams.quota FrParams.largestFrame
+    FrParams.outRoom FrParams.toRoom FrParams.ownTest FrParams.codeTest FrParams.boundsTest FrParams.paramsTest FrStamps.older
+    FrStamps.sameStamp FrStamps.zeroStamp FrStamps.partsAgree SeBroadcast.votes SeBroadcast.enough SeBroadcast.due SeBroadcast.full SeBroadcast.matters
+    SeDelivery.effectBy SeDelivery.delivered SeDelivery.replyOf SeDelivery.outcomeOf SeDelivery.delivery SeDelivery.constructTest SeDelivery.constructBy
+    SeDelivery.construction SeRules.atTime SeRules.chosen SeRules.regained SeRules.unanimous SeState.freshBlocks SeState.freshSlot SeState.freshReader
+    SeState.freshServer SeState.blockView SeState.presentBlock SeState.presentEntry SeSteps.votedBlock SeSteps.onBlock SeSteps.tellFrom SeSteps.accept
+    SeSteps.ripeBy SeSteps.ripe SeSteps.freeBy SeSteps.free SeSteps.freed SeSteps.settle SeSteps.onRead SeSteps.onReadComplete SeSteps.onBody SeSteps.effect
+    SeTests.roomTest SeTests.senderRight SeTests.counted SeTests.openTest SeTests.readTest SeTests.doneTest SeTests.fitTest SeTests.orderTest
+    SeTests.messageTest SeTests.judgeOpened SeTests.judge ClBeginning.idleTest ClBeginning.closedTest ClBeginning.lengthTest ClBeginning.readTest
+    ClBeginning.writeTest ClBeginning.openRead ClBeginning.openWrite ClBeginning.beginBy ClBeginning.readBegun ClBeginning.writeBegun ClBeginning.beginAnswer
+    ClBeginning.begunOf ClBeginning.readBeginning ClBeginning.writeBeginning ClDelivery.eventAnswer ClDelivery.answerOf ClDelivery.resultOf ClDelivery.outcomeOf
+    ClDelivery.effectBy ClDelivery.delivered ClDelivery.delivery ClRows.placesFrom ClRows.rowView ClRows.hasStamp ClRows.smallest ClRows.placeFor ClRows.atStamp
+    ClRows.rowsFrom ClRows.agreed ClRows.firstBy ClRows.firstAgreed ClRows.foundOf ClRows.foundBy ClRows.search ClState.freshRow ClState.freshClient
+    ClState.largest ClSteps.quorate ClSteps.sendBelow ClSteps.gatherBy ClSteps.onStamp ClSteps.endBy ClSteps.onAck ClSteps.completeBy ClSteps.settle
+    ClSteps.keepBy ClSteps.onValue ClSteps.onBody ClSteps.effect ClTests.sendRoom ClTests.roomTest ClTests.valueTest ClTests.answers ClTests.awaited
+    ClTests.fitTest ClTests.orderTest ClTests.messageTest ClTests.judgeOpened ClTests.judge RuWorld.start RuWorld.step RuWorld.run RuWorld.sends
 computed = (
   inl (refl, ((refl, refl, refl), (initial, refl))),
   (

@@ -1,5 +1,5 @@
--- A run seen by chunks: the world with entries in place of areas, what was sent, and whether the list of calls is admissible so far, each from one pass over the
--- list, so that it can be computed. Assumes nothing.
+-- A run seen by chunks: the world with entries in place of areas, what was sent, and whether the list of calls is admissible so far, each from one pass over
+-- the list, so that it can be computed. Assumes nothing.
 use Prim.Native.Nat.{ℕ}
 use mathlib.Core.Bool.{Bool, true, false, not, _&&_, _||_}
 use mathlib.Core.List.{List, [], _∷_}

@@ -16,7 +16,8 @@ use Rattle.frame.specs.declared.Party.the-variants as P
 use Rattle.frame.specs.Params.{width, Bounded, paramsTest}
 use Rattle.frame.specs.Stamps.{older, lastTime}
 use Rattle.frame.specs.Frames.{opened}
-use Rattle.frame.specs.Messages.{Entry, entry, Offer, offer, Sized, Stage, send, echo, ready, Body, getStamp, ack, askRead, readComplete, stampIs, blockIs, valueIs, message, Sending, sending, toAll, numberIn, Judged, bad, good, after}
+use Rattle.frame.specs.Messages.{Entry, entry, Offer, offer, Sized, Stage, send, echo, ready, Body, getStamp, ack, askRead, readComplete}
+use Rattle.frame.specs.Messages.{stampIs, blockIs, valueIs, message, Sending, sending, toAll, numberIn, Judged, bad, good, after}
 use Rattle.frame.specs.Chunks.{entryAt, completeAt, echoAt, readyAt, areaBytes}
 use Rattle.frame.proofs.Sizes.{Small}
 use Rattle.server_rules.specs.declared.Slot.{Slot}

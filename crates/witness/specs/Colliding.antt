@@ -1,6 +1,6 @@
 -- Why a read may disagree. A run, as a list of calls, latest first, with a digest that is 32 bytes long and alike for all blocks: server 1 is false and gives
--- client 2 another block with the initial value's digests. Client 2's read is closed, its blocks disagree; client 3's, with the same stamp, ends with the initial
--- value. The theorem of request F-7 holds of this run: it shows the two blocks. k = 1. These are definitions.
+-- client 2 another block with the initial value's digests. Client 2's read is closed, its blocks disagree; client 3's, with the same stamp, ends with the
+-- initial value. The theorem of request F-7 holds of this run: it shows the two blocks. k = 1. These are definitions.
 use Prim.Native.Nat.{ℕ}
 use mathlib.Core.Bool.{false}
 use mathlib.Core.Path.{_≡_}

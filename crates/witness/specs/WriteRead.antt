@@ -1,5 +1,5 @@
--- A run, as a list of calls, latest first: client 1 writes 01 02 03, servers 1 and 2 accept it, the write ends, and client 2 reads it. k = 2. Server 4 is false and
--- says what an honest server would say; server 3 hears nothing. These are definitions.
+-- A run, as a list of calls, latest first: client 1 writes 01 02 03, servers 1 and 2 accept it, the write ends, and client 2 reads it. k = 2. Server 4 is false
+-- and says what an honest server would say; server 3 hears nothing. These are definitions.
 use Prim.Native.Nat.{ℕ}
 use mathlib.Core.Bool.{true, false}
 use mathlib.Core.Option.{some}

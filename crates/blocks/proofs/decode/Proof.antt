@@ -32,19 +32,19 @@ logs-requires c κs = search needs
 array-borrow-prefix-value : tie.Need-array-borrow-prefix-value
 array-borrow-prefix-value c =
     let f = decodes _ _ _ _ (sym (c .before .before .before .before .decode-test .ensures) ∙ c .before .before .enum-told .given .1) in
-    f .within .longest
+    f .within .size-high
 
 slice-aggregate-decode-all : tie.Need-slice-aggregate-decode-all
 slice-aggregate-decode-all c =
     let f = decodes _ _ _ _ (sym (c .before .before .before .before .before .decode-test .ensures) ∙ c .before .before .before .enum-told .given .1) in
-    sym (length-take-le _ (zeros 256) (f .within .longest))
+    sym (length-take-le _ (zeros 256) (f .within .size-high))
 
 decode-all-requires : tie.Need-decode-all-requires
 decode-all-requires c κs =
     let f = decodes _ _ _ _ (sym (c .before .before .before .before .before .before .before .decode-test .ensures) ∙ c .before .before .before .before .before .enum-told .given .1) in
     let g = f .within in
     let a = c .before .before .before .before .before .before .before .before .before .before .before in
-    let z = length-take-le _ (zeros 256) (g .longest) in (
+    let z = length-take-le _ (zeros 256) (g .size-high) in (
       omega arith,
       omega arith,
       f .enough,
@@ -57,7 +57,7 @@ decode-all-requires c κs =
 returns-2 : tie.Need-returns-2
 returns-2 c =
     let f = decodes _ _ _ _ (sym (c .before .before .before .before .before .before .before .before .before .before .decode-test .ensures) ∙ c .before .before .before .before .before .before .before .before .enum-told .given .1) in
-    disagreed _ _ _ _ _ _ _ (c .before .before .before .before .before .before .before .before .before .before .decode-test .ensures) (c .before .before .before .before .before .before .before .before .enum-told .given .1) (length-take-le _ (zeros 256) (f .within .longest))
+    disagreed _ _ _ _ _ _ _ (c .before .before .before .before .before .before .before .before .before .before .decode-test .ensures) (c .before .before .before .before .before .before .before .before .enum-told .given .1) (length-take-le _ (zeros 256) (f .within .size-high))
     (c .before .before .decode-all .ensures .0) (c .if1 .taken)
 
 array-share-prefix-value : tie.Need-array-share-prefix-value
@@ -71,15 +71,15 @@ slice-aggregate-put : tie.Need-slice-aggregate-put
 slice-aggregate-put c =
     let f = decodes _ _ _ _ (sym (c .before .before .before .before .before .before .before .before .before .before .before .before .decode-test .ensures) ∙ c .before .before .before .before .before .before .before .before .before .before .enum-told .given .1) in
     let d = c .before .before .before .before .decode-all in
-    let z = length-take-le _ (zeros 256) (f .within .longest) in
-    sym (ap length (front-back (zeros 256) (d .last .1 .1 .1 .0) _ (f .within .longest) (d .kept .1 .1 .1 .0)) ∙ d .kept .1 .1 .1 .0 ∙ z)
+    let z = length-take-le _ (zeros 256) (f .within .size-high) in
+    sym (ap length (front-back (zeros 256) (d .last .1 .1 .1 .0) _ (f .within .size-high) (d .kept .1 .1 .1 .0)) ∙ d .kept .1 .1 .1 .0 ∙ z)
 
 put-requires : tie.Need-put-requires
 put-requires c κs =
     let f = decodes _ _ _ _ (sym (c .before .before .before .before .before .before .before .before .before .before .before .before .decode-test .ensures) ∙ c .before .before .before .before .before .before .before .before .before .before .enum-told .given .1) in
     let d = c .before .before .before .before .decode-all in
-    let z = length-take-le _ (zeros 256) (f .within .longest) in
-    let n = ap length (front-back (zeros 256) (d .last .1 .1 .1 .0) _ (f .within .longest) (d .kept .1 .1 .1 .0)) ∙ d .kept .1 .1 .1 .0 ∙ z in
+    let z = length-take-le _ (zeros 256) (f .within .size-high) in
+    let n = ap length (front-back (zeros 256) (d .last .1 .1 .1 .0) _ (f .within .size-high) (d .kept .1 .1 .1 .0)) ∙ d .kept .1 .1 .1 .0 ∙ z in
     omega arith
 
 same-length : tie.Need-same-length
@@ -89,9 +89,9 @@ returns-3 : tie.Need-returns-3
 returns-3 c =
     let f = decodes _ _ _ _ (sym (c .before .before .before .before .before .before .before .before .before .before .before .before .before .before .before .decode-test .ensures) ∙ c .before .before .before .before .before .before .before .before .before .before .before .before .before .enum-told .given .1) in
     let d = c .before .before .before .before .before .before .before .decode-all in
-    agreed _ _ _ _ _ _ _ (c .before .before .before .before .before .before .before .before .before .before .before .before .before .before .before .decode-test .ensures) (c .before .before .before .before .before .before .before .before .before .before .before .before .before .enum-told .given .1) (length-take-le _ (zeros 256) (f .within .longest))
+    agreed _ _ _ _ _ _ _ (c .before .before .before .before .before .before .before .before .before .before .before .before .before .before .before .decode-test .ensures) (c .before .before .before .before .before .before .before .before .before .before .before .before .before .enum-told .given .1) (length-take-le _ (zeros 256) (f .within .size-high))
     (d .ensures .0) _ _ (c .before .before .before .before .before .if1 .left) (c .before .before .put .ensures)
-    (front-back (zeros 256) (d .last .1 .1 .1 .0) _ (f .within .longest) (d .kept .1 .1 .1 .0) ∙ d .ensures .1)
+    (front-back (zeros 256) (d .last .1 .1 .1 .0) _ (f .within .size-high) (d .kept .1 .1 .1 .0) ∙ d .ensures .1)
 
 pub decode-spec : {M : Type 1} → statement M
 decode-spec =

@@ -30,7 +30,7 @@ encode-blocks-requires : tie.Need-encode-blocks-requires
 encode-blocks-requires c κs =
     let f = encodes _ _ _ (sym (c .before .before .before .before .before .before .before .encode-test .ensures) ∙ c .before .before .before .before .before .enum-told .given .1) in
     let g = f .within in
-    (g .block-one, omega arith, g .most, omega arith, f .fits, record { powers = c .before .before .before .before .powers .ensures; logs = c .before .before .before .logs .ensures })
+    (g .blocks-low, omega arith, g .servers-high, omega arith, f .fits, record { powers = c .before .before .before .before .powers .ensures; logs = c .before .before .before .logs .ensures })
 
 same-length : tie.Need-same-length
 same-length c = search needs

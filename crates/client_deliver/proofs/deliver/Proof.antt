@@ -26,17 +26,8 @@ open-frame-requires c κs = bounded-of-call (c .before .before .before .before .
 enum-known-opened : tie.Need-enum-known-opened
 enum-known-opened c = search needs
 
-enum-told-2 : tie.Need-enum-told-2
-enum-told-2 c = search needs
-
-reason-requires : tie.Need-reason-requires
-reason-requires c κs = search needs
-
-returns-2 : tie.Need-returns-2
-unfolding valueTest
-returns-2 c =
-    let a = c .before .before .before .before .before .before .before .before .before .before .before .before .before .args in
-    not-opened (a .g) (a .me) (a .s) (a .area .now) (a .value .now) (a .from) (a .f .now) (a .result .now) _ _ _ (c .before .before .before .before .before .before .call-test .ensures) (c .before .before .before .before .enum-told .given .1) _ (c .before .before .before .open-frame .ensures) _ _ (c .reason .ensures) (c .before .enum-told2 .given .1)
+enum-known-opened-2 : tie.Need-enum-known-opened-2
+enum-known-opened-2 c = search needs
 
 room-test-requires : tie.Need-room-test-requires
 room-test-requires c κs = bounded-of-call (c .before .before .before .before .before .before .before .before .before .before .before .before .before .args .g) (c .before .before .before .before .before .before .before .before .before .before .before .before .before .args .me) _ _ (c .before .before .before .before .before .before .call-test .ensures) (c .before .before .before .before .enum-told .given .1)
@@ -44,19 +35,25 @@ room-test-requires c κs = bounded-of-call (c .before .before .before .before .b
 enum-known-room : tie.Need-enum-known-room
 enum-known-room c = search needs
 
-returns-3 : tie.Need-returns-3
+returns-2 : tie.Need-returns-2
 unfolding valueTest
-returns-3 c =
+returns-2 c =
     let a = c .before .before .before .before .before .before .before .before .before .before .before .before .before .before .before .before .before .args in
-    room-refused (a .g) (a .me) (a .s) (a .area .now) (a .value .now) (a .from) (a .f .now) (a .result .now) _ _ _ (c .before .before .before .before .before .before .before .before .before .before .call-test .ensures) (c .before .before .before .before .before .before .before .before .enum-told .given .1) _ (c .before .before .before .before .before .before .before .open-frame .ensures) _ (c .before .before .before .before .before .opened .given .1) _ (c .before .before .before .room-test .ensures) _ (c .before .room .given .1)
+    room-refused (a .g) (a .me) (a .s) (a .area .now) (a .value .now) (a .from) (a .f .now) (a .result .now) _ _ _ (c .before .before .before .before .before .before .before .before .before .before .call-test .ensures) (c .before .before .before .before .before .before .before .before .enum-told .given .1) _ (c .before .before .before .before .before .before .before .open-frame .ensures) _ (c .before .before .before .before .before .opened2 .given .1) _ (c .before .before .before .room-test .ensures) _ (c .before .room .given .1)
 
-enum-told-3 : tie.Need-enum-told-3
-enum-told-3 c = search needs
+enum-told-2 : tie.Need-enum-told-2
+enum-told-2 c = search needs
 
 step-requires : tie.Need-step-requires
 step-requires c κs =
     let a = c .before .before .before .before .before .before .before .before .before .before .before .before .before .before .before .before .before .before .before .before .args in
-    admitted-by (a .g) (a .me) (a .s) _ _ _ _ _ _ _ _ _ _ (c .before .before .before .before .before .before .before .before .before .before .before .before .before .call-test .ensures) (c .before .before .before .before .before .before .before .before .before .before .before .enum-told .given .1) (c .before .before .before .before .before .before .before .before .before .before .open-frame .ensures) (c .before .before .before .before .before .before .before .before .opened .given .1) (c .before .before .before .before .before .before .room-test .ensures) (c .before .before .before .before .enum-told3 .given .1)
+    admitted-by (a .g) (a .me) (a .s) _ _ _ _ _ _ _ _ _ _ (c .before .before .before .before .before .before .before .before .before .before .before .before .before .call-test .ensures) (c .before .before .before .before .before .before .before .before .before .before .before .enum-told .given .1) (c .before .before .before .before .before .before .before .before .before .before .open-frame .ensures) (c .before .before .before .before .before .before .before .before .opened2 .given .1) (c .before .before .before .before .before .before .room-test .ensures) (c .before .before .before .before .enum-told2 .given .1)
+
+returns-3 : tie.Need-returns-3
+unfolding valueTest
+returns-3 c =
+    let a = c .before .before .before .before .before .before .before .before .before .before .before .before .before .args in
+    not-opened (a .g) (a .me) (a .s) (a .area .now) (a .value .now) (a .from) (a .f .now) (a .result .now) _ _ _ (c .before .before .before .before .before .before .call-test .ensures) (c .before .before .before .before .enum-told .given .1) _ (c .before .before .before .open-frame .ensures) _ (c .before .opened .given .1)
 
 same-length : tie.Need-same-length
 same-length c = search needs
@@ -74,7 +71,7 @@ returns-4 : tie.Need-returns-4
 unfolding valueTest
 returns-4 c =
     let a = c .before .before .before .before .before .before .before .before .before .before .before .before .before .before .before .before .before .before .before .before .before .before .before .before .before .before .before .before .before .args in
-    frame-answered (a .g) (a .me) (a .s) (a .area .now) (a .value .now) (a .from) (a .f .now) (a .result .now) _ _ _ (c .before .before .before .before .before .before .before .before .before .before .before .before .before .before .before .before .before .before .before .before .before .before .call-test .ensures) (c .before .before .before .before .before .before .before .before .before .before .before .before .before .before .before .before .before .before .before .before .enum-told .given .1) _ (c .before .before .before .before .before .before .before .before .before .before .before .before .before .before .before .before .before .before .before .open-frame .ensures) _ (c .before .before .before .before .before .before .before .before .before .before .before .before .before .before .before .before .before .opened .given .1) _ (c .before .before .before .before .before .before .before .before .before .before .before .before .before .before .before .room-test .ensures) _ (c .before .before .before .before .before .before .before .before .before .before .before .before .before .enum-told3 .given .1) (c .before .before .before .before .before .before .before .before .step .ensures)
+    frame-answered (a .g) (a .me) (a .s) (a .area .now) (a .value .now) (a .from) (a .f .now) (a .result .now) _ _ _ (c .before .before .before .before .before .before .before .before .before .before .before .before .before .before .before .before .before .before .before .before .before .before .call-test .ensures) (c .before .before .before .before .before .before .before .before .before .before .before .before .before .before .before .before .before .before .before .before .enum-told .given .1) _ (c .before .before .before .before .before .before .before .before .before .before .before .before .before .before .before .before .before .before .before .open-frame .ensures) _ (c .before .before .before .before .before .before .before .before .before .before .before .before .before .before .before .before .before .opened2 .given .1) _ (c .before .before .before .before .before .before .before .before .before .before .before .before .before .before .before .room-test .ensures) _ (c .before .before .before .before .before .before .before .before .before .before .before .before .before .enum-told2 .given .1) (c .before .before .before .before .before .before .before .before .step .ensures)
 
 pub deliver-spec : {M : Type 1} → statement M
 deliver-spec =
@@ -86,14 +83,13 @@ deliver-spec =
     enum-told
     open-frame-requires
     enum-known-opened
-    enum-told-2
-    reason-requires
-    returns-2
+    enum-known-opened-2
     room-test-requires
     enum-known-room
-    returns-3
-    enum-told-3
+    returns-2
+    enum-told-2
     step-requires
+    returns-3
     same-length
     same-length-2
     same-length-3

@@ -19,51 +19,39 @@ Inv-loop piece bytes₀ areas₀ initials₀ rows₀ values₀ text₀ y₀ byte
 abbrev μ-loop : tie.MeasureT-loop
 μ-loop piece bytes₀ areas₀ initials₀ rows₀ values₀ text₀ y₀ bytes areas initials rows values text y = length piece - y .at
 
--- src/main.rt:111:9
 from-start-requires : tie.Need-from-start-requires Inv-loop μ-loop
 from-start-requires c κs = search needs
 
--- src/main.rt:112:5
 loop-holds : tie.Need-loop-holds Inv-loop μ-loop
 loop-holds c = search needs
 
--- src/main.rt:113:9
 take-next-requires : tie.Need-take-next-requires Inv-loop μ-loop
 take-next-requires c κs = search needs
 
--- src/main.rt:112:5
 loop-less : tie.Need-loop-less Inv-loop μ-loop
 loop-less c = search needs
 
--- src/main.rt:112:5
 loop-again : tie.Need-loop-again Inv-loop μ-loop
 loop-again c = search needs
 
--- src/main.rt:99:1
 same-length : tie.Need-same-length Inv-loop μ-loop
 same-length c = search needs
 
--- src/main.rt:99:1
 same-length-2 : tie.Need-same-length-2 Inv-loop μ-loop
 same-length-2 c = search needs
 
--- src/main.rt:99:1
 same-length-3 : tie.Need-same-length-3 Inv-loop μ-loop
 same-length-3 c = search needs
 
--- src/main.rt:99:1
 same-length-4 : tie.Need-same-length-4 Inv-loop μ-loop
 same-length-4 c = search needs
 
--- src/main.rt:99:1
 same-length-5 : tie.Need-same-length-5 Inv-loop μ-loop
 same-length-5 c = search needs
 
--- src/main.rt:99:1
 same-length-6 : tie.Need-same-length-6 Inv-loop μ-loop
 same-length-6 c = search needs
 
--- src/main.rt:99:1
 returns : tie.Need-returns Inv-loop μ-loop
 returns c = search needs
 

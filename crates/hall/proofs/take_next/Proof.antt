@@ -8,39 +8,30 @@ use Rattle.hall.proofs.take_next.Lts as lts
 use Rattle.hall.proofs.script.next_ask.Reads as next-ask-reads
 use Rattle.hall.proofs.step.Reads as step-reads
 
--- src/main.rt:86:9
 next-ask-requires : tie.Need-next-ask-requires
 next-ask-requires c κs = search needs
 
--- src/main.rt:87:5
 step-requires : tie.Need-step-requires
 step-requires c κs = search needs
 
--- src/main.rt:71:1
 same-length : tie.Need-same-length
 same-length c = search needs
 
--- src/main.rt:71:1
 same-length-2 : tie.Need-same-length-2
 same-length-2 c = search needs
 
--- src/main.rt:71:1
 same-length-3 : tie.Need-same-length-3
 same-length-3 c = search needs
 
--- src/main.rt:71:1
 same-length-4 : tie.Need-same-length-4
 same-length-4 c = search needs
 
--- src/main.rt:71:1
 same-length-5 : tie.Need-same-length-5
 same-length-5 c = search needs
 
--- src/main.rt:71:1
 same-length-6 : tie.Need-same-length-6
 same-length-6 c = search needs
 
--- src/main.rt:71:1
 returns : tie.Need-returns
 returns c =
     let n = c .before .before .before .before .before .before .before .before .before .before .before .before .before .before .before .before .before .before .before .before .before .next-ask .ensures in

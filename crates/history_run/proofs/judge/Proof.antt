@@ -12,22 +12,18 @@ use Rattle.history_run.proofs.judge.Lts as lts
 use Rattle.history_text.proofs.text.judge_text.Reads as judge-text-reads
 use Rattle.order.proofs.judge.refuse.Reads as refuse-reads
 
--- src/lib.rt:20:9
 refuse-requires : tie.Need-refuse-requires
 refuse-requires c κs = search needs
 
--- src/lib.rt:20:9
 returns : tie.Need-returns
 returns c =
     let text = c .before .before .before .args .history .now in
     let long : 3840 < length text = omega arith in
     c .refuse .ensures ∙ sym (long-refused text long)
 
--- src/lib.rt:22:5
 judge-text-requires : tie.Need-judge-text-requires
 judge-text-requires c κs = search needs
 
--- src/lib.rt:16:1
 returns-2 : tie.Need-returns-2
 returns-2 c = search needs
 

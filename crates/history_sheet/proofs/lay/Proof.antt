@@ -10,46 +10,36 @@ use Rattle.history_sheet.proofs.put_sheet.Reads as put-sheet-reads
 use Rattle.history_text.proofs.text.judge_reading.Reads as judge-reading-reads
 use Rattle.history_text.proofs.text.read_text.Reads as read-text-reads
 
--- src/lib.rt:53:9
 read-text-requires : tie.Need-read-text-requires
 read-text-requires c κs = search needs
 
--- src/lib.rt:54:9
 judge-reading-requires : tie.Need-judge-reading-requires
 judge-reading-requires c κs = search needs
 
--- src/lib.rt:60:25
 enum-known-answer : tie.Need-enum-known-answer
 enum-known-answer c = search needs
 
--- src/lib.rt:60:31
 put-sheet-requires : tie.Need-put-sheet-requires
 put-sheet-requires c κs =
     text-ready _ _ (c .before .before .before .before .before .before .before .before .before .before .before .args .text .now) (c .before .before .before .before .before .before .before .before .read-text .ensures) (c .before .before .before .before .before .before .before .judge-reading .ensures) _ (c .before .before .answer .given .1) .there
 
--- src/lib.rt:61:27
 enum-known-answer-2 : tie.Need-enum-known-answer-2
 enum-known-answer-2 c = search needs
 
--- src/lib.rt:62:25
 enum-known-answer-3 : tie.Need-enum-known-answer-3
 enum-known-answer-3 c = search needs
 
--- src/lib.rt:50:1
 same-length : tie.Need-same-length
 same-length c = search needs
 
--- src/lib.rt:50:1
 returns : tie.Need-returns
 returns c =
     text-laid _ _ (c .before .before .before .before .before .before .before .before .before .before .before .before .before .before .args .text .now) (c .before .before .before .before .before .before .before .before .before .before .before .read-text .ensures) (c .before .before .before .before .before .before .before .before .before .before .judge-reading .ensures) _ (c .before .before .before .before .before .answer .given .1) _ _ _ (c .before .before .put-sheet .ensures)
 
--- src/lib.rt:50:1
 returns-2 : tie.Need-returns-2
 returns-2 c =
     text-pair _ _ (c .before .before .before .before .before .before .before .before .before .before .args .text .now) (c .before .before .before .before .before .before .before .read-text .ensures) (c .before .before .before .before .before .before .judge-reading .ensures) _ _ _ (c .before .answer2 .given .1)
 
--- src/lib.rt:50:1
 returns-3 : tie.Need-returns-3
 returns-3 c =
     text-refused _ _ (c .before .before .before .before .before .before .before .before .before .before .args .text .now) (c .before .before .before .before .before .before .before .read-text .ensures) (c .before .before .before .before .before .before .judge-reading .ensures) _ _ (c .before .answer3 .given .1)

@@ -7,15 +7,12 @@ use Rattle.history_sheet.proofs.page_count.Tie as tie
 use Rattle.history_sheet.proofs.page_count.Reads as reads
 use Rattle.history_sheet.proofs.page_count.Lts as lts
 
--- src/lib.rt:31:9
 returns : tie.Need-returns
 returns c = no-operations _ (search needs)
 
--- src/lib.rt:33:6
 add-result : tie.Need-add-result
 add-result c = search needs
 
--- src/lib.rt:26:1
 returns-2 : tie.Need-returns-2
 returns-2 c = some-operations _ (search needs) (search needs)
 

@@ -11,31 +11,25 @@ use Rattle.history_sheet.proofs.put_sheet.Lts as lts
 use Rattle.history_sheet.proofs.page.put_pages.Reads as put-pages-reads
 use Rattle.history_sheet.proofs.page_count.Reads as page-count-reads
 
--- src/lib.rt:41:9
 page-count-requires : tie.Need-page-count-requires
 page-count-requires c κs = search needs
 
--- src/lib.rt:42:20
 mul-if1 : tie.Need-mul-if1
 mul-if1 c = search needs
 
--- src/lib.rt:43:9
 returns : tie.Need-returns
 returns c =
     let a = c .before .before .before .args in
     sheet-short (namedAll (a .rows) (a .lines) (a .m)) (a .out .now) (a .m) _ (named-count (a .rows) (a .lines) (a .m) (c .before .before .before .pre)) (c .before .page-count .ensures .0) (search needs)
 
--- src/lib.rt:45:5
 put-pages-requires : tie.Need-put-pages-requires
 put-pages-requires c κs =
     let a = c .before .before .before .before .args in
     (search needs, c .before .before .before .before .pre, search needs, pages-begin (a .m) _ (c .before .before .page-count .ensures .0))
 
--- src/lib.rt:37:1
 same-length : tie.Need-same-length
 same-length c = search needs
 
--- src/lib.rt:37:1
 returns-2 : tie.Need-returns-2
 returns-2 c =
     let a = c .before .before .before .before .before .before .before .args in

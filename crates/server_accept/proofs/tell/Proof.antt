@@ -4,7 +4,8 @@ use lib.ListN.{length}
 use Rattle.frame.specs.Messages.{entry}
 use Rattle.frame.specs.Outbox.{outbox, sent, Room}
 use Rattle.server_rules.specs.Steps.{tellFrom}
-use Rattle.server.proofs.Sending.{room-fewer}
+use native.Mathlib.Nat.{le-refl}
+use Rattle.frame.proofs.Rooms.{room-within}
 use Rattle.server_accept.proofs.Telling.{room-told}
 use Rattle.server_accept.proofs.Acceptance.{tell-turn, tell-end}
 use native.Mathlib.Omega.{arith}
@@ -39,7 +40,7 @@ cast-tell-one c = search needs
 tell-one-requires : tie.Need-tell-one-requires Inv-loop μ-loop
 tell-one-requires c κs =
     let l = c .before .before .before .before in
-    room-fewer (l .loop .q) (9 - l .loop .c) 1 _ _ _ (omega arith) (l .loop .inv .3)
+    room-within (l .loop .q) (9 - l .loop .c) 1 _ _ _ _ (omega arith) (le-refl _) (l .loop .inv .3)
 
 add-c : tie.Need-add-c Inv-loop μ-loop
 add-c c = search needs

@@ -15,16 +15,13 @@ admit-requires c κs = search needs
 enum-known-opened : tie.Need-enum-known-opened
 enum-known-opened c = search needs
 
-enum-told : tie.Need-enum-told
-enum-told c = search needs
-
-refusal-requires : tie.Need-refusal-requires
-refusal-requires c κs = search needs
+enum-known-opened-2 : tie.Need-enum-known-opened-2
+enum-known-opened-2 c = search needs
 
 returns : tie.Need-returns
 returns c =
     let a = c .before .before .before .before .before .before .before .before .before .args in
-    refused-delivery digestOf (a .g) (a .me) (a .s) (a .area .now) (a .initial .now) (a .from) (a .f .now) _ _ _ _ _ (c .before .before .before .admit .ensures) (c .before .enum-told .given .1) (c .refusal .ensures)
+    refused-delivery digestOf (a .g) (a .me) (a .s) (a .area .now) (a .initial .now) (a .from) (a .f .now) _ _ _ _ (c .before .before .before .admit .ensures) (c .before .opened .given .1)
 
 cast-c : tie.Need-cast-c
 cast-c c = search needs
@@ -32,18 +29,18 @@ cast-c c = search needs
 scope-of-requires : tie.Need-scope-of-requires
 scope-of-requires c κs =
     let a = c .before .before .before .before .before .before .before .before .before .before .args in
-    let P = handed (record { params = a .g; me = a .me; from = a .from; header = _ }) (a .f .now) _ _ _ _ _ (c .before .before .before .before .admit .ensures) (c .before .before .opened .given .1) in
+    let P = handed (record { params = a .g; me = a .me; from = a .from; header = _ }) (a .f .now) _ _ _ _ _ (c .before .before .before .before .admit .ensures) (c .before .before .opened2 .given .1) in
     omega (arith, P .0 .lent .client-high)
 
 step-of-kind-requires : tie.Need-step-of-kind-requires
 step-of-kind-requires c κs =
     let a = c .before .before .before .before .before .before .before .before .before .before .before .before .before .before .before .args in
-    handed (record { params = a .g; me = a .me; from = a .from; header = _ }) (a .f .now) _ _ _ _ _ (c .before .before .before .before .before .before .before .before .before .admit .ensures) (c .before .before .before .before .before .before .before .opened .given .1)
+    handed (record { params = a .g; me = a .me; from = a .from; header = _ }) (a .f .now) _ _ _ _ _ (c .before .before .before .before .before .before .before .before .before .admit .ensures) (c .before .before .before .before .before .before .before .opened2 .given .1)
 
 with-scope-requires : tie.Need-with-scope-requires
 with-scope-requires c κs =
     let a = c .before .before .before .before .before .before .before .before .before .before .before .before .before .before .before .before .before .before .before .before .before .before .before .args in
-    let P = handed (record { params = a .g; me = a .me; from = a .from; header = _ }) (a .f .now) _ _ _ _ _ (c .before .before .before .before .before .before .before .before .before .before .before .before .before .before .before .before .before .admit .ensures) (c .before .before .before .before .before .before .before .before .before .before .before .before .before .before .before .opened .given .1) in
+    let P = handed (record { params = a .g; me = a .me; from = a .from; header = _ }) (a .f .now) _ _ _ _ _ (c .before .before .before .before .before .before .before .before .before .before .before .before .before .before .before .before .before .admit .ensures) (c .before .before .before .before .before .before .before .before .before .before .before .before .before .before .before .opened2 .given .1) in
     omega (arith, P .0 .lent .client-high)
 
 same-length : tie.Need-same-length
@@ -59,7 +56,7 @@ returns-2 : tie.Need-returns-2
 returns-2 c =
     let a = c .before .before .before .before .before .before .before .before .before .before .before .before .before .before .before .before .before .before .before .before .before .before .before .before .args in
     let r = c .before .before .before .before .before .before .before .before .step-of-kind in
-    taken-delivery digestOf (a .g) (a .me) (a .s) (a .area .now) (a .initial .now) (a .from) (a .f .now) _ _ _ _ _ (c .before .before .before .before .before .before .before .before .before .before .before .before .before .before .before .before .before .before .admit .ensures) (c .before .before .before .before .before .before .before .before .before .before .before .before .before .before .before .before .opened .given .1)
+    taken-delivery digestOf (a .g) (a .me) (a .s) (a .area .now) (a .initial .now) (a .from) (a .f .now) _ _ _ _ _ (c .before .before .before .before .before .before .before .before .before .before .before .before .before .before .before .before .before .before .admit .ensures) (c .before .before .before .before .before .before .before .before .before .before .before .before .before .before .before .before .opened2 .given .1)
     (put-back (a .s) _ (r .result) _ _ _ _ _ (c .with-scope .ensures)
     (r .ensures (a .s) (record { many = sym (length-map (a .s .slots) (S.the-field .into)) ∙ c .before .before .before .before .before .before .before .before .before .before .before .before .before .before .before .before .before .before .before .before .before .before .before .before .good .0 .1 .1 .1 .0 .1 .0 .1; scope = c .before .before .before .before .before .before .before .before .before .before .before .before .before .scope-of .ensures; readers = refl })))
 
@@ -69,13 +66,12 @@ deliver-spec =
     (tie.spec
     admit-requires
     enum-known-opened
-    enum-told
-    refusal-requires
-    returns
+    enum-known-opened-2
     cast-c
     scope-of-requires
     step-of-kind-requires
     with-scope-requires
+    returns
     same-length
     same-length-2
     same-length-3

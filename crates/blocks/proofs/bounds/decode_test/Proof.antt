@@ -35,13 +35,13 @@ returns-3 c =
 block-length-requires : tie.Need-block-length-requires
 block-length-requires c κs =
     let g = bounds (c .before .before .before .before .before .before .args .g) (sym (c .before .before .before .before .params-test .ensures) ∙ c .before .before .enum-told .given .1) in
-    (g .block-one, omega arith, g .longest)
+    (g .blocks-low, omega arith, g .size-high)
 
 mul-if3 : tie.Need-mul-if3
 mul-if3 c =
     let a = c .before .before .before .before .before .before .before in
     let g = bounds (a .args .g) (sym (c .before .before .before .before .before .params-test .ensures) ∙ c .before .before .before .enum-told .given .1) in
-    let s = block-small (a .args .g .size) (a .args .g .k) (g .block-one) in
+    let s = block-small (a .args .g .size) (a .args .g .k) (g .blocks-low) in
     record { fits = omega (arith, product-small (length (a .args .numbers .now)) (c .block-length .result) (omega arith) (omega arith)) }
 
 returns-4 : tie.Need-returns-4

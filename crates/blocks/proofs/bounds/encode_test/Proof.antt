@@ -30,14 +30,14 @@ returns-2 c = sym (then-done _ _ _ (c .before .before .before .params-test .ensu
 block-length-requires : tie.Need-block-length-requires
 block-length-requires c κs =
     let g = bounds (c .before .before .before .before .args .g) (sym (c .before .before .before .params-test .ensures) ∙ c .before .enum-told .given .1) in
-    (g .block-one, omega arith, g .longest)
+    (g .blocks-low, omega arith, g .size-high)
 
 mul-if2 : tie.Need-mul-if2
 mul-if2 c =
     let a = c .before .before .before .before .before in
     let g = bounds (a .args .g) (sym (c .before .before .before .before .params-test .ensures) ∙ c .before .before .enum-told .given .1) in
-    let s = block-small (a .args .g .size) (a .args .g .k) (g .block-one) in
-    record { fits = omega (arith, product-small (a .args .g .n) (c .block-length .result) (g .most) (omega arith)) }
+    let s = block-small (a .args .g .size) (a .args .g .k) (g .blocks-low) in
+    record { fits = omega (arith, product-small (a .args .g .n) (c .block-length .result) (g .servers-high) (omega arith)) }
 
 returns-3 : tie.Need-returns-3
 unfolding encodeTest

@@ -14,91 +14,69 @@ Inv-loop line start end out₀ n₀ i₀ out n i = (n ≤ length out) × (i ≤ 
 abbrev μ-loop : tie.MeasureT-loop
 μ-loop line start end out₀ n₀ i₀ out n i = end - i
 
--- src/text.rt:84:5
 loop-holds : tie.Need-loop-holds Inv-loop μ-loop
 loop-holds c = search needs
 
--- src/text.rt:84:11
 add-loop : tie.Need-add-loop Inv-loop μ-loop
 add-loop c = search needs
 
--- src/text.rt:86:13
 same-length : tie.Need-same-length Inv-loop μ-loop
 same-length c = search needs
 
--- src/text.rt:86:13
 returns : tie.Need-returns Inv-loop μ-loop
 returns c = (omega arith, simp length-take (omega arith))
 
--- src/text.rt:88:26
 shared-slice-read-digit : tie.Need-shared-slice-read-digit Inv-loop μ-loop
 shared-slice-read-digit c = search needs
 
--- src/text.rt:88:13
 digit-requires : tie.Need-digit-requires Inv-loop μ-loop
 digit-requires c κs = search needs
 
--- src/text.rt:89:30
 add-digit : tie.Need-add-digit Inv-loop μ-loop
 add-digit c = search needs
 
--- src/text.rt:89:25
 shared-slice-read-digit-2 : tie.Need-shared-slice-read-digit-2 Inv-loop μ-loop
 shared-slice-read-digit-2 c = search needs
 
--- src/text.rt:89:13
 digit-requires-2 : tie.Need-digit-requires-2 Inv-loop μ-loop
 digit-requires-2 c κs = search needs
 
--- src/text.rt:91:13
 same-length-2 : tie.Need-same-length-2 Inv-loop μ-loop
 same-length-2 c = search needs
 
--- src/text.rt:91:13
 returns-2 : tie.Need-returns-2 Inv-loop μ-loop
 returns-2 c = (omega arith, simp length-take (omega arith))
 
--- src/text.rt:94:13
 same-length-3 : tie.Need-same-length-3 Inv-loop μ-loop
 same-length-3 c = search needs
 
--- src/text.rt:94:13
 returns-3 : tie.Need-returns-3 Inv-loop μ-loop
 returns-3 c = (omega arith, simp length-take (omega arith))
 
--- src/text.rt:96:18
 mul-out : tie.Need-mul-out Inv-loop μ-loop
 mul-out c = search needs
 
--- src/text.rt:96:18
 add-out : tie.Need-add-out Inv-loop μ-loop
 add-out c = search needs
 
--- src/text.rt:96:9
 slice-write-out : tie.Need-slice-write-out Inv-loop μ-loop
 slice-write-out c = search needs
 
--- src/text.rt:97:9
 add-n : tie.Need-add-n Inv-loop μ-loop
 add-n c = search needs
 
--- src/text.rt:98:9
 add-i : tie.Need-add-i Inv-loop μ-loop
 add-i c = search needs
 
--- src/text.rt:84:5
 loop-less : tie.Need-loop-less Inv-loop μ-loop
 loop-less c = search needs
 
--- src/text.rt:84:5
 loop-again : tie.Need-loop-again Inv-loop μ-loop
 loop-again c = (simp length-set (omega arith), omega arith, simp length-set (omega arith))
 
--- src/text.rt:78:1
 same-length-4 : tie.Need-same-length-4 Inv-loop μ-loop
 same-length-4 c = search needs
 
--- src/text.rt:78:1
 returns-4 : tie.Need-returns-4 Inv-loop μ-loop
 returns-4 c = (omega arith, simp length-take (omega arith))
 

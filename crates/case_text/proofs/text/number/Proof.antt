@@ -10,43 +10,33 @@ Inv-loop line start end x₀ i₀ x i = (i ≤ end) × (x < 100000)
 abbrev μ-loop : tie.MeasureT-loop
 μ-loop line start end x₀ i₀ x i = end - i
 
--- src/text.rt:74:5
 loop-holds : tie.Need-loop-holds Inv-loop μ-loop
 loop-holds c = search needs
 
--- src/text.rt:75:14
 mul-x : tie.Need-mul-x Inv-loop μ-loop
 mul-x c = search needs
 
--- src/text.rt:75:29
 shared-slice-read-digit : tie.Need-shared-slice-read-digit Inv-loop μ-loop
 shared-slice-read-digit c = search needs
 
--- src/text.rt:75:23
 digit-requires : tie.Need-digit-requires Inv-loop μ-loop
 digit-requires c κs = search needs
 
--- src/text.rt:75:23
 cast-x : tie.Need-cast-x Inv-loop μ-loop
 cast-x c = search needs
 
--- src/text.rt:75:14
 add-x : tie.Need-add-x Inv-loop μ-loop
 add-x c = search needs
 
--- src/text.rt:76:9
 add-i : tie.Need-add-i Inv-loop μ-loop
 add-i c = search needs
 
--- src/text.rt:74:5
 loop-less : tie.Need-loop-less Inv-loop μ-loop
 loop-less c = search needs
 
--- src/text.rt:74:5
 loop-again : tie.Need-loop-again Inv-loop μ-loop
 loop-again c = search needs
 
--- src/text.rt:68:1
 returns : tie.Need-returns Inv-loop μ-loop
 returns c = search needs
 

@@ -14,51 +14,39 @@ Inv-loop text₀ at bytes i₀ text i = (i ≤ length bytes) × (length text ≡
 abbrev μ-loop : tie.MeasureT-loop
 μ-loop text₀ at bytes i₀ text i = length bytes - i
 
--- src/text.rt:117:5
 loop-holds : tie.Need-loop-holds Inv-loop μ-loop
 loop-holds c = search needs
 
--- src/text.rt:118:31
 mul-put-digits : tie.Need-mul-put-digits Inv-loop μ-loop
 mul-put-digits c = search needs
 
--- src/text.rt:118:26
 add-put-digits : tie.Need-add-put-digits Inv-loop μ-loop
 add-put-digits c = search needs
 
--- src/text.rt:118:38
 shared-slice-read-put-digits : tie.Need-shared-slice-read-put-digits Inv-loop μ-loop
 shared-slice-read-put-digits c = search needs
 
--- src/text.rt:118:9
 put-digits-requires : tie.Need-put-digits-requires Inv-loop μ-loop
 put-digits-requires c κs = search needs
 
--- src/text.rt:119:9
 add-i : tie.Need-add-i Inv-loop μ-loop
 add-i c = search needs
 
--- src/text.rt:117:5
 loop-less : tie.Need-loop-less Inv-loop μ-loop
 loop-less c = search needs
 
--- src/text.rt:117:5
 loop-again : tie.Need-loop-again Inv-loop μ-loop
 loop-again c = search needs
 
--- src/text.rt:121:10
 mul-result : tie.Need-mul-result Inv-loop μ-loop
 mul-result c = search needs
 
--- src/text.rt:121:5
 add-result : tie.Need-add-result Inv-loop μ-loop
 add-result c = search needs
 
--- src/text.rt:112:1
 same-length : tie.Need-same-length Inv-loop μ-loop
 same-length c = search needs
 
--- src/text.rt:112:1
 returns : tie.Need-returns Inv-loop μ-loop
 returns c = (omega arith, simp length-take (omega arith))
 

@@ -5,31 +5,24 @@ use borrow.Author.Needs.{needs}
 use Rattle.case_text.proofs.text.put_digits.Statement.{statement}
 use Rattle.case_text.proofs.text.put_digits.Tie as tie
 
--- src/text.rt:107:16
 letter-requires : tie.Need-letter-requires
 letter-requires c κs = search needs
 
--- src/text.rt:107:5
 slice-write-text : tie.Need-slice-write-text
 slice-write-text c = search needs
 
--- src/text.rt:108:20
 letter-requires-2 : tie.Need-letter-requires-2
 letter-requires-2 c κs = search needs
 
--- src/text.rt:108:10
 add-text : tie.Need-add-text
 add-text c = search needs
 
--- src/text.rt:108:5
 slice-write-text-2 : tie.Need-slice-write-text-2
 slice-write-text-2 c = simp length-set (omega arith)
 
--- src/text.rt:104:1
 same-length : tie.Need-same-length
 same-length c = search needs
 
--- src/text.rt:104:1
 returns : tie.Need-returns
 returns c = search needs
 

@@ -7,15 +7,12 @@ use Rattle.client.proofs.counts.is_quorate.Reads as reads
 use Rattle.client.proofs.counts.is_quorate.Lts as lts
 use Rattle.group.proofs.matching.tally.Reads as tally-reads
 
--- src/counts.rt:16:12
 tally-requires : tie.Need-tally-requires
 tally-requires c κs = search needs
 
--- src/counts.rt:16:12
 add-result : tie.Need-add-result
 add-result c = search needs
 
--- src/counts.rt:12:1
 returns : tie.Need-returns
 returns c = quorate-law _ _ _ (c .before .before .tally .ensures .0)
 

@@ -17,42 +17,33 @@ Inv-loop n times r₀ j₀ r j = (r ≡ largest (λ i. getD times i 0) j) × (j 
 abbrev μ-loop : tie.MeasureT-loop
 μ-loop n times r₀ j₀ r j = n - j
 
--- src/counts.rt:35:5
 loop-holds : tie.Need-loop-holds Inv-loop μ-loop
 unfolding largest
 loop-holds c = (refl, omega arith)
 
--- src/counts.rt:36:26
 add-larger : tie.Need-add-larger Inv-loop μ-loop
 add-larger c = search needs
 
--- src/counts.rt:36:20
 mul-larger : tie.Need-mul-larger Inv-loop μ-loop
 mul-larger c = search needs
 
--- src/counts.rt:36:20
 array-read-larger : tie.Need-array-read-larger Inv-loop μ-loop
 array-read-larger c = search needs
 
--- src/counts.rt:36:9
 larger-requires : tie.Need-larger-requires Inv-loop μ-loop
 larger-requires c κs = search needs
 
--- src/counts.rt:37:9
 add-j : tie.Need-add-j Inv-loop μ-loop
 add-j c = search needs
 
--- src/counts.rt:35:5
 loop-less : tie.Need-loop-less Inv-loop μ-loop
 loop-less c = omega arith
 
--- src/counts.rt:35:5
 loop-again : tie.Need-loop-again Inv-loop μ-loop
 loop-again c =
     let l = c .before .before .loop in
     (largest-turn (c .before .before .before .args .t1) (l .j) (l .r) _ (l .inv .0) (c .larger .ensures), omega arith)
 
--- src/counts.rt:29:1
 returns : tie.Need-returns Inv-loop μ-loop
 returns c =
     let l = c .before .loop in

@@ -16,49 +16,39 @@ Inv-loop m x stamps i₀ i = (i ≤ m) × (hasStamp stamps i x ≡ hasStamp stam
 abbrev μ-loop : tie.MeasureT-loop
 μ-loop m x stamps i₀ i = i
 
--- src/rows.rt:33:5
 loop-holds : tie.Need-loop-holds Inv-loop μ-loop
 loop-holds c = (omega arith, refl)
 
--- src/rows.rt:34:24
 sub-y : tie.Need-sub-y Inv-loop μ-loop
 sub-y c = search needs
 
--- src/rows.rt:34:17
 mul-y : tie.Need-mul-y Inv-loop μ-loop
 mul-y c = search needs
 
--- src/rows.rt:34:17
 array-copy-out-y : tie.Need-array-copy-out-y Inv-loop μ-loop
 array-copy-out-y c = search needs
 
--- src/rows.rt:35:12
 is-same-requires : tie.Need-is-same-requires Inv-loop μ-loop
 is-same-requires c κs = search needs
 
--- src/rows.rt:36:13
 returns : tie.Need-returns Inv-loop μ-loop
 returns c =
     let l = c .before .before .before .before .loop in
     let w : l .i ≡ suc (l .i - 1) = omega arith in
     has-found _ _ _ _ _ _ w (c .before .is-same .ensures) (l .inv .1) (c .if1 .taken)
 
--- src/rows.rt:38:9
 sub-i : tie.Need-sub-i Inv-loop μ-loop
 sub-i c = search needs
 
--- src/rows.rt:33:5
 loop-less : tie.Need-loop-less Inv-loop μ-loop
 loop-less c = omega arith
 
--- src/rows.rt:33:5
 loop-again : tie.Need-loop-again Inv-loop μ-loop
 loop-again c =
     let l = c .before .before .before .before .loop in
     let w : l .i ≡ suc (l .i - 1) = omega arith in
     (omega arith, has-next _ _ _ _ _ _ w (c .before .is-same .ensures) (l .inv .1) (c .if1 .left))
 
--- src/rows.rt:28:1
 returns-2 : tie.Need-returns-2 Inv-loop μ-loop
 returns-2 c = has-none _ _ _ _ (c .loop-test .left) (c .before .loop .inv .1)
 

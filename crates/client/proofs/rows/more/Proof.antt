@@ -7,16 +7,13 @@ use Rattle.client.proofs.rows.more.Tie as tie
 use Rattle.client.proofs.rows.more.Reads as reads
 use Rattle.client.proofs.rows.more.Lts as lts
 
--- src/rows.rt:86:16
 add-result : tie.Need-add-result
 add-result c = search needs
 
--- src/rows.rt:86:9
 returns : tie.Need-returns
 unfolding pick
 returns c = search tests
 
--- src/rows.rt:82:1
 returns-2 : tie.Need-returns-2
 unfolding pick
 returns-2 c = search tests

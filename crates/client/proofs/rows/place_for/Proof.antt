@@ -8,31 +8,24 @@ use Rattle.client.proofs.rows.place_for.Lts as lts
 use Rattle.client.proofs.rows.smallest_of.Reads as smallest-of-reads
 use Rattle.frame.proofs.stamps.is_older.Reads as is-older-reads
 
--- src/rows.rt:70:9
 returns : tie.Need-returns
 returns c = place-behind (c .before .before .args .r) _ (c .if1 .taken)
 
--- src/rows.rt:73:9
 smallest-of-requires : tie.Need-smallest-of-requires
 smallest-of-requires c κs = search needs
 
--- src/rows.rt:74:13
 mul-y : tie.Need-mul-y
 mul-y c = search needs
 
--- src/rows.rt:74:13
 array-copy-out-y : tie.Need-array-copy-out-y
 array-copy-out-y c = search needs
 
--- src/rows.rt:75:8
 is-older-requires : tie.Need-is-older-requires
 is-older-requires c κs = search needs
 
--- src/rows.rt:76:9
 returns-2 : tie.Need-returns-2
 returns-2 c = place-smallest (c .before .before .before .before .before .before .before .args .r) _ _ _ (c .before .before .before .before .before .if1 .left) (c .before .before .before .smallest-of .ensures .0) (c .before .is-older .ensures) (c .if2 .taken)
 
--- src/rows.rt:66:1
 returns-3 : tie.Need-returns-3
 returns-3 c = place-nowhere (c .before .before .before .before .before .before .before .args .r) _ _ _ (c .before .before .before .before .before .if1 .left) (c .before .before .before .smallest-of .ensures .0) (c .before .is-older .ensures) (c .if2 .left)
 

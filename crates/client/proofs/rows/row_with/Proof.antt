@@ -7,19 +7,15 @@ use Rattle.client.proofs.rows.row_with.Reads as reads
 use Rattle.client.proofs.rows.row_with.Lts as lts
 use Rattle.client.proofs.rows.more.Reads as more-reads
 
--- src/rows.rt:97:5
 mul-stamps : tie.Need-mul-stamps
 mul-stamps c = search needs
 
--- src/rows.rt:97:5
 array-set-from-stamps : tie.Need-array-set-from-stamps
 array-set-from-stamps c = search needs
 
--- src/rows.rt:99:16
 more-requires : tie.Need-more-requires
 more-requires c κs = search needs
 
--- src/rows.rt:92:1
 returns : tie.Need-returns
 returns c = row-law (c .before .before .args .r) _ _ _ (c .more .ensures)
 

@@ -7,31 +7,24 @@ use Rattle.client.proofs.rows.smaller.Reads as reads
 use Rattle.client.proofs.rows.smaller.Lts as lts
 use Rattle.frame.proofs.stamps.is_older.Reads as is-older-reads
 
--- src/rows.rt:48:13
 mul-x : tie.Need-mul-x
 mul-x c = search needs
 
--- src/rows.rt:48:13
 array-copy-out-x : tie.Need-array-copy-out-x
 array-copy-out-x c = search needs
 
--- src/rows.rt:49:13
 mul-y : tie.Need-mul-y
 mul-y c = search needs
 
--- src/rows.rt:49:13
 array-copy-out-y : tie.Need-array-copy-out-y
 array-copy-out-y c = search needs
 
--- src/rows.rt:50:8
 is-older-requires : tie.Need-is-older-requires
 is-older-requires c κs = search needs
 
--- src/rows.rt:51:9
 returns : tie.Need-returns
 returns c = (pick-true _ _ _ _ (c .before .is-older .ensures) (c .if1 .taken), omega arith)
 
--- src/rows.rt:44:1
 returns-2 : tie.Need-returns-2
 returns-2 c = (pick-false _ _ _ _ (c .before .is-older .ensures) (c .if1 .left), omega arith)
 

@@ -7,19 +7,15 @@ use Rattle.client.proofs.rows.smallest_of.Reads as reads
 use Rattle.client.proofs.rows.smallest_of.Lts as lts
 use Rattle.client.proofs.rows.smaller.Reads as smaller-reads
 
--- src/rows.rt:60:9
 smaller-requires : tie.Need-smaller-requires
 smaller-requires c κs = search needs
 
--- src/rows.rt:61:9
 smaller-requires-2 : tie.Need-smaller-requires-2
 smaller-requires-2 c κs = search needs
 
--- src/rows.rt:62:5
 smaller-requires-3 : tie.Need-smaller-requires-3
 smaller-requires-3 c κs = search needs
 
--- src/rows.rt:57:1
 returns : tie.Need-returns
 returns c = (smallest-law _ _ _ _ (c .before .before .smaller .ensures .0) (c .before .smaller2 .ensures .0) (c .smaller3 .ensures .0), c .smaller3 .ensures .1)
 

@@ -8,23 +8,19 @@ use Rattle.client.proofs.tests.awaited_test.Tie as tie
 use Rattle.client.proofs.tests.awaited_test.Reads as reads
 use Rattle.client.proofs.tests.awaited_test.Lts as lts
 
--- src/tests.rt:113:9
 returns : tie.Need-returns
 returns c = let a = c .before .args in late-phase (a .fit) (eqb (a .q) (a .last) && not (a .again)) (c .if1 .taken)
 
--- src/tests.rt:116:9
 returns-2 : tie.Need-returns-2
 returns-2 c =
     let a = c .before .before .args in
     late-number (a .fit) (a .q) (a .last) (a .again) (c .before .if1 .left) (c .if2 .taken)
 
--- src/tests.rt:119:9
 returns-3 : tie.Need-returns-3
 returns-3 c =
     let a = c .before .before .before .args in
     late-again (a .fit) (a .q) (a .last) (a .again) (c .before .before .if1 .left) (c .before .if2 .left) (c .if3 .taken)
 
--- src/tests.rt:109:1
 returns-4 : tie.Need-returns-4
 returns-4 c =
     let a = c .before .before .before .args in

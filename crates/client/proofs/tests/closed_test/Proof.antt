@@ -7,11 +7,9 @@ use Rattle.client.proofs.tests.closed_test.Tie as tie
 use Rattle.client.proofs.tests.closed_test.Reads as reads
 use Rattle.client.proofs.tests.closed_test.Lts as lts
 
--- src/tests.rt:103:9
 returns : tie.Need-returns
 returns c = pick-true _ _ _ _ refl (c .if1 .taken)
 
--- src/tests.rt:99:1
 returns-2 : tie.Need-returns-2
 returns-2 c = pick-false _ _ _ _ refl (c .if1 .left)
 

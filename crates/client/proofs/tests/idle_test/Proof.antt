@@ -7,19 +7,15 @@ use Rattle.client.proofs.tests.idle_test.Reads as reads
 use Rattle.client.proofs.tests.idle_test.Lts as lts
 use Rattle.client.proofs.phases.is_idle.Reads as is-idle-reads
 
--- src/tests.rt:89:9
 is-idle-requires : tie.Need-is-idle-requires
 is-idle-requires c κs = search needs
 
--- src/tests.rt:90:9
 returns : tie.Need-returns
 returns c = stop-unless _ _ _ (c .before .is-idle .ensures) _ (c .if1 .taken)
 
--- src/tests.rt:93:9
 returns-2 : tie.Need-returns-2
 returns-2 c = go-if _ _ _ (c .before .before .is-idle .ensures) _ _ (c .before .if1 .left) (stop-from _ _ _ (c .if2 .taken))
 
--- src/tests.rt:86:1
 returns-3 : tie.Need-returns-3
 returns-3 c = go-if _ _ _ (c .before .before .is-idle .ensures) _ _ (c .before .if1 .left) (pass-below _ _ _ (c .if2 .left))
 

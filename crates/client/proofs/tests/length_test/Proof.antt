@@ -8,12 +8,10 @@ use Rattle.client.proofs.tests.length_test.Tie as tie
 use Rattle.client.proofs.tests.length_test.Reads as reads
 use Rattle.client.proofs.tests.length_test.Lts as lts
 
--- src/tests.rt:67:9
 returns : tie.Need-returns
 unfolding lengthTest pick
 returns c = search tests
 
--- src/tests.rt:63:1
 returns-2 : tie.Need-returns-2
 unfolding lengthTest pick
 returns-2 c = search tests

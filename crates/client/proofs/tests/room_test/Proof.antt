@@ -12,21 +12,17 @@ use Rattle.client.proofs.tests.room_test.Reads as reads
 use Rattle.client.proofs.tests.room_test.Lts as lts
 use Rattle.client.proofs.tests.send_room.Reads as send-room-reads
 
--- src/tests.rt:54:9
 returns : tie.Need-returns
 unfolding roomTest pick
 returns c = search tests
 
--- src/tests.rt:57:9
 returns-2 : tie.Need-returns-2
 unfolding roomTest pick
 returns-2 c = search tests
 
--- src/tests.rt:59:5
 send-room-requires : tie.Need-send-room-requires
 send-room-requires c κs = search needs
 
--- src/tests.rt:49:1
 returns-3 : tie.Need-returns-3
 returns-3 c = room-rest _ _ _ _ _ _ (c .before .before .before .if1 .left) (c .before .if2 .left) (c .send-room .ensures)
 

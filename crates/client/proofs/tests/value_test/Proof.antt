@@ -7,19 +7,15 @@ use Rattle.client.proofs.tests.value_test.Reads as reads
 use Rattle.client.proofs.tests.value_test.Lts as lts
 use Rattle.client.proofs.phases.is_writing.Reads as is-writing-reads
 
--- src/tests.rt:76:9
 is-writing-requires : tie.Need-is-writing-requires
 is-writing-requires c κs = search needs
 
--- src/tests.rt:77:9
 returns : tie.Need-returns
 returns c = pass-unless _ _ _ (c .before .is-writing .ensures) _ (c .if1 .taken)
 
--- src/tests.rt:80:9
 returns-2 : tie.Need-returns-2
 returns-2 c = stop-differs _ _ _ (c .before .before .before .is-writing .ensures) _ _ (c .before .before .if1 .left) (c .if2 .taken)
 
--- src/tests.rt:73:1
 returns-3 : tie.Need-returns-3
 returns-3 c = pass-same _ _ _ (c .before .before .before .is-writing .ensures) _ _ (c .before .before .if1 .left) (c .if2 .left)
 

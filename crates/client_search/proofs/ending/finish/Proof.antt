@@ -32,6 +32,9 @@ regain-value-requires c κs = search needs
 ask-all-requires : tie.Need-ask-all-requires
 ask-all-requires c κs = search needs
 
+in-phase-requires : tie.Need-in-phase-requires
+in-phase-requires c κs = search needs
+
 read-answer-requires : tie.Need-read-answer-requires
 read-answer-requires c κs = search needs
 
@@ -46,8 +49,9 @@ same-length-3 c = search needs
 
 returns : tie.Need-returns
 returns c =
-    let v = c .before .before .before .before .before .before .before .before .before .before .regain-value .ensures in
-    finish-law _ _ _ _ _ _ _ _ _ _ _ _ _ _ _ (v .0) (v .1) (c .read-answer .ensures) (c .before .before .before .before .before .ask-all .ensures)
+    let v = c .before .before .before .before .before .before .before .before .before .before .before .regain-value .ensures in
+    finish-law _ _ _ _ _ _ _ _ _ _ _ _ _ _ _ _ (v .0) (v .1) (c .read-answer .ensures) (c .before .before .before .before .before .before .ask-all .ensures)
+    (c .before .in-phase .ensures)
 
 pub finish-spec : {M : Type 1} → statement M
 finish-spec =
@@ -62,6 +66,7 @@ finish-spec =
     add-regain-value
     regain-value-requires
     ask-all-requires
+    in-phase-requires
     read-answer-requires
     same-length
     same-length-2

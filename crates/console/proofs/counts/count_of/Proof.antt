@@ -6,11 +6,9 @@ use Rattle.console.proofs.counts.count_of.Tie as tie
 use Rattle.console.proofs.counts.count_of.Reads as reads
 use Rattle.console.proofs.counts.count_of.Lts as lts
 
--- src/counts.rt:10:9
 returns : tie.Need-returns
 returns c = counted _ _ (search needs)
 
--- src/counts.rt:5:1
 returns-2 : tie.Need-returns-2
 returns-2 c = counted _ _ (search needs)
 

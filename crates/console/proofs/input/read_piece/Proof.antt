@@ -18,55 +18,42 @@ Inv-loop fd buf₀ t₀ left₀ t5 buf t left = (length buf ≡ length buf₀) �
 abbrev μ-loop : tie.MeasureT-loop
 μ-loop fd buf₀ t₀ left₀ t5 buf t left = left
 
--- src/input.rt:74:9
 read-once-requires : tie.Need-read-once-requires Inv-loop μ-loop
 read-once-requires c κs = search needs
 
--- src/input.rt:75:9
 left-after-requires : tie.Need-left-after-requires Inv-loop μ-loop
 left-after-requires c κs = search needs
 
--- src/input.rt:76:5
 loop-holds : tie.Need-loop-holds Inv-loop μ-loop
 loop-holds c = search needs
 
--- src/input.rt:77:9
 read-once-requires-2 : tie.Need-read-once-requires-2 Inv-loop μ-loop
 read-once-requires-2 c κs = search needs
 
--- src/input.rt:78:9
 left-after-requires-2 : tie.Need-left-after-requires-2 Inv-loop μ-loop
 left-after-requires-2 c κs = search needs
 
--- src/input.rt:76:5
 loop-less : tie.Need-loop-less Inv-loop μ-loop
 loop-less c = search needs
 
--- src/input.rt:76:5
 loop-again : tie.Need-loop-again Inv-loop μ-loop
 loop-again c = search needs
 
--- src/input.rt:81:18
 slice-aggregate-fail : tie.Need-slice-aggregate-fail Inv-loop μ-loop
 slice-aggregate-fail c = search needs
 
--- src/input.rt:81:9
 fail-requires : tie.Need-fail-requires Inv-loop μ-loop
 fail-requires c κs = search needs
 
--- src/input.rt:71:1
 same-length : tie.Need-same-length Inv-loop μ-loop
 same-length c = search needs
 
--- src/input.rt:71:1
 returns : tie.Need-returns Inv-loop μ-loop
 returns c = search needs
 
--- src/input.rt:71:1
 same-length-2 : tie.Need-same-length-2 Inv-loop μ-loop
 same-length-2 c = search needs
 
--- src/input.rt:71:1
 returns-2 : tie.Need-returns-2 Inv-loop μ-loop
 returns-2 c = search needs
 

@@ -18,31 +18,24 @@ Inv-loop fd buf₀ count₀ failed₀ left₀ buf count failed left = (length bu
 abbrev μ-loop : tie.MeasureT-loop
 μ-loop fd buf₀ count₀ failed₀ left₀ buf count failed left = left
 
--- src/input.rt:116:5
 loop-holds : tie.Need-loop-holds Inv-loop μ-loop
 loop-holds c = search needs
 
--- src/input.rt:117:13
 read-more-requires : tie.Need-read-more-requires Inv-loop μ-loop
 read-more-requires c κs = search needs
 
--- src/input.rt:120:9
 left-after-requires : tie.Need-left-after-requires Inv-loop μ-loop
 left-after-requires c κs = search needs
 
--- src/input.rt:116:5
 loop-less : tie.Need-loop-less Inv-loop μ-loop
 loop-less c = search needs
 
--- src/input.rt:116:5
 loop-again : tie.Need-loop-again Inv-loop μ-loop
 loop-again c = search needs
 
--- src/input.rt:110:1
 same-length : tie.Need-same-length Inv-loop μ-loop
 same-length c = search needs
 
--- src/input.rt:110:1
 returns : tie.Need-returns Inv-loop μ-loop
 returns c = counted _ _ (search needs)
 

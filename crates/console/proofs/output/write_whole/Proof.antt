@@ -14,27 +14,21 @@ Inv-loop text done₀ left₀ done left = Unit {0}
 abbrev μ-loop : tie.MeasureT-loop
 μ-loop text done₀ left₀ done left = left
 
--- src/output.rt:53:5
 loop-holds : tie.Need-loop-holds Inv-loop μ-loop
 loop-holds c = search needs
 
--- src/output.rt:54:13
 write-some-requires : tie.Need-write-some-requires Inv-loop μ-loop
 write-some-requires c κs = search needs
 
--- src/output.rt:56:9
 left-after-requires : tie.Need-left-after-requires Inv-loop μ-loop
 left-after-requires c κs = search needs
 
--- src/output.rt:53:5
 loop-less : tie.Need-loop-less Inv-loop μ-loop
 loop-less c = search needs
 
--- src/output.rt:53:5
 loop-again : tie.Need-loop-again Inv-loop μ-loop
 loop-again c = search needs
 
--- src/output.rt:50:1
 returns : tie.Need-returns Inv-loop μ-loop
 returns c = search needs
 

@@ -23,22 +23,22 @@ returns-3 c =
     cut-read _ (c .before .before .before .before .if1 .left) (sym (c .before .before .before .is-malformed .ensures) ∙ c .before .before .if2 .left)
     (sym (c .before .is-cut .ensures) ∙ c .if3 .taken)
 
-shared-slice-read-sender-in : tie.Need-shared-slice-read-sender-in
-shared-slice-read-sender-in c =
+shared-slice-read-party-in : tie.Need-shared-slice-read-party-in
+shared-slice-read-party-in c =
     let i = c .before in
     let m = i .before .before in
     let b = begins-of _ (sound-of _ (sym (m .before .is-malformed .ensures) ∙ m .if2 .left)) (sym (i .before .is-cut .ensures) ∙ i .if3 .left) in
     omega (arith, b .long, b .whole)
 
-shared-slice-read-sender-in-2 : tie.Need-shared-slice-read-sender-in-2
-shared-slice-read-sender-in-2 c =
+shared-slice-read-party-in-2 : tie.Need-shared-slice-read-party-in-2
+shared-slice-read-party-in-2 c =
     let i = c .before .before in
     let m = i .before .before in
     let b = begins-of _ (sound-of _ (sym (m .before .is-malformed .ensures) ∙ m .if2 .left)) (sym (i .before .is-cut .ensures) ∙ i .if3 .left) in
     omega (arith, b .long, b .whole)
 
-sender-in-requires : tie.Need-sender-in-requires
-sender-in-requires c κs = search needs
+party-in-requires : tie.Need-party-in-requires
+party-in-requires c κs = search needs
 
 read2-requires : tie.Need-read2-requires
 read2-requires c κs =
@@ -58,7 +58,7 @@ returns-4 c =
     let i = c .before .before .before .before in
     let m = i .before .before in
     let b = begins-of _ (sound-of _ (sym (m .before .is-malformed .ensures) ∙ m .if2 .left)) (sym (i .before .is-cut .ensures) ∙ i .if3 .left) in
-    entry-read _ _ _ b (c .before .sender-in .ensures) (c .read2 .ensures)
+    entry-read _ _ _ b (c .before .party-in .ensures) (c .read2 .ensures)
 
 pub read-entry-spec : {M : Type 1} → statement M
 read-entry-spec =
@@ -69,9 +69,9 @@ read-entry-spec =
     returns-2
     is-cut-requires
     returns-3
-    shared-slice-read-sender-in
-    shared-slice-read-sender-in-2
-    sender-in-requires
+    shared-slice-read-party-in
+    shared-slice-read-party-in-2
+    party-in-requires
     read2-requires
     cast-end
     add-end

@@ -31,16 +31,12 @@ read-entry-requires c κs = search needs
 enum-known-reading : tie.Need-enum-known-reading Inv-loop μ-loop
 enum-known-reading c = search needs
 
-enum-told : tie.Need-enum-told Inv-loop μ-loop
-enum-told c = search needs
-
-closing-in-requires : tie.Need-closing-in-requires Inv-loop μ-loop
-closing-in-requires c κs = search needs
-
 returns : tie.Need-returns Inv-loop μ-loop
 returns c =
-    counts-end _ _ _ (c .before .before .before .before .before .loop .inv .2) _ (c .before .before .before .read-entry .ensures) _ _
-    (c .before .enum-told .given .1) (c .closing-in .ensures)
+    counts-end _ _ _ (c .before .before .before .before .before .loop .inv .2) _ (c .before .before .before .read-entry .ensures) _ (c .before .reading .given .1)
+
+enum-known-reading-2 : tie.Need-enum-known-reading-2 Inv-loop μ-loop
+enum-known-reading-2 c = search needs
 
 add-count : tie.Need-add-count Inv-loop μ-loop
 add-count c = search needs
@@ -49,25 +45,25 @@ add-at : tie.Need-add-at Inv-loop μ-loop
 add-at c =
     let w = rest-within (c .before .before .before .before .before .before .before .before .args .trace .now)
     (c .before .before .before .before .before .before .loop .at) _ (c .before .before .before .before .read-entry .ensures) _
-    (c .before .before .reading .given .1) in
+    (c .before .before .reading2 .given .1) in
     record { fits = omega arith }
 
 loop-less : tie.Need-loop-less Inv-loop μ-loop
 loop-less c =
     let w = rest-within (c .before .before .before .before .before .before .before .before .args .trace .now)
     (c .before .before .before .before .before .before .loop .at) _ (c .before .before .before .before .read-entry .ensures) _
-    (c .before .before .reading .given .1) in
+    (c .before .before .reading2 .given .1) in
     omega arith
 
 loop-again : tie.Need-loop-again Inv-loop μ-loop
 loop-again c =
     let w = rest-within (c .before .before .before .before .before .before .before .before .args .trace .now)
     (c .before .before .before .before .before .before .loop .at) _ (c .before .before .before .before .read-entry .ensures) _
-    (c .before .before .reading .given .1) in (
+    (c .before .before .reading2 .given .1) in (
       omega arith,
       omega arith,
       counts-next _ _ _ (c .before .before .before .before .before .before .loop .inv .2) _
-          (c .before .before .before .before .read-entry .ensures) _ (c .before .before .reading .given .1),
+          (c .before .before .before .before .read-entry .ensures) _ (c .before .before .reading2 .given .1),
     )
 
 pub survey-spec : {M : Type 1} → statement M
@@ -82,9 +78,8 @@ survey-spec =
     part-read-entry-end
     read-entry-requires
     enum-known-reading
-    enum-told
-    closing-in-requires
     returns
+    enum-known-reading-2
     add-count
     add-at
     loop-less

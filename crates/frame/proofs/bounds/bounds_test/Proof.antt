@@ -9,20 +9,16 @@ use Rattle.frame.proofs.bounds.bounds_test.Lts as lts
 use Rattle.blocks.proofs.bounds.parties_fit.Reads as parties-fit-reads
 use Rattle.frame.proofs.bounds.code_test.Reads as code-test-reads
 
--- src/bounds.rt:48:9
 parties-fit-requires : tie.Need-parties-fit-requires
 parties-fit-requires c κs = search needs
 
--- src/bounds.rt:49:9
 returns : tie.Need-returns
 unfolding boundsTest
 returns c = stop-not _ _ _ _ (c .before .parties-fit .ensures) (c .if1 .taken)
 
--- src/bounds.rt:51:5
 code-test-requires : tie.Need-code-test-requires
 code-test-requires c κs = search needs
 
--- src/bounds.rt:43:1
 returns-2 : tie.Need-returns-2
 unfolding boundsTest
 returns-2 c = go-on _ _ _ _ _ (c .before .before .parties-fit .ensures) (c .before .if1 .left) (c .code-test .ensures)

@@ -10,25 +10,20 @@ use Rattle.frame.proofs.bounds.code_test.Lts as lts
 use Rattle.blocks.proofs.bounds.length_fits.Reads as length-fits-reads
 use Rattle.blocks.proofs.bounds.threshold_fits.Reads as threshold-fits-reads
 
--- src/bounds.rt:33:9
 threshold-fits-requires : tie.Need-threshold-fits-requires
 threshold-fits-requires c κs = search needs
 
--- src/bounds.rt:34:9
 returns : tie.Need-returns
 unfolding codeTest
 returns c = stop-not _ _ _ _ (c .before .threshold-fits .ensures) (c .if1 .taken)
 
--- src/bounds.rt:36:9
 length-fits-requires : tie.Need-length-fits-requires
 length-fits-requires c κs = search needs
 
--- src/bounds.rt:37:9
 returns-2 : tie.Need-returns-2
 unfolding codeTest
 returns-2 c = go-on _ _ _ _ _ (c .before .before .before .threshold-fits .ensures) (c .before .before .if1 .left) (stop-not _ _ _ _ (c .before .length-fits .ensures) (c .if2 .taken))
 
--- src/bounds.rt:26:1
 returns-3 : tie.Need-returns-3
 unfolding codeTest
 returns-3 c = go-on _ _ _ _ _ (c .before .before .before .threshold-fits .ensures) (c .before .before .if1 .left) (go-on _ _ _ _ _ (c .before .length-fits .ensures) (c .if2 .left) refl)

@@ -9,23 +9,18 @@ use Rattle.frame.proofs.bounds.largest_frame.Reads as reads
 use Rattle.frame.proofs.bounds.largest_frame.Lts as lts
 use Rattle.frame.proofs.bounds.width.Reads as width-reads
 
--- src/bounds.rt:35:11
 mul-result : tie.Need-mul-result
 mul-result c = search needs
 
--- src/bounds.rt:35:22
 width-requires : tie.Need-width-requires
 width-requires c κs = search needs
 
--- src/bounds.rt:35:11
 add-result : tie.Need-add-result
 add-result c = search needs
 
--- src/bounds.rt:35:5
 add-result-2 : tie.Need-add-result-2
 add-result-2 c = search needs
 
--- src/bounds.rt:31:1
 returns : tie.Need-returns
 unfolding largestFrame
 returns c = (ap (λ x. 22 + (32 * c .before .before .args .g .n + x)) (c .width .ensures .0), omega (arith, c .width .ensures .2, c .before .before .pre .servers-high))

@@ -10,15 +10,12 @@ use Rattle.frame.proofs.bounds.out_room.Reads as reads
 use Rattle.frame.proofs.bounds.out_room.Lts as lts
 use Rattle.frame.proofs.bounds.largest_frame.Reads as largest-frame-reads
 
--- src/bounds.rt:43:9
 largest-frame-requires : tie.Need-largest-frame-requires
 largest-frame-requires c κs = c .pre .0
 
--- src/bounds.rt:43:5
 mul-result : tie.Need-mul-result
 mul-result c = let z : c .before .args .m * c .largest-frame .result ≤ 11960 = mul-le-mul (c .before .pre .1) (c .largest-frame .ensures .1) in search needs
 
--- src/bounds.rt:39:1
 returns : tie.Need-returns
 unfolding outRoom
 returns c = ap (λ x. c .before .args .m * x) (c .largest-frame .ensures .0)

@@ -8,17 +8,14 @@ use Rattle.frame.proofs.bounds.own_test.Tie as tie
 use Rattle.frame.proofs.bounds.own_test.Reads as reads
 use Rattle.frame.proofs.bounds.own_test.Lts as lts
 
--- src/bounds.rt:14:9
 returns : tie.Need-returns
 unfolding ownTest pick
 returns c = search tests
 
--- src/bounds.rt:17:9
 returns-2 : tie.Need-returns-2
 unfolding ownTest pick
 returns-2 c = search tests
 
--- src/bounds.rt:10:1
 returns-3 : tie.Need-returns-3
 unfolding ownTest pick
 returns-3 c = search tests

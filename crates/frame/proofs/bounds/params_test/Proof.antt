@@ -10,24 +10,19 @@ use Rattle.blocks.proofs.bounds.parties_fit.Reads as parties-fit-reads
 use Rattle.frame.proofs.bounds.code_test.Reads as code-test-reads
 use Rattle.frame.proofs.bounds.own_test.Reads as own-test-reads
 
--- src/bounds.rt:60:9
 parties-fit-requires : tie.Need-parties-fit-requires
 parties-fit-requires c κs = search needs
 
--- src/bounds.rt:61:9
 returns : tie.Need-returns
 unfolding paramsTest
 returns c = stop-not _ _ _ _ (c .before .parties-fit .ensures) (c .if1 .taken)
 
--- src/bounds.rt:63:9
 own-test-requires : tie.Need-own-test-requires
 own-test-requires c κs = search needs
 
--- src/bounds.rt:64:25
 enum-known-own : tie.Need-enum-known-own
 enum-known-own c = search needs
 
--- src/bounds.rt:65:9
 returns-2 : tie.Need-returns-2
 unfolding paramsTest
 returns-2 c = go-on _ _ _ _ _ (c .before .before .before .before .before .parties-fit .ensures) (c .before .before .before .before .if1 .left) (stop-first _ _ _ _ (c .before .before .before .own-test .ensures) (c .before .own .given .1))
@@ -35,11 +30,9 @@ returns-2 c = go-on _ _ _ _ _ (c .before .before .before .before .before .partie
 enum-told : tie.Need-enum-told
 enum-told c = search needs
 
--- src/bounds.rt:67:5
 code-test-requires : tie.Need-code-test-requires
 code-test-requires c κs = search needs
 
--- src/bounds.rt:55:1
 returns-3 : tie.Need-returns-3
 unfolding paramsTest
 returns-3 c = go-on _ _ _ _ _ (c .before .before .before .before .before .parties-fit .ensures) (c .before .before .before .before .if1 .left) (go-second _ _ _ _ (c .before .before .before .own-test .ensures) (c .before .enum-told .given .1) (c .code-test .ensures))

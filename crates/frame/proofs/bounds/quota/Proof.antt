@@ -7,20 +7,16 @@ use Rattle.frame.proofs.bounds.quota.Tie as tie
 use Rattle.frame.proofs.bounds.quota.Reads as reads
 use Rattle.frame.proofs.bounds.quota.Lts as lts
 
--- src/bounds.rt:51:14
 add-if1 : tie.Need-add-if1
 add-if1 c = search needs
 
--- src/bounds.rt:52:16
 add-result : tie.Need-add-result
 add-result c = search needs
 
--- src/bounds.rt:52:9
 returns : tie.Need-returns
 unfolding quota
 returns c = let h : c .before .before .before .before .args .g .k ≤ c .before .before .before .before .args .g .t + 1 = omega arith in omega (arith, h)
 
--- src/bounds.rt:47:1
 returns-2 : tie.Need-returns-2
 unfolding quota
 returns-2 c = omega arith

@@ -9,19 +9,15 @@ use Rattle.frame.proofs.bounds.width.Tie as tie
 use Rattle.frame.proofs.bounds.width.Reads as reads
 use Rattle.frame.proofs.bounds.width.Lts as lts
 
--- src/bounds.rt:27:16
 sub-result : tie.Need-sub-result
 sub-result c = search needs
 
--- src/bounds.rt:27:6
 add-result : tie.Need-add-result
 add-result c = search needs
 
--- src/bounds.rt:27:5
 div-result : tie.Need-div-result
 div-result c = search needs
 
--- src/bounds.rt:23:1
 returns : tie.Need-returns
 unfolding width blockLength
 returns c = let M = small (c .before .before .before .args .g) (c .before .before .before .pre) in (refl, M .block-some, M .block-room)

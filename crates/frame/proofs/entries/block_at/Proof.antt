@@ -8,35 +8,27 @@ use Rattle.frame.proofs.entries.block_at.Reads as reads
 use Rattle.frame.proofs.entries.block_at.Lts as lts
 use Rattle.frame.proofs.bounds.width.Reads as width-reads
 
--- src/entries.rt:46:16
 mul-from : tie.Need-mul-from
 mul-from c = search needs
 
--- src/entries.rt:46:16
 add-from : tie.Need-add-from
 add-from c = search needs
 
--- src/entries.rt:47:22
 width-requires : tie.Need-width-requires
 width-requires c κs = search needs
 
--- src/entries.rt:47:15
 add-end : tie.Need-add-end
 add-end c = search needs
 
--- src/entries.rt:48:5
 sub-result : tie.Need-sub-result
 sub-result c = search needs
 
--- src/entries.rt:48:5
 part-result-start : tie.Need-part-result-start
 part-result-start c = search needs
 
--- src/entries.rt:48:5
 part-result-end : tie.Need-part-result-end
 part-result-end c = search needs
 
--- src/entries.rt:42:1
 returns : tie.Need-returns
 unfolding entryAt
 returns c = part-at _ _ _ _ (c .before .width .ensures .0)

@@ -8,55 +8,42 @@ use Rattle.frame.proofs.entries.keep_entry.Lts as lts
 use Rattle.frame.proofs.bounds.width.Reads as width-reads
 use Rattle.frame.proofs.entries.put_entry.Reads as put-entry-reads
 
--- src/entries.rt:26:22
 mul-middle : tie.Need-mul-middle
 mul-middle c = search needs
 
--- src/entries.rt:26:18
 add-middle : tie.Need-add-middle
 add-middle c = search needs
 
--- src/entries.rt:27:24
 width-requires : tie.Need-width-requires
 width-requires c κs = search needs
 
--- src/entries.rt:27:15
 add-end : tie.Need-add-end
 add-end c = search needs
 
--- src/entries.rt:28:24
 sub-put-entry : tie.Need-sub-put-entry
 sub-put-entry c = search needs
 
--- src/entries.rt:28:24
 part-put-entry-start : tie.Need-part-put-entry-start
 part-put-entry-start c = search needs
 
--- src/entries.rt:28:24
 part-put-entry-end : tie.Need-part-put-entry-end
 part-put-entry-end c = search needs
 
--- src/entries.rt:28:39
 sub-put-entry-2 : tie.Need-sub-put-entry-2
 sub-put-entry-2 c = search needs
 
--- src/entries.rt:28:39
 part-put-entry-start-2 : tie.Need-part-put-entry-start-2
 part-put-entry-start-2 c = search needs
 
--- src/entries.rt:28:39
 part-put-entry-end-2 : tie.Need-part-put-entry-end-2
 part-put-entry-end-2 c = search needs
 
--- src/entries.rt:28:5
 put-entry-requires : tie.Need-put-entry-requires
 put-entry-requires c κs = search needs
 
--- src/entries.rt:22:1
 same-length : tie.Need-same-length
 same-length c = search needs
 
--- src/entries.rt:22:1
 returns : tie.Need-returns
 returns c = stored-from _ _ _ _ _ _ _ (c .before .before .before .before .before .before .width .ensures .0) (c .before .before .put-entry .ensures)
 

@@ -7,31 +7,24 @@ use Rattle.frame.proofs.entries.put_entry.Reads as reads
 use Rattle.frame.proofs.entries.put_entry.Lts as lts
 use Rattle.area.proofs.put.Reads as put-reads
 
--- src/entries.rt:17:21
 mul-put : tie.Need-mul-put
 mul-put c = search needs
 
--- src/entries.rt:17:5
 put-requires : tie.Need-put-requires
 put-requires c κs = search needs
 
--- src/entries.rt:18:21
 mul-put-2 : tie.Need-mul-put-2
 mul-put-2 c = search needs
 
--- src/entries.rt:18:21
 add-put : tie.Need-add-put
 add-put c = search needs
 
--- src/entries.rt:18:5
 put-requires-2 : tie.Need-put-requires-2
 put-requires-2 c κs = search needs
 
--- src/entries.rt:13:1
 same-length : tie.Need-same-length
 same-length c = search needs
 
--- src/entries.rt:13:1
 returns : tie.Need-returns
 returns c = stored _ _ _ _ _ _ (c .before .before .before .before .before .before .put .ensures) (c .before .before .put2 .ensures)
 

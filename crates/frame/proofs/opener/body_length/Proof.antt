@@ -10,23 +10,18 @@ use Rattle.frame.proofs.opener.body_length.Lts as lts
 use Rattle.frame.proofs.bounds.width.Reads as width-reads
 use Rattle.frame.proofs.opener.length_of.Reads as length-of-reads
 
--- src/opener.rt:98:21
 mul-length-of : tie.Need-mul-length-of
 mul-length-of c = search needs
 
--- src/opener.rt:98:32
 width-requires : tie.Need-width-requires
 width-requires c κs = search needs
 
--- src/opener.rt:98:21
 add-length-of : tie.Need-add-length-of
 add-length-of c = search needs
 
--- src/opener.rt:98:5
 length-of-requires : tie.Need-length-of-requires
 length-of-requires c κs = search needs
 
--- src/opener.rt:94:1
 returns : tie.Need-returns
 unfolding bodyLength
 returns c = (c .length-of .ensures .0 ∙ ap (λ x. lengthOf (c .before .before .before .args .kind) (32 * c .before .before .before .args .g .n + x)) (c .before .width .ensures .0), c .length-of .ensures .1)

@@ -9,20 +9,16 @@ use Rattle.frame.proofs.opener.body_test.Reads as reads
 use Rattle.frame.proofs.opener.body_test.Lts as lts
 use Rattle.frame.proofs.opener.body_length.Reads as body-length-reads
 
--- src/opener.rt:97:22
 body-length-requires : tie.Need-body-length-requires
 body-length-requires c κs = search needs
 
--- src/opener.rt:97:18
 add-if1 : tie.Need-add-if1
 add-if1 c = search needs
 
--- src/opener.rt:98:9
 returns : tie.Need-returns
 unfolding bodyTest pick
 returns c = search (tests, ← c .before .body-length .ensures .0)
 
--- src/opener.rt:93:1
 returns-2 : tie.Need-returns-2
 unfolding bodyTest pick
 returns-2 c = search (tests, ← c .before .body-length .ensures .0)

@@ -8,19 +8,15 @@ use Rattle.frame.proofs.opener.content_test.Lts as lts
 use Rattle.frame.proofs.opener.stamp_in.Reads as stamp-in-reads
 use Rattle.frame.proofs.opener.stamp_test.Reads as stamp-test-reads
 
--- src/opener.rt:145:9
 returns : tie.Need-returns
 returns c = content-none _ _ (c .if1 .taken)
 
--- src/opener.rt:147:16
 stamp-in-requires : tie.Need-stamp-in-requires
 stamp-in-requires c κs = c .before .before .pre (c .if1 .left)
 
--- src/opener.rt:147:5
 stamp-test-requires : tie.Need-stamp-test-requires
 stamp-test-requires c κs = search needs
 
--- src/opener.rt:140:1
 returns-2 : tie.Need-returns-2
 returns-2 c = content-stamp _ _ _ _ (c .before .before .if1 .left) (c .before .stamp-in .ensures) (c .stamp-test .ensures)
 

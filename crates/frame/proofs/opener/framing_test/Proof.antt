@@ -9,29 +9,23 @@ use Rattle.frame.proofs.opener.framing_test.Reads as reads
 use Rattle.frame.proofs.opener.framing_test.Lts as lts
 use Rattle.area.proofs.read2.Reads as read2-reads
 
--- src/opener.rt:19:9
 returns : tie.Need-returns
 unfolding framingTest pick
 returns c = search tests
 
--- src/opener.rt:21:8
 read2-requires : tie.Need-read2-requires
 read2-requires c κs = search needs
 
--- src/opener.rt:21:8
 cast-if2 : tie.Need-cast-if2
 cast-if2 c = search needs
 
--- src/opener.rt:21:8
 add-if2 : tie.Need-add-if2
 add-if2 c = search needs
 
--- src/opener.rt:22:9
 returns-2 : tie.Need-returns-2
 unfolding framingTest pick
 returns-2 c = search (tests, ← c .before .read2 .ensures)
 
--- src/opener.rt:15:1
 returns-3 : tie.Need-returns-3
 unfolding framingTest pick
 returns-3 c = search (tests, ← c .before .read2 .ensures)

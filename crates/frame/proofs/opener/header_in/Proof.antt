@@ -7,19 +7,15 @@ use Rattle.frame.proofs.opener.header_in.Reads as reads
 use Rattle.frame.proofs.opener.header_in.Lts as lts
 use Rattle.area.proofs.read4.Reads as read4-reads
 
--- src/opener.rt:32:9
 read4-requires : tie.Need-read4-requires
 read4-requires c κs = search needs
 
--- src/opener.rt:34:15
 shared-slice-read-t4 : tie.Need-shared-slice-read-t4
 shared-slice-read-t4 c = search needs
 
--- src/opener.rt:35:17
 shared-slice-read-t6 : tie.Need-shared-slice-read-t6
 shared-slice-read-t6 c = search needs
 
--- src/opener.rt:28:1
 returns : tie.Need-returns
 unfolding headerIn
 returns c = cc

@@ -6,12 +6,10 @@ use Rattle.frame.proofs.opener.is_retired.Tie as tie
 use Rattle.frame.proofs.opener.is_retired.Reads as reads
 use Rattle.frame.proofs.opener.is_retired.Lts as lts
 
--- src/opener.rt:57:9
 returns : tie.Need-returns
 unfolding retired
 returns c = rw (lt-leb 6 _ (c .if1 .taken)) refl
 
--- src/opener.rt:53:1
 returns-2 : tie.Need-returns-2
 unfolding retired
 returns-2 c = rw (le-leb 6 _ (c .if1 .left)) refl

@@ -8,40 +8,32 @@ use Rattle.frame.proofs.opener.length_of.Tie as tie
 use Rattle.frame.proofs.opener.length_of.Reads as reads
 use Rattle.frame.proofs.opener.length_of.Lts as lts
 
--- src/opener.rt:96:9
 returns : tie.Need-returns
 unfolding lengthOf pick
 returns c = (search tests, omega arith)
 
--- src/opener.rt:99:9
 returns-2 : tie.Need-returns-2
 unfolding lengthOf pick
 returns-2 c = (search tests, omega arith)
 
--- src/opener.rt:102:16
 add-result : tie.Need-add-result
 add-result c = search needs
 
--- src/opener.rt:102:9
 returns-3 : tie.Need-returns-3
 unfolding lengthOf pick
 returns-3 c = (search tests, omega arith)
 
--- src/opener.rt:105:9
 returns-4 : tie.Need-returns-4
 unfolding lengthOf pick
 returns-4 c = (search tests, omega arith)
 
--- src/opener.rt:108:16
 add-result-2 : tie.Need-add-result-2
 add-result-2 c = search needs
 
--- src/opener.rt:108:9
 returns-5 : tie.Need-returns-5
 unfolding lengthOf pick
 returns-5 c = (search tests, omega arith)
 
--- src/opener.rt:91:1
 returns-6 : tie.Need-returns-6
 unfolding lengthOf pick
 returns-6 c = (search tests, omega arith)

@@ -8,19 +8,15 @@ use Rattle.frame.proofs.opener.stamp_in.Lts as lts
 use Rattle.area.proofs.read4.Reads as read4-reads
 use Rattle.area.proofs.read8.Reads as read8-reads
 
--- src/opener.rt:108:9
 read8-requires : tie.Need-read8-requires
 read8-requires c κs = search needs
 
--- src/opener.rt:109:9
 read4-requires : tie.Need-read4-requires
 read4-requires c κs = search needs
 
--- src/opener.rt:112:17
 shared-slice-read-t5 : tie.Need-shared-slice-read-t5
 shared-slice-read-t5 c = search needs
 
--- src/opener.rt:104:1
 returns : tie.Need-returns
 unfolding stampIn
 returns c = cc

@@ -11,21 +11,17 @@ use Rattle.frame.proofs.opener.stamp_test.Reads as reads
 use Rattle.frame.proofs.opener.stamp_test.Lts as lts
 use Rattle.frame.proofs.stamps.parts_agree.Reads as parts-agree-reads
 
--- src/opener.rt:121:9
 parts-agree-requires : tie.Need-parts-agree-requires
 parts-agree-requires c κs = tt
 
--- src/opener.rt:122:9
 returns : tie.Need-returns
 unfolding stampTest pick
 returns c = rw (← c .before .parts-agree .ensures, not-true (c .before .parts-agree .result) (c .if1 .taken))
 
--- src/opener.rt:125:9
 returns-2 : tie.Need-returns-2
 unfolding stampTest pick
 returns-2 c = rw (← c .before .before .before .parts-agree .ensures, not-false (c .before .before .before .parts-agree .result) (c .before .before .if1 .left), lt-ltb _ _ (c .if2 .taken))
 
--- src/opener.rt:118:1
 returns-3 : tie.Need-returns-3
 unfolding stampTest pick
 returns-3 c = rw (← c .before .before .before .parts-agree .ensures, not-false (c .before .before .before .parts-agree .result) (c .before .before .if1 .left), le-ltb _ _ (c .if2 .left))

@@ -14,19 +14,15 @@ use Rattle.frame.proofs.send.block_kind.Reads as block-kind-reads
 use Rattle.frame.proofs.send.deposit_all.Reads as deposit-all-reads
 use Rattle.frame.proofs.send.time_bytes.Reads as time-bytes-reads
 
--- src/send.rt:224:9
 block-kind-requires : tie.Need-block-kind-requires
 block-kind-requires c κs = search needs
 
--- src/send.rt:225:13
 time-bytes-requires : tie.Need-time-bytes-requires
 time-bytes-requires c κs = search needs
 
--- src/send.rt:234:9
 slice-aggregate-deposit-all : tie.Need-slice-aggregate-deposit-all
 slice-aggregate-deposit-all c = search needs
 
--- src/send.rt:226:5
 deposit-all-requires : tie.Need-deposit-all-requires
 deposit-all-requires c κs =
     let a = c .before .before .before .before .before .before .before .before .before .args in
@@ -37,15 +33,12 @@ deposit-all-requires c κs =
     let e : 17 + m ≡ 9 + (length (t .result) + m) = omega (arith, h) in
     (p .0 .servers-high, room-of _ _ _ _ _ _ e (p .1))
 
--- src/send.rt:210:1
 same-length : tie.Need-same-length
 same-length c = search needs
 
--- src/send.rt:210:1
 same-length-2 : tie.Need-same-length-2
 same-length-2 c = search needs
 
--- src/send.rt:210:1
 returns : tie.Need-returns
 returns c =
     let a = c .before .before .before .before .before .before .before .before .before .before .before .before .before .before .args in

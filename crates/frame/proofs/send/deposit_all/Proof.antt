@@ -26,29 +26,23 @@ Inv-loop out₀ to₀ n kind client sequence lead digests block q₀ j₀ out to
 abbrev μ-loop : tie.MeasureT-loop
 μ-loop out₀ to₀ n kind client sequence lead digests block q₀ j₀ out to q j = n - j
 
--- src/send.rt:106:5
 loop-holds : tie.Need-loop-holds Inv-loop μ-loop
 loop-holds c = (omega arith, none-sent _ _, omega arith, omega arith, refl, refl)
 
--- src/send.rt:107:9
 add-j : tie.Need-add-j Inv-loop μ-loop
 add-j c = search needs
 
--- src/send.rt:108:47
 cast-t18 : tie.Need-cast-t18 Inv-loop μ-loop
 cast-t18 c = search needs
 
--- src/send.rt:108:9
 deposit-requires : tie.Need-deposit-requires Inv-loop μ-loop
 deposit-requires c κs =
     let i = c .before .before .before .loop .inv in
     room-for-one (c .before .before .before .before .before .before .before .before .before .args .p) (c .before .before .before .loop .q) (c .before .before .before .loop .j) (c .before .before .before .before .before .before .before .before .before .args .n) _ _ _ _ _ (c .before .before .loop-test .taken) (c .before .before .before .before .before .before .before .before .before .pre .1) (i .2) (i .3) (i .4) (i .5)
 
--- src/send.rt:106:5
 loop-less : tie.Need-loop-less Inv-loop μ-loop
 loop-less c = search needs
 
--- src/send.rt:106:5
 loop-again : tie.Need-loop-again Inv-loop μ-loop
 loop-again c =
     let a = c .before .before .before .before .before .before .before .before .before .before .before .before .before .before .args in
@@ -65,15 +59,12 @@ loop-again c =
       w .to-long ∙ i .5,
     )
 
--- src/send.rt:100:1
 same-length : tie.Need-same-length Inv-loop μ-loop
 same-length c = c .before .loop .inv .4
 
--- src/send.rt:100:1
 same-length-2 : tie.Need-same-length-2 Inv-loop μ-loop
 same-length-2 c = c .before .loop .inv .5
 
--- src/send.rt:100:1
 returns : tie.Need-returns Inv-loop μ-loop
 returns c =
     let a = c .before .before .before .before .before .before .before .args in

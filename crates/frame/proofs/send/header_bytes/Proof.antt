@@ -8,31 +8,24 @@ use Rattle.frame.proofs.send.header_bytes.Tie as tie
 use Rattle.frame.proofs.send.header_bytes.Reads as reads
 use Rattle.frame.proofs.send.header_bytes.Lts as lts
 
--- src/send.rt:24:9
 cast-t7 : tie.Need-cast-t7
 cast-t7 c = search needs
 
--- src/send.rt:25:9
 cast-t9 : tie.Need-cast-t9
 cast-t9 c = search needs
 
--- src/send.rt:29:9
 cast-t13 : tie.Need-cast-t13
 cast-t13 c = search needs
 
--- src/send.rt:30:9
 cast-t16 : tie.Need-cast-t16
 cast-t16 c = search needs
 
--- src/send.rt:31:9
 cast-t20 : tie.Need-cast-t20
 cast-t20 c = search needs
 
--- src/send.rt:32:9
 cast-t23 : tie.Need-cast-t23
 cast-t23 c = search needs
 
--- src/send.rt:20:1
 returns : tie.Need-returns
 unfolding headerBytes bytes2 bytes4
 returns c = refl

@@ -8,59 +8,45 @@ use Rattle.frame.proofs.send.put_frame.Lts as lts
 use Rattle.area.proofs.put.Reads as put-reads
 use Rattle.frame.proofs.send.header_bytes.Reads as header-bytes-reads
 
--- src/send.rt:71:16
 add-body : tie.Need-add-body
 add-body c = search needs
 
--- src/send.rt:72:16
 add-list : tie.Need-add-list
 add-list c = search needs
 
--- src/send.rt:74:28
 add-header-bytes : tie.Need-add-header-bytes
 add-header-bytes c = search needs
 
--- src/send.rt:74:14
 add-header-bytes-2 : tie.Need-add-header-bytes-2
 add-header-bytes-2 c = search needs
 
--- src/send.rt:74:9
 add-header-bytes-3 : tie.Need-add-header-bytes-3
 add-header-bytes-3 c = search needs
 
--- src/send.rt:73:18
 header-bytes-requires : tie.Need-header-bytes-requires
 header-bytes-requires c κs = search needs
 
--- src/send.rt:79:24
 slice-aggregate-put : tie.Need-slice-aggregate-put
 slice-aggregate-put c = search needs
 
--- src/send.rt:79:5
 put-requires : tie.Need-put-requires
 put-requires c κs = search needs
 
--- src/send.rt:80:5
 put-requires-2 : tie.Need-put-requires-2
 put-requires-2 c κs = search needs
 
--- src/send.rt:81:5
 put-requires-3 : tie.Need-put-requires-3
 put-requires-3 c κs = search needs
 
--- src/send.rt:82:20
 add-put : tie.Need-add-put
 add-put c = search needs
 
--- src/send.rt:82:5
 put-requires-4 : tie.Need-put-requires-4
 put-requires-4 c κs = search needs
 
--- src/send.rt:67:1
 same-length : tie.Need-same-length
 same-length c = search needs
 
--- src/send.rt:67:1
 returns : tie.Need-returns
 returns c = frame-written _ _ _ _ _ _ (c .before .before .before .before .before .before .before .before .before .before .before .before .before .before .before .before .before .before .before .before .before .before .args .lead .now) (c .before .before .before .before .before .before .before .before .before .before .before .before .before .before .before .before .before .before .before .before .before .before .args .digests .now) (c .before .before .before .before .before .before .before .before .before .before .before .before .before .before .before .before .before .before .before .before .before .before .args .block .now) _ _ _ _ (c .before .before .before .before .before .before .before .before .before .before .before .before .before .before .before .before .before .header-bytes .ensures) (c .before .before .before .before .before .before .before .before .before .before .before .before .before .before .put .ensures) (c .before .before .before .before .before .before .before .before .before .before .put2 .ensures) (c .before .before .before .before .before .before .put3 .ensures) (c .before .before .put4 .ensures)
 

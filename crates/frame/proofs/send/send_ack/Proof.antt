@@ -7,31 +7,24 @@ use Rattle.frame.proofs.send.send_ack.Reads as reads
 use Rattle.frame.proofs.send.send_ack.Lts as lts
 use Rattle.frame.proofs.send.deposit.Reads as deposit-reads
 
--- src/send.rt:205:69
 slice-aggregate-deposit : tie.Need-slice-aggregate-deposit
 slice-aggregate-deposit c = search needs
 
--- src/send.rt:205:79
 slice-aggregate-deposit-2 : tie.Need-slice-aggregate-deposit-2
 slice-aggregate-deposit-2 c = search needs
 
--- src/send.rt:205:89
 slice-aggregate-deposit-3 : tie.Need-slice-aggregate-deposit-3
 slice-aggregate-deposit-3 c = search needs
 
--- src/send.rt:205:5
 deposit-requires : tie.Need-deposit-requires
 deposit-requires c κs = c .before .before .before .before .before .before .before .pre
 
--- src/send.rt:198:1
 same-length : tie.Need-same-length
 same-length c = search needs
 
--- src/send.rt:198:1
 same-length-2 : tie.Need-same-length-2
 same-length-2 c = search needs
 
--- src/send.rt:198:1
 returns : tie.Need-returns
 returns c = sent-one _ _ _ _ _ _ _ _ _ (ack-frame _ _) (c .before .before .before .before .deposit .ensures)
 

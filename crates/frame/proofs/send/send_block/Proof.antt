@@ -11,27 +11,21 @@ use Rattle.frame.proofs.send.send_block.Lts as lts
 use Rattle.frame.proofs.send.deposit.Reads as deposit-reads
 use Rattle.frame.proofs.send.time_bytes.Reads as time-bytes-reads
 
--- src/send.rt:254:13
 time-bytes-requires : tie.Need-time-bytes-requires
 time-bytes-requires c κs = search needs
 
--- src/send.rt:263:9
 slice-aggregate-deposit : tie.Need-slice-aggregate-deposit
 slice-aggregate-deposit c = search needs
 
--- src/send.rt:255:5
 deposit-requires : tie.Need-deposit-requires
 deposit-requires c κs = search needs
 
--- src/send.rt:241:1
 same-length : tie.Need-same-length
 same-length c = search needs
 
--- src/send.rt:241:1
 same-length-2 : tie.Need-same-length-2
 same-length-2 c = search needs
 
--- src/send.rt:241:1
 returns : tie.Need-returns
 unfolding kindOf
 returns c =

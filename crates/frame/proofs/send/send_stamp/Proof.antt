@@ -12,35 +12,27 @@ use Rattle.frame.proofs.send.send_stamp.Lts as lts
 use Rattle.frame.proofs.send.deposit.Reads as deposit-reads
 use Rattle.frame.proofs.send.time_bytes.Reads as time-bytes-reads
 
--- src/send.rt:191:13
 time-bytes-requires : tie.Need-time-bytes-requires
 time-bytes-requires c κs = search needs
 
--- src/send.rt:194:69
 slice-aggregate-deposit : tie.Need-slice-aggregate-deposit
 slice-aggregate-deposit c = search needs
 
--- src/send.rt:194:73
 slice-aggregate-deposit-2 : tie.Need-slice-aggregate-deposit-2
 slice-aggregate-deposit-2 c = search needs
 
--- src/send.rt:194:83
 slice-aggregate-deposit-3 : tie.Need-slice-aggregate-deposit-3
 slice-aggregate-deposit-3 c = search needs
 
--- src/send.rt:194:5
 deposit-requires : tie.Need-deposit-requires
 deposit-requires c κs = let h : length (c .before .before .before .before .before .time-bytes .result) ≡ 8 = ap length (c .before .before .before .before .before .time-bytes .ensures) ∙ length-bytes8 _ in let e : 17 ≡ 9 + (length (c .before .before .before .before .before .time-bytes .result) + (0 + 0)) = omega (arith, h) in room-of _ _ _ _ _ _ e (c .before .before .before .before .before .before .before .before .pre)
 
--- src/send.rt:187:1
 same-length : tie.Need-same-length
 same-length c = search needs
 
--- src/send.rt:187:1
 same-length-2 : tie.Need-same-length-2
 same-length-2 c = search needs
 
--- src/send.rt:187:1
 returns : tie.Need-returns
 returns c = sent-one _ _ _ _ _ _ _ _ _ (stamp-frame _ _ (c .before .before .before .before .before .before .before .before .before .before .before .before .before .args .time) (c .before .before .before .before .before .before .before .before .before .before .time-bytes .result) (c .before .before .before .before .before .before .before .before .before .before .time-bytes .ensures)) (c .before .before .before .before .deposit .ensures)
 

@@ -12,27 +12,21 @@ use Rattle.frame.proofs.send.send_value.Lts as lts
 use Rattle.frame.proofs.send.deposit.Reads as deposit-reads
 use Rattle.frame.proofs.send.stamp_bytes.Reads as stamp-bytes-reads
 
--- src/send.rt:205:13
 stamp-bytes-requires : tie.Need-stamp-bytes-requires
 stamp-bytes-requires c κs = search needs
 
--- src/send.rt:206:70
 slice-aggregate-deposit : tie.Need-slice-aggregate-deposit
 slice-aggregate-deposit c = search needs
 
--- src/send.rt:206:5
 deposit-requires : tie.Need-deposit-requires
 deposit-requires c κs = let h : length (c .before .before .before .stamp-bytes .result) ≡ 13 = ap length (c .before .before .before .stamp-bytes .ensures) ∙ length-stamp _ in let e : 22 + (length (c .before .before .before .before .before .before .before .before .args .digests .now) + length (c .before .before .before .before .before .before .before .before .args .block .now)) ≡ 9 + (length (c .before .before .before .stamp-bytes .result) + (length (c .before .before .before .before .before .before .before .before .args .digests .now) + length (c .before .before .before .before .before .before .before .before .args .block .now))) = omega (arith, h) in room-of _ _ _ _ _ _ e (c .before .before .before .before .before .before .before .before .pre)
 
--- src/send.rt:201:1
 same-length : tie.Need-same-length
 same-length c = search needs
 
--- src/send.rt:201:1
 same-length-2 : tie.Need-same-length-2
 same-length-2 c = search needs
 
--- src/send.rt:201:1
 returns : tie.Need-returns
 returns c = sent-one _ _ _ _ _ _ _ _ _ (value-frame _ _ (c .before .before .before .before .before .before .before .before .before .before .before .before .before .args .s) (c .before .before .before .before .before .before .before .before .stamp-bytes .result) (c .before .before .before .before .before .before .before .before .before .before .before .before .before .args .digests .now) (c .before .before .before .before .before .before .before .before .before .before .before .before .before .args .block .now) (c .before .before .before .before .before .before .before .before .stamp-bytes .ensures)) (c .before .before .before .before .deposit .ensures)
 

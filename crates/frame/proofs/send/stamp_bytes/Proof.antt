@@ -12,27 +12,21 @@ use Rattle.frame.proofs.send.stamp_bytes.Lts as lts
 use Rattle.area.proofs.write4.Reads as write4-reads
 use Rattle.area.proofs.write8.Reads as write8-reads
 
--- src/send.rt:60:18
 slice-aggregate-write8 : tie.Need-slice-aggregate-write8
 slice-aggregate-write8 c = search needs
 
--- src/send.rt:60:5
 write8-requires : tie.Need-write8-requires
 write8-requires c κs = search needs
 
--- src/send.rt:61:5
 array-write-b : tie.Need-array-write-b
 array-write-b c = search needs
 
--- src/send.rt:62:18
 slice-aggregate-write4 : tie.Need-slice-aggregate-write4
 slice-aggregate-write4 c = search needs
 
--- src/send.rt:62:5
 write4-requires : tie.Need-write4-requires
 write4-requires c κs = let h : length (c .before .before .write8 .last .0) ≡ 13 = ap length (c .before .before .write8 .ensures) ∙ simp length-sets in omega (arith, h, length-set (c .before .before .write8 .last .0) 8 (c .before .before .before .before .args .s .writer))
 
--- src/send.rt:56:1
 returns : tie.Need-returns
 unfolding stampBytes bytes8 bytes4 bytes2
 returns c = c .before .write4 .ensures ∙ ap (λ z. sets (set z 8 (c .before .before .before .before .before .before .args .s .writer)) 9 (bytes4 (c .before .before .before .before .before .before .args .s .sequence))) (c .before .before .before .before .write8 .ensures)

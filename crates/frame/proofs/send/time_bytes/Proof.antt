@@ -7,15 +7,12 @@ use Rattle.frame.proofs.send.time_bytes.Reads as reads
 use Rattle.frame.proofs.send.time_bytes.Lts as lts
 use Rattle.area.proofs.write8.Reads as write8-reads
 
--- src/send.rt:51:18
 slice-aggregate-write8 : tie.Need-slice-aggregate-write8
 slice-aggregate-write8 c = search needs
 
--- src/send.rt:51:5
 write8-requires : tie.Need-write8-requires
 write8-requires c κs = search needs
 
--- src/send.rt:47:1
 returns : tie.Need-returns
 unfolding bytes8 bytes4 bytes2
 returns c = c .before .write8 .ensures

@@ -9,15 +9,12 @@ use Rattle.frame.proofs.stamps.is_older.Tie as tie
 use Rattle.frame.proofs.stamps.is_older.Reads as reads
 use Rattle.frame.proofs.stamps.is_older.Lts as lts
 
--- src/stamps.rt:11:9
 returns : tie.Need-returns
 returns c = older-time _ _ (c .before .before .if1 .taken)
 
--- src/stamps.rt:14:9
 returns-2 : tie.Need-returns-2
 returns-2 c = older-writer _ _ (c .before .before .before .before .before .if1 .left) (c .before .before .if2 .taken)
 
--- src/stamps.rt:7:1
 returns-3 : tie.Need-returns-3
 returns-3 c = older-sequence _ _ (c .before .before .before .before .before .if1 .left) (c .before .before .if2 .left)
 

@@ -8,17 +8,14 @@ use Rattle.frame.proofs.stamps.is_same.Tie as tie
 use Rattle.frame.proofs.stamps.is_same.Reads as reads
 use Rattle.frame.proofs.stamps.is_same.Lts as lts
 
--- src/stamps.rt:24:9
 returns : tie.Need-returns
 unfolding sameStamp
 returns c = search tests
 
--- src/stamps.rt:27:9
 returns-2 : tie.Need-returns-2
 unfolding sameStamp
 returns-2 c = search tests
 
--- src/stamps.rt:20:1
 returns-3 : tie.Need-returns-3
 unfolding sameStamp
 returns-3 c = search tests

@@ -8,22 +8,18 @@ use Rattle.frame.proofs.stamps.parts_agree.Tie as tie
 use Rattle.frame.proofs.stamps.parts_agree.Reads as reads
 use Rattle.frame.proofs.stamps.parts_agree.Lts as lts
 
--- src/stamps.rt:49:13
 returns : tie.Need-returns
 unfolding partsAgree pick
 returns c = search tests
 
--- src/stamps.rt:51:9
 returns-2 : tie.Need-returns-2
 unfolding partsAgree pick
 returns-2 c = search tests
 
--- src/stamps.rt:54:9
 returns-3 : tie.Need-returns-3
 unfolding partsAgree pick
 returns-3 c = search tests
 
--- src/stamps.rt:44:1
 returns-4 : tie.Need-returns-4
 unfolding partsAgree pick
 returns-4 c = search tests

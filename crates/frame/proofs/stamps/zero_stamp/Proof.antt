@@ -7,7 +7,6 @@ use Rattle.frame.proofs.stamps.zero_stamp.Tie as tie
 use Rattle.frame.proofs.stamps.zero_stamp.Reads as reads
 use Rattle.frame.proofs.stamps.zero_stamp.Lts as lts
 
--- src/stamps.rt:33:1
 returns : tie.Need-returns
 unfolding zeroStamp
 returns c = refl

@@ -9,43 +9,33 @@ use Rattle.group.proofs.fitting.block_fits.Lts as lts
 use Rattle.area.proofs.equal.Reads as equal-reads
 use Rattle.sha256.proofs.digest.Reads as digest-reads
 
--- src/fitting.rt:14:15
 digest-requires : tie.Need-digest-requires
 digest-requires c κs = search needs
 
--- src/fitting.rt:15:16
 mul-from : tie.Need-mul-from
 mul-from c = search needs
 
--- src/fitting.rt:15:16
 sub-from : tie.Need-sub-from
 sub-from c = search needs
 
--- src/fitting.rt:16:15
 add-end : tie.Need-add-end
 add-end c = search needs
 
--- src/fitting.rt:17:17
 slice-aggregate-equal : tie.Need-slice-aggregate-equal
 slice-aggregate-equal c = search needs
 
--- src/fitting.rt:17:23
 sub-equal : tie.Need-sub-equal
 sub-equal c = search needs
 
--- src/fitting.rt:17:23
 part-equal-start : tie.Need-part-equal-start
 part-equal-start c = search needs
 
--- src/fitting.rt:17:23
 part-equal-end : tie.Need-part-equal-end
 part-equal-end c = search needs
 
--- src/fitting.rt:17:5
 equal-requires : tie.Need-equal-requires
 equal-requires c κs = search needs
 
--- src/fitting.rt:10:1
 returns : tie.Need-returns
 returns c = fits-by digestOf (c .before .before .before .before .before .before .args .digests .now) (c .before .before .before .before .before .before .args .block .now) (c .before .before .before .digest .result) (c .before .before .before .before .before .before .args .j) (c .equal .result) (c .before .before .before .digest .ensures) (c .equal .ensures)
 

@@ -15,110 +15,84 @@ Inv-loop g value areas₀ initials₀ j₀ areas initials j = (j ≤ 11) × (len
 abbrev μ-loop : tie.MeasureT-loop
 μ-loop g value areas₀ initials₀ j₀ areas initials j = 11 - j
 
--- src/parties.rt:91:5
 loop-holds : tie.Need-loop-holds Inv-loop μ-loop
 loop-holds c = search needs
 
--- src/parties.rt:92:18
 mul-at : tie.Need-mul-at Inv-loop μ-loop
 mul-at c = search needs
 
--- src/parties.rt:93:21
 mul-first : tie.Need-mul-first Inv-loop μ-loop
 mul-first c = search needs
 
--- src/parties.rt:96:13
 cast-construct : tie.Need-cast-construct Inv-loop μ-loop
 cast-construct c = search needs
 
--- src/parties.rt:98:28
 add-construct : tie.Need-add-construct Inv-loop μ-loop
 add-construct c = search needs
 
--- src/parties.rt:98:13
 sub-construct : tie.Need-sub-construct Inv-loop μ-loop
 sub-construct c = search needs
 
--- src/parties.rt:98:13
 part-construct-start : tie.Need-part-construct-start Inv-loop μ-loop
 part-construct-start c = search needs
 
--- src/parties.rt:98:13
 part-construct-end : tie.Need-part-construct-end Inv-loop μ-loop
 part-construct-end c = search needs
 
--- src/parties.rt:99:34
 add-construct-2 : tie.Need-add-construct-2 Inv-loop μ-loop
 add-construct-2 c = search needs
 
--- src/parties.rt:99:13
 sub-construct-2 : tie.Need-sub-construct-2 Inv-loop μ-loop
 sub-construct-2 c = search needs
 
--- src/parties.rt:99:13
 part-construct-start-2 : tie.Need-part-construct-start-2 Inv-loop μ-loop
 part-construct-start-2 c = search needs
 
--- src/parties.rt:99:13
 part-construct-end-2 : tie.Need-part-construct-end-2 Inv-loop μ-loop
 part-construct-end-2 c = search needs
 
--- src/parties.rt:94:13
 construct-requires : tie.Need-construct-requires Inv-loop μ-loop
 construct-requires c κs = search needs
 
--- src/parties.rt:102:31
 enum-known-reply : tie.Need-enum-known-reply Inv-loop μ-loop
 enum-known-reply c = search needs
 
--- src/parties.rt:103:13
 same-length : tie.Need-same-length Inv-loop μ-loop
 same-length c = search needs
 
--- src/parties.rt:103:13
 same-length-2 : tie.Need-same-length-2 Inv-loop μ-loop
 same-length-2 c = search needs
 
--- src/parties.rt:103:13
 returns : tie.Need-returns Inv-loop μ-loop
 returns c = search needs
 
 enum-told : tie.Need-enum-told Inv-loop μ-loop
 enum-told c = search needs
 
--- src/parties.rt:106:13
 same-length-3 : tie.Need-same-length-3 Inv-loop μ-loop
 same-length-3 c = search needs
 
--- src/parties.rt:106:13
 same-length-4 : tie.Need-same-length-4 Inv-loop μ-loop
 same-length-4 c = search needs
 
--- src/parties.rt:106:13
 returns-2 : tie.Need-returns-2 Inv-loop μ-loop
 returns-2 c = search needs
 
--- src/parties.rt:108:9
 add-j : tie.Need-add-j Inv-loop μ-loop
 add-j c = search needs
 
--- src/parties.rt:91:5
 loop-less : tie.Need-loop-less Inv-loop μ-loop
 loop-less c = search needs
 
--- src/parties.rt:91:5
 loop-again : tie.Need-loop-again Inv-loop μ-loop
 loop-again c = search needs
 
--- src/parties.rt:87:1
 same-length-5 : tie.Need-same-length-5 Inv-loop μ-loop
 same-length-5 c = search needs
 
--- src/parties.rt:87:1
 same-length-6 : tie.Need-same-length-6 Inv-loop μ-loop
 same-length-6 c = search needs
 
--- src/parties.rt:87:1
 returns-3 : tie.Need-returns-3 Inv-loop μ-loop
 returns-3 c = search needs
 

@@ -19,75 +19,57 @@ Inv-loop text₀ out to count y₀ at₀ i₀ text y at i = length text ≡ leng
 abbrev μ-loop : tie.MeasureT-loop
 μ-loop text₀ out to count y₀ at₀ i₀ text y at i = count - i
 
--- src/print.rt:119:30
 slice-aggregate-put : tie.Need-slice-aggregate-put Inv-loop μ-loop
 slice-aggregate-put c = search needs
 
--- src/print.rt:119:9
 put-requires : tie.Need-put-requires Inv-loop μ-loop
 put-requires c κs = search needs
 
--- src/print.rt:122:5
 loop-holds : tie.Need-loop-holds Inv-loop μ-loop
 loop-holds c = search needs
 
--- src/print.rt:124:13
 same-length : tie.Need-same-length Inv-loop μ-loop
 same-length c = search needs
 
--- src/print.rt:124:13
 returns : tie.Need-returns Inv-loop μ-loop
 returns c = search needs
 
--- src/print.rt:126:42
 mul-put-receiver : tie.Need-mul-put-receiver Inv-loop μ-loop
 mul-put-receiver c = search needs
 
--- src/print.rt:126:39
 shared-slice-read-put-receiver : tie.Need-shared-slice-read-put-receiver Inv-loop μ-loop
 shared-slice-read-put-receiver c = search needs
 
--- src/print.rt:126:53
 mul-put-receiver-2 : tie.Need-mul-put-receiver-2 Inv-loop μ-loop
 mul-put-receiver-2 c = search needs
 
--- src/print.rt:126:53
 add-put-receiver : tie.Need-add-put-receiver Inv-loop μ-loop
 add-put-receiver c = search needs
 
--- src/print.rt:126:50
 shared-slice-read-put-receiver-2 : tie.Need-shared-slice-read-put-receiver-2 Inv-loop μ-loop
 shared-slice-read-put-receiver-2 c = search needs
 
--- src/print.rt:126:13
 put-receiver-requires : tie.Need-put-receiver-requires Inv-loop μ-loop
 put-receiver-requires c κs = search needs
 
--- src/print.rt:127:13
 frame-end-requires : tie.Need-frame-end-requires Inv-loop μ-loop
 frame-end-requires c κs = search needs
 
--- src/print.rt:128:9
 put-frame-requires : tie.Need-put-frame-requires Inv-loop μ-loop
 put-frame-requires c κs = search needs
 
--- src/print.rt:130:9
 add-i : tie.Need-add-i Inv-loop μ-loop
 add-i c = search needs
 
--- src/print.rt:122:5
 loop-less : tie.Need-loop-less Inv-loop μ-loop
 loop-less c = search needs
 
--- src/print.rt:122:5
 loop-again : tie.Need-loop-again Inv-loop μ-loop
 loop-again c = search needs
 
--- src/print.rt:118:1
 same-length-2 : tie.Need-same-length-2 Inv-loop μ-loop
 same-length-2 c = search needs
 
--- src/print.rt:118:1
 returns-2 : tie.Need-returns-2 Inv-loop μ-loop
 returns-2 c = search needs
 

@@ -16,47 +16,36 @@ Inv-loop piece at bytes₀ y₀ i₀ bytes y i = (at ≤ i) × (i ≤ length pie
 abbrev μ-loop : tie.MeasureT-loop
 μ-loop piece at bytes₀ y₀ i₀ bytes y i = length piece - i
 
--- src/script.rt:27:5
 loop-holds : tie.Need-loop-holds Inv-loop μ-loop
 loop-holds c = search needs
 
--- src/script.rt:28:12
 shared-slice-read-if1 : tie.Need-shared-slice-read-if1 Inv-loop μ-loop
 shared-slice-read-if1 c = search needs
 
--- src/script.rt:29:13
 same-length : tie.Need-same-length Inv-loop μ-loop
 same-length c = search needs
 
--- src/script.rt:29:13
 returns : tie.Need-returns Inv-loop μ-loop
 returns c = search needs
 
--- src/script.rt:31:25
 shared-slice-read-add-byte : tie.Need-shared-slice-read-add-byte Inv-loop μ-loop
 shared-slice-read-add-byte c = search needs
 
--- src/script.rt:31:9
 add-byte-requires : tie.Need-add-byte-requires Inv-loop μ-loop
 add-byte-requires c κs = search needs
 
--- src/script.rt:32:9
 add-i : tie.Need-add-i Inv-loop μ-loop
 add-i c = search needs
 
--- src/script.rt:27:5
 loop-less : tie.Need-loop-less Inv-loop μ-loop
 loop-less c = search needs
 
--- src/script.rt:27:5
 loop-again : tie.Need-loop-again Inv-loop μ-loop
 loop-again c = search needs
 
--- src/script.rt:21:1
 same-length-2 : tie.Need-same-length-2 Inv-loop μ-loop
 same-length-2 c = search needs
 
--- src/script.rt:21:1
 returns-2 : tie.Need-returns-2 Inv-loop μ-loop
 returns-2 c = search needs
 

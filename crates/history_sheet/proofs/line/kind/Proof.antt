@@ -8,12 +8,10 @@ use Rattle.history_sheet.proofs.line.kind.Tie as tie
 use Rattle.history_sheet.proofs.line.kind.Reads as reads
 use Rattle.history_sheet.proofs.line.kind.Lts as lts
 
--- src/line.rt:23:9
 returns : tie.Need-returns
 unfolding pick
 returns c = search tests
 
--- src/line.rt:19:1
 returns-2 : tie.Need-returns-2
 unfolding pick
 returns-2 c = search tests

@@ -7,23 +7,18 @@ use Rattle.history_sheet.proofs.line.put_blank.Reads as reads
 use Rattle.history_sheet.proofs.line.put_blank.Lts as lts
 use Rattle.area.proofs.fill.Reads as fill-reads
 
--- src/line.rt:70:5
 fill-requires : tie.Need-fill-requires
 fill-requires c κs = search needs
 
--- src/line.rt:71:9
 add-out : tie.Need-add-out
 add-out c = search needs
 
--- src/line.rt:71:5
 slice-write-out : tie.Need-slice-write-out
 slice-write-out c = search needs
 
--- src/line.rt:66:1
 same-length : tie.Need-same-length
 same-length c = search needs
 
--- src/line.rt:66:1
 returns : tie.Need-returns
 returns c = blank-put _ _ _ (c .before .before .fill .ensures)
 

@@ -9,47 +9,36 @@ use Rattle.history_sheet.proofs.line.put_interval.Lts as lts
 use Rattle.history_sheet.proofs.line.put_kind.Reads as put-kind-reads
 use Rattle.history_sheet.proofs.number.put_field.Reads as put-field-reads
 
--- src/line.rt:43:5
 put-field-requires : tie.Need-put-field-requires
 put-field-requires c κs = (search needs, place-fits _ (c .before .before .pre .1))
 
--- src/line.rt:44:19
 add-put-kind : tie.Need-add-put-kind
 add-put-kind c = search needs
 
--- src/line.rt:44:5
 put-kind-requires : tie.Need-put-kind-requires
 put-kind-requires c κs = search needs
 
--- src/line.rt:45:20
 add-put-field : tie.Need-add-put-field
 add-put-field c = search needs
 
--- src/line.rt:45:32
 cast-put-field : tie.Need-cast-put-field
 cast-put-field c = search needs
 
--- src/line.rt:45:5
 put-field-requires-2 : tie.Need-put-field-requires-2
 put-field-requires-2 c κs = (search needs, start-fits (c .before .before .before .before .before .before .before .before .before .before .before .args .a) (c .before .before .before .before .before .before .before .before .before .before .before .pre .2))
 
--- src/line.rt:46:20
 add-put-field-2 : tie.Need-add-put-field-2
 add-put-field-2 c = search needs
 
--- src/line.rt:46:33
 cast-put-field-2 : tie.Need-cast-put-field-2
 cast-put-field-2 c = search needs
 
--- src/line.rt:46:5
 put-field-requires-3 : tie.Need-put-field-requires-3
 put-field-requires-3 c κs = (search needs, end-fits (c .before .before .before .before .before .before .before .before .before .before .before .before .before .before .before .before .args .a) (c .before .before .before .before .before .before .before .before .before .before .before .before .before .before .before .before .pre .2))
 
--- src/line.rt:38:1
 same-length : tie.Need-same-length
 same-length c = search needs
 
--- src/line.rt:38:1
 returns : tie.Need-returns
 returns c =
     let s = c .before .before .before .before .before .before .before .before .before .before .before .before .before .before .before .before .before .before .before in

@@ -9,27 +9,21 @@ use Rattle.history_sheet.proofs.line.put_kind.Reads as reads
 use Rattle.history_sheet.proofs.line.put_kind.Lts as lts
 use Rattle.history_sheet.proofs.line.kind.Reads as kind-reads
 
--- src/line.rt:33:15
 kind-requires : tie.Need-kind-requires
 kind-requires c κs = search needs
 
--- src/line.rt:33:5
 slice-write-out : tie.Need-slice-write-out
 slice-write-out c = search needs
 
--- src/line.rt:34:9
 add-out : tie.Need-add-out
 add-out c = search needs
 
--- src/line.rt:34:5
 slice-write-out-2 : tie.Need-slice-write-out-2
 slice-write-out-2 c = simp length-set (omega arith)
 
--- src/line.rt:29:1
 same-length : tie.Need-same-length
 same-length c = search needs
 
--- src/line.rt:29:1
 returns : tie.Need-returns
 returns c = rw (add-one, c .kind .ensures)
 

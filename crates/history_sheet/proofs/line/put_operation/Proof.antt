@@ -12,39 +12,30 @@ use Rattle.area.proofs.fill.Reads as fill-reads
 use Rattle.history_sheet.proofs.line.put_interval.Reads as put-interval-reads
 use Rattle.history_sheet.proofs.line.put_stamp.Reads as put-stamp-reads
 
--- src/line.rt:65:5
 put-interval-requires : tie.Need-put-interval-requires
 put-interval-requires c κs = search needs
 
--- src/line.rt:66:20
 add-put-stamp : tie.Need-add-put-stamp
 add-put-stamp c = search needs
 
--- src/line.rt:66:5
 put-stamp-requires : tie.Need-put-stamp-requires
 put-stamp-requires c κs = search needs
 
--- src/line.rt:67:21
 add-fill : tie.Need-add-fill
 add-fill c = search needs
 
--- src/line.rt:67:5
 fill-requires : tie.Need-fill-requires
 fill-requires c κs = search needs
 
--- src/line.rt:68:9
 add-out : tie.Need-add-out
 add-out c = search needs
 
--- src/line.rt:68:5
 slice-write-out : tie.Need-slice-write-out
 slice-write-out c = search needs
 
--- src/line.rt:61:1
 same-length : tie.Need-same-length
 same-length c = simp length-set (c .before .before .fill .kept .0 ∙ c .before .before .before .before .before .before .put-stamp .kept .0 ∙ c .before .before .before .before .before .before .before .before .before .before .put-interval .kept .0)
 
--- src/line.rt:61:1
 returns : tie.Need-returns
 returns c =
     let s = c .before .before .before .before .before .before .before .before .before .before .before .before .before in

@@ -8,51 +8,39 @@ use Rattle.history_sheet.proofs.line.put_stamp.Reads as reads
 use Rattle.history_sheet.proofs.line.put_stamp.Lts as lts
 use Rattle.history_sheet.proofs.number.put_field.Reads as put-field-reads
 
--- src/line.rt:55:5
 put-field-requires : tie.Need-put-field-requires
 put-field-requires c κs = (search needs, stamp-fits (c .before .before .args .a) (c .before .before .pre .1))
 
--- src/line.rt:56:20
 add-put-field : tie.Need-add-put-field
 add-put-field c = search needs
 
--- src/line.rt:56:32
 cast-put-field : tie.Need-cast-put-field
 cast-put-field c = search needs
 
--- src/line.rt:56:5
 put-field-requires-2 : tie.Need-put-field-requires-2
 put-field-requires-2 c κs = (search needs, writer-fits (c .before .before .before .before .before .before .before .args .a) (c .before .before .before .before .before .before .before .pre .1))
 
--- src/line.rt:57:20
 add-put-field-2 : tie.Need-add-put-field-2
 add-put-field-2 c = search needs
 
--- src/line.rt:57:33
 cast-put-field-2 : tie.Need-cast-put-field-2
 cast-put-field-2 c = search needs
 
--- src/line.rt:57:5
 put-field-requires-3 : tie.Need-put-field-requires-3
 put-field-requires-3 c κs = (search needs, sequence-fits (c .before .before .before .before .before .before .before .before .before .before .before .before .args .a) (c .before .before .before .before .before .before .before .before .before .before .before .before .pre .1))
 
--- src/line.rt:58:20
 add-put-field-3 : tie.Need-add-put-field-3
 add-put-field-3 c = search needs
 
--- src/line.rt:58:32
 cast-put-field-3 : tie.Need-cast-put-field-3
 cast-put-field-3 c = search needs
 
--- src/line.rt:58:5
 put-field-requires-4 : tie.Need-put-field-requires-4
 put-field-requires-4 c κs = (search needs, caller-fits (c .before .before .before .before .before .before .before .before .before .before .before .before .before .before .before .before .before .args .a) (c .before .before .before .before .before .before .before .before .before .before .before .before .before .before .before .before .before .pre .1))
 
--- src/line.rt:50:1
 same-length : tie.Need-same-length
 same-length c = search needs
 
--- src/line.rt:50:1
 returns : tie.Need-returns
 returns c =
     let s = c .before .before .before .before .before .before .before .before .before .before .before .before .before .before .before .before .before .before .before .before in

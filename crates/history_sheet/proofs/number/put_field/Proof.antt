@@ -13,23 +13,18 @@ use Rattle.history_sheet.proofs.number.put_field.Reads as reads
 use Rattle.history_sheet.proofs.number.put_field.Lts as lts
 use Rattle.history_sheet.proofs.number.put_number.Reads as put-number-reads
 
--- src/number.rt:31:5
 put-number-requires : tie.Need-put-number-requires
 put-number-requires c κs = search needs
 
--- src/number.rt:32:9
 add-out : tie.Need-add-out
 add-out c = search needs
 
--- src/number.rt:32:5
 slice-write-out : tie.Need-slice-write-out
 slice-write-out c = search needs
 
--- src/number.rt:27:1
 same-length : tie.Need-same-length
 same-length c = search needs
 
--- src/number.rt:27:1
 returns : tie.Need-returns
 returns c =
     let a = c .before .before .before .before .before .args in

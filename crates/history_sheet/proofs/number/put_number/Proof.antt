@@ -22,41 +22,32 @@ Inv-loop out₀ at w n x₀ k₀ out x k =
 abbrev μ-loop : tie.MeasureT-loop
 μ-loop out₀ at w n x₀ k₀ out x k = x
 
--- src/number.rt:17:5
 loop-holds : tie.Need-loop-holds Inv-loop μ-loop
 loop-holds c =
     let some = decimal-some (c .before .args .n) in
     (omega arith, search needs, search needs, search needs, search needs, refl)
 
--- src/number.rt:18:30
 add-out : tie.Need-add-out Inv-loop μ-loop
 add-out c = search needs
 
--- src/number.rt:18:29
 cast-out : tie.Need-cast-out Inv-loop μ-loop
 cast-out c = search needs
 
--- src/number.rt:18:19
 sub-out : tie.Need-sub-out Inv-loop μ-loop
 sub-out c = search needs
 
--- src/number.rt:18:13
 add-out-2 : tie.Need-add-out-2 Inv-loop μ-loop
 add-out-2 c = search needs
 
--- src/number.rt:18:9
 slice-write-out : tie.Need-slice-write-out Inv-loop μ-loop
 slice-write-out c = search needs
 
--- src/number.rt:20:9
 sub-k : tie.Need-sub-k Inv-loop μ-loop
 sub-k c = search needs
 
--- src/number.rt:17:5
 loop-less : tie.Need-loop-less Inv-loop μ-loop
 loop-less c = search needs
 
--- src/number.rt:17:5
 loop-again : tie.Need-loop-again Inv-loop μ-loop
 loop-again c =
     let l = c .before .loop in
@@ -67,39 +58,30 @@ loop-again c =
     let short = t .0 in
     (omega arith, search needs, search needs, simp length-set (l .inv .3), t .0, t .1 ∙ l .inv .5)
 
--- src/number.rt:22:25
 sub-fill : tie.Need-sub-fill Inv-loop μ-loop
 sub-fill c = search needs
 
--- src/number.rt:22:5
 fill-requires : tie.Need-fill-requires Inv-loop μ-loop
 fill-requires c κs = search needs
 
--- src/number.rt:23:26
 add-out-3 : tie.Need-add-out-3 Inv-loop μ-loop
 add-out-3 c = search needs
 
--- src/number.rt:23:25
 cast-out-2 : tie.Need-cast-out-2 Inv-loop μ-loop
 cast-out-2 c = search needs
 
--- src/number.rt:23:15
 sub-out-2 : tie.Need-sub-out-2 Inv-loop μ-loop
 sub-out-2 c = search needs
 
--- src/number.rt:23:9
 add-out-4 : tie.Need-add-out-4 Inv-loop μ-loop
 add-out-4 c = search needs
 
--- src/number.rt:23:5
 slice-write-out-2 : tie.Need-slice-write-out-2 Inv-loop μ-loop
 slice-write-out-2 c = search needs
 
--- src/number.rt:11:1
 same-length : tie.Need-same-length Inv-loop μ-loop
 same-length c = simp length-set (c .before .before .fill .kept .0 ∙ c .before .before .before .before .before .loop .inv .3)
 
--- src/number.rt:11:1
 returns : tie.Need-returns Inv-loop μ-loop
 returns c =
     let l = c .before .before .before .before .before .loop in

@@ -22,42 +22,33 @@ Inv-loop out₀ at count j₀ out j = (j ≤ count) × (length out ≡ length ou
 abbrev μ-loop : tie.MeasureT-loop
 μ-loop out₀ at count j₀ out j = count - j
 
--- src/page.rt:43:5
 loop-holds : tie.Need-loop-holds Inv-loop μ-loop
 loop-holds c = (search needs, refl, no-lines _ _ _ _)
 
--- src/page.rt:44:29
 mul-put-blank : tie.Need-mul-put-blank Inv-loop μ-loop
 mul-put-blank c = search needs
 
--- src/page.rt:44:24
 add-put-blank : tie.Need-add-put-blank Inv-loop μ-loop
 add-put-blank c = search needs
 
--- src/page.rt:44:9
 put-blank-requires : tie.Need-put-blank-requires Inv-loop μ-loop
 put-blank-requires c κs = search needs
 
--- src/page.rt:45:9
 add-j : tie.Need-add-j Inv-loop μ-loop
 add-j c = search needs
 
--- src/page.rt:43:5
 loop-less : tie.Need-loop-less Inv-loop μ-loop
 loop-less c = search needs
 
--- src/page.rt:43:5
 loop-again : tie.Need-loop-again Inv-loop μ-loop
 loop-again c =
     let l = c .before .before .before .before .before .loop in
     let a = c .before .before .before .before .before .before .before .args in
     (search needs, c .before .before .put-blank .kept .0 ∙ l .inv .1, turn (λ i. ended (filled [])) 73 0 (l .j) (a .out .now) (l .out) _ (a .at) (λ k p q. length-blank) (l .inv .2) (c .before .before .put-blank .ensures))
 
--- src/page.rt:38:1
 same-length : tie.Need-same-length Inv-loop μ-loop
 same-length c = c .before .loop .inv .1
 
--- src/page.rt:38:1
 returns : tie.Need-returns Inv-loop μ-loop
 returns c =
     let l = c .before .loop in

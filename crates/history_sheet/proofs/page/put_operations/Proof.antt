@@ -22,27 +22,21 @@ Inv-loop out₀ at first count rows lines j₀ out j =
 abbrev μ-loop : tie.MeasureT-loop
 μ-loop out₀ at first count rows lines j₀ out j = count - j
 
--- src/page.rt:28:5
 loop-holds : tie.Need-loop-holds Inv-loop μ-loop
 loop-holds c = (search needs, refl, no-lines _ _ _ _)
 
--- src/page.rt:29:17
 add-i : tie.Need-add-i Inv-loop μ-loop
 add-i c = let few = c .before .before .before .pre .1 .few in omega arith
 
--- src/page.rt:32:21
 add-place : tie.Need-add-place Inv-loop μ-loop
 add-place c = let few = c .before .before .before .pre .1 .few in omega arith
 
--- src/page.rt:30:20
 array-read-line : tie.Need-array-read-line Inv-loop μ-loop
 array-read-line c = let few = c .before .before .before .pre .1 .few in omega arith
 
--- src/page.rt:30:20
 cast-line : tie.Need-cast-line Inv-loop μ-loop
 cast-line c = search needs
 
--- src/page.rt:31:22
 sub-a : tie.Need-sub-a Inv-loop μ-loop
 sub-a c =
     let a = c .before .before .before .args in
@@ -50,7 +44,6 @@ sub-a c =
     let low = c .before .before .before .pre .1 .low (a .first + j) (omega arith) in
     omega arith
 
--- src/page.rt:31:17
 mul-a : tie.Need-mul-a Inv-loop μ-loop
 mul-a c =
     let a = c .before .before .before .args in
@@ -58,7 +51,6 @@ mul-a c =
     let high = c .before .before .before .pre .1 .high (a .first + j) (omega arith) in
     record { fits = omega arith }
 
--- src/page.rt:31:17
 array-copy-out-a : tie.Need-array-copy-out-a Inv-loop μ-loop
 array-copy-out-a c =
     let a = c .before .before .before .args in
@@ -67,15 +59,12 @@ array-copy-out-a c =
     let high = c .before .before .before .pre .1 .high (a .first + j) (omega arith) in
     omega arith
 
--- src/page.rt:32:33
 mul-put-operation : tie.Need-mul-put-operation Inv-loop μ-loop
 mul-put-operation c = search needs
 
--- src/page.rt:32:28
 add-put-operation : tie.Need-add-put-operation Inv-loop μ-loop
 add-put-operation c = search needs
 
--- src/page.rt:32:9
 put-operation-requires : tie.Need-put-operation-requires Inv-loop μ-loop
 unfolding named
 put-operation-requires c κs =
@@ -86,15 +75,12 @@ put-operation-requires c κs =
     let high = N .high (a .first + j) (omega arith) in
     (search needs, omega arith, N .widths (a .first + j) (omega arith))
 
--- src/page.rt:33:9
 add-j : tie.Need-add-j Inv-loop μ-loop
 add-j c = search needs
 
--- src/page.rt:28:5
 loop-less : tie.Need-loop-less Inv-loop μ-loop
 loop-less c = search needs
 
--- src/page.rt:28:5
 loop-again : tie.Need-loop-again Inv-loop μ-loop
 unfolding named
 loop-again c =
@@ -106,11 +92,9 @@ loop-again c =
       turn (λ i. ended (operationLine (i + 1) (named (a .t3) (a .t4) i))) 73 (a .first) (l .j) (a .out .now) (l .out) _ (a .at) (λ k p q. named-line (a .t3) (a .t4) _ N k (omega arith)) (l .inv .2) (c .before .before .put-operation .ensures),
     )
 
--- src/page.rt:23:1
 same-length : tie.Need-same-length Inv-loop μ-loop
 same-length c = c .before .loop .inv .1
 
--- src/page.rt:23:1
 returns : tie.Need-returns Inv-loop μ-loop
 returns c =
     let l = c .before .loop in

@@ -22,27 +22,21 @@ Inv-loop out₀ rows lines m pages p₀ out p =
 abbrev μ-loop : tie.MeasureT-loop
 μ-loop out₀ rows lines m pages p₀ out p = pages - p
 
--- src/page.rt:77:5
 loop-holds : tie.Need-loop-holds Inv-loop μ-loop
 loop-holds c = (search needs, refl, no-lines _ _ _ _)
 
--- src/page.rt:78:23
 mul-put-page : tie.Need-mul-put-page Inv-loop μ-loop
 mul-put-page c = search needs
 
--- src/page.rt:78:9
 put-page-requires : tie.Need-put-page-requires Inv-loop μ-loop
 put-page-requires c κs = (search needs, c .before .before .before .before .pre .1, search needs, search needs)
 
--- src/page.rt:79:9
 add-p : tie.Need-add-p Inv-loop μ-loop
 add-p c = search needs
 
--- src/page.rt:77:5
 loop-less : tie.Need-loop-less Inv-loop μ-loop
 loop-less c = search needs
 
--- src/page.rt:77:5
 loop-again : tie.Need-loop-again Inv-loop μ-loop
 loop-again c =
     let l = c .before .before .before .before .before .loop in
@@ -55,11 +49,9 @@ loop-again c =
       turn-front (pageOf row) pageSize (l .p) (a .out .now) (l .out) _ (λ k x. length-page row (named-fits (a .rows) (a .lines) (a .m) (s .pre .1)) k (omega arith)) (l .inv .2) (c .before .before .put-page .ensures),
     )
 
--- src/page.rt:72:1
 same-length : tie.Need-same-length Inv-loop μ-loop
 same-length c = c .before .loop .inv .1
 
--- src/page.rt:72:1
 returns : tie.Need-returns Inv-loop μ-loop
 returns c =
     let l = c .before .loop in

@@ -9,17 +9,14 @@ use Rattle.history_text.proofs.line.kind.Tie as tie
 use Rattle.history_text.proofs.line.kind.Reads as reads
 use Rattle.history_text.proofs.line.kind.Lts as lts
 
--- src/line.rt:33:9
 returns : tie.Need-returns
 unfolding kindAt
 returns c = pick-yes _ _ _ refl (eq-eqb _ _ (c .if1 .taken)) refl
 
--- src/line.rt:36:9
 returns-2 : tie.Need-returns-2
 unfolding kindAt
 returns-2 c = pick-no _ _ _ refl (ne-eqb _ _ (c .before .if1 .left)) (pick-yes _ _ _ refl (eq-eqb _ _ (c .if2 .taken)) refl)
 
--- src/line.rt:29:1
 returns-3 : tie.Need-returns-3
 unfolding kindAt
 returns-3 c = pick-no _ _ _ refl (ne-eqb _ _ (c .before .if1 .left)) (pick-no _ _ _ refl (ne-eqb _ _ (c .if2 .left)) refl)

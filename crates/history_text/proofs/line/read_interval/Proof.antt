@@ -12,24 +12,19 @@ use Rattle.history_text.proofs.line.read_interval.Reads as reads
 use Rattle.history_text.proofs.line.read_interval.Lts as lts
 use Rattle.history_text.proofs.number.read_field.Reads as read-field-reads
 
--- src/line.rt:46:9
 read-field-requires : tie.Need-read-field-requires
 read-field-requires c κs = search needs
 
--- src/line.rt:47:23
 enum-known-f : tie.Need-enum-known-f
 enum-known-f c = search needs
 
--- src/line.rt:48:9
 enum-told : tie.Need-enum-told
 enum-told c = search needs
 
--- src/line.rt:48:9
 returns : tie.Need-returns
 unfolding intervalOf
 returns c = (then-bad _ _ _ (c .before .before .read-field .ensures .0) (c .enum-told .given .1), tt)
 
--- src/line.rt:50:27
 add-read-field : tie.Need-add-read-field
 add-read-field c =
     let a = c .before .before .before .before .before .args in
@@ -39,7 +34,6 @@ add-read-field c =
     let w = subst (WithinField 4294967295 (length s - a .at)) (f .1) (r .ensures .1) in
     record { fits = omega arith }
 
--- src/line.rt:50:9
 read-field-requires-2 : tie.Need-read-field-requires-2
 read-field-requires-2 c κs =
     let a = c .before .before .before .before .before .args in
@@ -49,15 +43,12 @@ read-field-requires-2 c κs =
     let w = subst (WithinField 4294967295 (length s - a .at)) (f .1) (r .ensures .1) in
     (omega arith, omega arith)
 
--- src/line.rt:51:23
 enum-known-g : tie.Need-enum-known-g
 enum-known-g c = search needs
 
--- src/line.rt:52:9
 enum-told-2 : tie.Need-enum-told-2
 enum-told-2 c = search needs
 
--- src/line.rt:52:9
 returns-2 : tie.Need-returns-2
 unfolding intervalOf
 returns-2 c =
@@ -67,7 +58,6 @@ returns-2 c =
     let f = c .before .before .before .before .f .given in
     (then-number _ _ _ (f .0 .0) (f .0 .1 .0) (r .ensures .0) (f .1) (then-bad _ _ _ (further 4294967295 32 (a .at) (f .0 .1 .0) s (c .before .before .read-field2 .ensures .0)) (c .enum-told2 .given .1)), tt)
 
--- src/line.rt:54:21
 cast-t10 : tie.Need-cast-t10
 cast-t10 c =
     let a = c .before .before .before .before .before .before .before .before .before .args in
@@ -77,7 +67,6 @@ cast-t10 c =
     let w = subst (WithinField 4294967295 (length s - a .at)) (f .1) (r .ensures .1) in
     record { fits = omega arith }
 
--- src/line.rt:54:35
 cast-t11 : tie.Need-cast-t11
 cast-t11 c =
     let a = c .before .before .before .before .before .before .before .before .before .args in
@@ -90,7 +79,6 @@ cast-t11 c =
     let w₂ = subst (WithinField 4294967295 (length s - (a .at + f .0 .1 .0))) (g .1) (r₂ .ensures .1) in
     record { fits = omega arith }
 
--- src/line.rt:54:47
 add-t9 : tie.Need-add-t9
 add-t9 c =
     let a = c .before .before .before .before .before .before .before .before .before .args in
@@ -103,7 +91,6 @@ add-t9 c =
     let w₂ = subst (WithinField 4294967295 (length s - (a .at + f .0 .1 .0))) (g .1) (r₂ .ensures .1) in
     record { fits = omega arith }
 
--- src/line.rt:42:1
 returns-3 : tie.Need-returns-3
 unfolding intervalOf
 returns-3 c =

@@ -15,23 +15,18 @@ use Rattle.history_text.proofs.line.read_interval.Reads as read-interva
 use Rattle.history_text.proofs.line.read_stamp.Reads as read-stamp-reads
 use Rattle.history_text.proofs.number.read_field.Reads as read-field-reads
 
--- src/line.rt:82:8
 sub-if1 : tie.Need-sub-if1
 sub-if1 c = search needs
 
--- src/line.rt:83:9
 returns : tie.Need-returns
 returns c = let a = c .before .before .args in (line-short (a .s .now) (a .at) (c .if1 .taken), tt)
 
--- src/line.rt:85:18
 shared-slice-read-kind : tie.Need-shared-slice-read-kind
 shared-slice-read-kind c = search needs
 
--- src/line.rt:85:9
 kind-requires : tie.Need-kind-requires
 kind-requires c κs = search needs
 
--- src/line.rt:87:9
 returns-2 : tie.Need-returns-2
 returns-2 c =
     let a = c .before .before .before .before .before .args in
@@ -39,15 +34,12 @@ returns-2 c =
     let h : 2 ≤ length s - a .at = omega arith in
     (line-kind s (a .at) h (c .before .kind .ensures) (c .if2 .taken), tt)
 
--- src/line.rt:89:10
 add-if3 : tie.Need-add-if3
 add-if3 c = search needs
 
--- src/line.rt:89:8
 shared-slice-read-if3 : tie.Need-shared-slice-read-if3
 shared-slice-read-if3 c = search needs
 
--- src/line.rt:90:9
 returns-3 : tie.Need-returns-3
 returns-3 c =
     let a = c .before .before .before .before .before .before .before .args in
@@ -56,23 +48,18 @@ returns-3 c =
     let g : c .before .before .before .kind .result ≤ 1 = omega arith in
     (line-space s (a .at) h (c .before .before .before .kind .ensures) g (c .if3 .taken), tt)
 
--- src/line.rt:92:30
 add-read-interval : tie.Need-add-read-interval
 add-read-interval c = search needs
 
--- src/line.rt:92:9
 read-interval-requires : tie.Need-read-interval-requires
 read-interval-requires c κs = search needs
 
--- src/line.rt:93:25
 enum-known-i : tie.Need-enum-known-i
 enum-known-i c = search needs
 
--- src/line.rt:94:9
 enum-told : tie.Need-enum-told
 enum-told c = search needs
 
--- src/line.rt:94:9
 returns-4 : tie.Need-returns-4
 returns-4 c =
     let a = c .before .before .before .before .before .before .before .before .before .before .args in
@@ -81,11 +68,9 @@ returns-4 c =
     let g : c .before .before .before .before .before .before .kind .result ≤ 1 = omega arith in
     (line-interval s (a .at) h (c .before .before .before .before .before .before .kind .ensures) g (c .before .before .before .if3 .left) (c .before .before .read-interval .ensures .0) (c .enum-told .given .1), tt)
 
--- src/line.rt:96:27
 add-read-stamp : tie.Need-add-read-stamp
 add-read-stamp c = search needs
 
--- src/line.rt:96:27
 add-read-stamp-2 : tie.Need-add-read-stamp-2
 add-read-stamp-2 c =
     let a = c .before .before .before .before .before .before .before .before .before .before .before .args in
@@ -95,7 +80,6 @@ add-read-stamp-2 c =
     let w = subst (WithinInterval (length s - (a .at + 2))) (i .1) (r .ensures .1) in
     record { fits = omega arith }
 
--- src/line.rt:96:9
 read-stamp-requires : tie.Need-read-stamp-requires
 read-stamp-requires c κs =
     let a = c .before .before .before .before .before .before .before .before .before .before .before .args in
@@ -105,15 +89,12 @@ read-stamp-requires c κs =
     let w = subst (WithinInterval (length s - (a .at + 2))) (i .1) (r .ensures .1) in
     omega arith
 
--- src/line.rt:97:22
 enum-known-p : tie.Need-enum-known-p
 enum-known-p c = search needs
 
--- src/line.rt:98:9
 enum-told-2 : tie.Need-enum-told-2
 enum-told-2 c = search needs
 
--- src/line.rt:98:9
 returns-5 : tie.Need-returns-5
 returns-5 c =
     let a = c .before .before .before .before .before .before .before .before .before .before .before .before .before .before .args in
@@ -125,11 +106,9 @@ returns-5 c =
     let w = subst (WithinInterval (length s - (a .at + 2))) (i .1) (r .ensures .1) in
     (line-stamp s (a .at) h (c .before .before .before .before .before .before .before .before .before .before .kind .ensures) g (c .before .before .before .before .before .before .before .if3 .left) (i .0 .0) (i .0 .1 .0) (i .0 .1 .1 .0) (r .ensures .0) (i .1) (c .before .before .read-stamp .ensures .0) (c .enum-told2 .given .1), tt)
 
--- src/line.rt:100:27
 add-read-field : tie.Need-add-read-field
 add-read-field c = search needs
 
--- src/line.rt:100:27
 add-read-field-2 : tie.Need-add-read-field-2
 add-read-field-2 c =
     let a = c .before .before .before .before .before .before .before .before .before .before .before .before .before .before .before .args in
@@ -142,7 +121,6 @@ add-read-field-2 c =
     let w₂ = subst (WithinStamp (length s - (a .at + 2 + i .0 .1 .1 .0))) (p .1) (v .ensures .1) in
     record { fits = omega arith }
 
--- src/line.rt:100:27
 add-read-field-3 : tie.Need-add-read-field-3
 add-read-field-3 c =
     let a = c .before .before .before .before .before .before .before .before .before .before .before .before .before .before .before .args in
@@ -155,7 +133,6 @@ add-read-field-3 c =
     let w₂ = subst (WithinStamp (length s - (a .at + 2 + i .0 .1 .1 .0))) (p .1) (v .ensures .1) in
     record { fits = omega arith }
 
--- src/line.rt:100:9
 read-field-requires : tie.Need-read-field-requires
 read-field-requires c κs =
     let a = c .before .before .before .before .before .before .before .before .before .before .before .before .before .before .before .args in
@@ -168,15 +145,12 @@ read-field-requires c κs =
     let w₂ = subst (WithinStamp (length s - (a .at + 2 + i .0 .1 .1 .0))) (p .1) (v .ensures .1) in
     (omega arith, omega arith)
 
--- src/line.rt:101:23
 enum-known-f : tie.Need-enum-known-f
 enum-known-f c = search needs
 
--- src/line.rt:102:9
 enum-told-3 : tie.Need-enum-told-3
 enum-told-3 c = search needs
 
--- src/line.rt:102:9
 returns-6 : tie.Need-returns-6
 returns-6 c =
     let a = c .before .before .before .before .before .before .before .before .before .before .before .before .before .before .before .before .before .before .args in
@@ -191,7 +165,6 @@ returns-6 c =
     let g : c .before .before .before .before .before .before .before .before .before .before .before .before .before .before .kind .result ≤ 1 = omega arith in
     (line-caller s (a .at) h (c .before .before .before .before .before .before .before .before .before .before .before .before .before .before .kind .ensures) g (c .before .before .before .before .before .before .before .before .before .before .before .if3 .left) (i .0 .0) (i .0 .1 .0) (i .0 .1 .1 .0) (p .0 .0) (p .0 .1 .0) (p .0 .1 .1 .0) (p .0 .1 .1 .1 .0) (r .ensures .0) (i .1) (v .ensures .0) (p .1) (c .before .before .read-field .ensures .0) (c .enum-told3 .given .1), tt)
 
--- src/line.rt:111:17
 cast-t21 : tie.Need-cast-t21
 cast-t21 c =
     let a = c .before .before .before .before .before .before .before .before .before .before .before .before .before .before .before .before .before .before .before .args in
@@ -207,7 +180,6 @@ cast-t21 c =
     let w₃ = subst (WithinField 8 (length s - (a .at + 2 + i .0 .1 .1 .0 + p .0 .1 .1 .1 .0))) (f .1) (n .ensures .1) in
     record { fits = omega arith }
 
--- src/line.rt:113:29
 add-t23 : tie.Need-add-t23
 add-t23 c =
     let a = c .before .before .before .before .before .before .before .before .before .before .before .before .before .before .before .before .before .before .before .args in
@@ -224,7 +196,6 @@ add-t23 c =
     let room : 2 ≤ length s - a .at = c .before .before .before .before .before .before .before .before .before .before .before .before .before .before .before .before .before .if1 .left in
     record { fits = omega (arith, room, w, w₂, w₃ .1, c .before .before .before .before .before .before .before .before .before .before .before .before .before .before .before .before .before .before .before .good .0 .0) }
 
--- src/line.rt:113:29
 add-t18 : tie.Need-add-t18
 add-t18 c =
     let a = c .before .before .before .before .before .before .before .before .before .before .before .before .before .before .before .before .before .before .before .args in
@@ -241,7 +212,6 @@ add-t18 c =
     let room : 2 ≤ length s - a .at = c .before .before .before .before .before .before .before .before .before .before .before .before .before .before .before .before .before .if1 .left in
     record { fits = omega (arith, room, w, w₂, w₃ .1, c .before .before .before .before .before .before .before .before .before .before .before .before .before .before .before .before .before .before .before .good .0 .0) }
 
--- src/line.rt:113:29
 add-t17 : tie.Need-add-t17
 add-t17 c =
     let a = c .before .before .before .before .before .before .before .before .before .before .before .before .before .before .before .before .before .before .before .args in
@@ -258,7 +228,6 @@ add-t17 c =
     let room : 2 ≤ length s - a .at = c .before .before .before .before .before .before .before .before .before .before .before .before .before .before .before .before .before .if1 .left in
     record { fits = omega (arith, room, w, w₂, w₃ .1, c .before .before .before .before .before .before .before .before .before .before .before .before .before .before .before .before .before .before .before .good .0 .0) }
 
--- src/line.rt:78:1
 returns-7 : tie.Need-returns-7
 returns-7 c =
     let a = c .before .before .before .before .before .before .before .before .before .before .before .before .before .before .before .before .before .before .before .args in

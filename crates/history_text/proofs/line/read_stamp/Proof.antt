@@ -12,24 +12,19 @@ use Rattle.history_text.proofs.line.read_stamp.Reads as reads
 use Rattle.history_text.proofs.line.read_stamp.Lts as lts
 use Rattle.history_text.proofs.number.read_field.Reads as read-field-reads
 
--- src/line.rt:62:9
 read-field-requires : tie.Need-read-field-requires
 read-field-requires c κs = search needs
 
--- src/line.rt:63:23
 enum-known-f : tie.Need-enum-known-f
 enum-known-f c = search needs
 
--- src/line.rt:64:9
 enum-told : tie.Need-enum-told
 enum-told c = search needs
 
--- src/line.rt:64:9
 returns : tie.Need-returns
 unfolding stampOf
 returns c = (then-bad _ _ _ (c .before .before .read-field .ensures .0) (c .enum-told .given .1), tt)
 
--- src/line.rt:66:27
 add-read-field : tie.Need-add-read-field
 add-read-field c =
     let a = c .before .before .before .before .before .args in
@@ -39,7 +34,6 @@ add-read-field c =
     let w = subst (WithinField 18446744073709551615 (length s - a .at)) (f .1) (r .ensures .1) in
     record { fits = omega arith }
 
--- src/line.rt:66:9
 read-field-requires-2 : tie.Need-read-field-requires-2
 read-field-requires-2 c κs =
     let a = c .before .before .before .before .before .args in
@@ -49,15 +43,12 @@ read-field-requires-2 c κs =
     let w = subst (WithinField 18446744073709551615 (length s - a .at)) (f .1) (r .ensures .1) in
     (omega arith, omega arith)
 
--- src/line.rt:67:23
 enum-known-g : tie.Need-enum-known-g
 enum-known-g c = search needs
 
--- src/line.rt:68:9
 enum-told-2 : tie.Need-enum-told-2
 enum-told-2 c = search needs
 
--- src/line.rt:68:9
 returns-2 : tie.Need-returns-2
 unfolding stampOf
 returns-2 c =
@@ -67,7 +58,6 @@ returns-2 c =
     let f = c .before .before .before .before .f .given in
     (then-number _ _ _ (f .0 .0) (f .0 .1 .0) (r .ensures .0) (f .1) (then-bad _ _ _ (further 8 32 (a .at) (f .0 .1 .0) s (c .before .before .read-field2 .ensures .0)) (c .enum-told2 .given .1)), tt)
 
--- src/line.rt:70:27
 add-read-field-2 : tie.Need-add-read-field-2
 add-read-field-2 c =
     let a = c .before .before .before .before .before .before .before .before .before .args in
@@ -77,7 +67,6 @@ add-read-field-2 c =
     let w = subst (WithinField 18446744073709551615 (length s - a .at)) (f .1) (r .ensures .1) in
     record { fits = omega arith }
 
--- src/line.rt:70:27
 add-read-field-3 : tie.Need-add-read-field-3
 add-read-field-3 c =
     let a = c .before .before .before .before .before .before .before .before .before .args in
@@ -90,7 +79,6 @@ add-read-field-3 c =
     let w₂ = subst (WithinField 8 (length s - (a .at + f .0 .1 .0))) (g .1) (r₂ .ensures .1) in
     record { fits = omega arith }
 
--- src/line.rt:70:9
 read-field-requires-3 : tie.Need-read-field-requires-3
 read-field-requires-3 c κs =
     let a = c .before .before .before .before .before .before .before .before .before .args in
@@ -103,15 +91,12 @@ read-field-requires-3 c κs =
     let w₂ = subst (WithinField 8 (length s - (a .at + f .0 .1 .0))) (g .1) (r₂ .ensures .1) in
     (omega arith, omega arith)
 
--- src/line.rt:71:23
 enum-known-h : tie.Need-enum-known-h
 enum-known-h c = search needs
 
--- src/line.rt:72:9
 enum-told-3 : tie.Need-enum-told-3
 enum-told-3 c = search needs
 
--- src/line.rt:72:9
 returns-3 : tie.Need-returns-3
 unfolding stampOf
 returns-3 c =
@@ -126,7 +111,6 @@ returns-3 c =
     let e₃ = further 4294967295 32 (a .at) (f .0 .1 .0 + g .0 .1 .0) s (r₃ .ensures .0 ∙ ap (λ i. fieldOf 4294967295 32 (drop i s)) n) in
     (then-number _ _ _ (f .0 .0) (f .0 .1 .0) (r .ensures .0) (f .1) (then-number _ _ _ (g .0 .0) (g .0 .1 .0) (further 8 32 (a .at) (f .0 .1 .0) s (r₂ .ensures .0)) (g .1) (then-bad _ _ _ e₃ (c .enum-told3 .given .1))), tt)
 
--- src/line.rt:74:24
 cast-t14 : tie.Need-cast-t14
 cast-t14 c =
     let a = c .before .before .before .before .before .before .before .before .before .before .before .before .before .args in
@@ -142,7 +126,6 @@ cast-t14 c =
     let w₃ = subst (WithinField 4294967295 (length s - (a .at + f .0 .1 .0 + g .0 .1 .0))) (h .1) (r₃ .ensures .1) in
     record { fits = omega arith }
 
--- src/line.rt:74:38
 cast-t15 : tie.Need-cast-t15
 cast-t15 c =
     let a = c .before .before .before .before .before .before .before .before .before .before .before .before .before .args in
@@ -158,7 +141,6 @@ cast-t15 c =
     let w₃ = subst (WithinField 4294967295 (length s - (a .at + f .0 .1 .0 + g .0 .1 .0))) (h .1) (r₃ .ensures .1) in
     record { fits = omega arith }
 
--- src/line.rt:74:55
 add-t12 : tie.Need-add-t12
 add-t12 c =
     let a = c .before .before .before .before .before .before .before .before .before .before .before .before .before .args in
@@ -174,7 +156,6 @@ add-t12 c =
     let w₃ = subst (WithinField 4294967295 (length s - (a .at + f .0 .1 .0 + g .0 .1 .0))) (h .1) (r₃ .ensures .1) in
     record { fits = omega (arith, w .1, w₂ .1, w₃ .1, c .before .before .before .before .before .before .before .before .before .before .before .before .before .good .0 .0) }
 
--- src/line.rt:74:55
 add-t13 : tie.Need-add-t13
 add-t13 c =
     let a = c .before .before .before .before .before .before .before .before .before .before .before .before .before .args in
@@ -190,7 +171,6 @@ add-t13 c =
     let w₃ = subst (WithinField 4294967295 (length s - (a .at + f .0 .1 .0 + g .0 .1 .0))) (h .1) (r₃ .ensures .1) in
     record { fits = omega (arith, w .1, w₂ .1, w₃ .1, c .before .before .before .before .before .before .before .before .before .before .before .before .before .good .0 .0) }
 
--- src/line.rt:58:1
 returns-4 : tie.Need-returns-4
 unfolding stampOf
 returns-4 c =

@@ -9,21 +9,17 @@ use Rattle.history_text.proofs.number.digit.Tie as tie
 use Rattle.history_text.proofs.number.digit.Reads as reads
 use Rattle.history_text.proofs.number.digit.Lts as lts
 
--- src/number.rt:19:9
 returns : tie.Need-returns
 unfolding digitOf
 returns c = (pick-yes _ _ _ refl (lt-ltb _ _ (c .if1 .taken)) refl, omega arith)
 
--- src/number.rt:22:9
 returns-2 : tie.Need-returns-2
 unfolding digitOf
 returns-2 c = (pick-no _ _ _ refl (le-ltb _ _ (c .before .if1 .left)) (pick-yes _ _ _ refl (lt-ltb _ _ (c .if2 .taken)) refl), omega arith)
 
--- src/number.rt:24:5
 cast-result : tie.Need-cast-result
 cast-result c = search needs
 
--- src/number.rt:15:1
 returns-3 : tie.Need-returns-3
 unfolding digitOf
 returns-3 c = (pick-no _ _ _ refl (le-ltb _ _ (c .before .if1 .left)) (pick-no _ _ _ refl (le-ltb _ _ (c .if2 .left)) refl), omega arith)

@@ -9,15 +9,12 @@ use Rattle.history_text.proofs.number.fits.Tie as tie
 use Rattle.history_text.proofs.number.fits.Reads as reads
 use Rattle.history_text.proofs.number.fits.Lts as lts
 
--- src/number.rt:34:9
 returns : tie.Need-returns
 returns c = let a = c .before .args in sym (le-leb (a .value * 10 + a .d) (a .limit) (omega arith))
 
--- src/number.rt:37:9
 returns-2 : tie.Need-returns-2
 returns-2 c = let a = c .before .before .args in sym (lt-leb (a .value * 10 + a .d) (a .limit) (omega arith))
 
--- src/number.rt:28:1
 returns-3 : tie.Need-returns-3
 returns-3 c = let a = c .before .before .args in fits-equal (a .value) (a .d) (a .limit) (omega arith)
 

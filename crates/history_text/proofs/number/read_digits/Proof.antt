@@ -21,27 +21,21 @@ Inv-loop s at limit value₀ used₀ value used = (used ≤ length s - at) × (v
 abbrev μ-loop : tie.MeasureT-loop
 μ-loop s at limit value₀ used₀ value used = length s - at - used
 
--- src/number.rt:49:5
 loop-holds : tie.Need-loop-holds Inv-loop μ-loop
 loop-holds c = (omega arith, omega arith, ap (λ i. digitsOf (c .before .args .limit) 0 0 (drop i (c .before .args .s .now))) (let e : c .before .args .at + 0 ≡ c .before .args .at = omega arith in e))
 
--- src/number.rt:49:18
 sub-loop : tie.Need-sub-loop Inv-loop μ-loop
 sub-loop c = search needs
 
--- src/number.rt:50:25
 add-digit : tie.Need-add-digit Inv-loop μ-loop
 add-digit c = search needs
 
--- src/number.rt:50:23
 shared-slice-read-digit : tie.Need-shared-slice-read-digit Inv-loop μ-loop
 shared-slice-read-digit c = search needs
 
--- src/number.rt:50:13
 digit-requires : tie.Need-digit-requires Inv-loop μ-loop
 digit-requires c κs = search needs
 
--- src/number.rt:52:13
 returns : tie.Need-returns Inv-loop μ-loop
 returns c =
     let a = c .before .before .before .before .before .before .args in
@@ -51,11 +45,9 @@ returns c =
     let e = digits-stop (a .limit) (l .value) (l .used) (a .at + l .used) s h (c .before .digit .ensures .0) (c .if1 .taken) in
     (sym e ∙ l .inv .2, (omega arith, omega arith))
 
--- src/number.rt:54:12
 fits-requires : tie.Need-fits-requires Inv-loop μ-loop
 fits-requires c κs = search needs
 
--- src/number.rt:55:21
 mul-value : tie.Need-mul-value Inv-loop μ-loop
 mul-value c =
     let a = c .before .before .before .before .before .before .before .before .args in
@@ -63,7 +55,6 @@ mul-value c =
     let k : l .value * 10 + c .before .before .before .digit .result ≤ a .limit = leb-true _ _ (sym (c .before .fits2 .ensures) ∙ c .if2 .taken) in
     record { fits = omega arith }
 
--- src/number.rt:55:21
 add-value : tie.Need-add-value Inv-loop μ-loop
 add-value c =
     let a = c .before .before .before .before .before .before .before .before .args in
@@ -71,15 +62,12 @@ add-value c =
     let k : l .value * 10 + c .before .before .before .digit .result ≤ a .limit = leb-true _ _ (sym (c .before .fits2 .ensures) ∙ c .if2 .taken) in
     record { fits = omega arith }
 
--- src/number.rt:56:13
 add-used : tie.Need-add-used Inv-loop μ-loop
 add-used c = search needs
 
--- src/number.rt:49:5
 loop-less : tie.Need-loop-less Inv-loop μ-loop
 loop-less c = search needs
 
--- src/number.rt:49:5
 loop-again : tie.Need-loop-again Inv-loop μ-loop
 loop-again c =
     let a = c .before .before .before .before .before .before .before .before .args in
@@ -93,7 +81,6 @@ loop-again c =
     let n : a .at + (l .used + 1) ≡ suc (a .at + l .used) = omega arith in
     (omega arith, k, ap (λ i. digitsOf (a .limit) (l .value * 10 + d) (l .used + 1) (drop i s)) n ∙ sym e ∙ l .inv .2)
 
--- src/number.rt:58:13
 returns-2 : tie.Need-returns-2 Inv-loop μ-loop
 returns-2 c =
     let a = c .before .before .before .before .before .before .before .before .args in
@@ -104,7 +91,6 @@ returns-2 c =
     let e = digits-over (a .limit) (l .value) (l .used) (a .at + l .used) s h (c .before .before .before .digit .ensures .0) g (c .before .fits2 .ensures) (c .if2 .left) in
     (sym e ∙ l .inv .2, tt)
 
--- src/number.rt:43:1
 returns-3 : tie.Need-returns-3 Inv-loop μ-loop
 returns-3 c =
     let a = c .before .before .before .args in

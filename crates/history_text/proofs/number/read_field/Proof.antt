@@ -11,29 +11,23 @@ use Rattle.history_text.proofs.number.read_field.Reads as reads
 use Rattle.history_text.proofs.number.read_field.Lts as lts
 use Rattle.history_text.proofs.number.read_number.Reads as read-number-reads
 
--- src/number.rt:87:9
 read-number-requires : tie.Need-read-number-requires
 read-number-requires c κs = search needs
 
--- src/number.rt:88:23
 enum-known-n : tie.Need-enum-known-n
 enum-known-n c = search needs
 
--- src/number.rt:89:9
 enum-told : tie.Need-enum-told
 enum-told c = search needs
 
--- src/number.rt:89:9
 returns : tie.Need-returns
 returns c =
     let a = c .before .before .before .before .args in
     (field-bad (a .limit) (a .end) _ (c .before .before .read-number .ensures .0) (c .enum-told .given .1), tt)
 
--- src/number.rt:91:8
 sub-if1 : tie.Need-sub-if1
 sub-if1 c = search needs
 
--- src/number.rt:92:9
 returns-2 : tie.Need-returns-2
 returns-2 c =
     let a = c .before .before .before .before .before .before .args in
@@ -43,19 +37,15 @@ returns-2 c =
     let h : length (a .s .now) ≤ a .at + g .0 .1 .0 = omega arith in
     (field-short (a .limit) (a .end) (a .at) (g .0 .0) (g .0 .1 .0) (a .s .now) (r .ensures .0) (g .1) (search needs) h, tt)
 
--- src/number.rt:94:10
 add-if2 : tie.Need-add-if2
 add-if2 c = search needs
 
--- src/number.rt:94:8
 shared-slice-read-if2 : tie.Need-shared-slice-read-if2
 shared-slice-read-if2 c = search needs
 
--- src/number.rt:95:37
 add-t13 : tie.Need-add-t13
 add-t13 c = search needs
 
--- src/number.rt:95:9
 returns-3 : tie.Need-returns-3
 returns-3 c =
     let a = c .before .before .before .before .before .before .before .before .args in
@@ -64,7 +54,6 @@ returns-3 c =
     let w = subst (WithinField (a .limit) (length (a .s .now) - a .at)) (g .1) (r .ensures .1) in
     (field-found (a .limit) (a .end) (a .at) (g .0 .0) (g .0 .1 .0) (a .s .now) (r .ensures .0) (g .1) (c .if2 .taken), (w .0, omega arith))
 
--- src/number.rt:83:1
 returns-4 : tie.Need-returns-4
 returns-4 c =
     let a = c .before .before .before .before .before .before .before .before .args in

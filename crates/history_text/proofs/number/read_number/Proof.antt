@@ -11,37 +11,30 @@ use Rattle.history_text.proofs.number.read_number.Lts as lts
 use Rattle.history_text.proofs.number.digit.Reads as digit-reads
 use Rattle.history_text.proofs.number.read_digits.Reads as read-digits-reads
 
--- src/number.rt:70:9
 returns : tie.Need-returns
 returns c = let a = c .before .before .args in (sym (number-none (a .limit) (a .at) (a .s .now) (c .if1 .taken)), tt)
 
--- src/number.rt:72:13
 shared-slice-read-c : tie.Need-shared-slice-read-c
 shared-slice-read-c c = search needs
 
--- src/number.rt:74:9
 returns-2 : tie.Need-returns-2
 returns-2 c =
     let a = c .before .before .before .before .args in
     let h : a .at < length (a .s .now) = omega arith in
     (sym (number-zero (a .limit) (a .at) (a .s .now) h (c .if2 .taken)), (omega arith, omega arith))
 
--- src/number.rt:76:12
 digit-requires : tie.Need-digit-requires
 digit-requires c κs = search needs
 
--- src/number.rt:77:9
 returns-3 : tie.Need-returns-3
 returns-3 c =
     let a = c .before .before .before .before .before .before .args in
     let h : a .at < length (a .s .now) = omega arith in
     (sym (number-bad (a .limit) (a .at) (a .s .now) h (c .before .before .if2 .left) (c .before .digit .ensures .0) (c .if3 .taken)), tt)
 
--- src/number.rt:79:5
 read-digits-requires : tie.Need-read-digits-requires
 read-digits-requires c κs = search needs
 
--- src/number.rt:65:1
 returns-4 : tie.Need-returns-4
 returns-4 c =
     let a = c .before .before .before .before .before .before .before .args in

@@ -9,27 +9,21 @@ use Rattle.history_text.proofs.text.judge_reading.Lts as lts
 use Rattle.history_row.proofs.judge_first.Reads as judge-first-reads
 use Rattle.order.proofs.judge.refuse.Reads as refuse-reads
 
--- src/text.rt:48:9
 refuse-requires : tie.Need-refuse-requires
 refuse-requires c κs = search needs
 
--- src/text.rt:48:9
 returns : tie.Need-returns
 returns c = answer-bad _ (c .before .if1 .taken) (c .refuse .ensures)
 
--- src/text.rt:53:9
 refuse-requires-2 : tie.Need-refuse-requires-2
 refuse-requires-2 c κs = search needs
 
--- src/text.rt:53:9
 returns-2 : tie.Need-returns-2
 returns-2 c = answer-large _ (c .before .before .before .if1 .left) (search needs) (c .refuse2 .ensures)
 
--- src/text.rt:56:5
 judge-first-requires : tie.Need-judge-first-requires
 judge-first-requires c κs = search needs
 
--- src/text.rt:44:1
 returns-3 : tie.Need-returns-3
 returns-3 c = answer-small _ (c .before .before .before .before .if1 .left) (search needs) (c .judge-first .ensures)
 

@@ -24,33 +24,26 @@ Inv-loop s history₀ at₀ history at =
 abbrev μ-loop : tie.MeasureT-loop
 μ-loop s history₀ at₀ history at = length s - at
 
--- src/text.rt:24:9
 empty-requires : tie.Need-empty-requires Inv-loop μ-loop
 empty-requires c κs = search needs
 
--- src/text.rt:26:5
 loop-holds : tie.Need-loop-holds Inv-loop μ-loop
 loop-holds c =
     let s = c .before .before .args .s .now in
     (omega arith, (length s, omega arith, final-start (c .empty .result) s (c .empty .ensures)))
 
--- src/text.rt:27:13
 read-line-requires : tie.Need-read-line-requires Inv-loop μ-loop
 read-line-requires c κs = search needs
 
--- src/text.rt:28:26
 enum-known-line : tie.Need-enum-known-line Inv-loop μ-loop
 enum-known-line c = search needs
 
--- src/text.rt:31:26
 enum-told : tie.Need-enum-told Inv-loop μ-loop
 enum-told c = search needs
 
--- src/text.rt:31:26
 empty-requires-2 : tie.Need-empty-requires-2 Inv-loop μ-loop
 empty-requires-2 c κs = search needs
 
--- src/text.rt:29:13
 returns : tie.Need-returns Inv-loop μ-loop
 returns c =
     let s = c .before .before .before .before .before .before .before .before .args .s .now in
@@ -59,11 +52,9 @@ returns c =
     ap (reading true) (c .empty2 .ensures)
     ∙ sym (final-bad (l .history) (l .inv .1 .0) (l .at) s h (l .inv .1 .1) (c .before .before .before .read-line .ensures .0) (c .before .enum-told .given .1)) ∙ l .inv .1 .2
 
--- src/text.rt:34:9
 add-requires : tie.Need-add-requires Inv-loop μ-loop
 add-requires c κs = search needs
 
--- src/text.rt:35:9
 add-at : tie.Need-add-at Inv-loop μ-loop
 add-at c =
     let s = c .before .before .before .before .before .before .before .before .before .args .s .now in
@@ -73,7 +64,6 @@ add-at c =
     let w = subst (WithinLine (length s - l .at)) (x .1) (r .ensures .1) in
     record { fits = omega arith }
 
--- src/text.rt:26:5
 loop-less : tie.Need-loop-less Inv-loop μ-loop
 loop-less c =
     let s = c .before .before .before .before .before .before .before .before .before .args .s .now in
@@ -83,7 +73,6 @@ loop-less c =
     let w = subst (WithinLine (length s - l .at)) (x .1) (r .ensures .1) in
     omega arith
 
--- src/text.rt:26:5
 loop-again : tie.Need-loop-again Inv-loop μ-loop
 loop-again c =
     let s = c .before .before .before .before .before .before .before .before .before .args .s .now in
@@ -95,7 +84,6 @@ loop-again c =
     let m = final-next (l .history) (l .inv .1 .0) (l .at) (x .0 .1 .0) s (x .0 .0) h (l .inv .1 .1) (w .0) (w .1) (r .ensures .0) (x .1) (c .add .ensures) (l .inv .1 .2) in
     (omega arith, m)
 
--- src/text.rt:21:1
 returns-2 : tie.Need-returns-2 Inv-loop μ-loop
 returns-2 c =
     let s = c .before .before .before .before .args .s .now in

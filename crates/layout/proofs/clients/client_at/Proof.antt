@@ -5,67 +5,51 @@ use Rattle.layout.specs.Clients.{clientAt}
 use Rattle.layout.proofs.clients.client_at.Statement.{statement}
 use Rattle.layout.proofs.clients.client_at.Tie as tie
 
--- src/clients.rt:151:9
 read4-requires : tie.Need-read4-requires
 read4-requires c κs = search needs
 
--- src/clients.rt:152:36
 add-read4 : tie.Need-add-read4
 add-read4 c = search needs
 
--- src/clients.rt:152:9
 read4-requires-2 : tie.Need-read4-requires-2
 read4-requires-2 c κs = search needs
 
--- src/clients.rt:153:32
 add-flag-in : tie.Need-add-flag-in
 add-flag-in c = search needs
 
--- src/clients.rt:153:26
 shared-slice-read-flag-in : tie.Need-shared-slice-read-flag-in
 shared-slice-read-flag-in c = search needs
 
--- src/clients.rt:153:9
 flag-in-requires : tie.Need-flag-in-requires
 flag-in-requires c κs = search needs
 
--- src/clients.rt:154:32
 add-phase-in : tie.Need-add-phase-in
 add-phase-in c = search needs
 
--- src/clients.rt:154:26
 shared-slice-read-phase-in : tie.Need-shared-slice-read-phase-in
 shared-slice-read-phase-in c = search needs
 
--- src/clients.rt:154:9
 phase-in-requires : tie.Need-phase-in-requires
 phase-in-requires c κs = search needs
 
--- src/clients.rt:155:33
 add-flags-at : tie.Need-add-flags-at
 add-flags-at c = search needs
 
--- src/clients.rt:155:9
 flags-at-requires : tie.Need-flags-at-requires
 flags-at-requires c κs = search needs
 
--- src/clients.rt:156:35
 add-numbers-at : tie.Need-add-numbers-at
 add-numbers-at c = search needs
 
--- src/clients.rt:156:9
 numbers-at-requires : tie.Need-numbers-at-requires
 numbers-at-requires c κs = search needs
 
--- src/clients.rt:157:31
 add-rows-at : tie.Need-add-rows-at
 add-rows-at c = search needs
 
--- src/clients.rt:157:9
 rows-at-requires : tie.Need-rows-at-requires
 rows-at-requires c κs = search needs
 
--- src/clients.rt:147:1
 returns : tie.Need-returns
 unfolding clientAt flagAt
 returns c = cc

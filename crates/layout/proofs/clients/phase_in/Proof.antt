@@ -5,22 +5,18 @@ use Rattle.layout.specs.Clients.{phaseIn}
 use Rattle.layout.proofs.clients.phase_in.Statement.{statement}
 use Rattle.layout.proofs.clients.phase_in.Tie as tie
 
--- src/clients.rt:37:9
 returns : tie.Need-returns
 unfolding phaseIn pick
 returns c = search tests
 
--- src/clients.rt:40:9
 returns-2 : tie.Need-returns-2
 unfolding phaseIn pick
 returns-2 c = search tests
 
--- src/clients.rt:43:9
 returns-3 : tie.Need-returns-3
 unfolding phaseIn pick
 returns-3 c = search tests
 
--- src/clients.rt:33:1
 returns-4 : tie.Need-returns-4
 unfolding phaseIn pick
 returns-4 c = search tests

@@ -4,39 +4,30 @@ use Rattle.layout.proofs.Puts.{client-put}
 use Rattle.layout.proofs.clients.put_client.Statement.{statement}
 use Rattle.layout.proofs.clients.put_client.Tie as tie
 
--- src/clients.rt:140:5
 put-head-requires : tie.Need-put-head-requires
 put-head-requires c κs = search needs
 
--- src/clients.rt:141:27
 add-put-flags : tie.Need-add-put-flags
 add-put-flags c = search needs
 
--- src/clients.rt:141:5
 put-flags-requires : tie.Need-put-flags-requires
 put-flags-requires c κs = search needs
 
--- src/clients.rt:142:29
 add-put-numbers : tie.Need-add-put-numbers
 add-put-numbers c = search needs
 
--- src/clients.rt:142:5
 put-numbers-requires : tie.Need-put-numbers-requires
 put-numbers-requires c κs = search needs
 
--- src/clients.rt:143:25
 add-put-rows : tie.Need-add-put-rows
 add-put-rows c = search needs
 
--- src/clients.rt:143:5
 put-rows-requires : tie.Need-put-rows-requires
 put-rows-requires c κs = search needs
 
--- src/clients.rt:132:1
 same-length : tie.Need-same-length
 same-length c = search needs
 
--- src/clients.rt:132:1
 returns : tie.Need-returns
 returns c = client-put _ _ _ _ _ _ (c .before .before .before .before .before .before .before .before .before .before .before .before .before .before .before .before .before .before .before .before .args .s) (c .before .before .before .before .before .before .before .before .before .before .before .before .before .before .put-head .ensures) (c .before .before .before .before .before .before .before .before .before .before .put-flags .ensures) (c .before .before .before .before .before .before .put-numbers .ensures) (c .before .before .put-rows .ensures)
 

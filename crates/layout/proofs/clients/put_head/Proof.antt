@@ -4,47 +4,36 @@ use Rattle.layout.proofs.Puts.{head-put}
 use Rattle.layout.proofs.clients.put_head.Statement.{statement}
 use Rattle.layout.proofs.clients.put_head.Tie as tie
 
--- src/clients.rt:125:5
 write4-requires : tie.Need-write4-requires
 write4-requires c κs = search needs
 
--- src/clients.rt:126:23
 add-write4 : tie.Need-add-write4
 add-write4 c = search needs
 
--- src/clients.rt:126:5
 write4-requires-2 : tie.Need-write4-requires-2
 write4-requires-2 c κs = search needs
 
--- src/clients.rt:127:14
 flag-byte-requires : tie.Need-flag-byte-requires
 flag-byte-requires c κs = search needs
 
--- src/clients.rt:127:38
 add-put-byte : tie.Need-add-put-byte
 add-put-byte c = search needs
 
--- src/clients.rt:127:5
 put-byte-requires : tie.Need-put-byte-requires
 put-byte-requires c κs = search needs
 
--- src/clients.rt:128:14
 phase-byte-requires : tie.Need-phase-byte-requires
 phase-byte-requires c κs = search needs
 
--- src/clients.rt:128:38
 add-put-byte-2 : tie.Need-add-put-byte-2
 add-put-byte-2 c = search needs
 
--- src/clients.rt:128:5
 put-byte-requires-2 : tie.Need-put-byte-requires-2
 put-byte-requires-2 c κs = search needs
 
--- src/clients.rt:121:1
 same-length : tie.Need-same-length
 same-length c = search needs
 
--- src/clients.rt:121:1
 returns : tie.Need-returns
 returns c = head-put _ _ _ _ _ _ _ _ _ _ _ _ (c .before .before .before .before .before .before .before .before .before .flag-byte .ensures) (c .before .before .before .before .phase-byte .ensures) (c .before .before .before .before .before .before .before .before .before .before .before .before .before .before .before .before .write4 .ensures) (c .before .before .before .before .before .before .before .before .before .before .before .before .write42 .ensures) (c .before .before .before .before .before .before .before .put-byte .ensures) (c .before .before .put-byte2 .ensures)
 

@@ -4,23 +4,18 @@ use Rattle.layout.proofs.Puts.{kept-put}
 use Rattle.layout.proofs.clients.put_row.Statement.{statement}
 use Rattle.layout.proofs.clients.put_row.Tie as tie
 
--- src/clients.rt:81:5
 write8-requires : tie.Need-write8-requires
 write8-requires c κs = search needs
 
--- src/clients.rt:82:29
 add-put-stamps : tie.Need-add-put-stamps
 add-put-stamps c = search needs
 
--- src/clients.rt:82:5
 put-stamps-requires : tie.Need-put-stamps-requires
 put-stamps-requires c κs = search needs
 
--- src/clients.rt:76:1
 same-length : tie.Need-same-length
 same-length c = search needs
 
--- src/clients.rt:76:1
 returns : tie.Need-returns
 returns c = kept-put _ _ _ _ (c .before .before .before .before .before .before .before .before .before .before .args .r) (c .before .before .before .before .before .before .write8 .ensures) (c .before .before .put-stamps .ensures)
 

@@ -20,40 +20,31 @@ Inv-loop out₀ at x j₀ out j = (out ≡ sets out₀ at (joined (λ (k : ℕ).
 abbrev μ-loop : tie.MeasureT-loop
 μ-loop out₀ at x j₀ out j = 11 - j
 
--- src/clients.rt:99:5
 loop-holds : tie.Need-loop-holds Inv-loop μ-loop
 unfolding joined
 loop-holds c = (refl, omega arith, refl)
 
--- src/clients.rt:100:17
 mul-put-row : tie.Need-mul-put-row Inv-loop μ-loop
 mul-put-row c = search needs
 
--- src/clients.rt:100:17
 array-copy-out-put-row : tie.Need-array-copy-out-put-row Inv-loop μ-loop
 array-copy-out-put-row c = search needs
 
--- src/clients.rt:100:33
 mul-put-row-2 : tie.Need-mul-put-row-2 Inv-loop μ-loop
 mul-put-row-2 c = search needs
 
--- src/clients.rt:100:28
 add-put-row : tie.Need-add-put-row Inv-loop μ-loop
 add-put-row c = search needs
 
--- src/clients.rt:100:9
 put-row-requires : tie.Need-put-row-requires Inv-loop μ-loop
 put-row-requires c κs = omega arith
 
--- src/clients.rt:101:9
 add-j : tie.Need-add-j Inv-loop μ-loop
 add-j c = search needs
 
--- src/clients.rt:99:5
 loop-less : tie.Need-loop-less Inv-loop μ-loop
 loop-less c = omega arith
 
--- src/clients.rt:99:5
 loop-again : tie.Need-loop-again Inv-loop μ-loop
 loop-again c =
     let l = c .before .before .before .before .before .before .loop in
@@ -62,11 +53,9 @@ loop-again c =
     let p = put-turn (λ (k : ℕ). keptBytes (getD (a .t1) k noRow)) 60 (a .out .now) (l .out) _ (a .at) (l .j) _ (λ k. length-kept (getD (a .t1) k noRow)) h (l .inv .0) (c .before .before .put-row .ensures) in
     (p, omega arith, search needs)
 
--- src/clients.rt:94:1
 same-length : tie.Need-same-length Inv-loop μ-loop
 same-length c = search needs
 
--- src/clients.rt:94:1
 returns : tie.Need-returns Inv-loop μ-loop
 unfolding rowsBytes rowBytes
 returns c =

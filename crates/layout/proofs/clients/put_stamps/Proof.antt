@@ -21,40 +21,31 @@ Inv-loop out₀ at x j₀ out j = (out ≡ sets out₀ at (joined (λ (k : ℕ).
 abbrev μ-loop : tie.MeasureT-loop
 μ-loop out₀ at x j₀ out j = 4 - j
 
--- src/clients.rt:55:5
 loop-holds : tie.Need-loop-holds Inv-loop μ-loop
 unfolding joined
 loop-holds c = (refl, omega arith, refl)
 
--- src/clients.rt:56:19
 mul-put-stamp : tie.Need-mul-put-stamp Inv-loop μ-loop
 mul-put-stamp c = search needs
 
--- src/clients.rt:56:19
 array-copy-out-put-stamp : tie.Need-array-copy-out-put-stamp Inv-loop μ-loop
 array-copy-out-put-stamp c = search needs
 
--- src/clients.rt:56:35
 mul-put-stamp-2 : tie.Need-mul-put-stamp-2 Inv-loop μ-loop
 mul-put-stamp-2 c = search needs
 
--- src/clients.rt:56:30
 add-put-stamp : tie.Need-add-put-stamp Inv-loop μ-loop
 add-put-stamp c = search needs
 
--- src/clients.rt:56:9
 put-stamp-requires : tie.Need-put-stamp-requires Inv-loop μ-loop
 put-stamp-requires c κs = omega arith
 
--- src/clients.rt:57:9
 add-j : tie.Need-add-j Inv-loop μ-loop
 add-j c = search needs
 
--- src/clients.rt:55:5
 loop-less : tie.Need-loop-less Inv-loop μ-loop
 loop-less c = omega arith
 
--- src/clients.rt:55:5
 loop-again : tie.Need-loop-again Inv-loop μ-loop
 loop-again c =
     let l = c .before .before .before .before .before .before .loop in
@@ -63,11 +54,9 @@ loop-again c =
     let p = put-turn (λ (k : ℕ). stampBytes (getD (a .t1) k noStamp)) 13 (a .out .now) (l .out) _ (a .at) (l .j) _ (λ k. length-stamp (getD (a .t1) k noStamp)) h (l .inv .0) (c .before .before .put-stamp .ensures) in
     (p, omega arith, search needs)
 
--- src/clients.rt:50:1
 same-length : tie.Need-same-length Inv-loop μ-loop
 same-length c = search needs
 
--- src/clients.rt:50:1
 returns : tie.Need-returns Inv-loop μ-loop
 unfolding stampsBytes rowBytes
 returns c =

@@ -4,19 +4,15 @@ use Rattle.layout.specs.Clients.{keptAt}
 use Rattle.layout.proofs.clients.row_at.Statement.{statement}
 use Rattle.layout.proofs.clients.row_at.Tie as tie
 
--- src/clients.rt:89:17
 read8-requires : tie.Need-read8-requires
 read8-requires c κs = search needs
 
--- src/clients.rt:90:35
 add-stamps-at : tie.Need-add-stamps-at
 add-stamps-at c = search needs
 
--- src/clients.rt:90:9
 stamps-at-requires : tie.Need-stamps-at-requires
 stamps-at-requires c κs = search needs
 
--- src/clients.rt:85:1
 returns : tie.Need-returns
 unfolding keptAt
 returns c = cc

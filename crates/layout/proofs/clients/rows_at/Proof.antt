@@ -18,51 +18,40 @@ Inv-loop bytes at x₀ j₀ x j = (x ≡ sets x₀ 0 (table j (λ (k : ℕ). kep
 abbrev μ-loop : tie.MeasureT-loop
 μ-loop bytes at x₀ j₀ x j = 11 - j
 
--- src/clients.rt:109:9
 row-at-requires : tie.Need-row-at-requires Inv-loop μ-loop
 row-at-requires c κs = search needs
 
--- src/clients.rt:112:5
 loop-holds : tie.Need-loop-holds Inv-loop μ-loop
 unfolding table tableFrom
 loop-holds c = (refl, omega arith, refl)
 
--- src/clients.rt:113:35
 mul-row-at : tie.Need-mul-row-at Inv-loop μ-loop
 mul-row-at c = search needs
 
--- src/clients.rt:113:30
 add-row-at : tie.Need-add-row-at Inv-loop μ-loop
 add-row-at c = search needs
 
--- src/clients.rt:113:16
 row-at-requires-2 : tie.Need-row-at-requires-2 Inv-loop μ-loop
 row-at-requires-2 c κs = search needs
 
--- src/clients.rt:113:9
 mul-x : tie.Need-mul-x Inv-loop μ-loop
 mul-x c = search needs
 
--- src/clients.rt:113:9
 array-set-from-x : tie.Need-array-set-from-x Inv-loop μ-loop
 array-set-from-x c = search needs
 
--- src/clients.rt:114:9
 add-j : tie.Need-add-j Inv-loop μ-loop
 add-j c = search needs
 
--- src/clients.rt:112:5
 loop-less : tie.Need-loop-less Inv-loop μ-loop
 loop-less c = omega arith
 
--- src/clients.rt:112:5
 loop-again : tie.Need-loop-again Inv-loop μ-loop
 loop-again c =
     let l = c .before .before .loop in
     let a = c .before .before .before .before .before .args in
     (get-turn (λ (k : ℕ). keptAt (a .bytes .now) (a .at + k * 60)) _ (l .x) (l .j) _ (l .inv .0) (c .row-at2 .ensures), omega arith, l .inv .2)
 
--- src/clients.rt:105:1
 returns : tie.Need-returns Inv-loop μ-loop
 unfolding rowsAt rowAt
 returns c =

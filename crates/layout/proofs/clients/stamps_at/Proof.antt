@@ -18,51 +18,40 @@ Inv-loop bytes at x₀ j₀ x j = (x ≡ sets x₀ 0 (table j (λ (k : ℕ). sta
 abbrev μ-loop : tie.MeasureT-loop
 μ-loop bytes at x₀ j₀ x j = 4 - j
 
--- src/clients.rt:65:9
 stamp-at-requires : tie.Need-stamp-at-requires Inv-loop μ-loop
 stamp-at-requires c κs = search needs
 
--- src/clients.rt:68:5
 loop-holds : tie.Need-loop-holds Inv-loop μ-loop
 unfolding table tableFrom
 loop-holds c = (refl, omega arith, refl)
 
--- src/clients.rt:69:37
 mul-stamp-at : tie.Need-mul-stamp-at Inv-loop μ-loop
 mul-stamp-at c = search needs
 
--- src/clients.rt:69:32
 add-stamp-at : tie.Need-add-stamp-at Inv-loop μ-loop
 add-stamp-at c = search needs
 
--- src/clients.rt:69:16
 stamp-at-requires-2 : tie.Need-stamp-at-requires-2 Inv-loop μ-loop
 stamp-at-requires-2 c κs = search needs
 
--- src/clients.rt:69:9
 mul-x : tie.Need-mul-x Inv-loop μ-loop
 mul-x c = search needs
 
--- src/clients.rt:69:9
 array-set-from-x : tie.Need-array-set-from-x Inv-loop μ-loop
 array-set-from-x c = search needs
 
--- src/clients.rt:70:9
 add-j : tie.Need-add-j Inv-loop μ-loop
 add-j c = search needs
 
--- src/clients.rt:68:5
 loop-less : tie.Need-loop-less Inv-loop μ-loop
 loop-less c = omega arith
 
--- src/clients.rt:68:5
 loop-again : tie.Need-loop-again Inv-loop μ-loop
 loop-again c =
     let l = c .before .before .loop in
     let a = c .before .before .before .before .before .args in
     (get-turn (λ (k : ℕ). stampAt (a .bytes .now) (a .at + k * 13)) _ (l .x) (l .j) _ (l .inv .0) (c .stamp-at2 .ensures), omega arith, l .inv .2)
 
--- src/clients.rt:61:1
 returns : tie.Need-returns Inv-loop μ-loop
 unfolding stampsAt rowAt
 returns c =

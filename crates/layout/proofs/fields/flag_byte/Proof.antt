@@ -4,12 +4,10 @@ use Rattle.layout.specs.Fields.{flagByte}
 use Rattle.layout.proofs.fields.flag_byte.Statement.{statement}
 use Rattle.layout.proofs.fields.flag_byte.Tie as tie
 
--- src/fields.rt:14:9
 returns : tie.Need-returns
 unfolding flagByte pick
 returns c = rw (c .if1 .taken)
 
--- src/fields.rt:10:1
 returns-2 : tie.Need-returns-2
 unfolding flagByte pick
 returns-2 c = rw (c .if1 .left)

@@ -4,7 +4,6 @@ use Rattle.layout.specs.Fields.{flagIn}
 use Rattle.layout.proofs.fields.flag_in.Statement.{statement}
 use Rattle.layout.proofs.fields.flag_in.Tie as tie
 
--- src/fields.rt:19:1
 returns : tie.Need-returns
 unfolding flagIn
 returns c = search needs

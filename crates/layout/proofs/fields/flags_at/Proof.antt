@@ -25,43 +25,34 @@ Inv-loop bytes at f₀ j₀ f j = (f ≡ sets f₀ 0 (table j (λ (k : ℕ). fla
 abbrev μ-loop : tie.MeasureT-loop
 μ-loop bytes at f₀ j₀ f j = 11 - j
 
--- src/fields.rt:68:5
 loop-holds : tie.Need-loop-holds Inv-loop μ-loop
 unfolding table tableFrom
 loop-holds c = (refl, omega arith, refl)
 
--- src/fields.rt:69:30
 add-flag-in : tie.Need-add-flag-in Inv-loop μ-loop
 add-flag-in c = search needs
 
--- src/fields.rt:69:24
 shared-slice-read-flag-in : tie.Need-shared-slice-read-flag-in Inv-loop μ-loop
 shared-slice-read-flag-in c = search needs
 
--- src/fields.rt:69:16
 flag-in-requires : tie.Need-flag-in-requires Inv-loop μ-loop
 flag-in-requires c κs = search needs
 
--- src/fields.rt:69:9
 array-write-f : tie.Need-array-write-f Inv-loop μ-loop
 array-write-f c = search needs
 
--- src/fields.rt:70:9
 add-j : tie.Need-add-j Inv-loop μ-loop
 add-j c = search needs
 
--- src/fields.rt:68:5
 loop-less : tie.Need-loop-less Inv-loop μ-loop
 loop-less c = omega arith
 
--- src/fields.rt:68:5
 loop-again : tie.Need-loop-again Inv-loop μ-loop
 loop-again c =
     let l = c .before .before .before .loop in
     let a = c .before .before .before .before .before .args in
     (get-turn (λ (k : ℕ). flagAt (a .bytes .now) (a .at + k * 1)) _ (l .f) (l .j) _ (l .inv .0) (flag-turn (a .bytes .now) (a .at) (l .j) _ (c .flag-in .ensures)), omega arith, l .inv .2)
 
--- src/fields.rt:62:1
 returns : tie.Need-returns Inv-loop μ-loop
 unfolding flagsAt rowAt
 returns c =

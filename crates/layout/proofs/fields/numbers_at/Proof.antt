@@ -18,47 +18,37 @@ Inv-loop bytes at x₀ j₀ x j = (x ≡ sets x₀ 0 (table j (λ (k : ℕ). be8
 abbrev μ-loop : tie.MeasureT-loop
 μ-loop bytes at x₀ j₀ x j = 11 - j
 
--- src/fields.rt:94:5
 loop-holds : tie.Need-loop-holds Inv-loop μ-loop
 unfolding table tableFrom
 loop-holds c = (refl, omega arith, refl)
 
--- src/fields.rt:95:40
 mul-read8 : tie.Need-mul-read8 Inv-loop μ-loop
 mul-read8 c = search needs
 
--- src/fields.rt:95:35
 add-read8 : tie.Need-add-read8 Inv-loop μ-loop
 add-read8 c = search needs
 
--- src/fields.rt:95:16
 read8-requires : tie.Need-read8-requires Inv-loop μ-loop
 read8-requires c κs = search needs
 
--- src/fields.rt:95:9
 mul-x : tie.Need-mul-x Inv-loop μ-loop
 mul-x c = search needs
 
--- src/fields.rt:95:9
 array-write-x : tie.Need-array-write-x Inv-loop μ-loop
 array-write-x c = search needs
 
--- src/fields.rt:96:9
 add-j : tie.Need-add-j Inv-loop μ-loop
 add-j c = search needs
 
--- src/fields.rt:94:5
 loop-less : tie.Need-loop-less Inv-loop μ-loop
 loop-less c = omega arith
 
--- src/fields.rt:94:5
 loop-again : tie.Need-loop-again Inv-loop μ-loop
 loop-again c =
     let l = c .before .before .loop in
     let a = c .before .before .before .before .args in
     (get-turn (λ (k : ℕ). be8 (a .bytes .now) (a .at + k * 8)) _ (l .x) (l .j) _ (l .inv .0) (c .read8 .ensures), omega arith, l .inv .2)
 
--- src/fields.rt:88:1
 returns : tie.Need-returns Inv-loop μ-loop
 unfolding numbersAt rowAt
 returns c =

@@ -19,36 +19,28 @@ Inv-loop out₀ at f j₀ out j = (out ≡ sets out₀ at (joined (λ (k : ℕ).
 abbrev μ-loop : tie.MeasureT-loop
 μ-loop out₀ at f j₀ out j = 11 - j
 
--- src/fields.rt:66:5
 loop-holds : tie.Need-loop-holds Inv-loop μ-loop
 unfolding joined
 loop-holds c = (refl, omega arith, refl)
 
--- src/fields.rt:67:28
 array-read-flag-byte : tie.Need-array-read-flag-byte Inv-loop μ-loop
 array-read-flag-byte c = search needs
 
--- src/fields.rt:67:18
 flag-byte-requires : tie.Need-flag-byte-requires Inv-loop μ-loop
 flag-byte-requires c κs = search needs
 
--- src/fields.rt:67:40
 add-put-byte : tie.Need-add-put-byte Inv-loop μ-loop
 add-put-byte c = search needs
 
--- src/fields.rt:67:9
 put-byte-requires : tie.Need-put-byte-requires Inv-loop μ-loop
 put-byte-requires c κs = omega arith
 
--- src/fields.rt:68:9
 add-j : tie.Need-add-j Inv-loop μ-loop
 add-j c = search needs
 
--- src/fields.rt:66:5
 loop-less : tie.Need-loop-less Inv-loop μ-loop
 loop-less c = omega arith
 
--- src/fields.rt:66:5
 loop-again : tie.Need-loop-again Inv-loop μ-loop
 loop-again c =
     let l = c .before .before .before .before .before .before .loop in
@@ -57,11 +49,9 @@ loop-again c =
     let p = put-turn (λ (k : ℕ). flagByte (getD (a .t1) k false) ∷ []) 1 (a .out .now) (l .out) _ (a .at) (l .j) _ (λ k. refl) h (l .inv .0) (c .before .before .put-byte .ensures ∙ ap (λ z. sets (l .out) (a .at + l .j) (z ∷ [])) (c .before .before .before .before .flag-byte .ensures)) in
     (p, omega arith, search needs)
 
--- src/fields.rt:61:1
 same-length : tie.Need-same-length Inv-loop μ-loop
 same-length c = search needs
 
--- src/fields.rt:61:1
 returns : tie.Need-returns Inv-loop μ-loop
 unfolding flagsBytes rowBytes
 returns c =

@@ -19,40 +19,31 @@ Inv-loop out₀ at x j₀ out j = (out ≡ sets out₀ at (joined (λ (k : ℕ).
 abbrev μ-loop : tie.MeasureT-loop
 μ-loop out₀ at x j₀ out j = 11 - j
 
--- src/fields.rt:82:5
 loop-holds : tie.Need-loop-holds Inv-loop μ-loop
 unfolding joined
 loop-holds c = (refl, omega arith, refl)
 
--- src/fields.rt:83:32
 mul-put-number : tie.Need-mul-put-number Inv-loop μ-loop
 mul-put-number c = search needs
 
--- src/fields.rt:83:27
 add-put-number : tie.Need-add-put-number Inv-loop μ-loop
 add-put-number c = search needs
 
--- src/fields.rt:83:39
 mul-put-number-2 : tie.Need-mul-put-number-2 Inv-loop μ-loop
 mul-put-number-2 c = search needs
 
--- src/fields.rt:83:39
 array-read-put-number : tie.Need-array-read-put-number Inv-loop μ-loop
 array-read-put-number c = search needs
 
--- src/fields.rt:83:9
 put-number-requires : tie.Need-put-number-requires Inv-loop μ-loop
 put-number-requires c κs = omega arith
 
--- src/fields.rt:84:9
 add-j : tie.Need-add-j Inv-loop μ-loop
 add-j c = search needs
 
--- src/fields.rt:82:5
 loop-less : tie.Need-loop-less Inv-loop μ-loop
 loop-less c = omega arith
 
--- src/fields.rt:82:5
 loop-again : tie.Need-loop-again Inv-loop μ-loop
 loop-again c =
     let l = c .before .before .before .before .before .loop in
@@ -61,11 +52,9 @@ loop-again c =
     let p = put-turn (λ (k : ℕ). bytes8 (getD (a .t1) k 0)) 8 (a .out .now) (l .out) _ (a .at) (l .j) _ (λ k. length-bytes8 (getD (a .t1) k 0)) h (l .inv .0) (c .before .before .put-number .ensures) in
     (p, omega arith, search needs)
 
--- src/fields.rt:77:1
 same-length : tie.Need-same-length Inv-loop μ-loop
 same-length c = search needs
 
--- src/fields.rt:77:1
 returns : tie.Need-returns Inv-loop μ-loop
 unfolding numbersBytes rowBytes
 returns c =

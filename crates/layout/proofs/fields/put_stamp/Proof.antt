@@ -4,31 +4,24 @@ use Rattle.layout.proofs.Puts.{stamp-put}
 use Rattle.layout.proofs.fields.put_stamp.Statement.{statement}
 use Rattle.layout.proofs.fields.put_stamp.Tie as tie
 
--- src/fields.rt:41:5
 write8-requires : tie.Need-write8-requires
 write8-requires c κs = search needs
 
--- src/fields.rt:42:29
 add-put-byte : tie.Need-add-put-byte
 add-put-byte c = search needs
 
--- src/fields.rt:42:5
 put-byte-requires : tie.Need-put-byte-requires
 put-byte-requires c κs = search needs
 
--- src/fields.rt:43:23
 add-write4 : tie.Need-add-write4
 add-write4 c = search needs
 
--- src/fields.rt:43:5
 write4-requires : tie.Need-write4-requires
 write4-requires c κs = search needs
 
--- src/fields.rt:37:1
 same-length : tie.Need-same-length
 same-length c = search needs
 
--- src/fields.rt:37:1
 returns : tie.Need-returns
 returns c = stamp-put _ _ _ _ _ _ (c .before .before .before .before .before .before .before .before .before .before .write8 .ensures) (c .before .before .before .before .before .before .put-byte .ensures) (c .before .before .write4 .ensures)
 

@@ -4,27 +4,21 @@ use Rattle.layout.specs.Fields.{stampAt}
 use Rattle.layout.proofs.fields.stamp_at.Statement.{statement}
 use Rattle.layout.proofs.fields.stamp_at.Tie as tie
 
--- src/fields.rt:40:9
 read8-requires : tie.Need-read8-requires
 read8-requires c κs = search needs
 
--- src/fields.rt:41:39
 add-read4 : tie.Need-add-read4
 add-read4 c = search needs
 
--- src/fields.rt:41:9
 read4-requires : tie.Need-read4-requires
 read4-requires c κs = search needs
 
--- src/fields.rt:44:23
 add-t5 : tie.Need-add-t5
 add-t5 c = search needs
 
--- src/fields.rt:44:17
 shared-slice-read-t7 : tie.Need-shared-slice-read-t7
 shared-slice-read-t7 c = search needs
 
--- src/fields.rt:36:1
 returns : tie.Need-returns
 unfolding stampAt
 returns c = cc

@@ -5,7 +5,7 @@ use lib.ListN.{length}
 use Rattle.sha256.specs.Hash.{digestOf}
 use Rattle.entries.specs.Entries.{traceOf}
 use Rattle.playback.specs.Playback.{played}
-use Rattle.playback.proofs.Sound.{bytes-of}
+use Rattle.area.proofs.Numbers.{bytes-of}
 use Rattle.playback.proofs.Turns.{Turn, scratch-enough, turn-start, turn-end, all-played, within, turn-asks, turn-next}
 use native.Mathlib.Omega.{arith}
 use borrow.Author.Needs.{needs}

@@ -36,8 +36,8 @@ enum-told c = search needs
 send-present-requires : tie.Need-send-present-requires
 send-present-requires c κs = search needs
 
-with-reader-requires : tie.Need-with-reader-requires
-with-reader-requires c κs = search needs
+reader-in-requires : tie.Need-reader-in-requires
+reader-in-requires c κs = search needs
 
 taken-requires : tie.Need-taken-requires
 taken-requires c κs = search needs
@@ -54,9 +54,9 @@ returns-2 c =
     let a = c .before .before .before .before .before .before .before .before .before .before .before .before .before .before .before .before .before .before .args in
     λ w e.
     let presented = ap (λ (u : Scope). sent (outbox (a .out .now) (a .to .now) firstPlace) (sending (P.Client (a .h .client)) (message (a .h .client) (a .h .sequence) (valueIs (u .stamp) (presentEntry (a .g) (u .stamp) (a .area .now) (a .initial .now)))) ∷ [])) e in
-    step-is _ _ w (a .area .now) (a .area .now) _ _ _ _ _ (a .h .client) (c .before .with-reader .result) (c .before .before .before .before .before .before .send-present .result) _
+    step-is _ _ w (a .area .now) (a .area .now) _ _ _ _ _ (a .h .client) (c .before .reader-in .result) (c .before .before .before .before .before .before .send-present .result) _
     (c .before .before .before .before .before .before .before .before .before .before .before .before .ask-test .ensures ∙ ap (λ (u : Scope). pick (fromOwner (a .from) (a .h .client)) (readTest (u .reader) (a .h .sequence)) (J.Bad R.Sender)) e) (c .before .before .before .before .before .before .before .before .before .before .enum-told .given .1)
-    (only-sent _ _ (a .area .now) _ _ _ (reader-set w (a .h .client) (a .s) e _ _ (c .before .with-reader .ensures) ∙ ap (λ (u : Scope). withReader w (a .h .client) (record { sequence = a .h .sequence; listening = true; noted = u .stamp })) e) (c .before .before .before .before .before .before .send-present .ensures ∙ presented)) (c .taken .ensures .0) (c .taken .ensures .1)
+    (only-sent _ _ (a .area .now) _ _ _ (reader-set w (a .h .client) (a .s) e _ _ (c .before .reader-in .ensures) ∙ ap (λ (u : Scope). withReader w (a .h .client) (record { sequence = a .h .sequence; listening = true; noted = u .stamp })) e) (c .before .before .before .before .before .before .send-present .ensures ∙ presented)) (c .taken .ensures .0) (c .taken .ensures .1)
 
 pub on-read-spec : {M : Type 1} → statement M
 on-read-spec =
@@ -67,7 +67,7 @@ on-read-spec =
     returns
     enum-told
     send-present-requires
-    with-reader-requires
+    reader-in-requires
     taken-requires
     same-length
     same-length-2

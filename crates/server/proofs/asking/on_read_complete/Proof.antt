@@ -30,8 +30,8 @@ returns c =
 enum-told : tie.Need-enum-told
 enum-told c = search needs
 
-with-reader-requires : tie.Need-with-reader-requires
-with-reader-requires c κs = search needs
+reader-in-requires : tie.Need-reader-in-requires
+reader-in-requires c κs = search needs
 
 taken-requires : tie.Need-taken-requires
 taken-requires c κs = search needs
@@ -40,9 +40,9 @@ returns-2 : tie.Need-returns-2
 unfolding messageTest senderRight orderTest onReadComplete
 returns-2 c =
     let a = c .before .before .before .before .before .before .before .args in
-    λ w e z out to. step-is _ _ w z z _ out to out to (a .h .client) (c .before .with-reader .result) (firstPlace) _
+    λ w e z out to. step-is _ _ w z z _ out to out to (a .h .client) (c .before .reader-in .result) (firstPlace) _
     (c .before .before .before .before .before .end-test .ensures ∙ ap (λ (u : Scope). pick (fromOwner (a .from) (a .h .client)) (doneTest (u .reader) (a .h .sequence)) (J.Bad R.Sender)) e) (c .before .before .before .enum-told .given .1)
-    (none-sent _ _ z (outbox out to firstPlace) (reader-set w (a .h .client) (a .s) e _ _ (c .before .with-reader .ensures) ∙ ap (λ (u : Scope). withReader w (a .h .client) (record { sequence = a .h .sequence; listening = false; noted = u .reader .noted })) e)) (c .taken .ensures .0) (c .taken .ensures .1)
+    (none-sent _ _ z (outbox out to firstPlace) (reader-set w (a .h .client) (a .s) e _ _ (c .before .reader-in .ensures) ∙ ap (λ (u : Scope). withReader w (a .h .client) (record { sequence = a .h .sequence; listening = false; noted = u .reader .noted })) e)) (c .taken .ensures .0) (c .taken .ensures .1)
 
 pub on-read-complete-spec : {M : Type 1} → statement M
 on-read-complete-spec =
@@ -52,6 +52,6 @@ on-read-complete-spec =
     enum-known-v
     returns
     enum-told
-    with-reader-requires
+    reader-in-requires
     taken-requires
     returns-2)

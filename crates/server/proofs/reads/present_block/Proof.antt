@@ -9,41 +9,33 @@ use Rattle.server.proofs.reads.present_block.Statement.{statement}
 use Rattle.server.proofs.reads.present_block.Tie as tie
 use Rattle.server.proofs.reads.present_block.Reads as reads
 
--- src/reads.rt:26:9
 width-requires : tie.Need-width-requires
 width-requires c κs = search needs
 
--- src/reads.rt:28:9
 slice-aggregate-result : tie.Need-slice-aggregate-result
 slice-aggregate-result c =
     let z = c .before .before .before .before .before .before in
     let l : c .before .before .before .width .result ≤ length (z .args .initial .now) = omega (arith, z .pre .2, c .before .before .before .width .ensures .0) in
     sym (length-take-le _ _ l)
 
--- src/reads.rt:28:9
 returns : tie.Need-returns
 returns c =
     let z = c .before .before .before .before .before .before in
     let l : c .before .before .before .width .result ≤ length (z .args .initial .now) = omega (arith, z .pre .2, c .before .before .before .width .ensures .0) in
     from-initial (z .args .g) (z .args .x) (z .args .area .now) (z .args .initial .now) _ (c .before .before .before .width .ensures .0) (c .before .if1 .taken) l
 
--- src/reads.rt:30:15
 add-end : tie.Need-add-end
 add-end c = search needs
 
--- src/reads.rt:31:5
 sub-result : tie.Need-sub-result
 sub-result c = search needs
 
--- src/reads.rt:31:5
 part-result-start : tie.Need-part-result-start
 part-result-start c = search needs
 
--- src/reads.rt:31:5
 part-result-end : tie.Need-part-result-end
 part-result-end c = search needs
 
--- src/reads.rt:22:1
 returns-2 : tie.Need-returns-2
 returns-2 c =
     let z = c .before .before .before .before .before .before in

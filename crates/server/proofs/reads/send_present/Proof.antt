@@ -8,15 +8,12 @@ use Rattle.server.proofs.reads.send_present.Statement.{statement}
 use Rattle.server.proofs.reads.send_present.Tie as tie
 use Rattle.server.proofs.reads.send_present.Reads as reads
 
--- src/reads.rt:49:9
 present-block-requires : tie.Need-present-block-requires
 present-block-requires c κs = search needs
 
--- src/reads.rt:50:9
 digests-at-requires : tie.Need-digests-at-requires
 digests-at-requires c κs = search needs
 
--- src/reads.rt:51:5
 send-value-requires : tie.Need-send-value-requires
 send-value-requires c κs =
     let z = c .before .before .before .before .before .before .before .before in
@@ -24,15 +21,12 @@ send-value-requires c κs =
     (sym (present-size (z .args .g) (z .args .area .now) _ (c .before .before .before .present-block .result .now) (z .pre .0) (omega (arith, z .pre .1)) (c .before .before .digests-at .ensures) (c .before .before .before .present-block .ensures .1)))
     (z .pre .3)
 
--- src/reads.rt:35:1
 same-length : tie.Need-same-length
 same-length c = search needs
 
--- src/reads.rt:35:1
 same-length-2 : tie.Need-same-length-2
 same-length-2 c = search needs
 
--- src/reads.rt:35:1
 returns : tie.Need-returns
 returns c =
     let a = c .before .before .before .before .before .before .before .before .before .before .before .before .before .args in

@@ -7,17 +7,14 @@ use Rattle.server.proofs.state.first_time.Tie as tie
 use Rattle.server.proofs.state.first_time.Reads as reads
 use Rattle.server.proofs.state.first_time.Lts as lts
 
--- src/state.rt:190:9
 returns : tie.Need-returns
 unfolding pick
 returns c = rw (c .if1 .taken)
 
--- src/state.rt:193:9
 returns-2 : tie.Need-returns-2
 unfolding pick
 returns-2 c = rw (c .before .if1 .left, c .if2 .taken)
 
--- src/state.rt:186:1
 returns-3 : tie.Need-returns-3
 unfolding pick
 returns-3 c = rw (c .before .if1 .left, c .if2 .left)

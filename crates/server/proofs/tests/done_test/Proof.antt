@@ -8,22 +8,18 @@ use Rattle.server.proofs.tests.done_test.Tie as tie
 use Rattle.server.proofs.tests.done_test.Reads as reads
 use Rattle.server.proofs.tests.done_test.Lts as lts
 
--- src/tests.rt:116:9
 returns : tie.Need-returns
 unfolding doneTest pick
 returns c = search tests
 
--- src/tests.rt:119:9
 returns-2 : tie.Need-returns-2
 unfolding doneTest pick
 returns-2 c = search tests
 
--- src/tests.rt:122:9
 returns-3 : tie.Need-returns-3
 unfolding doneTest pick
 returns-3 c = rw (c .if3 .taken) (search tests)
 
--- src/tests.rt:112:1
 returns-4 : tie.Need-returns-4
 unfolding doneTest pick
 returns-4 c = rw (c .if3 .left) (search tests)

@@ -7,19 +7,15 @@ use Rattle.server.proofs.tests.from_owner.Tie as tie
 use Rattle.server.proofs.tests.from_owner.Reads as reads
 use Rattle.server.proofs.tests.from_owner.Lts as lts
 
--- src/tests.rt:54:23
 enum-known-from : tie.Need-enum-known-from
 enum-known-from c = search needs
 
--- src/tests.rt:55:29
 enum-told : tie.Need-enum-told
 enum-told c = search needs
 
--- src/tests.rt:50:1
 returns : tie.Need-returns
 returns c = rw (c .before .from .given .1) refl
 
--- src/tests.rt:50:1
 returns-2 : tie.Need-returns-2
 returns-2 c = rw (c .enum-told .given .1) refl
 

@@ -8,22 +8,18 @@ use Rattle.server.proofs.tests.open_test.Tie as tie
 use Rattle.server.proofs.tests.open_test.Reads as reads
 use Rattle.server.proofs.tests.open_test.Lts as lts
 
--- src/tests.rt:90:9
 returns : tie.Need-returns
 unfolding openTest pick
 returns c = search tests
 
--- src/tests.rt:93:9
 returns-2 : tie.Need-returns-2
 unfolding openTest pick
 returns-2 c = search tests
 
--- src/tests.rt:96:9
 returns-3 : tie.Need-returns-3
 unfolding openTest pick
 returns-3 c = rw (c .if3 .taken) (search tests)
 
--- src/tests.rt:85:1
 returns-4 : tie.Need-returns-4
 unfolding openTest pick
 returns-4 c = rw (c .if3 .left) (search tests)

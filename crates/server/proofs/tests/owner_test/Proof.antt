@@ -10,20 +10,16 @@ use Rattle.server.proofs.tests.owner_test.Lts as lts
 use Rattle.server.proofs.tests.from_owner.Reads as from-owner-reads
 use Rattle.server.proofs.tests.open_test.Reads as open-test-reads
 
--- src/tests.rt:131:9
 from-owner-requires : tie.Need-from-owner-requires
 from-owner-requires c κs = search needs
 
--- src/tests.rt:132:9
 returns : tie.Need-returns
 unfolding pick
 returns c = rw (sym (c .before .from-owner .ensures) ∙ not-true _ (c .if1 .taken))
 
--- src/tests.rt:134:5
 open-test-requires : tie.Need-open-test-requires
 open-test-requires c κs = search needs
 
--- src/tests.rt:128:1
 returns-2 : tie.Need-returns-2
 unfolding pick
 returns-2 c = rw (sym (c .before .before .from-owner .ensures) ∙ not-false _ (c .before .if1 .left)) (c .open-test .ensures)

@@ -8,12 +8,10 @@ use Rattle.server.proofs.tests.read_test.Tie as tie
 use Rattle.server.proofs.tests.read_test.Reads as reads
 use Rattle.server.proofs.tests.read_test.Lts as lts
 
--- src/tests.rt:106:9
 returns : tie.Need-returns
 unfolding readTest pick
 returns c = search tests
 
--- src/tests.rt:102:1
 returns-2 : tie.Need-returns-2
 unfolding readTest pick
 returns-2 c = search tests

@@ -1,4 +1,4 @@
-use Rattle.server.proofs.Senders.{server-number}
+use Rattle.frame.proofs.PartyLaws.{server-number}
 use borrow.Author.Tests.{not-true, not-false}
 use mathlib.Core.Path.{_≡_, refl, sym, _∙_}
 use Rattle.area.specs.Area.{pick}
@@ -12,24 +12,19 @@ use Rattle.frame.proofs.parties.from_server.Reads as from-server-reads
 use Rattle.frame.proofs.parties.number_in.Reads as number-in-reads
 use Rattle.server.proofs.tests.open_test.Reads as open-test-reads
 
--- src/tests.rt:132:9
 from-server-requires : tie.Need-from-server-requires
 from-server-requires c κs = search needs
 
--- src/tests.rt:133:9
 returns : tie.Need-returns
 unfolding pick
 returns c = rw (sym (c .before .from-server .ensures) ∙ not-true _ (c .if1 .taken))
 
--- src/tests.rt:135:13
 number-in-requires : tie.Need-number-in-requires
 number-in-requires c κs = search needs
 
--- src/tests.rt:135:13
 cast-j : tie.Need-cast-j
 cast-j c = search needs
 
--- src/tests.rt:136:21
 array-read-open-test : tie.Need-array-read-open-test
 array-read-open-test c =
     let a = c .before .before .before .args in
@@ -37,11 +32,9 @@ array-read-open-test c =
     let h = server-number (a .g) (a .from) e in
     omega (arith, h .1, c .number-in .ensures, c .before .before .before .pre .servers-high)
 
--- src/tests.rt:136:5
 open-test-requires : tie.Need-open-test-requires
 open-test-requires c κs = search needs
 
--- src/tests.rt:128:1
 returns-2 : tie.Need-returns-2
 unfolding pick
 returns-2 c =

@@ -39,8 +39,8 @@ returns c =
 enum-told : tie.Need-enum-told
 enum-told c = search needs
 
-with-slot-requires : tie.Need-with-slot-requires
-with-slot-requires c κs = search needs
+slot-in-requires : tie.Need-slot-in-requires
+slot-in-requires c κs = search needs
 
 is-ripe-requires : tie.Need-is-ripe-requires
 is-ripe-requires c κs = search needs
@@ -62,7 +62,7 @@ returns-2 c =
     let a = c .before .before .before .before .before .before .before .before .before .before .before .before .before .before .before .before .before .before .before .before .before .before .before .before .args in
     let P = c .before .before .before .before .before .before .before .before .before .before .before .before .before .before .before .before .before .before .before .before .before .before .before .before .pre in
     let k = a .k in
-    λ i w K. write-waits digestOf k (a .s) (a .readers) _ (a .area .now) _ (a .f .now) _ _ _ _ (voteStage (k .header .kind)) (offerIn (k .params) (a .f .now)) (vote-says (k .params) (a .f .now) (k .header .kind) (P .1) (P .2)) (c .before .before .before .before .before .before .before .before .before .before .before .before .before .before .count-vote .ensures .handles) i w K (c .before .before .before .before .before .before .enum-told .given .1) _ (c .before .before .before .with-slot .ensures)
+    λ i w K. write-waits digestOf k (a .s) (a .readers) _ (a .area .now) _ (a .f .now) _ _ _ _ (voteStage (k .header .kind)) (offerIn (k .params) (a .f .now)) (vote-says (k .params) (a .f .now) (k .header .kind) (P .1) (P .2)) (c .before .before .before .before .before .before .before .before .before .before .before .before .before .before .count-vote .ensures .handles) i w K (c .before .before .before .before .before .before .enum-told .given .1) _ (c .before .before .before .slot-in .ensures)
     (vote-frees (k .params) (k .header .kind) (k .header .client)) (omega (arith, P .0 .lent .client-high)) (sym (c .before .before .is-ripe .ensures) ∙ not-true _ (c .before .if1 .taken)) _ (c .taken .ensures .0) (c .taken .ensures .1)
 
 accept-requires : tie.Need-accept-requires
@@ -70,7 +70,7 @@ accept-requires c κs =
     let a = c .before .before .before .before .before .before .before .before .before .before .before .before .before .before .before .before .before .before .before .before .before .before .before .before .before .before .args in
     let P = c .before .before .before .before .before .before .before .before .before .before .before .before .before .before .before .before .before .before .before .before .before .before .before .before .before .before .pre .0 .lent in
     let e = vote-sequence digestOf (a .k) (a .s .slot) _ (a .area .now) _ _ _ _ _ _ _ (c .before .before .before .before .before .before .before .before .before .before .before .before .before .before .before .before .count-vote .ensures .handles) (c .before .before .before .before .before .before .before .before .enum-told .given .1) in
-    let q = c .before .before .before .before .before .with-slot .ensures in
+    let q = c .before .before .before .before .before .slot-in .ensures in
     let y = ap (λ (u : Scope). u .slot .sequence) q ∙ e in
     let r = sym (c .before .before .before .before .is-ripe .ensures) ∙ not-false _ (c .before .before .before .if1 .left) in (
       record {
@@ -101,7 +101,7 @@ returns-3 c =
     let a = c .before .before .before .before .before .before .before .before .before .before .before .before .before .before .before .before .before .before .before .before .before .before .before .before .before .before .before .before .before .before .before .before .before .before .before .before .args in
     let P = c .before .before .before .before .before .before .before .before .before .before .before .before .before .before .before .before .before .before .before .before .before .before .before .before .before .before .before .before .before .before .before .before .before .before .before .before .pre in
     let k = a .k in
-    λ i w K. write-ripe digestOf k (a .s) (a .readers) _ (a .area .now) _ (a .f .now) _ _ _ _ (voteStage (k .header .kind)) (offerIn (k .params) (a .f .now)) (vote-says (k .params) (a .f .now) (k .header .kind) (P .1) (P .2)) (c .before .before .before .before .before .before .before .before .before .before .before .before .before .before .before .before .before .before .before .before .before .before .before .before .before .before .count-vote .ensures .handles) i w K (c .before .before .before .before .before .before .before .before .before .before .before .before .before .before .before .before .before .before .enum-told .given .1) _ (c .before .before .before .before .before .before .before .before .before .before .before .before .before .before .before .with-slot .ensures)
+    λ i w K. write-ripe digestOf k (a .s) (a .readers) _ (a .area .now) _ (a .f .now) _ _ _ _ (voteStage (k .header .kind)) (offerIn (k .params) (a .f .now)) (vote-says (k .params) (a .f .now) (k .header .kind) (P .1) (P .2)) (c .before .before .before .before .before .before .before .before .before .before .before .before .before .before .before .before .before .before .before .before .before .before .before .before .before .before .count-vote .ensures .handles) i w K (c .before .before .before .before .before .before .before .before .before .before .before .before .before .before .before .before .before .before .enum-told .given .1) _ (c .before .before .before .before .before .before .before .before .before .before .before .before .before .before .before .slot-in .ensures)
     (vote-frees (k .params) (k .header .kind) (k .header .client)) (omega (arith, P .0 .lent .client-high)) (sym (c .before .before .before .before .before .before .before .before .before .before .before .before .before .before .is-ripe .ensures) ∙ not-false _ (c .before .before .before .before .before .before .before .before .before .before .before .before .before .if1 .left)) _ _ _ _ (c .before .before .before .before .before .before .before .before .before .accept .ensures) _ (c .taken2 .ensures .0) (c .taken2 .ensures .1)
 
 pub step-of-vote-spec : {M : Type 1} → statement M
@@ -115,7 +115,7 @@ step-of-vote-spec =
     same-length-3
     returns
     enum-told
-    with-slot-requires
+    slot-in-requires
     is-ripe-requires
     taken-requires
     same-length-4

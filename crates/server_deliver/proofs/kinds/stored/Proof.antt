@@ -17,8 +17,8 @@ returns c =
 enum-told : tie.Need-enum-told
 enum-told c = search needs
 
-with-slot-requires : tie.Need-with-slot-requires
-with-slot-requires c κs = search needs
+slot-in-requires : tie.Need-slot-in-requires
+slot-in-requires c κs = search needs
 
 taken-requires : tie.Need-taken-requires
 taken-requires c κs = search needs
@@ -26,8 +26,8 @@ taken-requires c κs = search needs
 returns-2 : tie.Need-returns-2
 returns-2 c =
     let a = c .before .before .before .before .before .before .args in
-    stored-fine (a .n .verdict) (a .s) (a .n .slot) (a .n .place) _ _ (c .before .before .before .before .enum-told .given .1) (c .taken .ensures .0) (c .taken .ensures .1) (c .before .with-slot .ensures)
+    stored-fine (a .n .verdict) (a .s) (a .n .slot) (a .n .place) _ _ (c .before .before .before .before .enum-told .given .1) (c .taken .ensures .0) (c .taken .ensures .1) (c .before .slot-in .ensures)
 
 pub stored-spec : {M : Type 1} → statement M
 stored-spec =
-    tie.close (tie.spec enum-known-v returns enum-told with-slot-requires taken-requires returns-2)
+    tie.close (tie.spec enum-known-v returns enum-told slot-in-requires taken-requires returns-2)

@@ -5,67 +5,51 @@ use borrow.Author.Needs.{needs}
 use Rattle.vectors.proofs.coding.decode_case.Statement.{statement}
 use Rattle.vectors.proofs.coding.decode_case.Tie as tie
 
--- src/coding.rt:131:9
 front-at-requires : tie.Need-front-at-requires
 front-at-requires c κs = search needs
 
--- src/coding.rt:132:9
 word-at-requires : tie.Need-word-at-requires
 word-at-requires c κs = search needs
 
--- src/coding.rt:133:9
 word-at-requires-2 : tie.Need-word-at-requires-2
 word-at-requires-2 c κs = search needs
 
--- src/coding.rt:136:45
 slice-aggregate-bytes : tie.Need-slice-aggregate-bytes
 slice-aggregate-bytes c = search needs
 
--- src/coding.rt:136:9
 bytes-requires : tie.Need-bytes-requires
 bytes-requires c κs = search needs
 
--- src/coding.rt:137:43
 slice-aggregate-bytes-2 : tie.Need-slice-aggregate-bytes-2
 slice-aggregate-bytes-2 c = search needs
 
--- src/coding.rt:137:9
 bytes-requires-2 : tie.Need-bytes-requires-2
 bytes-requires-2 c κs = search needs
 
--- src/coding.rt:138:19
 marked-requires : tie.Need-marked-requires
 marked-requires c κs = search needs
 
--- src/coding.rt:145:9
 array-share-prefix-numbers : tie.Need-array-share-prefix-numbers
 array-share-prefix-numbers c = search needs
 
--- src/coding.rt:145:9
 slice-aggregate-decode-into : tie.Need-slice-aggregate-decode-into
 slice-aggregate-decode-into c = search needs
 
--- src/coding.rt:146:9
 array-share-prefix-blocks : tie.Need-array-share-prefix-blocks
 array-share-prefix-blocks c = search needs
 
--- src/coding.rt:146:9
 slice-aggregate-decode-into-2 : tie.Need-slice-aggregate-decode-into-2
 slice-aggregate-decode-into-2 c = search needs
 
--- src/coding.rt:147:9
 array-borrow-prefix-out : tie.Need-array-borrow-prefix-out
 array-borrow-prefix-out c = search needs
 
--- src/coding.rt:147:9
 slice-aggregate-decode-into-3 : tie.Need-slice-aggregate-decode-into-3
 slice-aggregate-decode-into-3 c = simp length-take (omega arith)
 
--- src/coding.rt:141:5
 decode-into-requires : tie.Need-decode-into-requires
 decode-into-requires c κs = (omega arith, simp length-take (omega arith))
 
--- src/coding.rt:128:1
 returns : tie.Need-returns
 returns c = search needs
 

@@ -5,47 +5,36 @@ use borrow.Author.Needs.{needs}
 use Rattle.vectors.proofs.coding.encode_case.Statement.{statement}
 use Rattle.vectors.proofs.coding.encode_case.Tie as tie
 
--- src/coding.rt:117:9
 front-at-requires : tie.Need-front-at-requires
 front-at-requires c κs = search needs
 
--- src/coding.rt:118:9
 word-at-requires : tie.Need-word-at-requires
 word-at-requires c κs = search needs
 
--- src/coding.rt:120:43
 slice-aggregate-bytes : tie.Need-slice-aggregate-bytes
 slice-aggregate-bytes c = search needs
 
--- src/coding.rt:120:9
 bytes-requires : tie.Need-bytes-requires
 bytes-requires c κs = search needs
 
--- src/coding.rt:121:19
 marked-requires : tie.Need-marked-requires
 marked-requires c κs = search needs
 
--- src/coding.rt:124:39
 array-share-prefix-value : tie.Need-array-share-prefix-value
 array-share-prefix-value c = search needs
 
--- src/coding.rt:124:39
 slice-aggregate-encode-into : tie.Need-slice-aggregate-encode-into
 slice-aggregate-encode-into c = search needs
 
--- src/coding.rt:124:54
 array-borrow-prefix-out : tie.Need-array-borrow-prefix-out
 array-borrow-prefix-out c = search needs
 
--- src/coding.rt:124:54
 slice-aggregate-encode-into-2 : tie.Need-slice-aggregate-encode-into-2
 slice-aggregate-encode-into-2 c = simp length-take (omega arith)
 
--- src/coding.rt:124:5
 encode-into-requires : tie.Need-encode-into-requires
 encode-into-requires c κs = (omega arith, simp length-take (omega arith))
 
--- src/coding.rt:114:1
 returns : tie.Need-returns
 returns c = search needs
 

@@ -5,27 +5,21 @@ use borrow.Author.Needs.{needs}
 use Rattle.vectors.proofs.coding.put_answer.Statement.{statement}
 use Rattle.vectors.proofs.coding.put_answer.Tie as tie
 
--- src/coding.rt:71:24
 slice-aggregate-put-bytes : tie.Need-slice-aggregate-put-bytes
 slice-aggregate-put-bytes c = search needs
 
--- src/coding.rt:71:5
 put-bytes-requires : tie.Need-put-bytes-requires
 put-bytes-requires c κs = search needs
 
--- src/coding.rt:72:5
 slice-write-text : tie.Need-slice-write-text
 slice-write-text c = search needs
 
--- src/coding.rt:73:5
 put-bytes-requires-2 : tie.Need-put-bytes-requires-2
 put-bytes-requires-2 c κs = simp length-set (omega arith)
 
--- src/coding.rt:67:1
 same-length : tie.Need-same-length
 same-length c = omega (arith, length-set (c .before .before .before .before .before .before .put-bytes .last .0) 2 32)
 
--- src/coding.rt:67:1
 returns : tie.Need-returns
 returns c = search needs
 

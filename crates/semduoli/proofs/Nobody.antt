@@ -1,0 +1,154 @@
+-- An own number above 255 is no party's: the call answers 1, and every lent byte stays. Assumes nothing.
+use Prim.Native.Nat.{ℕ, _<_}
+use native.Mathlib.Omega.{arith}
+use mathlib.Core.Path.{_≡_, refl, sym, ap, _∙_}
+use mathlib.Core.Bool.{Bool, true, false}
+use mathlib.Core.List.{List}
+use lib.ListN.{length, getD}
+use lib.Dec.{ltb}
+use borrow.Author.Tests.{lt-ltb, le-ltb}
+use Rattle.area.specs.Area.{pick}
+use Rattle.sha256.specs.Hash.{digestOf}
+use Rattle.blocks.specs.declared.Params.{Params}
+use Rattle.blocks.specs.Params.{partiesFit}
+use Rattle.blocks.proofs.Parameters.{parties-facts}
+use Rattle.frame.specs.declared.Party.{Party}
+use Rattle.frame.specs.declared.Verdict.{Verdict}
+use Rattle.frame.specs.declared.Refusal.the-variants as R
+use Rattle.frame.specs.declared.Verdict.the-variants as J
+use Rattle.frame.specs.declared.Opened.the-variants as O
+use Rattle.frame.specs.Refusals.{andThen, numberOf}
+use Rattle.frame.specs.Params.{ownTest, codeTest, paramsTest}
+use Rattle.frame.specs.Stamps.{lastClient}
+use Rattle.frame.specs.Frames.{clientAt, headerIn, openedBy}
+use Rattle.client_rules.specs.declared.Answer.the-variants as Y
+use Rattle.client_rules.specs.Tests.{valueTest}
+use Rattle.client_rules.specs.Beginning.{Begun, readTest, writeTest, openRead, openWrite, readBegun, writeBegun, readBeginning, writeBeginning}
+use Rattle.client_rules.specs.Delivery.{Outcome, delivery}
+use Rattle.client.proofs.Beginnings.{begin-refused}
+use Rattle.client_deliver.proofs.Deliveries.{call-refused}
+use Rattle.server_rules.specs.Delivery.{constructTest, constructBy, construction}
+use Rattle.server_rules.specs.Delivery as S
+use Rattle.server_rules.proofs.Within.{either}
+use Rattle.server_deliver.specs.Handed.{admitted}
+use Rattle.server_deliver.proofs.Openings.{refused-delivery}
+use Rattle.layout.specs.Clients.{clientSize, clientIn}
+use Rattle.layout.specs.Servers.{serverSize, serverIn}
+use Rattle.answers.specs.Answers.{testAnswer, isRefusal, clientAnswer, isTurnedDown, serverAnswer}
+use Rattle.answers.specs.Short.{readShort, valueShort, frameShort, stampShort}
+use Rattle.semduoli.specs.Calls.{began, stateAfter, beganOf, readCall, writeCall}
+use Rattle.semduoli.specs.Handed.{stampAfter, clientGot, clientGotOf, clientCall}
+use Rattle.entries.specs.Entries.{traceOf}
+use Rattle.playback.specs.Playback.{playTest, playbackBy, playback}
+use Rattle.playback_bytes.specs.Calls.{playbackAnswer, isUnplayed, playedAfter, playedBack, playedBackOf, playbackCall}
+use Rattle.semduoli.specs.ServerCalls.{freshAfter, scopeAfter, made, madeOf, makeCall, serverGot, serverGotOf, serverCall}
+
+-- ---- 1 is answered
+
+own-out : (me most : ℕ) → most < me → ownTest me most ≡ J.Bad R.Parties
+unfolding ownTest pick
+own-out me most h =
+    ap (λ b. pick b (J.Bad R.Parties) (pick (ltb most me) (J.Bad R.Parties) J.Fine)) (le-ltb me 1 (omega (arith, h)))
+    ∙ ap (λ b. pick b (J.Bad R.Parties) J.Fine) (lt-ltb most me h)
+
+module _ (g : Params) (me most : ℕ) where
+  out-by : (b : Bool) → (b ≡ true → most < me) → pick b (andThen (ownTest me most) (codeTest g)) (J.Bad R.Parties) ≡ J.Bad R.Parties
+  unfolding pick
+  out-by true h = ap (λ v. andThen v (codeTest g)) (own-out me most (h refl))
+  out-by false h = refl
+
+  params-out : (partiesFit (g .n) (g .t) ≡ true → most < me) → paramsTest g me most ≡ J.Bad R.Parties
+  unfolding paramsTest
+  params-out h = out-by (partiesFit (g .n) (g .t)) h
+
+module _ (g : Params) (me : ℕ) (h : 255 < me) where
+  no-client : paramsTest g me lastClient ≡ J.Bad R.Parties
+  no-client = params-out g me lastClient (λ e. omega (arith, h))
+
+  no-server : paramsTest g me (g .n) ≡ J.Bad R.Parties
+  no-server = params-out g me (g .n) (λ e. let m = parties-facts (g .n) (g .t) e .1 in omega (arith, h, m))
+
+-- a test that begins with the parameters'
+stops : (p : Verdict) (v : Verdict) → p ≡ J.Bad R.Parties → andThen p v ≡ J.Bad R.Parties
+stops p v e = ap (λ z. andThen z v) e
+
+-- and its number
+told : (p : Verdict) (v : Verdict) → p ≡ J.Bad R.Parties → 1 ≡ testAnswer (andThen p v)
+unfolding testAnswer
+told p v e = sym (ap testAnswer (stops p v e))
+
+-- ---- a client
+
+module _ (g : Params) (me : ℕ) (h : 255 < me) where
+  module _ (state out to : List ℕ) where
+    begins-none : (x : Begun) → _≡_ {A = Begun} (record { answer = Y.Refused R.Parties; client = clientIn state; out = out; to = to }) x
+        → began 1 state out to ≡ beganOf g x state
+    unfolding beganOf clientAnswer stateAfter isRefusal pick
+    begins-none x e = ap (λ z. beganOf g z state) e
+
+    pub read-none : began 1 state out to ≡ readCall g me state out to
+    unfolding readCall readShort readBeginning readBegun readTest
+    read-none =
+        either (λ z. began 1 state out to ≡ z) (ltb (length state) clientSize) _ _
+        (ap (λ x. began x state out to) (told (paramsTest g me lastClient) _ (no-client g me h)))
+        (begins-none (readBeginning g me (clientIn state) out to)
+        (begin-refused g me (clientIn state) (readTest g me (clientIn state) out to) (openRead g me (clientIn state)) out to (J.Bad R.Parties)
+        (sym (stops (paramsTest g me lastClient) _ (no-client g me h))) R.Parties refl))
+
+    pub write-none : (v : List ℕ) → began 1 state out to ≡ writeCall g me v state out to
+    unfolding writeCall valueShort writeBeginning writeBegun writeTest
+    write-none v =
+        either (λ z. began 1 state out to ≡ z) (ltb (length state) clientSize) _ _
+        (ap (λ x. began x state out to) (told (paramsTest g me lastClient) _ (no-client g me h)))
+        (begins-none (writeBeginning g me (clientIn state) v out to)
+        (begin-refused g me (clientIn state) (writeTest g me (clientIn state) v out to) (openWrite g me (clientIn state)) out to (J.Bad R.Parties)
+        (sym (stops (paramsTest g me lastClient) _ (no-client g me h))) R.Parties refl))
+
+  module _ (from : Party) (value f rows result stamp state out to : List ℕ) where
+    done-none : (x : Outcome)
+        → _≡_ {A = Outcome} (record { answer = Y.Refused R.Parties; client = clientIn state; area = rows; result = result; out = out; to = to }) x
+        → clientGot 1 rows result stamp state out to ≡ clientGotOf g x stamp state
+    unfolding clientGotOf clientAnswer stampAfter stateAfter isRefusal pick
+    done-none x e = ap (λ z. clientGotOf g z stamp state) e
+
+    pub client-none : clientGot 1 rows result stamp state out to ≡ clientCall g me from value f rows result stamp state out to
+    unfolding clientCall frameShort stampShort
+    client-none =
+        let p = no-client g me h in
+        either (λ z. clientGot 1 rows result stamp state out to ≡ z) (ltb (length state) clientSize) _ _
+        (ap (λ x. clientGot x rows result stamp state out to) (told (paramsTest g me lastClient) _ p))
+        (either (λ z. clientGot 1 rows result stamp state out to ≡ z) _ _ _
+        (ap (λ x. clientGot x rows result stamp state out to) (told (paramsTest g me lastClient) _ p))
+        (done-none (delivery digestOf g me (clientIn state) rows value from f result out to)
+        (call-refused g me (clientIn state) rows value from f result out to (J.Bad R.Parties)
+        (sym (stops (paramsTest g me lastClient) (valueTest g (clientIn state) (length value)) p)) R.Parties refl)))
+
+-- ---- a server
+
+module _ (g : Params) (me : ℕ) (h : 255 < me) where
+  pub make-none : (value area initial state : List ℕ) → made 1 area initial state ≡ makeCall g me value area initial state
+  unfolding makeCall valueShort madeOf construction constructTest constructBy serverAnswer freshAfter isTurnedDown pick
+  make-none value area initial state =
+      let p = no-server g me h in
+      either (λ z. made 1 area initial state ≡ z) (ltb (length state) serverSize) _ _ (ap (λ x. made x area initial state) (told (paramsTest g me (g .n)) _ p))
+      (ap (λ v. madeOf (constructBy digestOf g me v value area initial) state) (sym (stops (paramsTest g me (g .n)) _ p)))
+
+  pub playback-none : (value trace area initial state out : List ℕ) → playedBack 1 area initial state out ≡ playbackCall g me value trace area initial state out
+  unfolding playbackCall valueShort playedBackOf playback playTest playbackBy constructTest playbackAnswer playedAfter isUnplayed pick
+  playback-none value trace area initial state out =
+      let p = no-server g me h in
+      either (λ z. playedBack 1 area initial state out ≡ z) (ltb (length state) serverSize) _ _
+      (ap (λ x. playedBack x area initial state out) (told (paramsTest g me (g .n)) _ p))
+      (ap (λ v. playedBackOf (playbackBy digestOf g me v value (traceOf trace) area initial out) state)
+      (sym (stops (constructTest digestOf g me value (length area) (length initial)) _ (stops (paramsTest g me (g .n)) _ p))))
+
+  module _ (from : Party) (f area initial state out to : List ℕ) where
+    pub server-none : serverGot 1 area state out to ≡ serverCall g me from f area initial state out to
+    unfolding serverCall frameShort serverGotOf serverAnswer scopeAfter isTurnedDown pick admitted
+    server-none =
+        let p = no-server g me h in
+        either (λ z. serverGot 1 area state out to ≡ z) (ltb (length state) serverSize) _ _
+        (ap (λ x. serverGot x area state out to) (told (paramsTest g me (g .n)) _ p))
+        (ap (λ (z : S.Outcome). serverGotOf z (getD f clientAt 0) state)
+        (refused-delivery digestOf g me (serverIn state) area initial from f out to (O.Refused R.Parties) R.Parties
+        (ap (λ v. openedBy v (headerIn f)) (sym (stops (paramsTest g me (g .n)) _ p))) refl))

@@ -1,0 +1,178 @@
+// A client, whose record the host keeps as bytes.
+use crate::senders::sender_of;
+use answers::calls::client_answer;
+use answers::calls::is_refusal;
+use answers::calls::test_answer;
+use answers::short::frame_short;
+use answers::short::read_short;
+use answers::short::stamp_short;
+use answers::short::value_short;
+use blocks::Params;
+use client::fresh::fresh_client;
+use client_rules::Answer;
+use client_rules::Client;
+use layout::clients::CLIENT_SIZE;
+use layout::clients::client_at;
+use layout::clients::put_client;
+use layout::fields::put_stamp;
+ghost use mathlib.Core.Path.{_≡_};
+ghost use Prim.Native.Nat.{_≤_};
+ghost use lib.ListN.{length};
+ghost use Rattle.layout.specs.Clients.{clientSize};
+ghost use Rattle.answers.specs.Answers.{clientAnswer};
+ghost use Rattle.semduoli.specs.Calls.{params, wrote, freshCall, began, stateAfter, readCall, writeCall};
+ghost use Rattle.semduoli.specs.Handed.{senderOf, stampSize, stampAfter, clientGot, clientCall};
+
+// Writes a fresh client's record.
+#[no_mangle]
+pub extern "C" fn semduoli_client_fresh(state: &mut [u8]) -> u64
+    ensures { λ r. ⌜ wrote r (now (state .exit)) ≡ freshCall (now (state .entry)) ⌝ }
+{
+    if state.len() < CLIENT_SIZE {
+        return 10;
+    }
+    let s = fresh_client();
+    put_client(s, state, 0);
+    0
+}
+
+// ---- the record after a call
+
+// Writes the record, unless the call was turned down.
+fn keep(a: Answer, s: Client, state: &mut [u8], n: usize) -> u64
+    requires { ⌜ clientSize ≤ length (now state) ⌝ }
+    ensures { λ r. ⌜ wrote r (now (state .exit)) ≡ wrote (clientAnswer n a) (stateAfter a s (now (state .entry))) ⌝ }
+{
+    if is_refusal(a) {
+        return client_answer(a, n);
+    }
+    put_client(s, state, 0);
+    client_answer(a, n)
+}
+
+// ---- an operation begins
+
+// Begins a read.
+#[no_mangle]
+pub extern "C" fn semduoli_begin_read(
+    n: usize,
+    t: usize,
+    k: usize,
+    size: usize,
+    me: usize,
+    state: &mut [u8],
+    out: &mut [u8],
+    to: &mut [u8],
+) -> u64
+    ensures { λ r. ⌜ began r (now (state .exit)) (now (out .exit)) (now (to .exit))
+        ≡ readCall (params n t k size) me (now (state .entry)) (now (out .entry)) (now (to .entry)) ⌝ }
+{
+    if 255 < me {
+        return 1;
+    }
+    let own = me as u8;
+    let g = Params { n, t, k, size };
+    if state.len() < CLIENT_SIZE {
+        let short = read_short(g, own);
+        return test_answer(short);
+    }
+    let s = client_at(state, 0);
+    let done = client::begin::begin_read(g, own, s, out, to);
+    let answer = done.answer;
+    let after = done.client;
+    keep(answer, after, state, n)
+}
+
+// Begins the write of a value of size bytes.
+#[no_mangle]
+pub extern "C" fn semduoli_begin_write(
+    n: usize,
+    t: usize,
+    k: usize,
+    size: usize,
+    me: usize,
+    state: &mut [u8],
+    value: &[u8],
+    out: &mut [u8],
+    to: &mut [u8],
+) -> u64
+    ensures { λ r. ⌜ began r (now (state .exit)) (now (out .exit)) (now (to .exit))
+        ≡ writeCall (params n t k size) me (now (value .entry)) (now (state .entry)) (now (out .entry)) (now (to .entry)) ⌝ }
+{
+    if 255 < me {
+        return 1;
+    }
+    let own = me as u8;
+    let g = Params { n, t, k, size };
+    if state.len() < CLIENT_SIZE {
+        let short = value_short(g, own, 8, value.len());
+        return test_answer(short);
+    }
+    let s = client_at(state, 0);
+    let done = client::begin::begin_write(g, own, s, value, out, to);
+    let answer = done.answer;
+    let after = done.client;
+    keep(answer, after, state, n)
+}
+
+// ---- a frame is handed in
+
+// Writes a completed read's stamp.
+fn put_read(a: Answer, stamp: &mut [u8])
+    requires { ⌜ stampSize ≤ length (now stamp) ⌝ }
+    ensures { λ _. ⌜ now (stamp .exit) ≡ stampAfter a (now (stamp .entry)) ⌝ }
+{
+    match a {
+        Answer::Sent(m) => {}
+        Answer::Written => {}
+        Answer::OutOfStamps => {}
+        Answer::Value(x) => put_stamp(x, stamp, 0),
+        Answer::Disagreement => {}
+        Answer::Refused(r) => {}
+    }
+}
+
+// Delivers a frame to client me, whose open write's value is lent.
+#[no_mangle]
+pub extern "C" fn semduoli_client_deliver(
+    n: usize,
+    t: usize,
+    k: usize,
+    size: usize,
+    me: usize,
+    class: usize,
+    sender: usize,
+    value: &[u8],
+    f: &[u8],
+    rows: &mut [u8],
+    result: &mut [u8],
+    stamp: &mut [u8],
+    state: &mut [u8],
+    out: &mut [u8],
+    to: &mut [u8],
+) -> u64
+    ensures { λ r. ⌜ clientGot r (now (rows .exit)) (now (result .exit)) (now (stamp .exit)) (now (state .exit)) (now (out .exit)) (now (to .exit))
+        ≡ clientCall (params n t k size) me (senderOf class sender) (now (value .entry)) (now (f .entry)) (now (rows .entry)) (now (result .entry))
+        (now (stamp .entry)) (now (state .entry)) (now (out .entry)) (now (to .entry)) ⌝ }
+{
+    if 255 < me {
+        return 1;
+    }
+    let own = me as u8;
+    let g = Params { n, t, k, size };
+    if state.len() < CLIENT_SIZE {
+        let short = frame_short(g, own, 8, f);
+        return test_answer(short);
+    }
+    let s = client_at(state, 0);
+    if stamp.len() < 13 {
+        let short = stamp_short(g, own, s, value.len(), f);
+        return test_answer(short);
+    }
+    let from = sender_of(class, sender);
+    let done = client_deliver::deliver(g, own, s, value, from, f, rows, result, out, to);
+    let answer = done.answer;
+    let after = done.client;
+    put_read(answer, stamp);
+    keep(answer, after, state, n)
+}

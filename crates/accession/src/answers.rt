@@ -1,17 +1,20 @@
 // What a line does to the index, and what is put for it.
-use crate::line::Argument;
 use crate::line::Line;
-use crate::line::is_bytes;
-use crate::line::is_number;
 use crate::line::is_word;
 use accession_index::Found;
 use accession_index::Index;
 use accession_index::Insertion;
 use accession_index::number_of;
 use accession_index::rows_in;
+use case_text::field::Field;
+use case_text::field::is_bytes;
+use case_text::field::is_number;
+use console::counts::count_of;
 use console::output::Out;
 use console::output::put;
 use console::output::put_decimal;
+use console::output::put_refused;
+use console::output::put_what;
 
 // The words `insert`, `search` and `index`, each as one number.
 const INSERT: u64 = 115923103347316;
@@ -24,10 +27,6 @@ const INDEX: u64 = 452823639416;
 pub struct Answered {
     pub index: Index,
     pub out: Out,
-}
-
-fn put_what(out: Out, text: &mut [u8]) -> Out {
-    put(out, text, b"what?\n")
 }
 
 fn put_number(out: Out, text: &mut [u8], place: u8) -> Out {
@@ -43,11 +42,7 @@ fn put_place(out: Out, text: &mut [u8], place: u8) -> Out {
 fn put_inserted(out: Out, text: &mut [u8], answer: Insertion) -> Out {
     match answer {
         Insertion::Place(place) => put_place(out, text, place),
-        Insertion::Refused(r) => {
-            let word = put(out, text, b"refused ");
-            let number = put_decimal(word, text, number_of(r));
-            put(number, text, b"\n")
-        }
+        Insertion::Refused(r) => put_refused(out, text, number_of(r)),
     }
 }
 
@@ -73,15 +68,14 @@ fn put_index(out: Out, text: &mut [u8], index: Index) -> Out {
 }
 
 // The value is inserted by its first eight bytes: what it has behind them changes nothing.
-fn insert(index: Index, argument: Argument, out: Out, text: &mut [u8]) -> Answered {
-    if !is_bytes(argument) {
+fn insert(index: Index, line: Line, bytes: &[u8], out: Out, text: &mut [u8]) -> Answered {
+    if !is_bytes(line.argument) {
         return Answered {
             index,
             out: put_what(out, text),
         };
     }
-    let bytes = argument.bytes;
-    let n = io::count(argument.used as isize, &bytes);
+    let n = count_of(line.used, bytes);
     let done = accession_index::insert(index, &bytes[..n]);
     let said = done.answer;
     let after = done.index;
@@ -91,24 +85,26 @@ fn insert(index: Index, argument: Argument, out: Out, text: &mut [u8]) -> Answer
     }
 }
 
-fn search(index: Index, argument: Argument, out: Out, text: &mut [u8]) -> Out {
+fn search(index: Index, argument: Field, out: Out, text: &mut [u8]) -> Out {
     if !is_number(argument) {
+        return put_what(out, text);
+    }
+    if argument.large {
         return put_what(out, text);
     }
     let found = accession_index::search(index, argument.number);
     put_found(out, text, found)
 }
 
-// Answers a line, and gives the index after it.
-pub fn answer(index: Index, line: Line, out: Out, text: &mut [u8]) -> Answered {
-    let argument = line.argument;
+// Answers a line, whose argument spells these bytes, and gives the index after it.
+pub fn answer(index: Index, line: Line, bytes: &[u8], out: Out, text: &mut [u8]) -> Answered {
     if is_word(line, 6, INSERT, 1) {
-        return insert(index, argument, out, text);
+        return insert(index, line, bytes, out, text);
     }
     if is_word(line, 6, SEARCH, 1) {
         return Answered {
             index,
-            out: search(index, argument, out, text),
+            out: search(index, line.argument, out, text),
         };
     }
     if is_word(line, 5, INDEX, 0) {

@@ -2,12 +2,14 @@
 // `search NUMBER`, `index`.
 use crate::answers::answer;
 use crate::line::Line;
-use crate::line::add_byte;
+use crate::line::add_part;
 use crate::line::no_line;
 use accession_index::Index;
 use accession_index::fresh;
 use console::input::open_input;
-use console::input::read_piece;
+use console::lines::Part;
+use console::lines::next_part;
+use console::lines::no_part;
 use console::output::Out;
 use console::output::flush;
 use console::output::nothing;
@@ -23,18 +25,15 @@ struct Run {
     out: Out,
 }
 
-// What a piece of the input leaves; whether more may follow, and whether it could not be read or answered.
-struct Taken {
-    run: Run,
-    more: bool,
-    failed: bool,
-}
-
-fn end_line(r: Run, text: &mut [u8]) -> Run {
+// Takes the next part of the line, and answers the line where it ends.
+fn take(r: Run, p: Part, part: &[u8], bytes: &mut [u8], text: &mut [u8]) -> Run {
     let index = r.index;
-    let line = r.line;
-    let out = r.out;
-    let done = answer(index, line, out, text);
+    let line = add_part(r.line, part, bytes);
+    let out = p.out;
+    if !p.ends {
+        return Run { index, line, out };
+    }
+    let done = answer(index, line, bytes, out, text);
     let after = done.index;
     let said = done.out;
     Run {
@@ -44,95 +43,26 @@ fn end_line(r: Run, text: &mut [u8]) -> Run {
     }
 }
 
-// The next byte of the input.
-fn take(r: Run, b: u8, text: &mut [u8]) -> Run {
-    if b == b'\n' {
-        return end_line(r, text);
-    }
-    let index = r.index;
-    let line = r.line;
-    let out = r.out;
-    Run {
-        index,
-        line: add_byte(line, b),
-        out,
-    }
-}
-
-// All bytes of one piece of the input.
-fn take_all(r: Run, piece: &[u8], text: &mut [u8]) -> Run {
-    let mut y = r;
-    let mut i = 0;
-    while i < piece.len() {
-        y = take(y, piece[i], text);
-        i += 1;
-    }
-    y
-}
-
-// Writes the answers that wait.
-fn with_flushed(r: Run, text: &[u8]) -> Run {
-    let index = r.index;
-    let line = r.line;
-    let out = r.out;
-    Run {
-        index,
-        line,
-        out: flush(out, text),
-    }
-}
-
-// Reads the next piece of the input, and answers its lines.
-fn take_piece(r: Run, fd: i32, text: &mut [u8]) -> Taken {
-    let mut chunk = io::large_buffer();
-    let piece = read_piece(fd, &mut chunk);
-    let n = piece.count;
-    if n == 0 {
-        return Taken {
-            run: r,
-            more: false,
-            failed: piece.failed,
-        };
-    }
-    let all = take_all(r, &chunk[..n], text);
-    let run = with_flushed(all, text);
-    let out = run.out;
-    Taken {
-        run,
-        more: !out.failed,
-        failed: out.failed,
-    }
-}
-
-// Answers a last line without a newline. Where the input could not be read to its end, what was begun is no line.
-fn finish(r: Run, failed: bool, text: &mut [u8]) {
-    if failed {
-        return;
-    }
-    let line = r.line;
-    if line.begun {
-        let last = end_line(r, text);
-        with_flushed(last, text);
-    }
-}
-
-// Reads the input to its end, in at most 2^64 - 1 pieces.
+// Reads the input to its end, in at most 2^64 - 1 parts.
 fn read_all(fd: i32) {
     let mut text = io::buffer();
+    let mut chunk = io::large_buffer();
+    let mut bytes = [0u8; 8];
     let mut r = Run {
         index: fresh(),
         line: no_line(),
         out: nothing(),
     };
-    let mut failed = false;
+    let mut p = no_part(r.out);
     let mut left: u64 = 18446744073709551615;
     while 0 < left {
-        let taken = take_piece(r, fd, &mut text);
-        r = taken.run;
-        failed = taken.failed;
-        left = left_after(left, taken.more);
+        p = next_part(p, fd, &mut chunk, r.out, &text);
+        let start = p.start;
+        let end = p.end;
+        r = take(r, p, &chunk[start..end], &mut bytes, &mut text);
+        left = left_after(left, p.more);
     }
-    finish(r, failed, &mut text);
+    flush(r.out, &text);
 }
 
 fn main() {

@@ -33,4 +33,4 @@ frameShort g me most f = andThen (paramsTest g me most) (openedShort (opened g f
 
 -- a frame f is handed to client s with a value of length v, and the area for a read's stamp is short
 unfoldable pub stampShort : Params → ℕ → Client → ℕ → List ℕ → Verdict
-stampShort g me s v f = andThen (paramsTest g me lastClient) (andThen (valueTest g s v) (openedShort (opened g f)))
+stampShort g me s v f = andThen (paramsTest g me lastClient) (andThen (valueTest g (s .phase) v) (openedShort (opened g f)))

@@ -72,10 +72,25 @@ joined-snoc f i (suc n) = rw add-one (go (rw add-one at (joined-snoc f (suc i) n
     go : joined f (suc i) (suc n) ≡ joined f (suc i) n ++ f (suc i + n) → f i ++ joined f (suc i) (suc n) ≡ (f i ++ joined f (suc i) n) ++ f (i + suc n)
     go e = ap (λ l. f i ++ l) e ∙ sym (append-assoc (f i) (joined f (suc i) n) (f (suc i + n))) ∙ rw (add-suc, suc-add)
 
-pub length-joined : {A : Type 0} (f : ℕ → List A) (w i n : ℕ) → ((j : ℕ) → length (f j) ≡ w) → length (joined f i n) ≡ n * w
+-- two runs of lists
+pub joined-split : {A : Type 0} (f : ℕ → List A) (i n m : ℕ) → joined f i (n + m) ≡ joined f i n ++ joined f (i + n) m
 unfolding joined
-length-joined f w i zero e = sym (omega arith)
-length-joined f w i (suc n) e = length-append (f i) (joined f (suc i) n) ∙ rw (e, length-joined f w (suc i) n e, suc-mul) (omega arith)
+joined-split f i zero m = ap₂ (joined f) (sym (add-zero i)) (zero-add m)
+joined-split f i (suc n) m =
+    let d : suc i + n ≡ i + suc n = omega arith in
+    rw (suc-add n m) (ap (λ l. f i ++ l) (joined-split f (suc i) n m ∙ ap (λ k. joined f (suc i) n ++ joined f k m) d) ∙ sym (append-assoc (f i) _ _))
+
+-- those that are joined have one length; or all have
+pub length-lines : {A : Type 0} (f : ℕ → List A) (w i n : ℕ) → ((j : ℕ) → i ≤ j → j < i + n → length (f j) ≡ w) → length (joined f i n) ≡ n * w
+unfolding joined
+length-lines f w i zero e = sym (omega arith)
+length-lines f w i (suc n) e =
+    length-append (f i) (joined f (suc i) n)
+    ∙ ap₂ (λ x y. x + y) (e i (omega arith) (omega arith)) (length-lines f w (suc i) n (λ j a b. e j (omega arith) (omega arith)))
+    ∙ (let z : w + n * w ≡ suc n * w = rw suc-mul (omega arith) in z)
+
+pub length-joined : {A : Type 0} (f : ℕ → List A) (w i n : ℕ) → ((j : ℕ) → length (f j) ≡ w) → length (joined f i n) ≡ n * w
+length-joined f w i n e = length-lines f w i n (λ j a b. e j)
 
 -- ---- a loop that replaces the entries of a list in place
 

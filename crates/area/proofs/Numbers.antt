@@ -6,7 +6,7 @@ use native.Mathlib.Nat.{div-add-mod'}
 use native.Mathlib.Numerals.{add-one}
 use native.Mathlib.Omega.{arith}
 use lib.Arith.{digits-div, digits-mod}
-use lib.ListN.{length, getD, drop, List·getD-append}
+use lib.ListN.{length, getD, take, drop, List·getD-append}
 use lib.Seq.{drop-cons, drop-drop, take-add}
 use Rattle.area.specs.Area.{part, Bytes}
 use Rattle.area.specs.Numbers.{be2, be4, be8, bytes2, bytes4, bytes8}
@@ -28,6 +28,16 @@ length-bytes8 x = refl
 pub Bytes-append : (a b : List ℕ) → Bytes a → Bytes b → Bytes (a ++ b)
 Bytes-append [] b p q = q
 Bytes-append (x ∷ a) b p q = (p .0, Bytes-append a b (p .1) q)
+
+pub Bytes-take : (n : ℕ) (l : List ℕ) → Bytes l → Bytes (take n l)
+Bytes-take zero l h = tt
+Bytes-take (suc n) [] h = tt
+Bytes-take (suc n) (a ∷ l) h = (h .0, Bytes-take n l (h .1))
+
+pub Bytes-drop : (n : ℕ) (l : List ℕ) → Bytes l → Bytes (drop n l)
+Bytes-drop zero l h = h
+Bytes-drop (suc n) [] h = tt
+Bytes-drop (suc n) (a ∷ l) h = Bytes-drop n l (h .1)
 
 pub Bytes-bytes2 : (x : ℕ) → Bytes (bytes2 x)
 unfolding bytes2

@@ -1,16 +1,15 @@
 -- Equality of lists of bytes, from the front: the turns of the loop that compares, and what `same` says. Assumes nothing.
 use mathlib.Core.Path.{_≡_, refl, sym, ap, ap₂, _∙_}
-use mathlib.Core.Bool.{Bool, true, false, _&&_}
+use mathlib.Core.Bool.{true, false}
 use mathlib.Core.List.{List, [], _∷_}
 use Prim.Native.Nat.{ℕ, suc, _+_, _≤_, _<_}
 use native.Mathlib.Numerals.{add-one}
-use native.Mathlib.Omega.{arith}
 use lib.ListN.{length, drop, getD, drop-of-length-le}
 use lib.Seq.{drop-cons}
 use lib.Dec.{eqb}
 use borrow.Author.Tests.{eq-eqb, ne-eqb, eqb-true}
 use Rattle.area.specs.Area.{same}
-use Rattle.area.proofs.Tests.{and-left, and-right}
+use Rattle.area.proofs.Tests.{impossible, and-left, and-right, and-false}
 
 -- ---- same
 
@@ -33,18 +32,14 @@ unfolding same
 same-lengths [] [] ne = absurd (ne refl)
 same-lengths [] (y ∷ b) ne = refl
 same-lengths (x ∷ a) [] ne = refl
-same-lengths (x ∷ a) (y ∷ b) ne = rw (same-lengths a b (λ e. ne (ap suc e))) (false-and (eqb x y))
-  where
-    false-and : (t : Bool) → t && false ≡ false
-    false-and true = refl
-    false-and false = refl
+same-lengths (x ∷ a) (y ∷ b) ne = rw (same-lengths a b (λ e. ne (ap suc e))) (and-false (eqb x y) false refl)
 
 -- the test tells equality
 pub same-true : (a b : List ℕ) → same a b ≡ true → a ≡ b
 unfolding same
 same-true [] [] e = refl
-same-true [] (y ∷ b) e = absurd (let z : false ≡ true = e in let w : _≡_ {A = ℕ} 0 1 = cc in omega arith)
-same-true (x ∷ a) [] e = absurd (let z : false ≡ true = e in let w : _≡_ {A = ℕ} 0 1 = cc in omega arith)
+same-true [] (y ∷ b) e = impossible (cc e)
+same-true (x ∷ a) [] e = impossible (cc e)
 same-true (x ∷ a) (y ∷ b) e =
     ap₂ (λ u l. u ∷ l) (eqb-true x y (and-left (eqb x y) (same a b) e)) (same-true a b (and-right (eqb x y) (same a b) e))
 
@@ -54,4 +49,4 @@ same-refl [] = refl
 same-refl (x ∷ a) = rw (eq-eqb x x refl) (same-refl a)
 
 pub same-false : (a b : List ℕ) → same a b ≡ false → a ≡ b → ⊥
-same-false a b e p = let z : true ≡ false = sym (same-refl a) ∙ ap (same a) p ∙ e in let w : _≡_ {A = ℕ} 0 1 = cc in omega arith
+same-false a b e p = impossible (cc (sym (same-refl a) ∙ ap (same a) p ∙ e))

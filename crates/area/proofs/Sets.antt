@@ -1,13 +1,13 @@
 -- Stores: `sets l i vs` is the list l with vs stored from index i on, `part l i w` the w elements from index i on. A store of two lists one after the other,
 -- a store that grows by one element, and what is read after a store. Assumes nothing.
-use mathlib.Core.Path.{_≡_, refl, sym, _∙_}
-use mathlib.Core.List.{List, [], _∷_, _++_, append-assoc}
+use mathlib.Core.Path.{_≡_, refl, sym, ap, _∙_}
+use mathlib.Core.List.{List, [], _∷_, _++_, append-assoc, append-nil}
 use Prim.Native.Nat.{ℕ, zero, suc, _+_, _-_, _*_, _≤_, _<_}
 use native.Mathlib.Nat.{add-zero, add-suc, suc-add, suc-mul, mul-le-mul-right}
 use native.Mathlib.Numerals.{add-one}
 use native.Mathlib.Omega.{arith}
-use lib.ListN.{length, take, drop, getD, set, replicate, length-take, length-drop}
-use lib.Seq.{sets, sets-eq, take-suc, take-at, drop-at, length-take-le, drop-set-add, drop-set-lt, take-set-le}
+use lib.ListN.{length, take, drop, getD, set, replicate, length-take, length-drop, drop-of-length-le}
+use lib.Seq.{sets, sets-eq, take-suc, take-at, drop-at, length-take-le, drop-set-add, drop-set-lt, take-set-le, getD-set-other}
 use Rattle.area.specs.Area.{part}
 
 -- ---- what is stored
@@ -37,6 +37,26 @@ pub sets-copy : (d : List ℕ) (i j x : ℕ) → set (sets d i (replicate j x)) 
 sets-copy d i zero x = rw add-zero
 sets-copy d i (suc j) x = rw (add-suc i j, ← suc-add i j, suc-add j 1) (sets-copy (set d i x) (suc i) j x)
 
+-- a list that fills the whole
+pub sets-whole : {A : Type 0} (l vs : List A) → length vs ≡ length l → sets l 0 vs ≡ vs
+sets-whole l vs e =
+    let h : 0 + length vs ≤ length l = omega arith in
+    let k : length l ≤ 0 + length vs = omega arith in
+    sets-eq vs l 0 h ∙ ap (λ t. vs ++ t) (drop-of-length-le l k) ∙ append-nil vs
+
+-- ---- an element
+
+-- one behind those that were stored
+pub getD-after : {A : Type 0} (l : List A) (i : ℕ) (vs : List A) (k : ℕ) (d : A) → i + length vs ≤ k → getD (sets l i vs) k d ≡ getD l k d
+getD-after l i [] k d h = refl
+getD-after l i (x ∷ vs) k d h = getD-after (set l i x) (suc i) vs k d (omega arith) ∙ getD-set-other l i k x d (λ e. omega arith)
+
+-- what f says of x, and of the element past the end, it says of each of n copies of x
+pub of-copies : {A B : Type 0} (f : A → B) (x d : A) (y : B) → f x ≡ y → f d ≡ y → (n j : ℕ) → f (getD (replicate n x) j d) ≡ y
+of-copies f x d y p q zero j = q
+of-copies f x d y p q (suc n) zero = p
+of-copies f x d y p q (suc n) (suc j) = of-copies f x d y p q n j
+
 -- ---- a part of an area
 
 pub length-part : (l : List ℕ) (i w : ℕ) → i + w ≤ length l → length (part l i w) ≡ w
@@ -51,6 +71,12 @@ pub part-sets-same : (l : List ℕ) (i : ℕ) (vs : List ℕ) → i + length vs 
 part-sets-same l i vs h =
     let hi : i ≤ length l = omega arith in
     rw (sets-eq vs l i, append-assoc, drop-at (take i l) _ i (length-take-le i l hi), take-at vs _ (length vs) refl)
+
+-- the front that was stored
+pub take-front : (l vs : List ℕ) (k : ℕ) → length vs ≡ k → k ≤ length l → take k (sets l 0 vs) ≡ vs
+take-front l vs k e h =
+    let z : 0 + length vs ≤ length l = omega arith in
+    rw (← e) (part-sets-same l 0 vs z)
 
 -- a part that ends before what was stored
 pub part-sets-before : (l : List ℕ) (i : ℕ) (vs : List ℕ) (j w : ℕ) → j + w ≤ i → part (sets l i vs) j w ≡ part l j w

@@ -1,10 +1,20 @@
--- Tests and their outcomes: the rules that close the returns of a chain of tests, what a chain tells where its outcome is known, and truth values.
--- Assumes nothing.
+-- Tests and their outcomes: the rules that close the returns of a chain of tests, what a chain tells where its outcome is known, truth values, and
+-- impossible equations. Assumes nothing.
+use Prim.Native.Nat.{ℕ}
+use native.Mathlib.Omega.{arith}
 use mathlib.Core.Path.{_≡_, refl, sym, _∙_}
 use mathlib.Core.Bool.{Bool, true, false, _&&_, _||_}
 use mathlib.Core.Logic.{_⊎_, inl, inr}
+use mathlib.Core.Option.{some, none}
+use mathlib.Core.List.{[], _∷_, List·Memᴰ, List·Memᴰ·head}
 use borrow.Author.Tests.{eq-eqb, ne-eqb, lt-ltb, le-ltb, le-leb, lt-leb}
-use Rattle.area.specs.Area.{pick}
+use Rattle.area.specs.Area.{pick, kept}
+
+-- `impossible (cc h)` closes a case whose equations h identify two constructors
+pub impossible {ℓ} : {A : Type ℓ} → _≡_ {A = ℕ} 0 1 → A
+impossible z = absurd (omega arith)
+
+-- ---- outcomes
 
 -- a test's value from what a branch tells, for `search`
 pub ruleset tests = (lt-ltb, le-ltb, le-leb, lt-leb, eq-eqb, ne-eqb)
@@ -26,6 +36,30 @@ pub pick-case : {A : Type 0} (b : Bool) (x e y : A) → pick b x e ≡ y → ((b
 unfolding pick
 pick-case true x e y q = inl (refl, q)
 pick-case false x e y q = inr (refl, q)
+
+-- a test that is known
+pub pick-true : {A : Type 0} (b : Bool) (x y : A) → b ≡ true → pick b x y ≡ x
+unfolding pick
+pick-true b x y e = rw e
+
+pub pick-false : {A : Type 0} (b : Bool) (x y : A) → b ≡ false → pick b x y ≡ y
+unfolding pick
+pick-false b x y e = rw e
+
+-- a value that is there only where the test holds, three ways
+pub pick-some : {A : Type 0} (b : Bool) (x y : A) → pick b (some x) none ≡ some y → (b ≡ true) × (x ≡ y)
+unfolding pick
+pick-some true x y e = (refl, cc e)
+pick-some false x y e = impossible (cc e)
+
+pub kept-some : {A : Type 0} (b : Bool) (x y : A) → kept b x ≡ some y → (b ≡ true) × (x ≡ y)
+kept-some true x y e = (refl, cc e)
+kept-some false x y e = impossible (cc e)
+
+pub in-pick : {A : Type 0} (b : Bool) (x : A) → b ≡ true → List·Memᴰ x (pick b (x ∷ []) [])
+unfolding pick
+in-pick true x e = List·Memᴰ·head refl
+in-pick false x e = impossible (cc e)
 
 -- a function of an outcome
 pub pick-ap : {A B : Type 0} (f : A → B) (b : Bool) (x y : A) → f (pick b x y) ≡ pick b (f x) (f y)
@@ -72,6 +106,10 @@ pub and-true : (a b : Bool) → a ≡ true → b ≡ true → (a && b) ≡ true
 and-true true b e f = f
 and-true false b e f = e
 
+pub and-false : (a b : Bool) → b ≡ false → (a && b) ≡ false
+and-false true b e = e
+and-false false b e = refl
+
 pub or-split : (a b : Bool) → (a || b) ≡ true → (a ≡ true) ⊎ (b ≡ true)
 or-split true b e = inl refl
 or-split false b e = inr e
@@ -82,3 +120,7 @@ or-left a b e = rw e
 pub or-right : (a b : Bool) → b ≡ true → (a || b) ≡ true
 or-right true b e = refl
 or-right false b e = e
+
+pub or-false : (a b : Bool) → (a || b) ≡ false → (a ≡ false) × (b ≡ false)
+or-false true b e = impossible (cc e)
+or-false false b e = (refl, e)

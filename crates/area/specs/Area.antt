@@ -1,5 +1,5 @@
 -- Lists of bytes as lent areas hold them: a part, equality, and lists made by a rule; answers by number. Assumes nothing: these are definitions.
-use Prim.Native.Nat.{ℕ, zero, suc, _<_}
+use Prim.Native.Nat.{ℕ, zero, suc, _+_, _<_}
 use mathlib.Core.Bool.{Bool, true, false, _&&_}
 use mathlib.Core.Option.{Option, none, some}
 use mathlib.Core.List.{List, [], _∷_, _++_}
@@ -32,6 +32,11 @@ same (x ∷ xs) (y ∷ ys) = eqb x y && same xs ys
 abbrev pub numbered : {A : Type 0} → (A → ℕ) → A → List A → ℕ → A
 numbered f a [] n = a
 numbered f a (x ∷ xs) n = elim (eqb (f x) n) [ true ↦ x | false ↦ numbered f a xs n ]
+
+-- how many elements pass a test
+unfoldable pub count : {A : Type 0} → (A → Bool) → List A → ℕ
+count f [] = 0
+count f (x ∷ l) = pick (f x) 1 0 + count f l
 
 -- every element is a byte
 abbrev pub Bytes : List ℕ → Type 0

@@ -1,6 +1,6 @@
 -- Lists of bytes made from others, and lists end to end: a front, a part. Assumes nothing.
 use mathlib.Core.Path.{_≡_, sym, ap, _∙_}
-use mathlib.Core.List.{List, [], _∷_, _++_}
+use mathlib.Core.List.{List, _++_}
 use Prim.Native.Nat.{ℕ, zero, suc, _+_, _*_, _<_, _≤_}
 use native.Mathlib.Nat.{not-suc-le-zero, suc-mul, zero-mul, add-zero, add-suc, suc-add}
 use native.Mathlib.Omega.{arith}
@@ -9,16 +9,6 @@ use lib.ListN.{length, take, drop, replicate}
 use lib.Seq.{take-append-add, drop-append-add, take-append-le, take-all}
 use Rattle.area.specs.Area.{Bytes, part, tableFrom, table, joined}
 use Rattle.area.proofs.Numbers.{Bytes-append}
-
-pub Bytes-take : (n : ℕ) (l : List ℕ) → Bytes l → Bytes (take n l)
-Bytes-take zero l h = tt
-Bytes-take (suc n) [] h = tt
-Bytes-take (suc n) (a ∷ l) h = (h .0, Bytes-take n l (h .1))
-
-pub Bytes-drop : (n : ℕ) (l : List ℕ) → Bytes l → Bytes (drop n l)
-Bytes-drop zero l h = h
-Bytes-drop (suc n) [] h = tt
-Bytes-drop (suc n) (a ∷ l) h = Bytes-drop n l (h .1)
 
 pub Bytes-zeros : (n : ℕ) → Bytes (replicate n 0)
 Bytes-zeros zero = tt
@@ -33,10 +23,10 @@ pub Bytes-table : (n : ℕ) (f : ℕ → ℕ) → ((j : ℕ) → f j < 256) → 
 unfolding table
 Bytes-table n f h = Bytes-tableFrom f 0 n h
 
-pub Bytes-joined : (f : ℕ → List ℕ) (i n : ℕ) → ((j : ℕ) → Bytes (f j)) → Bytes (joined f i n)
+pub Bytes-joined : (f : ℕ → List ℕ) (i n : ℕ) → ((j : ℕ) → j < i + n → Bytes (f j)) → Bytes (joined f i n)
 unfolding joined
 Bytes-joined f i zero h = tt
-Bytes-joined f i (suc n) h = Bytes-append (f i) (joined f (suc i) n) (h i) (Bytes-joined f (suc i) n h)
+Bytes-joined f i (suc n) h = Bytes-append (f i) (joined f (suc i) n) (h i (omega arith)) (Bytes-joined f (suc i) n (λ j k. h j (omega arith)))
 
 -- ---- lists of length w, end to end
 

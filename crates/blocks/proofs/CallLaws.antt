@@ -3,16 +3,16 @@ use Prim.Native.Nat.{ℕ, _*_, _≤_}
 use mathlib.Core.Path.{_≡_, refl, sym, ap, _∙_}
 use mathlib.Core.Bool.{Bool, true, false, not}
 use mathlib.Core.List.{List}
-use native.Mathlib.Omega.{arith}
 use lib.ListN.{length}
 use lib.Seq.{sets}
 use borrow.Author.Tests.{eqb-true, leb-true}
+use Rattle.area.proofs.Tests.{impossible}
 use Rattle.blocks.specs.declared.Params.{Params}
 use Rattle.blocks.specs.declared.Fault.{Fault}
 use Rattle.blocks.specs.declared.Fault.the-variants.{Disagreement}
 use Rattle.blocks.specs.declared.Coded.{Coded}
 use Rattle.blocks.specs.declared.Coded.the-variants.{Done, Refused}
-use Rattle.blocks.specs.Params.{andThen, demand, Bounded}
+use Rattle.blocks.specs.Params.{andThen, Bounded}
 use Rattle.blocks.specs.Code.{blockLength, candidate, agree}
 use Rattle.blocks.specs.Calls.{outcome, written, encodeTest, decodeTest, agreeTest, decoding, numbersFit}
 use Rattle.blocks.proofs.Parameters.{demand-done, bounds, refuses, passes, then-refused, then-done}
@@ -20,7 +20,7 @@ use Rattle.blocks.proofs.Parameters.{demand-done, bounds, refuses, pass
 then-both : (p rest : Coded) → andThen p rest ≡ Done → (p ≡ Done) × (rest ≡ Done)
 unfolding andThen
 then-both Done rest e = (refl, e)
-then-both (Refused f) rest e = absurd (let z : _≡_ {A = ℕ} 0 1 = cc in omega arith)
+then-both (Refused f) rest e = impossible (cc e)
 
 -- what `encode` has when its tests are passed
 pub record Encodes (g : Params) (len room : ℕ) : Type 0 where

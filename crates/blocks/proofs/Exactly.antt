@@ -2,14 +2,16 @@
 use Prim.Native.Nat.{ℕ, zero, suc, _+_, _-_, _*_, _<_, _≤_}
 use mathlib.Core.Path.{_≡_, refl, sym, ap, ap₂, _∙_, subst}
 use mathlib.Core.Bool.{Bool, true, false}
-use mathlib.Core.Option.{Option, none, some}
+use mathlib.Core.Option.{none, some}
 use mathlib.Core.List.{List, [], _∷_, _++_}
 use native.Mathlib.Nat.{suc-mul, zero-mul}
 use native.Mathlib.Omega.{arith}
-use lib.ListN.{length, take, length-append}
-use lib.Seq.{sets, take-nil, take-append-add, length-take-le}
+use lib.ListN.{length, take}
+use lib.Seq.{sets, take-append-add, length-take-le}
 use Rattle.area.specs.Area.{Bytes, pick, same}
+use Rattle.area.proofs.Tests.{impossible, pick-some}
 use Rattle.area.proofs.Same.{same-true, same-refl}
+use Rattle.area.proofs.Numbers.{Bytes-take}
 use Rattle.blocks.specs.declared.Params.{Params}
 use Rattle.blocks.specs.declared.Coded.{Coded}
 use Rattle.blocks.specs.declared.Coded.the-variants.{Done, Refused}
@@ -20,7 +22,6 @@ use Rattle.blocks.specs.Calls.{Outcome, outcome, written, decodeTest, ag
 use Rattle.blocks.specs.Exact.{BlocksOf, Given, Called, Exact}
 use Rattle.blocks.proofs.Numbers.{numbers-facts}
 use Rattle.blocks.proofs.CallLaws.{Decodes, decodes}
-use Rattle.blocks.proofs.ByteLists.{Bytes-take}
 use Rattle.blocks.proofs.Stripes.{length-blockOf}
 use Rattle.blocks.proofs.Values.{length-valueOf}
 use Rattle.blocks.proofs.RoundTrip.{decoded, Bytes-valueOf}
@@ -75,20 +76,15 @@ candidate-is k L js w v h x =
 
 -- ---- decoding
 
-picked : (b : Bool) (c v : List ℕ) → pick b (some c) none ≡ some v → (b ≡ true) × (c ≡ v)
-unfolding pick
-picked true c v e = (refl, cc)
-picked false c v e = absurd (let z : _≡_ {A = ℕ} 0 1 = cc in omega arith)
-
 picked-none : (b : Bool) (c : List ℕ) → pick b (some c) none ≡ none → b ≡ false
 unfolding pick
-picked-none true c e = absurd (let z : _≡_ {A = ℕ} 0 1 = cc in omega arith)
+picked-none true c e = impossible (cc e)
 picked-none false c e = refl
 
 pub given-is : (k L : ℕ) (js w v : List ℕ) → Given k L js w → decodedAll k L js w ≡ some v → BlocksOf k L js w v
 unfolding decodedAll agree
 given-is k L js w v h e =
-    let p = picked (agree k L js w) (candidate k L js w) v e in
+    let p = pick-some (agree k L js w) (candidate k L js w) v e in
     record {
       long = subst (λ (l : List ℕ). length l ≡ L) (p .1) (candidate-length k L js w h);
       bytes = subst Bytes (p .1) (candidate-bytes k L js w);
@@ -105,7 +101,7 @@ unfolding decodedAll pick
 is-given k L js w v h x = ap₂ (λ (b : Bool) (l : List ℕ). pick b (some l) none) (agrees k L js w v h x) (candidate-is k L js w v h x)
 
 pub none-has : (k L : ℕ) (js w : List ℕ) → Given k L js w → decodedAll k L js w ≡ none → (v : List ℕ) → BlocksOf k L js w v → ⊥
-none-has k L js w h e v x = let e′ = sym e ∙ is-given k L js w v h x in let z : _≡_ {A = ℕ} 0 1 = cc in omega arith
+none-has k L js w h e v x = impossible (cc (sym e ∙ is-given k L js w v h x))
 
 -- blocks that agree are the candidate's
 stand : (k L : ℕ) (js w : List ℕ) → Given k L js w → agree k L js w ≡ true → BlocksOf k L js w (candidate k L js w)
@@ -155,7 +151,7 @@ module _ (g : Params) (js w out : List ℕ) (e : decodeTest g js (length w) (len
       → (v : List ℕ) × BlocksOf (g .k) (g .size) js w v × (decoding g js w out ≡ outcome Done (sets out 0 v))
   unfolding value
   answered true a h = (value, stand (g .k) (g .size) js w given a, valued a)
-  answered false a h = absurd (let q : Refused (fault 21) ≡ Done = sym (ap (λ o. o .answer) (turned a)) ∙ h in let z : _≡_ {A = ℕ} 0 1 = cc in omega arith)
+  answered false a h = impossible (cc (sym (ap (λ o. o .answer) (turned a)) ∙ h))
 
   disagrees : (b : Bool) → agree (g .k) (g .size) js w ≡ b → ((v : List ℕ) → BlocksOf (g .k) (g .size) js w v → ⊥)
       → decoding g js w out ≡ outcome (Refused (fault 21)) out
@@ -163,10 +159,7 @@ module _ (g : Params) (js w out : List ℕ) (e : decodeTest g js (length w) (len
   disagrees false a f = turned a
 
   disagreed : decoding g js w out .answer ≡ Refused (fault 21) → (v : List ℕ) → BlocksOf (g .k) (g .size) js w v → ⊥
-  disagreed h v x =
-      let q : Refused (fault 21) ≡ Done = sym h ∙ ap (λ o. o .answer) (answers v x) in
-      let z : _≡_ {A = ℕ} 0 1 = cc in
-      omega arith
+  disagreed h v x = impossible (cc (sym h ∙ ap (λ o. o .answer) (answers v x)))
 
   called : Called g js w out
   called = record { answers = answers; answered = answered _ refl; disagrees = disagrees _ refl; disagreed = disagreed }

@@ -5,7 +5,7 @@ use mathlib.Core.Bool.{Bool, true, false, _&&_, not}
 use native.Mathlib.Omega.{arith}
 use lib.Dec.{leb, ltb, eqb}
 use borrow.Author.Tests.{eq-eqb, ne-eqb, lt-leb, le-leb, lt-ltb, leb-true, ltb-true, not-true, not-false}
-use Rattle.area.proofs.Tests.{and-left, and-right}
+use Rattle.area.proofs.Tests.{impossible, and-left, and-right}
 use Rattle.blocks.specs.declared.Params.{Params}
 use Rattle.blocks.specs.declared.Fault.{Fault}
 use Rattle.blocks.specs.declared.Coded.{Coded}
@@ -73,7 +73,7 @@ passes r b f rest e h = ap (λ x. demand x f rest) (sym e ∙ not-false r h)
 pub demand-done : (b : Bool) (f : Fault) (rest : Coded) → demand b f rest ≡ Done → (b ≡ true) × (rest ≡ Done)
 unfolding demand
 demand-done true f rest e = (refl, e)
-demand-done false f rest e = absurd (let z : _≡_ {A = ℕ} 0 1 = cc in omega arith)
+demand-done false f rest e = impossible (cc e)
 
 -- parameters that pass are within the bounds
 pub bounds : (g : Params) → paramsTest g ≡ Done → Bounded g

@@ -8,13 +8,13 @@ use native.Mathlib.Omega.{arith}
 use lib.ListN.{length, getD, take, drop, replicate, length-take, length-append, length-drop, length-replicate, List·getD-append}
 use lib.Seq.{take-add, drop-drop, take-all, take-at, getD-append-add}
 use Rattle.area.specs.Area.{Bytes, part, tableFrom, table, joined}
-use Rattle.area.proofs.Numbers.{Bytes-append}
+use Rattle.area.proofs.Numbers.{Bytes-append, Bytes-take, Bytes-drop}
 use Rattle.blocks.specs.Poly.{eval, through, All, Distinct}
 use Rattle.blocks.specs.Code.{blockLength, padded, stripe, blockByte, blockOf, encoded, row, valueOf, blocksOf}
 use Rattle.blocks.proofs.Polynomials.{eval-byte, through-bytes}
 use Rattle.blocks.proofs.Interpolation.{recovers}
 use Rattle.blocks.proofs.Stripes.{length-blockOf, block-at, fits}
-use Rattle.blocks.proofs.ByteLists.{Bytes-take, Bytes-drop, Bytes-zeros, Bytes-table, Bytes-joined, take-joined, part-joined}
+use Rattle.blocks.proofs.ByteLists.{Bytes-zeros, Bytes-table, Bytes-joined, take-joined, part-joined}
 
 -- ---- the bytes r of the blocks
 
@@ -132,14 +132,14 @@ Bytes-blockOf k v j h =
 
 pub Bytes-encoded : (n k : ℕ) (v : List ℕ) → Bytes v → Bytes (encoded n k v)
 unfolding encoded
-Bytes-encoded n k v h = Bytes-joined (blockOf k v) 1 n (λ j. Bytes-blockOf k v j h)
+Bytes-encoded n k v h = Bytes-joined (blockOf k v) 1 n (λ j l. Bytes-blockOf k v j h)
 
 pub Bytes-valueOf : (js : List ℕ) (L : ℕ) (w : List ℕ) → Bytes (valueOf js L w)
 unfolding valueOf
 Bytes-valueOf js L w =
     let b : ℕ = blockLength L (length js) in
     Bytes-take L (joined (λ r. through js (row (length js) b w r)) 0 b)
-    (Bytes-joined (λ r. through js (row (length js) b w r)) 0 b (λ r. through-bytes js (row (length js) b w r)))
+    (Bytes-joined (λ r. through js (row (length js) b w r)) 0 b (λ r l. through-bytes js (row (length js) b w r)))
 
 pub length-blocksOf : (k : ℕ) (v js : List ℕ) → length (blocksOf k v js) ≡ length js * blockLength (length v) k
 unfolding blocksOf

@@ -3,12 +3,12 @@ use mathlib.Core.Path.{_≡_, refl, sym, ap, ap₂, _∙_}
 use mathlib.Core.Bool.{Bool, true, false}
 use lib.Dec.{leb}
 use borrow.Author.Tests.{leb-true, leb-false}
-use mathlib.Core.List.{List, _++_, append-nil}
+use mathlib.Core.List.{List, _++_}
 use Prim.Native.Nat.{ℕ, suc, _+_, _-_, _*_, _<_, _≤_, min}
 use native.Mathlib.Nat.{suc-mul, mul-le-mul-right, mul-comm}
 use native.Mathlib.Omega.{arith}
-use lib.ListN.{length, getD, take, drop, replicate, length-append, drop-of-length-le}
-use lib.Seq.{take-nil, take-append-le, sets, sets-eq, take-all, take-at, take-append-add, length-take-le}
+use lib.ListN.{length, getD, take, drop, replicate, length-append}
+use lib.Seq.{take-nil, take-append-le, sets, take-all, take-at, take-append-add, length-take-le}
 use Rattle.area.specs.Area.{joined}
 use Rattle.area.proofs.Fills.{length-table, getD-table, joined-snoc, length-joined}
 use Rattle.area.proofs.Sets.{sets-append}
@@ -32,13 +32,6 @@ row-length k b w r = length-table k _
 pub row-at : (k b : ℕ) (w : List ℕ) (r i : ℕ) → i < k → getD (row k b w r) i 0 ≡ getD w (i * b + r) 0
 unfolding row
 row-at k b w r i h = getD-table k _ i 0 h
-
--- a list that fills the whole
-pub sets-whole : {A : Type 0} (l vs : List A) → length vs ≡ length l → sets l 0 vs ≡ vs
-sets-whole l vs e =
-    let h : 0 + length vs ≤ length l = omega arith in
-    let k : length l ≤ 0 + length vs = omega arith in
-    sets-eq vs l 0 h ∙ ap (λ t. vs ++ t) (drop-of-length-le l k) ∙ append-nil vs
 
 -- a list in whose front e was written, read back
 pub front-back : (d e : List ℕ) (n : ℕ) → n ≤ length d → length e ≡ length (take n d) → take n (e ++ drop n d) ≡ e

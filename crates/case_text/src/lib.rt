@@ -1,3 +1,4 @@
-// What the programs that run cases share: words, numbers and bytes as text, and what is printed for a case.
+// What programs that read lines share: words, numbers and bytes as text, fields read byte by byte, and what is printed for a case.
+pub mod field;
 pub mod report;
 pub mod text;

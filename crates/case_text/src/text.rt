@@ -115,7 +115,7 @@ pub fn bytes(line: &[u8], start: usize, end: usize, out: &mut [u8]) -> usize
 }
 
 // Writes the two digits of a byte.
-fn put_digits(text: &mut [u8], at: usize, b: u8)
+pub fn put_digits(text: &mut [u8], at: usize, b: u8)
     requires { ⌜ at + 2 ≤ length (now text) ⌝ }
 {
     text[at] = letter(b / 16);

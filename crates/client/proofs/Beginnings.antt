@@ -1,14 +1,13 @@
 -- The beginning of an operation: what its tests tell, what it sends, and its whole outcome. Assumes nothing.
 use Prim.Native.Nat.{ℕ, _+_, _≤_, _<_}
 use native.Mathlib.Omega.{arith}
-use mathlib.Core.Bool.{Bool, false}
+use mathlib.Core.Bool.{Bool, false, not}
 use mathlib.Core.Path.{_≡_, refl, ap, sym, _∙_}
-use mathlib.Core.List.{List, []}
+use mathlib.Core.List.{List}
 use lib.ListN.{length, replicate}
 use lib.Seq.{sets}
 use lib.Dec.{leb}
 use borrow.Author.Tests.{leb-false}
-use Rattle.area.specs.Area.{pick}
 use Rattle.blocks.specs.declared.Params.{Params}
 use Rattle.frame.specs.declared.Place.{Place}
 use Rattle.frame.specs.declared.Refusal.{Refusal}
@@ -25,12 +24,13 @@ use Rattle.frame.proofs.Within.{admitted-of}
 use Rattle.client_rules.specs.declared.Row.{Row}
 use Rattle.client_rules.specs.declared.Client.{Client}
 use Rattle.client_rules.specs.declared.Answer.the-variants as Y
+use Rattle.client_rules.specs.declared.Phase.{Phase}
 use Rattle.client_rules.specs.declared.Phase.the-variants as F
-use Rattle.client_rules.specs.State.{freshRow}
+use Rattle.client_rules.specs.State.{freshRow, idle}
 use Rattle.client_rules.specs.Tests.{sendRoom}
-use Rattle.client_rules.specs.Steps.{Effect, quiet}
-use Rattle.client_rules.specs.Beginning.{Begun, lengthTest, openRead, openWrite, beginBy, beginAnswer, begunOf}
-use Rattle.client.specs.Stages.{closedBy, Opening}
+use Rattle.client_rules.specs.Steps.{Effect}
+use Rattle.client_rules.specs.Beginning.{Begun, idleTest, closedTest, lengthTest, openRead, openWrite, beginBy, beginAnswer, begunOf}
+use Rattle.client.specs.Stages.{Opening}
 use Rattle.frame.proofs.Rooms.{room-within}
 use Rattle.client.proofs.SendRooms.{room-of-send}
 
@@ -42,32 +42,28 @@ room-first g out to e =
     let l : 9 ≤ largestFrame g = omega arith in
     room-within firstPlace (g .n) (g .n) (largestFrame g) 9 out to (omega arith) l (room-of-send g out to e)
 
--- 15 and 16, b saying whether an operation is open
-abbrev usable : Bool → ℕ → Verdict
-usable b last = pick b (J.Bad R.Busy) (pick (leb lastSequence last) (J.Bad R.Exhausted) J.Fine)
-
-left-of : (b : Bool) (last : ℕ) → usable b last ≡ J.Fine → last < lastSequence
-left-of b last e =
-    let x = fine-not b R.Busy _ e in
+left-of : (p : Phase) (last : ℕ) → idleTest p last ≡ J.Fine → last < lastSequence
+left-of p last e =
+    let x = fine-not (not (idle p)) R.Busy _ e in
     let y = fine-not (leb lastSequence last) R.Exhausted _ (x .1) in
     leb-false _ _ (y .0)
 
-module _ (g : Params) (me last out to : ℕ) (b : Bool) (v : Verdict) (f : v ≡ J.Fine) where
-  pub read-facts : v ≡ andThen (paramsTest g me lastClient) (andThen (sendRoom g out to) (usable b last)) → Opening g last out to
+module _ (g : Params) (me last out to : ℕ) (p : Phase) (v : Verdict) (f : v ≡ J.Fine) where
+  pub read-facts : v ≡ andThen (paramsTest g me lastClient) (andThen (sendRoom g out to) (idleTest p last)) → Opening g last out to
   read-facts e =
       let x = fine-both (paramsTest g me lastClient) _ (sym e ∙ f) in
       let y = fine-both (sendRoom g out to) _ (x .1) in
-      record { bounded = admitted-of g me lastClient (x .0) .bounded; left = left-of b last (y .1); room = room-first g out to (y .0) }
+      record { bounded = admitted-of g me lastClient (x .0) .bounded; left = left-of p last (y .1); room = room-first g out to (y .0) }
 
   pub write-facts : (c : Bool) (size : ℕ)
-      → v ≡ andThen (paramsTest g me lastClient) (andThen (lengthTest g size) (andThen (sendRoom g out to) (andThen (usable b last) (closedBy c))))
+      → v ≡ andThen (paramsTest g me lastClient) (andThen (lengthTest g size) (andThen (sendRoom g out to) (andThen (idleTest p last) (closedTest c))))
       → Opening g last out to
   write-facts c size e =
       let x = fine-both (paramsTest g me lastClient) _ (sym e ∙ f) in
       let l = fine-both (lengthTest g size) _ (x .1) in
       let y = fine-both (sendRoom g out to) _ (l .1) in
-      let d = fine-both (usable b last) _ (y .1) in
-      record { bounded = admitted-of g me lastClient (x .0) .bounded; left = left-of b last (d .0); room = room-first g out to (y .0) }
+      let d = fine-both (idleTest p last) _ (y .1) in
+      record { bounded = admitted-of g me lastClient (x .0) .bounded; left = left-of p last (d .0); room = room-first g out to (y .0) }
 
 pub bounded-of-params : (g : Params) (me : ℕ) (v : Verdict) → v ≡ paramsTest g me lastClient → v ≡ J.Fine → Bounded g
 bounded-of-params g me v e f = admitted-of g me lastClient (sym e ∙ f) .bounded

@@ -1,9 +1,9 @@
 -- What each return of a test gives: a branch and the `pick` that it answers. Assumes nothing.
 use Prim.Native.Nat.{ℕ, _≤_, _<_}
 use mathlib.Core.Bool.{Bool, true, false, not, _&&_}
-use mathlib.Core.Path.{_≡_, refl, sym, _∙_}
+use mathlib.Core.Path.{_≡_, sym, _∙_}
 use lib.Dec.{eqb, leb, ltb}
-use borrow.Author.Tests.{eq-eqb, ne-eqb, le-leb, lt-leb, lt-ltb, le-ltb, not-true, not-false}
+use borrow.Author.Tests.{eq-eqb, ne-eqb, le-leb, lt-leb, le-ltb, not-true, not-false}
 use Rattle.area.specs.Area.{pick}
 use Rattle.blocks.specs.declared.Params.{Params}
 use Rattle.frame.specs.declared.Refusal.{Refusal}
@@ -12,15 +12,6 @@ use Rattle.frame.specs.declared.Refusal.the-variants as R
 use Rattle.frame.specs.declared.Verdict.the-variants as J
 use Rattle.frame.specs.Chunks.{rowsBytes}
 use Rattle.client_rules.specs.Tests.{sendRoom, roomTest, awaited}
-
-module _ {A : Type 0} (b t : Bool) (x y : A) (p : b ≡ t) where
-  pub pick-true : b ≡ true → x ≡ pick t x y
-  unfolding pick
-  pick-true q = let e : t ≡ true = sym p ∙ q in rw e
-
-  pub pick-false : b ≡ false → y ≡ pick t x y
-  unfolding pick
-  pick-false q = let e : t ≡ false = sym p ∙ q in rw e
 
 -- ---- a test under a negation
 

@@ -1,26 +1,20 @@
 -- What inner functions of the code ask and promise. The entry points' promises (Delivery.antt, Beginning.antt) do not speak of these. These are definitions.
 use Prim.Native.Nat.{ℕ, _≤_, _<_}
-use mathlib.Core.Bool.{Bool, not}
 use mathlib.Core.Option.{Option, none, some}
 use mathlib.Core.List.{List}
 use lib.ListN.{length}
 use lib.Seq.{sets}
-use lib.Dec.{leb}
-use Rattle.area.specs.Area.{pick}
 use Rattle.blocks.specs.declared.Params.{Params}
 use Rattle.frame.specs.declared.Verdict.{Verdict}
 use Rattle.frame.specs.declared.Verdict.the-variants as J
-use Rattle.frame.specs.Refusals.{refused}
 use Rattle.frame.specs.Params.{Bounded, largestFrame}
 use Rattle.frame.specs.Stamps.{lastSequence}
 use Rattle.frame.specs.Outbox.{frames, receivers, Room, firstPlace}
 use Rattle.frame.specs.Chunks.{rowsBytes}
-use Rattle.client_rules.specs.declared.Phase.{Phase}
 use Rattle.client_rules.specs.declared.Client.{Client}
 use Rattle.client.specs.declared.Spot.{Spot}
 use Rattle.client.specs.declared.Spot.the-variants.{At, Nowhere}
 use Rattle.client_rules.specs.declared.Answer.the-variants as Y
-use Rattle.client_rules.specs.State.{idle}
 use Rattle.client_rules.specs.Steps.{Effect}
 use Rattle.client_rules.specs.Delivery.{Outcome, eventAnswer, resultOf}
 
@@ -28,13 +22,6 @@ use Rattle.client_rules.specs.Delivery.{Outcome, eventAnswer, resultOf}
 abbrev pub spotOf : Option ℕ → Spot
 spotOf none = Nowhere
 spotOf (some i) = At i
-
--- 15, 16 and 17, of the parts of a client's record
-abbrev pub idleBy : Phase → ℕ → Verdict
-idleBy p last = pick (not (idle p)) (refused 15) (pick (leb lastSequence last) (refused 16) J.Fine)
-
-abbrev pub closedBy : Bool → Verdict
-closedBy b = pick b (refused 17) J.Fine
 
 -- an operation can begin: a number is left, and a question to all servers has room
 pub record Opening (g : Params) (last out to : ℕ) : Type 0 where

@@ -22,12 +22,12 @@ ghost use Rattle.frame.specs.Refusals.{andThen};
 ghost use Rattle.frame.specs.Stamps.{lastClient};
 ghost use Rattle.frame.specs.declared.Verdict.the-variants as J;
 ghost use Rattle.client_rules.specs.Tests.{sendRoom};
-ghost use Rattle.client_rules.specs.Beginning.{begun, lengthTest, openRead, openWrite, begunOf, readBeginning, writeBeginning};
-ghost use Rattle.client.specs.Stages.{idleBy, closedBy, Opening};
+ghost use Rattle.client_rules.specs.Beginning.{begun, idleTest, closedTest, lengthTest, openRead, openWrite, begunOf, readBeginning, writeBeginning};
+ghost use Rattle.client.specs.Stages.{Opening};
 
 // 1, 2, 3, 10, 15 and 16 of a read, where last is the last number used.
 fn read_test(g: Params, me: usize, p: Phase, last: u32, out: usize, to: usize) -> Verdict
-    ensures { λ r. ⌜ r ≡ andThen (paramsTest g me lastClient) (andThen (sendRoom g out to) (idleBy p last)) ⌝ }
+    ensures { λ r. ⌜ r ≡ andThen (paramsTest g me lastClient) (andThen (sendRoom g out to) (idleTest p last)) ⌝ }
 {
     let params = params_test(g, me, CLIENTS);
     if let Verdict::Bad(r) = params {
@@ -42,7 +42,7 @@ fn read_test(g: Params, me: usize, p: Phase, last: u32, out: usize, to: usize) -
 
 // 15, 16 and 17 of a write.
 fn ready_test(p: Phase, last: u32, closed: bool) -> Verdict
-    ensures { λ r. ⌜ r ≡ andThen (idleBy p last) (closedBy closed) ⌝ }
+    ensures { λ r. ⌜ r ≡ andThen (idleTest p last) (closedTest closed) ⌝ }
 {
     let idle = idle_test(p, last);
     if let Verdict::Bad(r) = idle {
@@ -63,7 +63,7 @@ fn write_test(
     to: usize,
 ) -> Verdict
     ensures { λ r. ⌜ r ≡ andThen (paramsTest g me lastClient)
-        (andThen (lengthTest g size) (andThen (sendRoom g out to) (andThen (idleBy p last) (closedBy closed)))) ⌝ }
+        (andThen (lengthTest g size) (andThen (sendRoom g out to) (andThen (idleTest p last) (closedTest closed)))) ⌝ }
 {
     let params = params_test(g, me, CLIENTS);
     if let Verdict::Bad(r) = params {

@@ -9,8 +9,7 @@ ghost use Prim.Native.Nat.{_+_, _≤_, _<_};
 ghost use lib.ListN.{getD};
 ghost use lib.Dec.{ltb};
 ghost use Rattle.area.specs.Area.{pick};
-ghost use Rattle.frame.specs.Stamps.{older};
-ghost use Rattle.client_rules.specs.State.{noStamp};
+ghost use Rattle.frame.specs.Stamps.{older, zeroStamp};
 ghost use Rattle.client_rules.specs.Rows.{used, hasStamp, smallest, placeFor, rowWith};
 ghost use Rattle.client.specs.Stages.{spotOf};
 
@@ -43,7 +42,7 @@ pub fn has_stamp(stamps: [Stamp; 4], m: usize, x: Stamp) -> bool
 // The place of the smaller of the stamps at i and at least, which is i's only where it is older.
 fn smaller(stamps: [Stamp; 4], i: usize, least: usize) -> usize
     requires { ⌜ (i < 4) × (least < 4) ⌝ }
-    ensures { λ r. ⌜ (r ≡ pick (older (getD stamps i noStamp) (getD stamps least noStamp)) i least) × (r < 4) ⌝ }
+    ensures { λ r. ⌜ (r ≡ pick (older (getD stamps i zeroStamp) (getD stamps least zeroStamp)) i least) × (r < 4) ⌝ }
 {
     let x = stamps[i];
     let y = stamps[least];

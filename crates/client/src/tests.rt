@@ -7,18 +7,14 @@ use frame::Refusal;
 use frame::Verdict;
 use frame::bounds::out_room;
 use frame::bounds::to_room;
+use frame::layout::LAST_SEQUENCE;
 use frame::layout::ROWS_BYTES;
 ghost use mathlib.Core.Path.{_≡_};
 ghost use mathlib.Core.Bool.{not, _&&_};
-ghost use lib.Dec.{eqb, leb};
-ghost use Rattle.area.specs.Area.{pick};
-ghost use Rattle.frame.specs.Refusals.{refused};
+ghost use lib.Dec.{eqb};
 ghost use Rattle.frame.specs.Params.{Bounded};
-ghost use Rattle.frame.specs.Stamps.{lastSequence};
-ghost use Rattle.frame.specs.declared.Verdict.the-variants as J;
-ghost use Rattle.client_rules.specs.State.{idle, writing};
-ghost use Rattle.client_rules.specs.Tests.{sendRoom, roomTest, awaited};
-ghost use Rattle.client_rules.specs.Beginning.{lengthTest};
+ghost use Rattle.client_rules.specs.Tests.{sendRoom, roomTest, valueTest, awaited};
+ghost use Rattle.client_rules.specs.Beginning.{idleTest, closedTest, lengthTest};
 
 // 10: whether the out and to areas are long enough, of which only the lengths count.
 pub fn send_room(g: Params, out: usize, to: usize) -> Verdict
@@ -60,7 +56,7 @@ pub fn length_test(g: Params, length: usize) -> Verdict
 
 // 3: whether the lent value of an open write is.
 pub fn value_test(g: Params, p: Phase, length: usize) -> Verdict
-    ensures { λ r. ⌜ r ≡ pick (writing p && not (eqb length (g .size))) (refused 3) J.Fine ⌝ }
+    ensures { λ r. ⌜ r ≡ valueTest g p length ⌝ }
 {
     if !is_writing(p) {
         return Verdict::Fine;
@@ -73,12 +69,12 @@ pub fn value_test(g: Params, p: Phase, length: usize) -> Verdict
 
 // 15 and 16, where last is the last number used.
 pub fn idle_test(p: Phase, last: u32) -> Verdict
-    ensures { λ r. ⌜ r ≡ pick (not (idle p)) (refused 15) (pick (leb lastSequence last) (refused 16) J.Fine) ⌝ }
+    ensures { λ r. ⌜ r ≡ idleTest p last ⌝ }
 {
     if !is_idle(p) {
         return Verdict::Bad(Refusal::Busy);
     }
-    if 4294967295 <= last {
+    if LAST_SEQUENCE <= last {
         return Verdict::Bad(Refusal::Exhausted);
     }
     Verdict::Fine
@@ -86,7 +82,7 @@ pub fn idle_test(p: Phase, last: u32) -> Verdict
 
 // 17: whether an earlier write closed as out of stamps.
 pub fn closed_test(closed: bool) -> Verdict
-    ensures { λ r. ⌜ r ≡ pick closed (refused 17) J.Fine ⌝ }
+    ensures { λ r. ⌜ r ≡ closedTest closed ⌝ }
 {
     if closed {
         return Verdict::Bad(Refusal::Closed);

@@ -2,12 +2,13 @@
 use Prim.Native.Nat.{ℕ, _+_, _≤_}
 use native.Mathlib.Omega.{arith}
 use mathlib.Core.Path.{_≡_, refl, ap, sym, _∙_}
-use mathlib.Core.Bool.{Bool, true, false, not, _&&_}
+use mathlib.Core.Bool.{Bool, true, false, _&&_}
 use mathlib.Core.List.{List}
 use lib.ListN.{length}
 use lib.Dec.{eqb, ltb}
-use borrow.Author.Tests.{eqb-true, ltb-false, ne-eqb}
+use borrow.Author.Tests.{ltb-false, ne-eqb}
 use Rattle.area.specs.Area.{pick}
+use Rattle.area.proofs.Tests.{pick-false}
 use Rattle.sha256.specs.Hash.{digestOf}
 use Rattle.blocks.specs.declared.Params.{Params}
 use Rattle.frame.specs.declared.Party.{Party}
@@ -23,7 +24,7 @@ use Rattle.frame.specs.Params.{Bounded, entryLength, paramsTest}
 use Rattle.frame.specs.Stamps.{lastClient}
 use Rattle.frame.specs.Messages.{Body, Message, message, numberIn, fromServer, Judged, bad, judgedBy, after}
 use Rattle.frame.specs.Messages.{stampIs, ack, valueIs}
-use Rattle.frame.specs.Frames.{stampIn, entryIn, bodyIn, messageIn, opened, lengthOf, bodyLength}
+use Rattle.frame.specs.Frames.{stampIn, entryIn, bodyIn, messageIn, opened, bodyAt, offerAt, valueAt, lengthOf, bodyLength}
 use Rattle.frame.specs.Chunks.{rowsBytes}
 use Rattle.frame.specs.Outbox.{frames, receivers}
 use Rattle.frame.proofs.Verdicts.{fine-not, fine-both}
@@ -32,10 +33,10 @@ use Rattle.frame.proofs.Opening.{opens-facts}
 use Rattle.area.specs.Numbers.{be8}
 use Rattle.client_rules.specs.declared.Client.{Client}
 use Rattle.client_rules.specs.declared.Answer.the-variants as Y
-use Rattle.client_rules.specs.State.{writing}
 use Rattle.client_rules.specs.Tests.{roomTest, valueTest, answers, orderTest, messageTest, judgeOpened, judge}
 use Rattle.client_rules.specs.Steps.{onBody, effect, onStamp, onAck, onValue}
 use Rattle.client_rules.specs.Delivery.{Outcome, outcome, answerOf, resultOf, outcomeOf, effectBy, delivered, delivery}
+use Rattle.client_rules.proofs.CallFacts.{value-whole}
 use Rattle.client.specs.Stages.{Lent, stepped, answered}
 use Rattle.client.proofs.SendRooms.{room-of-send}
 use Rattle.client_deliver.specs.Needs.{Admitted}
@@ -45,19 +46,6 @@ use Rattle.client_deliver.specs.Needs.{Admitted}
 pub bounded-of-call : (g : Params) (me : ℕ) (v w : Verdict) → v ≡ andThen (paramsTest g me lastClient) w → v ≡ J.Fine → Bounded g
 bounded-of-call g me v w e f = admitted-of g me lastClient (fine-both (paramsTest g me lastClient) w (sym e ∙ f) .0) .bounded
 
--- where a test of two parts finds nothing and the first part holds, the second does not
-not-both : (p e : Bool) → (p && not e) ≡ false → p ≡ true → e ≡ true
-not-both true true q h = refl
-not-both true false q h = sym q
-not-both false e q h = let z : false ≡ true = h in go e z
-  where
-    go : (e : Bool) → false ≡ true → e ≡ true
-    go true z = refl
-    go false z = z
-
-whole-of : (p : Bool) (v size : ℕ) → pick (p && not (eqb v size)) (J.Bad R.Length) J.Fine ≡ J.Fine → p ≡ true → v ≡ size
-whole-of p v size e h = eqb-true v size (not-both p (eqb v size) (fine-not (p && not (eqb v size)) R.Length J.Fine e .0) h)
-
 lent-of : (g : Params) (area result out to : ℕ) → Bounded g → roomTest g area result out to ≡ J.Fine → Lent g area result out to
 unfolding roomTest
 lent-of g area result out to B e =
@@ -66,14 +54,14 @@ lent-of g area result out to B e =
     record { bounded = B; whole = ltb-false _ _ (a .0); value-room = ltb-false _ _ (b .0); room = room-of-send g out to (b .1) }
 
 pub admitted-by : (g : Params) (me : ℕ) (s : Client) (h : Header) (f : List ℕ) (value area result out to : ℕ) (v w : Verdict) (o : Opened)
-    → v ≡ andThen (paramsTest g me lastClient) (pick (writing (s .phase) && not (eqb value (g .size))) (J.Bad R.Length) J.Fine) → v ≡ J.Fine
+    → v ≡ andThen (paramsTest g me lastClient) (valueTest g (s .phase) value) → v ≡ J.Fine
     → o ≡ opened g f → o ≡ O.Frame h → w ≡ roomTest g area result out to → w ≡ J.Fine
     → Admitted g s (h .kind) value (length f) area result out to
 admitted-by g me s h f value area result out to v w o e e′ q q′ r r′ =
     let a = fine-both (paramsTest g me lastClient) _ (sym e ∙ e′) in
     record {
       lent = lent-of g area result out to (admitted-of g me lastClient (a .0) .bounded) (sym r ∙ r′);
-      whole = whole-of (writing (s .phase)) value (g .size) (a .1);
+      whole = value-whole g (s .phase) value (a .1);
       frame-is = opens-facts g f h (sym q ∙ q′) .length-is;
     }
 
@@ -97,7 +85,7 @@ module _ (g : Params) (me : ℕ) (s : Client) (a v : List ℕ) (from : Party) (f
   unfolding outcomeOf effectBy answerOf resultOf frames receivers
   bad-judged r e = by-judged (bad r) e
 
-  module _ (c : Verdict) (call : c ≡ andThen (paramsTest g me lastClient) (valueTest g s (length v))) where
+  module _ (c : Verdict) (call : c ≡ andThen (paramsTest g me lastClient) (valueTest g (s .phase) (length v))) where
     pub call-refused : (r : Refusal) → c ≡ J.Bad r
         → outcome (record { answer = Y.Refused r; client = s }) a l out to ≡ delivery digestOf g me s a v from f l out to
     unfolding judge
@@ -142,10 +130,6 @@ module _ (g : Params) (me : ℕ) (s : Client) (a v : List ℕ) (from : Party) (f
 
 -- ---- the kinds
 
-pick-no : (b : Bool) (x y : Verdict) → b ≡ false → pick b x y ≡ y
-unfolding pick
-pick-no b x y e = rw e
-
 module _ (g : Params) (me : ℕ) (s : Client) (a v : List ℕ) (from : Party) (f l out to : List ℕ) (h : Header) where
   abbrev told : Body → Outcome
   told b = answered (messageTest digestOf g me s from (message (h .client) (h .sequence) b)) s a (onBody digestOf g me s a v (numberIn from) b) l out to
@@ -170,11 +154,11 @@ module _ (g : Params) (me : ℕ) (s : Client) (a v : List ℕ) (from : Party) (f
   of-ack x k q = told-in ack x (ap (λ z. bodyIn g z f) k) q
 
   pub of-value : (x : Outcome) → h .kind ≡ 11
-      → x ≡ answered (messageTest digestOf g me s from (message (h .client) (h .sequence) (valueIs (stampIn f) (entryIn g f 22)))) s a
-      (onValue digestOf g me s a (numberIn from) (stampIn f) (entryIn g f 22)) l out to
+      → x ≡ answered (messageTest digestOf g me s from (message (h .client) (h .sequence) (valueIs (stampIn f) (entryIn g f valueAt)))) s a
+      (onValue digestOf g me s a (numberIn from) (stampIn f) (entryIn g f valueAt)) l out to
       → x ≡ answered (messageTest digestOf g me s from (messageIn g h f)) s a (effect digestOf g me s a v from (messageIn g h f)) l out to
   unfolding bodyIn onBody pick
-  of-value x k q = told-in (valueIs (stampIn f) (entryIn g f 22)) x (ap (λ z. bodyIn g z f) k) q
+  of-value x k q = told-in (valueIs (stampIn f) (entryIn g f valueAt)) x (ap (λ z. bodyIn g z f) k) q
 
   -- no other kind is for clients
   neither : (b : Bool) (x y : Body) → answers x ≡ false → answers y ≡ false → answers (pick b x y) ≡ false
@@ -204,15 +188,15 @@ module _ (g : Params) (me : ℕ) (s : Client) (a v : List ℕ) (from : Party) (f
       let d = and-false (fromServer g from) (answers (bodyIn g (h .kind) f)) (eqb (h .client) me) (not-answers i j k) in
       let o = orderTest digestOf g me s (numberIn from) (h .sequence) (bodyIn g (h .kind) f) in
       let e : pick (fromServer g from && (answers (bodyIn g (h .kind) f) && eqb (h .client) me)) o (J.Bad R.Sender) ≡ J.Bad R.Sender =
-      pick-no _ o (J.Bad R.Sender) d in
+      pick-false _ o (J.Bad R.Sender) d in
       ap (λ (z : Verdict). answered z s a (effect digestOf g me s a v from (messageIn g h f)) l out to) (sym e)
 
 -- ---- how long the frame is
 
-pub stamp-long : (g : Params) (kind frame : ℕ) → frame ≡ 9 + bodyLength g kind → kind ≡ 2 → 17 ≤ frame
+pub stamp-long : (g : Params) (kind frame : ℕ) → frame ≡ bodyAt + bodyLength g kind → kind ≡ 2 → offerAt ≤ frame
 unfolding bodyLength lengthOf pick
-stamp-long g kind frame e k = let d : frame ≡ 9 + bodyLength g 2 = e ∙ ap (λ z. 9 + bodyLength g z) k in omega arith
+stamp-long g kind frame e k = let d : frame ≡ bodyAt + bodyLength g 2 = e ∙ ap (λ z. bodyAt + bodyLength g z) k in omega arith
 
-pub value-long : (g : Params) (kind frame : ℕ) → frame ≡ 9 + bodyLength g kind → kind ≡ 11 → 22 + entryLength g ≤ frame
+pub value-long : (g : Params) (kind frame : ℕ) → frame ≡ bodyAt + bodyLength g kind → kind ≡ 11 → valueAt + entryLength g ≤ frame
 unfolding bodyLength lengthOf pick
-value-long g kind frame e k = let d : frame ≡ 9 + bodyLength g 11 = e ∙ ap (λ z. 9 + bodyLength g z) k in omega arith
+value-long g kind frame e k = let d : frame ≡ bodyAt + bodyLength g 11 = e ∙ ap (λ z. bodyAt + bodyLength g z) k in omega arith

@@ -9,6 +9,7 @@ use lib.Seq.{sets}
 use lib.ListN.{length-append}
 use Rattle.sha256.specs.Hash.{digestOf}
 use Rattle.area.specs.Numbers.{bytes8}
+use Rattle.area.proofs.Sets.{take-front}
 use Rattle.area.proofs.Numbers.{length-bytes8}
 use Rattle.blocks.specs.declared.Params.{Params}
 use Rattle.blocks.specs.Code.{blockLength, blockOf}
@@ -17,7 +18,7 @@ use Rattle.frame.specs.declared.Place.{Place}
 use Rattle.frame.specs.declared.WriteTime.{WriteTime}
 use Rattle.frame.specs.declared.Party.the-variants as P
 use Rattle.frame.specs.Params.{Bounded, width, entryLength, largestFrame}
-use Rattle.frame.specs.Messages.{entry, offer, Message, message, Sending, sending, toFrom, toAll, blockIs, send}
+use Rattle.frame.specs.Messages.{entry, offer, Message, message, sending, toFrom, toAll, blockIs, send}
 use Rattle.frame.specs.Frames.{kindOf, entryBytes, offerBytes, bodyBytes, build}
 use Rattle.group_rules.specs.Coded.{digestsOf, entryOf}
 use Rattle.frame.specs.Outbox.{Outbox, outbox, sent, Room}
@@ -26,7 +27,6 @@ use Rattle.frame.proofs.Outbox.{sent-none, sent-append, toFrom-more}
 use Rattle.frame.proofs.RoundTrip.{length-frame}
 use Rattle.frame.proofs.Sizes.{small}
 use Rattle.group.proofs.Digests.{length-digests}
-use Rattle.group.proofs.Lists.{take-front}
 use Rattle.frame.proofs.Rooms.{room-within, room-left}
 use Rattle.client_deliver.proofs.Rooms.{each-small}
 

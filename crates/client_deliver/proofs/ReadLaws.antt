@@ -1,7 +1,7 @@
 -- The step of a read's value: one law for each return of the code. Assumes nothing.
 use Prim.Native.Nat.{ℕ, _-_, _<_}
 use mathlib.Core.Path.{_≡_, refl, ap, sym, _∙_}
-use mathlib.Core.Bool.{not, _&&_}
+use mathlib.Core.Bool.{_&&_}
 use mathlib.Core.Option.{Option, none, some}
 use mathlib.Core.List.{List}
 use lib.Dec.{eqb}
@@ -12,19 +12,17 @@ use Rattle.blocks.specs.declared.Params.{Params}
 use Rattle.frame.specs.declared.Stamp.{Stamp}
 use Rattle.frame.specs.declared.Party.{Party}
 use Rattle.frame.specs.declared.Header.{Header}
-use Rattle.frame.specs.declared.Refusal.the-variants as R
 use Rattle.frame.specs.declared.Verdict.{Verdict}
-use Rattle.frame.specs.declared.Verdict.the-variants as J
-use Rattle.frame.specs.Refusals.{andThen}
+use Rattle.frame.specs.Refusals.{refused}
 use Rattle.frame.specs.Messages.{Entry, message, valueIs, fromServer, numberIn}
 use Rattle.frame.specs.Chunks.{storeEntry, placeAt}
 use Rattle.client_rules.specs.declared.Row.{Row}
 use Rattle.client_rules.specs.declared.Client.{Client}
 use Rattle.client.specs.declared.Spot.{Spot}
 use Rattle.client.specs.declared.Spot.the-variants as S
-use Rattle.client_rules.specs.State.{reading, rowOf, withRow}
-use Rattle.client_rules.specs.Rows.{used, hasStamp, placeFor, rowWith}
-use Rattle.client_rules.specs.Tests.{awaited, fitTest, answers, orderTest, messageTest}
+use Rattle.client_rules.specs.State.{rowOf, withRow}
+use Rattle.client_rules.specs.Rows.{placeFor, rowWith}
+use Rattle.client_rules.specs.Tests.{keptTest, answers, orderTest, messageTest}
 use Rattle.client_rules.specs.Steps.{settle, keepBy, onValue}
 use Rattle.client_rules.specs.Delivery.{Outcome}
 use Rattle.client.specs.Stages.{spotOf, stepped}
@@ -68,15 +66,8 @@ kept-from g me s a l out to i j x y e r p q f = f ∙ (λ z. stepped (onValue di
 
 pub value-verdict : (g : Params) (me : ℕ) (s : Client) (from : Party) (h : Header) (e : Entry) (x y : Stamp) (v : Verdict) → x ≡ y
     → v ≡ pick (fromServer g from && eqb (h .client) me)
-    (andThen (awaited (reading (s .phase) && (eqb (h .sequence) (s .reads)
-    && not (hasStamp (rowOf s (numberIn from) .stamps) (used (rowOf s (numberIn from))) x))))
-    (fitTest digestOf e (numberIn from)))
-    (J.Bad R.Sender)
+    (keptTest digestOf s (numberIn from) (h .sequence) x e) (refused 11)
     → v ≡ messageTest digestOf g me s from (message (h .client) (h .sequence) (valueIs y e))
 unfolding messageTest orderTest answers
 value-verdict g me s from h e x y v p q =
-    q ∙ ap (λ z. pick (fromServer g from && eqb (h .client) me)
-    (andThen (awaited (reading (s .phase) && (eqb (h .sequence) (s .reads)
-    && not (hasStamp (rowOf s (numberIn from) .stamps) (used (rowOf s (numberIn from))) z))))
-    (fitTest digestOf e (numberIn from)))
-    (J.Bad R.Sender)) p
+    q ∙ ap (λ z. pick (fromServer g from && eqb (h .client) me) (keptTest digestOf s (numberIn from) (h .sequence) z e) (refused 11)) p

@@ -18,7 +18,7 @@ use Rattle.frame.specs.declared.Verdict.the-variants as J
 use Rattle.frame.specs.Params.{width}
 use Rattle.frame.specs.Messages.{entry, numberIn, fromServer}
 use Rattle.frame.specs.Frames.{entryIn}
-use Rattle.group_rules.specs.Coded.{fits}
+use Rattle.group_rules.specs.Coded.{fitTest}
 use Rattle.frame.proofs.Verdicts.{fine-is}
 use Rattle.frame.proofs.PartyLaws.{server-number}
 use Rattle.frame.proofs.Writing.{part-at}
@@ -68,10 +68,10 @@ awaited-fit fit x e = and-left fit x (fine-is (fit && x) R.Stale J.Fine e .0)
 
 -- ---- 14
 
-pub fits-in : (H : List ℕ → List ℕ) (g : Params) (f : List ℕ) (i w j : ℕ) (b : Bool) → w ≡ width g
-    → b ≡ fits H (entry (take (i + 32 * g .n - i) (drop i f)) (take (i + 32 * g .n + w - (i + 32 * g .n)) (drop (i + 32 * g .n) f))) j
-    → b ≡ fits H (entryIn g f i) j
-fits-in H g f i w j b e q =
+pub fit-in : (H : List ℕ → List ℕ) (g : Params) (f : List ℕ) (i w j : ℕ) (v : Verdict) → w ≡ width g
+    → v ≡ fitTest H (entry (take (i + 32 * g .n - i) (drop i f)) (take (i + 32 * g .n + w - (i + 32 * g .n)) (drop (i + 32 * g .n) f))) j
+    → v ≡ fitTest H (entryIn g f i) j
+fit-in H g f i w j v e q =
     let d = part-at f i (32 * g .n) (32 * g .n) refl in
     let c = part-at f (i + 32 * g .n) w (width g) e in
-    q ∙ (λ m. fits H (entry (d m) (c m)) j)
+    q ∙ (λ m. fitTest H (entry (d m) (c m)) j)

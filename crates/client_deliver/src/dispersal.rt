@@ -4,6 +4,7 @@ use blocks::encoder::encode_block;
 use frame::Place;
 use frame::WriteTime;
 use frame::bounds::width;
+use frame::layout::BLOCK_AT;
 use frame::send::send_block;
 use group::digesting::digests;
 ghost use mathlib.Core.Path.{_≡_};
@@ -13,9 +14,11 @@ ghost use lib.ListN.{length};
 ghost use Rattle.sha256.specs.Hash.{digestOf};
 ghost use Rattle.frame.specs.declared.Party.the-variants as P;
 ghost use Rattle.frame.specs.Params.{Bounded, entryLength, largestFrame};
-ghost use Rattle.frame.specs.Messages.{offer, message, sending, toAll, blockIs, send};
+ghost use Rattle.frame.specs.Messages.{offer, message, sending, blockIs, send};
 ghost use Rattle.group_rules.specs.Coded.{entryOf};
+ghost use Rattle.frame.specs.Frames.{offerAt};
 ghost use Rattle.frame.specs.Outbox.{outbox, sent, firstPlace, Room};
+ghost use Rattle.client_rules.specs.Steps.{dispersal};
 ghost use Rattle.client_deliver.specs.Needs.{Dispersing};
 
 // A write that goes out, and the parameters.
@@ -37,7 +40,7 @@ fn send_own(
     ls: &[u8; 256],
 ) -> Place
     requires { ⌜ Dispersing (d .params) (now value) (now list) (now ps) (now ls) ×
-        Room p 1 (17 + entryLength (d .params)) (length (now out)) (length (now to)) ⌝ }
+        Room p 1 (offerAt + entryLength (d .params)) (length (now out)) (length (now to)) ⌝ }
     ensures { λ r. ⌜ outbox (now (out .exit)) (now (to .exit)) r ≡ sent (outbox (now (out .entry)) (now (to .entry)) p)
         (sending (P.Server j) (message (d .write .client) (d .write .sequence)
         (blockIs send (offer (d .write .time) (entryOf digestOf (d .params) (now (value .entry)) j)))) ∷ []) ⌝ }
@@ -63,10 +66,9 @@ fn own_blocks(
     ls: &[u8; 256],
 ) -> Place
     requires { ⌜ Dispersing (d .params) (now value) (now list) (now ps) (now ls) ×
-        Room p (d .params .n) (17 + entryLength (d .params)) (length (now out)) (length (now to)) ⌝ }
+        Room p (d .params .n) (offerAt + entryLength (d .params)) (length (now out)) (length (now to)) ⌝ }
     ensures { λ r. ⌜ outbox (now (out .exit)) (now (to .exit)) r ≡ sent (outbox (now (out .entry)) (now (to .entry)) p)
-        (toAll (d .params) (λ j. message (d .write .client) (d .write .sequence)
-        (blockIs send (offer (d .write .time) (entryOf digestOf (d .params) (now (value .entry)) j))))) ⌝ }
+        (dispersal digestOf (d .params) (d .write .client) (d .write .sequence) (now (value .entry)) (d .write .time)) ⌝ }
 {
     let g = d.params;
     let mut r = p;
@@ -83,13 +85,12 @@ pub fn disperse(value: &[u8], d: Dispersal, out: &mut [u8], to: &mut [u8]) -> Pl
     requires { ⌜ Bounded (d .params) × (length (now value) ≡ d .params .size) ×
         Room firstPlace (d .params .n) (largestFrame (d .params)) (length (now out)) (length (now to)) ⌝ }
     ensures { λ r. ⌜ outbox (now (out .exit)) (now (to .exit)) r ≡ sent (outbox (now (out .entry)) (now (to .entry)) firstPlace)
-        (toAll (d .params) (λ j. message (d .write .client) (d .write .sequence)
-        (blockIs send (offer (d .write .time) (entryOf digestOf (d .params) (now (value .entry)) j))))) ⌝ }
+        (dispersal digestOf (d .params) (d .write .client) (d .write .sequence) (now (value .entry)) (d .write .time)) ⌝ }
 {
     let g = d.params;
     let ps = field::powers();
     let ls = field::logs();
-    let mut list = [0u8; 320];
+    let mut list = [0u8; BLOCK_AT];
     digests(value, g, &mut list, 0, &ps, &ls);
     let listed = 32 * g.n;
     let start = Place { at: 0, count: 0 };

@@ -23,18 +23,14 @@ use reading::on_value;
 use writing::on_ack;
 use writing::on_stamp;
 ghost use mathlib.Core.Path.{_≡_};
-ghost use mathlib.Core.Bool.{not, _&&_};
 ghost use lib.ListN.{length};
-ghost use lib.Dec.{eqb};
-ghost use Rattle.area.specs.Area.{pick};
 ghost use Rattle.sha256.specs.Hash.{digestOf};
 ghost use Rattle.frame.specs.Params.{paramsTest};
 ghost use Rattle.frame.specs.Stamps.{lastClient};
-ghost use Rattle.frame.specs.Refusals.{andThen, refused};
+ghost use Rattle.frame.specs.Refusals.{andThen};
 ghost use Rattle.frame.specs.Frames.{messageIn};
-ghost use Rattle.frame.specs.declared.Verdict.the-variants as J;
 ghost use Rattle.client_rules.specs.State.{writing};
-ghost use Rattle.client_rules.specs.Tests.{messageTest};
+ghost use Rattle.client_rules.specs.Tests.{valueTest, messageTest};
 ghost use Rattle.client_rules.specs.Steps.{effect};
 ghost use Rattle.client_rules.specs.Delivery.{outcome, delivery};
 ghost use Rattle.client.specs.Stages.{answered};
@@ -42,7 +38,7 @@ ghost use Rattle.client_deliver.specs.Needs.{Admitted};
 
 // 1 to 3: the parameters and the own number, and a value of this length, which must be L where a write is open.
 fn call_test(g: Params, me: usize, p: Phase, value: usize) -> Verdict
-    ensures { λ r. ⌜ r ≡ andThen (paramsTest g me lastClient) (pick (writing p && not (eqb value (g .size))) (refused 3) J.Fine) ⌝ }
+    ensures { λ r. ⌜ r ≡ andThen (paramsTest g me lastClient) (valueTest g p value) ⌝ }
 {
     let params = params_test(g, me, CLIENTS);
     if let Verdict::Bad(r) = params {

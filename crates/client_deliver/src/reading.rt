@@ -21,7 +21,7 @@ ghost use lib.ListN.{length};
 ghost use Rattle.sha256.specs.Hash.{digestOf};
 ghost use Rattle.frame.specs.Params.{entryLength};
 ghost use Rattle.frame.specs.Messages.{message, valueIs, numberIn};
-ghost use Rattle.frame.specs.Frames.{stampIn, entryIn};
+ghost use Rattle.frame.specs.Frames.{stampIn, entryIn, valueAt};
 ghost use Rattle.client_rules.specs.Tests.{messageTest};
 ghost use Rattle.client_rules.specs.Steps.{onValue};
 ghost use Rattle.client_rules.specs.Delivery.{outcome};
@@ -40,9 +40,9 @@ fn keep(
     to: &mut [u8],
 ) -> Answered
     requires { ⌜ Lent (k .params) (length (now area)) (length (now result)) (length (now out)) (length (now to)) × (1 ≤ j) × (j ≤ k .params .n) ×
-        (22 + entryLength (k .params) ≤ length (now f)) ⌝ }
+        (valueAt + entryLength (k .params) ≤ length (now f)) ⌝ }
     ensures { λ r. ⌜ outcome r (now (area .exit)) (now (result .exit)) (now (out .exit)) (now (to .exit))
-        ≡ stepped (onValue digestOf (k .params) (k .me) s (now (area .entry)) j x (entryIn (k .params) (now (f .entry)) 22))
+        ≡ stepped (onValue digestOf (k .params) (k .me) s (now (area .entry)) j x (entryIn (k .params) (now (f .entry)) valueAt))
         (now (result .entry)) (now (out .entry)) (now (to .entry)) ⌝ }
 {
     let row = s.rows[j];
@@ -67,11 +67,12 @@ pub fn on_value(
     to: &mut [u8],
 ) -> Answered
     requires { ⌜ Lent (k .params) (length (now area)) (length (now result)) (length (now out)) (length (now to)) ×
-        (22 + entryLength (k .params) ≤ length (now f)) ⌝ }
+        (valueAt + entryLength (k .params) ≤ length (now f)) ⌝ }
     ensures { λ r. ⌜ outcome r (now (area .exit)) (now (result .exit)) (now (out .exit)) (now (to .exit))
         ≡ answered (messageTest digestOf (k .params) (k .me) s (k .from) (message (k .header .client) (k .header .sequence)
-        (valueIs (stampIn (now (f .entry))) (entryIn (k .params) (now (f .entry)) 22)))) s (now (area .entry))
-        (onValue digestOf (k .params) (k .me) s (now (area .entry)) (numberIn (k .from)) (stampIn (now (f .entry))) (entryIn (k .params) (now (f .entry)) 22))
+        (valueIs (stampIn (now (f .entry))) (entryIn (k .params) (now (f .entry)) valueAt)))) s (now (area .entry))
+        (onValue digestOf (k .params) (k .me) s (now (area .entry)) (numberIn (k .from)) (stampIn (now (f .entry)))
+        (entryIn (k .params) (now (f .entry)) valueAt))
         (now (result .entry)) (now (out .entry)) (now (to .entry)) ⌝ }
 {
     let from = k.from;

@@ -14,7 +14,7 @@ use frame::bounds::width;
 use frame::layout::VALUE_AT;
 use frame::parties::from_server;
 use frame::parties::number_in;
-use group::fitting::block_fits;
+use group::fitting::fit_test;
 ghost use mathlib.Core.Path.{_≡_};
 ghost use Prim.Native.Nat.{_+_, _≤_};
 ghost use mathlib.Core.Bool.{false, not, _&&_};
@@ -23,12 +23,11 @@ ghost use lib.Dec.{eqb};
 ghost use Rattle.area.specs.Area.{pick};
 ghost use Rattle.sha256.specs.Hash.{digestOf};
 ghost use Rattle.frame.specs.Params.{Bounded, entryLength};
-ghost use Rattle.frame.specs.Refusals.{andThen, refused};
+ghost use Rattle.frame.specs.Refusals.{refused};
 ghost use Rattle.frame.specs.Messages.{fromServer, numberIn};
-ghost use Rattle.frame.specs.Frames.{entryIn};
-ghost use Rattle.client_rules.specs.State.{reading, rowOf};
-ghost use Rattle.client_rules.specs.Rows.{used, hasStamp};
-ghost use Rattle.client_rules.specs.Tests.{awaited, fitTest};
+ghost use Rattle.frame.specs.Frames.{entryIn, valueAt};
+ghost use Rattle.group_rules.specs.Coded.{fitTest};
+ghost use Rattle.client_rules.specs.Tests.{awaited, keptTest};
 
 // 11: whether the sender is one of servers 1 to n, and the client that the frame names is this one.
 pub fn sender_right(g: Params, from: Party, c: u8, me: u8) -> bool
@@ -63,23 +62,19 @@ pub fn reply_test(
 }
 
 // 14 of a value from server j.
-fn fit_test(g: Params, f: &[u8], j: usize) -> Verdict
-    requires { ⌜ Bounded g × (1 ≤ j) × (j ≤ g .n) × (22 + entryLength g ≤ length (now f)) ⌝ }
-    ensures { λ r. ⌜ r ≡ fitTest digestOf (entryIn g (now (f .entry)) 22) j ⌝ }
+fn entry_fit(g: Params, f: &[u8], j: usize) -> Verdict
+    requires { ⌜ Bounded g × (1 ≤ j) × (j ≤ g .n) × (valueAt + entryLength g ≤ length (now f)) ⌝ }
+    ensures { λ r. ⌜ r ≡ fitTest digestOf (entryIn g (now (f .entry)) valueAt) j ⌝ }
 {
     let middle = VALUE_AT + 32 * g.n;
     let end = middle + width(g);
-    if !block_fits(&f[VALUE_AT..middle], &f[middle..end], j) {
-        return Verdict::Bad(Refusal::Digest);
-    }
-    Verdict::Fine
+    fit_test(&f[VALUE_AT..middle], &f[middle..end], j)
 }
 
 // 12 and 14 of a value from server j with stamp x.
 fn kept_test(s: Client, g: Params, j: usize, q: u32, x: Stamp, f: &[u8]) -> Verdict
-    requires { ⌜ Bounded g × (1 ≤ j) × (j ≤ g .n) × (22 + entryLength g ≤ length (now f)) ⌝ }
-    ensures { λ r. ⌜ r ≡ andThen (awaited (reading (s .phase) && (eqb q (s .reads) && not (hasStamp (rowOf s j .stamps) (used (rowOf s j)) x))))
-        (fitTest digestOf (entryIn g (now (f .entry)) 22) j) ⌝ }
+    requires { ⌜ Bounded g × (1 ≤ j) × (j ≤ g .n) × (valueAt + entryLength g ≤ length (now f)) ⌝ }
+    ensures { λ r. ⌜ r ≡ keptTest digestOf s j q x (entryIn g (now (f .entry)) valueAt) ⌝ }
 {
     let p = s.phase;
     let row = s.rows[j];
@@ -89,7 +84,7 @@ fn kept_test(s: Client, g: Params, j: usize, q: u32, x: Stamp, f: &[u8]) -> Verd
     if let Verdict::Bad(r) = order {
         return Verdict::Bad(r);
     }
-    fit_test(g, f, j)
+    entry_fit(g, f, j)
 }
 
 // 11, 12 and 14 of a value with stamp x.
@@ -102,12 +97,9 @@ pub fn entry_test(
     x: Stamp,
     f: &[u8],
 ) -> Verdict
-    requires { ⌜ Bounded g × (22 + entryLength g ≤ length (now f)) ⌝ }
+    requires { ⌜ Bounded g × (valueAt + entryLength g ≤ length (now f)) ⌝ }
     ensures { λ r. ⌜ r ≡ pick (fromServer g from && eqb (h .client) me)
-        (andThen (awaited (reading (s .phase) && (eqb (h .sequence) (s .reads)
-        && not (hasStamp (rowOf s (numberIn from) .stamps) (used (rowOf s (numberIn from))) x))))
-        (fitTest digestOf (entryIn g (now (f .entry)) 22) (numberIn from)))
-        (refused 11) ⌝ }
+        (keptTest digestOf s (numberIn from) (h .sequence) x (entryIn g (now (f .entry)) valueAt)) (refused 11) ⌝ }
 {
     if !sender_right(g, from, h.client, me) {
         return Verdict::Bad(Refusal::Sender);

@@ -28,6 +28,7 @@ ghost use Rattle.area.specs.Numbers.{be8};
 ghost use Rattle.sha256.specs.Hash.{digestOf};
 ghost use Rattle.frame.specs.Params.{Bounded, largestFrame};
 ghost use Rattle.frame.specs.Messages.{message, stampIs, ack, numberIn};
+ghost use Rattle.frame.specs.Frames.{offerAt};
 ghost use Rattle.frame.specs.Outbox.{firstPlace, Room};
 ghost use Rattle.client_rules.specs.Tests.{messageTest};
 ghost use Rattle.client_rules.specs.Steps.{gatherBy, onStamp, onAck};
@@ -74,7 +75,7 @@ pub fn on_stamp(
     out: &mut [u8],
     to: &mut [u8],
 ) -> Answered
-    requires { ⌜ Stamping (k .params) s (length (now value)) (length (now out)) (length (now to)) × (17 ≤ length (now f)) ⌝ }
+    requires { ⌜ Stamping (k .params) s (length (now value)) (length (now out)) (length (now to)) × (offerAt ≤ length (now f)) ⌝ }
     ensures { λ r. ⌜ ((a l : List ℕ) → outcome r a l (now (out .exit)) (now (to .exit))
         ≡ answered (messageTest digestOf (k .params) (k .me) s (k .from) (message (k .header .client) (k .header .sequence)
         (stampIs (be8 (now (f .entry)) 9)))) s a

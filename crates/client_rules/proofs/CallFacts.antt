@@ -3,19 +3,21 @@
 use Prim.Native.Nat.{ℕ, zero, suc, _+_, _-_, _≤_, _<_, max, min}
 use native.Mathlib.Omega.{arith}
 use native.Mathlib.Decide.{ℕ-discrete}
-use mathlib.Core.Bool.{Bool, true, false}
+use mathlib.Core.Bool.{Bool, true, false, not, _&&_}
 use mathlib.Core.Path.{_≡_, refl, ap, sym, _∙_, subst}
 use mathlib.Core.Logic.{_⊎_, inl, inr, ⊎-elim}
-use mathlib.Core.Option.{Option, none, some}
+use mathlib.Core.Option.{Option, some}
 use mathlib.Core.List.{List, [], List·Memᴰ, List·Memᴰ·not-nil}
 use lib.ListN.{length, getD, set, replicate, length-set, length-replicate, getD-replicate}
 use lib.Seq.{getD-set-same, getD-set-other}
 use lib.Dec.{eqb}
-use borrow.Author.Tests.{leb-true, eqb-true}
+use borrow.Author.Tests.{leb-true, eqb-true, not-false}
 use Rattle.quorum.specs.Quorum.{count, Among}
 use Rattle.quorum.proofs.Logic.{impossible, and-split}
 use Rattle.quorum.proofs.Quorums.{AtLeast, at-least-map}
 use Rattle.area.specs.Area.{pick, kept}
+use Rattle.area.proofs.Tests.{kept-some}
+use Rattle.area.proofs.Sets.{of-copies}
 use Rattle.blocks.specs.declared.Params.{Params}
 use Rattle.frame.specs.declared.Stamp.{Stamp}
 use Rattle.frame.specs.declared.Party.{Party}
@@ -26,14 +28,14 @@ use Rattle.frame.specs.Chunks.{rowsBytes}
 use Rattle.frame.specs.Messages.{Entry, Offer, offer, send, Body, getStamp, ack, askRead, readComplete, stampIs}
 use Rattle.frame.specs.Messages.{blockIs, valueIs, Message, message, Sending, sending, toAll, Sized, FormedBody}
 use Rattle.frame.proofs.Sizes.{Small}
-use Rattle.frame.proofs.Verdicts.{fine-both}
+use Rattle.frame.proofs.Verdicts.{fine-both, fine-not}
 use Rattle.frame.proofs.PartyLaws.{mem-all}
 use Rattle.client_rules.specs.declared.Phase.{Phase}
 use Rattle.client_rules.specs.declared.Row.{Row}
 use Rattle.client_rules.specs.declared.Client.{Client}
 use Rattle.client_rules.specs.declared.Phase.the-variants as F
 use Rattle.client_rules.specs.Rows.{used, Kept, placesFrom, rowView, rowWith, Found, search}
-use Rattle.client_rules.specs.State.{freshRow, freshClient, noRow, rowOf, inPhase, shut, withRow, heardOf, largest}
+use Rattle.client_rules.specs.State.{freshRow, freshClient, noRow, rowOf, inPhase, shut, heardOf, largest}
 use Rattle.client_rules.specs.WellFormed.{Within}
 use Rattle.client_rules.specs.Beginning as CB
 use Rattle.client_rules.specs.State as CS
@@ -53,14 +55,17 @@ unfolding CT.awaited pick
 awaited-true H g me true e = refl
 awaited-true H g me false e = impossible (cc)
 
-no-flag : (n j : ℕ) → getD (replicate n false) j false ≡ false
-no-flag zero j = refl
-no-flag (suc n) zero = refl
-no-flag (suc n) (suc j) = no-flag n j
+-- the lent value of an open write is whole
+pub value-whole : (g : Params) (p : Phase) (v : ℕ) → CT.valueTest g p v ≡ J.Fine → CS.writing p ≡ true → v ≡ g .size
+unfolding CT.valueTest
+value-whole g p v e w = go (CS.writing p) w (fine-not _ _ _ e .0)
+  where
+    go : (b : Bool) → b ≡ true → (b && not (eqb v (g .size))) ≡ false → v ≡ g .size
+    go true p z = eqb-true v (g .size) (not-false _ z)
+    go false p z = impossible (cc)
 
-kept-some : (b : Bool) (v y : ℕ) → kept b v ≡ some y → (b ≡ true) × (v ≡ y)
-kept-some true v y e = (refl, cc)
-kept-some false v y e = impossible (cc)
+pub no-flag : (n j : ℕ) → getD (replicate n false) j false ≡ false
+no-flag = of-copies (λ b. b) false false false refl refl
 
 kept-true : (b : Bool) (v : ℕ) → b ≡ true → kept b v ≡ some v
 kept-true true v e = refl
@@ -98,11 +103,9 @@ row-shaped l S j hj i x = record {
       (set-cases l j (rowWith (getD l j noRow) i x) noRow (omega (arith, S .rows-many)) m);
 }
 
-fresh-row : (n m : ℕ) → (getD (replicate n freshRow) m noRow .count ≡ 0)
+pub fresh-row : (n m : ℕ) → getD (replicate n freshRow) m noRow .count ≡ 0
 unfolding freshRow
-fresh-row zero m = refl
-fresh-row (suc n) zero = refl
-fresh-row (suc n) (suc m) = fresh-row n m
+fresh-row = of-copies (λ r. r .count) freshRow noRow 0 refl refl
 
 pub rows-shaped : (l : List Row) → l ≡ replicate 11 freshRow → CV.Shaped l
 unfolding freshRow

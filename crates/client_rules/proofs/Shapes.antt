@@ -13,10 +13,9 @@ use Rattle.frame.specs.declared.Party.{Party}
 use Rattle.frame.specs.declared.Refusal.{Refusal}
 use Rattle.frame.specs.Stamps.{lastTime}
 use Rattle.frame.specs.Chunks.{storeEntry, placeAt}
-use Rattle.frame.specs.Messages.{Entry, offer, send, Body, getStamp, ack, askRead, readComplete, stampIs, blockIs}
+use Rattle.frame.specs.Messages.{Entry, Body, getStamp, ack, askRead, readComplete, stampIs, blockIs}
 use Rattle.frame.specs.Messages.{valueIs, Message, message, Sending, toAll, numberIn, Judged, bad, good}
 use Rattle.frame.proofs.Chunks.{length-store}
-use Rattle.group_rules.specs.Coded.{entryOf}
 use Rattle.client_rules.specs.declared.Client.{Client}
 use Rattle.client_rules.specs.declared.Phase.the-variants as F
 use Rattle.client_rules.specs.State.{rowOf, largest, inPhase, shut, withRow}
@@ -39,7 +38,7 @@ module _ (H : List ℕ → List ℕ) (g : Params) (me : ℕ) (s : Client) (a v :
 
   -- the value's blocks, with the time M, to all
   abbrev pub dispersed : ℕ → List Sending
-  dispersed M = toAll g (λ i. message me (s .writes) (blockIs send (offer M (entryOf H g v i))))
+  dispersed M = C.dispersal H g me (s .writes) v M
 
   -- server j's value (x, e) is kept at a place of its row, or dropped
   pub data Keeps (x : Stamp) (e : Entry) : Client → List ℕ → Type 0 where

@@ -18,14 +18,15 @@ use Rattle.blocks.specs.declared.Params.{Params}
 use Rattle.frame.specs.declared.Stamp.{Stamp}
 use Rattle.frame.specs.Chunks.{entryAt, storeEntry, rowsBytes, placeAt}
 use Rattle.frame.specs.Messages.{Entry, Sized}
-use Rattle.frame.specs.Stamps.{older}
+use Rattle.frame.specs.Stamps.{older, zeroStamp}
 use Rattle.frame.proofs.Chunks.{entry-same, entry-other}
 use Rattle.frame.proofs.Sizes.{Small}
+use Rattle.frame.proofs.StampOrder.{AtMost, less-of, at-most-of, at-most-trans}
 use Rattle.client_rules.specs.declared.Row.{Row}
 use Rattle.client_rules.specs.declared.Client.{Client}
 use Rattle.client_rules.specs.Rows.{used, Kept, placesFrom, rowView, smallest, placeFor, rowWith}
 use Rattle.client_rules.specs.WellFormed.{Bounds}
-use Rattle.client_rules.specs.State.{noRow, noStamp, rowOf, withRow}
+use Rattle.client_rules.specs.State.{noRow, rowOf, withRow}
 
 -- eleven rows, of four places each
 pub record Shaped (l : List Row) : Type 0 where
@@ -38,7 +39,7 @@ shapes = record { number = λ q. Unit {0}; heard = λ l. length l ≡ 11; times 
 
 -- what stands at place i of server j's row
 abbrev pub placed : Params → List ℕ → ℕ → Row → ℕ → Kept
-placed g a j r i = record { stamp = getD (r .stamps) i noStamp; entry = entryAt g a (placeAt j i) }
+placed g a j r i = record { stamp = getD (r .stamps) i zeroStamp; entry = entryAt g a (placeAt j i) }
 
 pub record Placed (g : Params) (a : List ℕ) (j : ℕ) (r : Row) (i m : ℕ) (k : Kept) : Type 0 where
   pub at : ℕ
@@ -68,14 +69,29 @@ of-placed g a j r i (suc m) p lo hi = go (λ l. of-placed g a j r (suc i) m p l 
 
 -- ---- where a new stamp goes
 
-smallest-le : (l : List Stamp) (m : ℕ) → smallest l m ≤ m
+pub smallest-le : (l : List Stamp) (m : ℕ) → smallest l m ≤ m
 unfolding smallest pick
 smallest-le l zero = omega arith
-smallest-le l (suc m) = go (smallest-le l m) (older (getD l (suc m) noStamp) (getD l (smallest l m) noStamp))
+smallest-le l (suc m) = go (smallest-le l m) (older (getD l (suc m) zeroStamp) (getD l (smallest l m) zeroStamp))
   where
     go : smallest l m ≤ m → (b : Bool) → pick b (suc m) (smallest l m) ≤ suc m
     go h true = omega arith
     go h false = omega arith
+
+pub smallest-least : (l : List Stamp) (m p : ℕ) → p ≤ m → AtMost (getD l (smallest l m) zeroStamp) (getD l p zeroStamp)
+unfolding smallest pick
+smallest-least l zero p h = let e : 0 ≡ p = omega arith in inl (ap (λ i. getD l i zeroStamp) e)
+smallest-least l (suc m) p h = go (ℕ-discrete p (suc m)) (older (getD l (suc m) zeroStamp) (getD l (smallest l m) zeroStamp)) refl (smallest-least l m p)
+  where
+    go : Dec (p ≡ suc m) → (b : Bool) → older (getD l (suc m) zeroStamp) (getD l (smallest l m) zeroStamp) ≡ b
+        → (p ≤ m → AtMost (getD l (smallest l m) zeroStamp) (getD l p zeroStamp))
+        → AtMost (getD l (pick b (suc m) (smallest l m)) zeroStamp) (getD l p zeroStamp)
+    go (yes e) true q f = inl (ap (λ i. getD l i zeroStamp) (sym e))
+    go (yes e) false q f = rw e (at-most-of (getD l (smallest l m) zeroStamp) (getD l (suc m) zeroStamp) q)
+    go (no e) true q f =
+        at-most-trans (getD l (suc m) zeroStamp) (getD l (smallest l m) zeroStamp) (getD l p zeroStamp)
+        (inr (less-of (getD l (suc m) zeroStamp) (getD l (smallest l m) zeroStamp) q)) (f (omega (arith, e)))
+    go (no e) false q f = f (omega (arith, e))
 
 pub record Goes (r : Row) (i : ℕ) : Type 0 where
   pub small : i < 4
@@ -108,7 +124,7 @@ other-row s j i x m ne = getD-set-other (s .rows) j m (rowWith (rowOf s j) i x) 
 pub place-stays : (g : Params) → Small g → (a : List ℕ) (j : ℕ) (r : Row) (x : Stamp) (e : Entry) → Sized g e → (i p : ℕ) → (p ≡ i → ⊥)
     → placed g (storeEntry a (placeAt j i) e) j (rowWith r i x) p ≡ placed g a j r p
 place-stays g M a j r x e Q i p ne =
-    let u = getD-set-other (r .stamps) i p x noStamp ne in
+    let u = getD-set-other (r .stamps) i p x zeroStamp ne in
     let q = entry-other g M a (placeAt j i) e Q (placeAt j p) (λ z. ne (omega arith)) in
     λ d. record { stamp = u d; entry = q d }
 
@@ -125,7 +141,7 @@ module _ (g : Params) (M : Small g) (s : Client) (S : Shaped (s .rows)) (a : Lis
 
   at-new : placed g area j (rowWith (rowOf s j) i x) i ≡ record { stamp = x; entry = e }
   at-new =
-      let p = getD-set-same (rowOf s j .stamps) i x noStamp (omega (arith, G .small, S .stamps-many j (at .1))) in
+      let p = getD-set-same (rowOf s j .stamps) i x zeroStamp (omega (arith, G .small, S .stamps-many j (at .1))) in
       let q = entry-same g M a (placeAt j i) e Q (omega (arith, G .small)) in
       λ d. record { stamp = p d; entry = q d }
 
@@ -149,7 +165,7 @@ module _ (g : Params) (M : Small g) (s : Client) (S : Shaped (s .rows)) (a : Lis
   in-other m h ne k u =
       let w = placed-of g area m (rowOf s m) 0 (used (rowOf s m)) k u in
       let q = entry-other g M a (placeAt j i) e Q (placeAt m (w .at)) (λ z. ne (omega (arith, w .high, G .small))) in
-      let v : k ≡ placed g a m (rowOf s m) (w .at) = w .is ∙ (λ d. record { stamp = getD (rowOf s m .stamps) (w .at) noStamp; entry = q d }) in
+      let v : k ≡ placed g a m (rowOf s m) (w .at) = w .is ∙ (λ d. record { stamp = getD (rowOf s m .stamps) (w .at) zeroStamp; entry = q d }) in
       rw v (of-placed g a m (rowOf s m) 0 (used (rowOf s m)) (w .at) (omega arith) (omega (arith, w .high)))
 
   -- what a row holds afterwards was there, or is the new value

@@ -1,7 +1,7 @@
 -- A client begins a read or a write: the tests in the order of their numbers (1, 2, 3, 10, 15, 16, 17), and the whole outcome. g are the
 -- parameters, me the client's number. These are definitions.
 use Prim.Native.Nat.{ℕ, _+_}
-use mathlib.Core.Bool.{false, not}
+use mathlib.Core.Bool.{Bool, false, not}
 use mathlib.Core.List.{List, []}
 use lib.ListN.{length, replicate}
 use lib.Seq.{sets}
@@ -18,6 +18,7 @@ use Rattle.frame.specs.Outbox.{frames, receivers}
 use Rattle.client_rules.specs.declared.Client.{Client}
 use Rattle.client_rules.specs.declared.Answer.{Answer}
 use Rattle.client_rules.specs.declared.Answered.{Answered}
+use Rattle.client_rules.specs.declared.Phase.{Phase}
 use Rattle.client_rules.specs.declared.Phase.the-variants as F
 use Rattle.client_rules.specs.declared.Answer.the-variants as Y
 use Rattle.client_rules.specs.State.{freshRow, idle}
@@ -37,15 +38,15 @@ begun r out to = record { answer = r .answer; client = r .client; out = out; to 
 -- ---- the tests
 
 -- 15, "an operation is open"; 16, "sequences used up", where last is the last number used
-unfoldable pub idleTest : Client → ℕ → Verdict
-idleTest s last =
-    pick (not (idle (s .phase))) (refused 15)
+abbrev pub idleTest : Phase → ℕ → Verdict
+idleTest p last =
+    pick (not (idle p)) (refused 15)
     (pick (leb lastSequence last) (refused 16)
     J.Fine)
 
 -- 17: "a write by a client whose earlier write closed as out of stamps"
-unfoldable pub closedTest : Client → Verdict
-closedTest s = pick (s .closed) (refused 17) J.Fine
+abbrev pub closedTest : Bool → Verdict
+closedTest closed = pick closed (refused 17) J.Fine
 
 -- 3: "value not L long"
 unfoldable pub lengthTest : Params → ℕ → Verdict
@@ -53,15 +54,15 @@ lengthTest g v = pick (eqb v (g .size)) J.Fine (refused 3)
 
 module _ (g : Params) (me : ℕ) where
   unfoldable pub readTest : Client → List ℕ → List ℕ → Verdict
-  readTest s out to = andThen (paramsTest g me lastClient) (andThen (sendRoom g (length out) (length to)) (idleTest s (s .reads)))
+  readTest s out to = andThen (paramsTest g me lastClient) (andThen (sendRoom g (length out) (length to)) (idleTest (s .phase) (s .reads)))
 
   unfoldable pub writeTest : Client → List ℕ → List ℕ → List ℕ → Verdict
   writeTest s v out to =
       andThen (paramsTest g me lastClient)
       (andThen (lengthTest g (length v))
       (andThen (sendRoom g (length out) (length to))
-      (andThen (idleTest s (s .writes))
-      (closedTest s))))
+      (andThen (idleTest (s .phase) (s .writes))
+      (closedTest (s .closed)))))
 
   -- ---- what a beginning does
 

@@ -10,13 +10,13 @@ use Rattle.quorum.specs.Quorum.{count}
 use Rattle.area.specs.Area.{pick}
 use Rattle.blocks.specs.declared.Params.{Params}
 use Rattle.frame.specs.declared.Stamp.{Stamp}
-use Rattle.frame.specs.Stamps.{older, sameStamp}
+use Rattle.frame.specs.Stamps.{older, sameStamp, zeroStamp}
 use Rattle.frame.specs.Messages.{Entry}
 use Rattle.frame.specs.Chunks.{entryAt, placeAt}
 use Rattle.group_rules.specs.Coded.{hasList, decoded}
 use Rattle.client_rules.specs.declared.Row.{Row}
 use Rattle.client_rules.specs.declared.Client.{Client}
-use Rattle.client_rules.specs.State.{noStamp, rowOf}
+use Rattle.client_rules.specs.State.{rowOf}
 
 -- ---- the rows as a client shows them
 
@@ -32,7 +32,7 @@ used r = min (r .count) 4
 -- places i to i + m - 1 of server j's row, whose entries lie in the area a
 unfoldable pub placesFrom : Params → List ℕ → ℕ → Row → ℕ → ℕ → List Kept
 placesFrom g a j r i zero = []
-placesFrom g a j r i (suc m) = record { stamp = getD (r .stamps) i noStamp; entry = entryAt g a (placeAt j i) } ∷ placesFrom g a j r (suc i) m
+placesFrom g a j r i (suc m) = record { stamp = getD (r .stamps) i zeroStamp; entry = entryAt g a (placeAt j i) } ∷ placesFrom g a j r (suc i) m
 
 -- server j's row, in the order of its places
 unfoldable pub rowView : Params → Client → List ℕ → ℕ → List Kept
@@ -43,18 +43,18 @@ rowView g s a j = placesFrom g a j (rowOf s j) 0 (used (rowOf s j))
 -- whether x is among the first m stamps of a list
 unfoldable pub hasStamp : List Stamp → ℕ → Stamp → Bool
 hasStamp l zero x = false
-hasStamp l (suc m) x = sameStamp (getD l m noStamp) x || hasStamp l m x
+hasStamp l (suc m) x = sameStamp (getD l m zeroStamp) x || hasStamp l m x
 
 -- the place of the smallest of the first m + 1 stamps
 unfoldable pub smallest : List Stamp → ℕ → ℕ
 smallest l zero = 0
-smallest l (suc m) = pick (older (getD l (suc m) noStamp) (getD l (smallest l m) noStamp)) (suc m) (smallest l m)
+smallest l (suc m) = pick (older (getD l (suc m) zeroStamp) (getD l (smallest l m) zeroStamp)) (suc m) (smallest l m)
 
 -- where a new stamp goes: behind the others, in place of the smallest of four, or nowhere
 unfoldable pub placeFor : Row → Stamp → Option ℕ
 placeFor r x =
     pick (ltb (r .count) 4) (some (r .count))
-    (pick (older (getD (r .stamps) (smallest (r .stamps) 3) noStamp) x) (some (smallest (r .stamps) 3))
+    (pick (older (getD (r .stamps) (smallest (r .stamps) 3) zeroStamp) x) (some (smallest (r .stamps) 3))
     none)
 
 abbrev pub rowWith : Row → ℕ → Stamp → Row

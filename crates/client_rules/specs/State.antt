@@ -3,7 +3,6 @@ use Prim.Native.Nat.{ℕ, zero, suc, max}
 use mathlib.Core.Bool.{Bool, true, false}
 use mathlib.Core.List.{List, []}
 use lib.ListN.{getD, set, replicate}
-use Rattle.frame.specs.declared.Stamp.{Stamp}
 use Rattle.frame.specs.Stamps.{zeroStamp}
 use Rattle.client_rules.specs.declared.Phase.{Phase}
 use Rattle.client_rules.specs.declared.Row.{Row}
@@ -61,9 +60,6 @@ writing F.Reading = false
 -- ---- what server j has in the arrays
 
 -- what lies past an array's end
-abbrev pub noStamp : Stamp
-noStamp = record { time = 0; writer = 0; sequence = 0 }
-
 abbrev pub noRow : Row
 noRow = record { count = 0; stamps = [] }
 

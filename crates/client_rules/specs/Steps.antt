@@ -42,12 +42,16 @@ quorate g h = leb (g .n) (count (λ j. getD h j false) (g .n) + g .t)
 module _ (H : List ℕ → List ℕ) (g : Params) (me : ℕ) where
   -- ---- Write, client
 
+  -- the blocks of the value v to all, each with the digest list and the time M: write q
+  abbrev pub dispersal : ℕ → List ℕ → ℕ → List Sending
+  dispersal q v M = toAll g (λ j. message me q (blockIs send (offer M (entryOf H g v j))))
+
   -- M is the largest time: kind 3 with it to all (request F-4). "If it is 2^64 - 1, the step instead closes the write as out of stamps and sends nothing."
   unfoldable pub sendBelow : Bool → Client → List ℕ → List ℕ → ℕ → Effect
   sendBelow true s a v M = record {
     client = inPhase s F.Acking (replicate 11 false) (s .times);
     area = a;
-    sends = toAll g (λ j. message me (s .writes) (blockIs send (offer M (entryOf H g v j))));
+    sends = dispersal (s .writes) v M;
     event = nothing;
   }
   sendBelow false s a v M = record { client = shut s; area = a; sends = []; event = outOfStamps }

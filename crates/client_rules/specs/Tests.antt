@@ -8,6 +8,7 @@ use lib.Dec.{ltb, eqb}
 use Rattle.area.specs.Area.{pick}
 use Rattle.blocks.specs.declared.Params.{Params}
 use Rattle.frame.specs.declared.Party.{Party}
+use Rattle.frame.specs.declared.Stamp.{Stamp}
 use Rattle.frame.specs.declared.Verdict.{Verdict}
 use Rattle.frame.specs.declared.Opened.{Opened}
 use Rattle.frame.specs.declared.Verdict.the-variants as J
@@ -19,8 +20,9 @@ use Rattle.frame.specs.Messages.{Entry, Body, getStamp, ack, askRead, readCompl
 use Rattle.frame.specs.Messages.{valueIs, Message, numberIn, fromServer, Judged, bad, judgedBy, after}
 use Rattle.frame.specs.Frames.{opened, messageIn}
 use Rattle.frame.specs.Chunks.{rowsBytes}
-use Rattle.group_rules.specs.Coded.{fits}
+use Rattle.group_rules.specs.Coded.{fitTest}
 use Rattle.client_rules.specs.declared.Client.{Client}
+use Rattle.client_rules.specs.declared.Phase.{Phase}
 use Rattle.client_rules.specs.State.{asking, acking, reading, writing, rowOf, heardOf}
 use Rattle.client_rules.specs.Rows.{used, hasStamp}
 
@@ -39,8 +41,8 @@ roomTest g area result out to =
     (sendRoom g out to))
 
 -- 3: the lent value of an open write is L long; with no write open it is not looked at
-unfoldable pub valueTest : Params → Client → ℕ → Verdict
-valueTest g s v = pick (writing (s .phase) && not (eqb v (g .size))) (refused 3) J.Fine
+unfoldable pub valueTest : Params → Phase → ℕ → Verdict
+valueTest g p v = pick (writing p && not (eqb v (g .size))) (refused 3) J.Fine
 
 -- 11: only stamps, acks and values go to clients
 unfoldable pub answers : Body → Bool
@@ -56,13 +58,14 @@ answers (valueIs x e) = true
 unfoldable pub awaited : Bool → Verdict
 awaited b = pick b J.Fine (refused 12)
 
--- 14: "block against its digest"
-unfoldable pub fitTest : (List ℕ → List ℕ) → Entry → ℕ → Verdict
-fitTest H e j = pick (fits H e j) J.Fine (refused 14)
+-- 12 and 14, of a value for read q from server j: "of kind 11, each whose stamp is not kept from that server"
+abbrev pub keptTest : (List ℕ → List ℕ) → Client → ℕ → ℕ → Stamp → Entry → Verdict
+keptTest H s j q x e =
+    andThen (awaited (reading (s .phase) && (eqb q (s .reads) && not (hasStamp (rowOf s j .stamps) (used (rowOf s j)) x))))
+    (fitTest H e j)
 
 module _ (H : List ℕ → List ℕ) (g : Params) (me : ℕ) where
-  -- 12 and 14, of a frame of operation q from server j. Stamps count only in a write's first part, acks only in its second, each server's first;
-  -- "of kind 11, each whose stamp is not kept from that server"
+  -- 12 and 14, of a frame of operation q from server j. Stamps count only in a write's first part, acks only in its second, each server's first
   unfoldable pub orderTest : Client → ℕ → ℕ → Body → Verdict
   orderTest s j q getStamp = J.Fine
   orderTest s j q ack = awaited (acking (s .phase) && (eqb q (s .writes) && not (heardOf s j)))
@@ -70,9 +73,7 @@ module _ (H : List ℕ → List ℕ) (g : Params) (me : ℕ) where
   orderTest s j q readComplete = J.Fine
   orderTest s j q (stampIs T) = awaited (asking (s .phase) && (eqb q (s .writes) && not (heardOf s j)))
   orderTest s j q (blockIs z o) = J.Fine
-  orderTest s j q (valueIs x e) =
-      andThen (awaited (reading (s .phase) && (eqb q (s .reads) && not (hasStamp (rowOf s j .stamps) (used (rowOf s j)) x))))
-      (fitTest H e j)
+  orderTest s j q (valueIs x e) = keptTest H s j q x e
 
   -- 11 to 14: from a server 1 to n, of a kind for clients, naming this client
   unfoldable pub messageTest : Client → Party → Message → Verdict
@@ -86,5 +87,5 @@ module _ (H : List ℕ → List ℕ) (g : Params) (me : ℕ) where
 
   unfoldable pub judge : Client → List ℕ → List ℕ → Party → List ℕ → List ℕ → List ℕ → List ℕ → Judged
   judge s area v from f result out to =
-      after (andThen (paramsTest g me lastClient) (valueTest g s (length v)))
+      after (andThen (paramsTest g me lastClient) (valueTest g (s .phase) (length v)))
       (judgeOpened (opened g f) (roomTest g (length area) (length result) (length out) (length to)) s from f)

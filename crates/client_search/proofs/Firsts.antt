@@ -16,11 +16,11 @@ use Rattle.area.proofs.Tests.{and-right}
 use Rattle.area.proofs.Fills.{getD-table, length-table}
 use Rattle.blocks.specs.declared.Params.{Params}
 use Rattle.frame.specs.declared.Stamp.{Stamp}
-use Rattle.frame.specs.Stamps.{sameStamp}
+use Rattle.frame.specs.Stamps.{sameStamp, zeroStamp}
 use Rattle.frame.specs.Chunks.{entryAt, placeAt, chunkAt, rowsBytes}
 use Rattle.group.specs.Entries.{marked, entries, Within}
 use Rattle.client_rules.specs.declared.Row.{Row}
-use Rattle.client_rules.specs.State.{noStamp, noRow}
+use Rattle.client_rules.specs.State.{noRow}
 use Rattle.client_rules.specs.Rows.{used, placesFrom, atStamp}
 use Rattle.client_search.specs.declared.Hit.{Hit}
 use Rattle.client_search.specs.declared.Hits.{Hits}
@@ -29,19 +29,19 @@ use Rattle.client_search.specs.AtStamp.{firstFrom, firstIn, hitAt, hitsO
 -- ---- a turn of the loop over the places, and its two ends
 
 module _ (l : List Stamp) (x : Stamp) (i m : ℕ) where
-  module _ (b : Bool) (h : i < m) (p : b ≡ sameStamp (getD l i noStamp) x) where
+  module _ (b : Bool) (h : i < m) (p : b ≡ sameStamp (getD l i zeroStamp) x) where
     pub first-next : b ≡ false → firstFrom l i (m - i) x ≡ firstFrom l (i + 1) (m - (i + 1)) x
     unfolding firstFrom pick
     first-next q =
         let e : m - i ≡ suc (m - (i + 1)) = omega arith in
-        let z : sameStamp (getD l i noStamp) x ≡ false = sym p ∙ q in
+        let z : sameStamp (getD l i zeroStamp) x ≡ false = sym p ∙ q in
         rw e (rw (z, add-one))
 
     pub first-found : b ≡ true → firstFrom l i (m - i) x ≡ i
     unfolding firstFrom pick
     first-found q =
         let e : m - i ≡ suc (m - (i + 1)) = omega arith in
-        let z : sameStamp (getD l i noStamp) x ≡ true = sym p ∙ q in
+        let z : sameStamp (getD l i zeroStamp) x ≡ true = sym p ∙ q in
         rw (e, z)
 
   pub first-end : m ≤ i → firstFrom l i (m - i) x ≡ i
@@ -99,7 +99,7 @@ module _ (g : Params) (a : List ℕ) (j : ℕ) (r : Row) (x : Stamp) where
       let h : i + 0 ≤ i = omega arith in
       let e : ltb i (i + 0) ≡ false = le-ltb _ _ h in
       rw e
-  at-places i (suc m) = go (sameStamp (getD (r .stamps) i noStamp) x) (at-places (suc i) m)
+  at-places i (suc m) = go (sameStamp (getD (r .stamps) i zeroStamp) x) (at-places (suc i) m)
     where
       go : (b : Bool)
           → atStamp (placesFrom g a j r (suc i) m) x

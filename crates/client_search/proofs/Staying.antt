@@ -1,6 +1,6 @@
 -- "The client keeps for each server the 4 largest stamps received, dropping the smallest, be it the new one": what a row holds stays when a value comes, or is
 -- the smallest of five. Assumes nothing.
-use Prim.Native.Nat.{ℕ, zero, suc, _+_, _≤_, _<_}
+use Prim.Native.Nat.{ℕ, _+_, _≤_, _<_}
 use native.Mathlib.Omega.{arith}
 use native.Mathlib.Decide.{ℕ-discrete}
 use mathlib.Core.Bool.{Bool, true, false}
@@ -19,42 +19,27 @@ use Rattle.blocks.specs.declared.Params.{Params}
 use Rattle.frame.specs.declared.Stamp.{Stamp}
 use Rattle.frame.specs.Chunks.{storeEntry, placeAt}
 use Rattle.frame.specs.Messages.{Entry, Sized}
-use Rattle.frame.specs.Stamps.{older}
+use Rattle.frame.specs.Stamps.{older, zeroStamp}
 use Rattle.frame.proofs.Chunks.{entry-other}
 use Rattle.frame.proofs.Sizes.{Small}
 use Rattle.frame.proofs.StampOrder.{AtMost, less-of, at-most-of, at-most-trans}
 use Rattle.client_rules.specs.declared.Row.{Row}
 use Rattle.client_rules.specs.declared.Client.{Client}
 use Rattle.client_rules.specs.Rows.{Kept, used, rowView, placesFrom, smallest, placeFor, rowWith}
-use Rattle.client_rules.specs.State.{noRow, noStamp, rowOf, withRow}
-use Rattle.client_rules.proofs.Views.{Shaped, placed, Placed, placed-of, of-placed, Goes, goes, other-row, place-stays}
+use Rattle.client_rules.specs.State.{noRow, rowOf, withRow}
+use Rattle.client_rules.proofs.Views.{Shaped, placed, Placed, placed-of, of-placed, smallest-least, goes, other-row, place-stays}
 
 -- ---- the smallest of four
-
-smallest-least : (l : List Stamp) (m p : ℕ) → p ≤ m → AtMost (getD l (smallest l m) noStamp) (getD l p noStamp)
-unfolding smallest pick
-smallest-least l zero p h = let e : 0 ≡ p = omega arith in inl (ap (λ i. getD l i noStamp) e)
-smallest-least l (suc m) p h = go (ℕ-discrete p (suc m)) (older (getD l (suc m) noStamp) (getD l (smallest l m) noStamp)) refl (smallest-least l m p)
-  where
-    go : Dec (p ≡ suc m) → (b : Bool) → older (getD l (suc m) noStamp) (getD l (smallest l m) noStamp) ≡ b
-        → (p ≤ m → AtMost (getD l (smallest l m) noStamp) (getD l p noStamp))
-        → AtMost (getD l (pick b (suc m) (smallest l m)) noStamp) (getD l p noStamp)
-    go (yes e) true q f = inl (ap (λ i. getD l i noStamp) (sym e))
-    go (yes e) false q f = rw e (at-most-of (getD l (smallest l m) noStamp) (getD l (suc m) noStamp) q)
-    go (no e) true q f =
-        at-most-trans (getD l (suc m) noStamp) (getD l (smallest l m) noStamp) (getD l p noStamp)
-        (inr (less-of (getD l (suc m) noStamp) (getD l (smallest l m) noStamp) q)) (f (omega (arith, e)))
-    go (no e) false q f = f (omega (arith, e))
 
 -- stamp y is the smallest of a row's four and x, the stamp that comes
 pub record Smallest (r : Row) (x y : Stamp) : Type 0 where
   pub full : 4 ≤ r .count
-  pub of-row : (p : ℕ) → p < 4 → AtMost y (getD (r .stamps) p noStamp)
+  pub of-row : (p : ℕ) → p < 4 → AtMost y (getD (r .stamps) p zeroStamp)
   pub of-new : AtMost y x
 
 module _ (r : Row) (x : Stamp) where
-  replaced : (b d : Bool) (i : ℕ) → ltb (r .count) 4 ≡ b → older (getD (r .stamps) (smallest (r .stamps) 3) noStamp) x ≡ d
-      → pick b (some (r .count)) (pick d (some (smallest (r .stamps) 3)) none) ≡ some i → 4 ≤ r .count → Smallest r x (getD (r .stamps) i noStamp)
+  replaced : (b d : Bool) (i : ℕ) → ltb (r .count) 4 ≡ b → older (getD (r .stamps) (smallest (r .stamps) 3) zeroStamp) x ≡ d
+      → pick b (some (r .count)) (pick d (some (smallest (r .stamps) 3)) none) ≡ some i → 4 ≤ r .count → Smallest r x (getD (r .stamps) i zeroStamp)
   unfolding pick
   replaced true d i e f q h = absurd (omega (arith, ltb-true (r .count) 4 e))
   replaced false true i e f q h =
@@ -62,16 +47,16 @@ module _ (r : Row) (x : Stamp) where
       record {
         full = h;
         of-row = λ p l. rw (sym w) (smallest-least (r .stamps) 3 p (omega arith));
-        of-new = rw (sym w) (inr (less-of (getD (r .stamps) (smallest (r .stamps) 3) noStamp) x f));
+        of-new = rw (sym w) (inr (less-of (getD (r .stamps) (smallest (r .stamps) 3) zeroStamp) x f));
       }
   replaced false false i e f q h = impossible (cc)
 
   -- what a new stamp replaces is the smallest of five
-  pub replaces-smallest : (i : ℕ) → placeFor r x ≡ some i → 4 ≤ r .count → Smallest r x (getD (r .stamps) i noStamp)
+  pub replaces-smallest : (i : ℕ) → placeFor r x ≡ some i → 4 ≤ r .count → Smallest r x (getD (r .stamps) i zeroStamp)
   unfolding placeFor
-  replaces-smallest i q h = replaced (ltb (r .count) 4) (older (getD (r .stamps) (smallest (r .stamps) 3) noStamp) x) i refl refl q h
+  replaces-smallest i q h = replaced (ltb (r .count) 4) (older (getD (r .stamps) (smallest (r .stamps) 3) zeroStamp) x) i refl refl q h
 
-  refused : (b d : Bool) → ltb (r .count) 4 ≡ b → older (getD (r .stamps) (smallest (r .stamps) 3) noStamp) x ≡ d
+  refused : (b d : Bool) → ltb (r .count) 4 ≡ b → older (getD (r .stamps) (smallest (r .stamps) 3) zeroStamp) x ≡ d
       → pick b (some (r .count)) (pick d (some (smallest (r .stamps) 3)) none) ≡ none → Smallest r x x
   unfolding pick
   refused true d e f q = impossible (cc)
@@ -79,8 +64,8 @@ module _ (r : Row) (x : Stamp) where
   refused false false e f q = record {
     full = ltb-false (r .count) 4 e;
     of-row = λ p l.
-        at-most-trans x (getD (r .stamps) (smallest (r .stamps) 3) noStamp) (getD (r .stamps) p noStamp)
-        (at-most-of x (getD (r .stamps) (smallest (r .stamps) 3) noStamp) f)
+        at-most-trans x (getD (r .stamps) (smallest (r .stamps) 3) zeroStamp) (getD (r .stamps) p zeroStamp)
+        (at-most-of x (getD (r .stamps) (smallest (r .stamps) 3) zeroStamp) f)
         (smallest-least (r .stamps) 3 p (omega arith));
     of-new = inl refl;
   }
@@ -88,7 +73,7 @@ module _ (r : Row) (x : Stamp) where
   -- a new stamp that goes nowhere is the smallest of five
   pub new-smallest : placeFor r x ≡ none → Smallest r x x
   unfolding placeFor
-  new-smallest q = refused (ltb (r .count) 4) (older (getD (r .stamps) (smallest (r .stamps) 3) noStamp) x) refl refl q
+  new-smallest q = refused (ltb (r .count) 4) (older (getD (r .stamps) (smallest (r .stamps) 3) zeroStamp) x) refl refl q
 
 -- ---- a value comes from server j and goes to place i of its row
 
@@ -112,7 +97,7 @@ module _ (g : Params) (M : Small g) (s : Client) (S : Shaped (s .rows)) (a : Lis
   other-stays : (m p : ℕ) → 1 ≤ m → p < 4 → (m ≡ j → ⊥) → placed g area m (rowOf s m) p ≡ placed g a m (rowOf s m) p
   other-stays m p low h ne =
       let q = entry-other g M a (placeAt j i) e Q (placeAt m p) (λ z. ne (omega (arith, small, h, low, at .0))) in
-      λ d. record { stamp = getD (rowOf s m .stamps) p noStamp; entry = q d }
+      λ d. record { stamp = getD (rowOf s m .stamps) p zeroStamp; entry = q d }
 
   this-row : rowOf next j ≡ rowWith (rowOf s j) i x
   this-row = getD-set-same (s .rows) j (rowWith (rowOf s j) i x) noRow (omega (arith, S .rows-many, at .1))
@@ -126,7 +111,7 @@ module _ (g : Params) (M : Small g) (s : Client) (S : Shaped (s .rows)) (a : Lis
       go w (yes z) = ⊎-elim
           (λ u. absurd (omega (arith, u .0, u .1, w .high, z)))
           (λ u.
-          let y : k .stamp ≡ getD (rowOf s j .stamps) i noStamp = ap (λ (v : Kept). v .stamp) (w .is) ∙ ap (λ p. getD (rowOf s j .stamps) p noStamp) z in
+          let y : k .stamp ≡ getD (rowOf s j .stamps) i zeroStamp = ap (λ (v : Kept). v .stamp) (w .is) ∙ ap (λ p. getD (rowOf s j .stamps) p zeroStamp) z in
           inr (subst (Smallest (rowOf s j) x) (sym y) (replaces-smallest (rowOf s j) x i goes-to u)))
           (goes (rowOf s j) x i goes-to .either)
       go w (no z) =

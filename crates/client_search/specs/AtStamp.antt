@@ -6,10 +6,10 @@ use lib.ListN.{getD}
 use lib.Dec.{leb, ltb}
 use Rattle.area.specs.Area.{pick, table}
 use Rattle.frame.specs.declared.Stamp.{Stamp}
-use Rattle.frame.specs.Stamps.{sameStamp}
+use Rattle.frame.specs.Stamps.{sameStamp, zeroStamp}
 use Rattle.frame.specs.Chunks.{placeAt}
 use Rattle.client_rules.specs.declared.Row.{Row}
-use Rattle.client_rules.specs.State.{noStamp, noRow}
+use Rattle.client_rules.specs.State.{noRow}
 use Rattle.client_rules.specs.Rows.{used}
 use Rattle.client_search.specs.declared.Hit.{Hit}
 use Rattle.client_search.specs.declared.Hits.{Hits}
@@ -17,7 +17,7 @@ use Rattle.client_search.specs.declared.Hits.{Hits}
 -- the first of the m places from i on with stamp x, or i + m
 unfoldable pub firstFrom : List Stamp → ℕ → ℕ → Stamp → ℕ
 firstFrom l i zero x = i
-firstFrom l i (suc m) x = pick (sameStamp (getD l i noStamp) x) i (firstFrom l (suc i) m x)
+firstFrom l i (suc m) x = pick (sameStamp (getD l i zeroStamp) x) i (firstFrom l (suc i) m x)
 
 -- the same of a row
 abbrev pub firstIn : Row → Stamp → ℕ

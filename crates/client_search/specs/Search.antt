@@ -11,9 +11,10 @@ use Rattle.frame.specs.declared.Stamp.{Stamp}
 use Rattle.frame.specs.Params.{Bounded}
 use Rattle.frame.specs.Chunks.{entryAt, placeAt, rowsBytes}
 use Rattle.frame.specs.Outbox.{Room, firstPlace}
+use Rattle.frame.specs.Stamps.{zeroStamp}
 use Rattle.group.specs.Entries.{sentList, flags}
 use Rattle.client_rules.specs.declared.Row.{Row}
-use Rattle.client_rules.specs.State.{noStamp, noRow}
+use Rattle.client_rules.specs.State.{noRow}
 use Rattle.client_rules.specs.Rows.{Kept, used, placesFrom, agreed}
 use Rattle.client_search.specs.declared.Hits.{Hits}
 use Rattle.client_search.specs.declared.Stop.{Stop}
@@ -29,7 +30,7 @@ holdersOf g a h p = record { on = flags (sentList g (h .on) (h .at) a (entryAt g
 
 -- what stands at place i of server j's row
 abbrev pub keptAt : Params → List Row → List ℕ → ℕ → ℕ → Kept
-keptAt g rows a j i = record { stamp = getD (getD rows j noRow .stamps) i noStamp; entry = entryAt g a (placeAt j i) }
+keptAt g rows a j i = record { stamp = getD (getD rows j noRow .stamps) i zeroStamp; entry = entryAt g a (placeAt j i) }
 
 -- what stands where the search stopped
 abbrev pub standing : Params → List Row → List ℕ → Stop → Option Kept

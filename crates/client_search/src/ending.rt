@@ -12,8 +12,8 @@ use frame::Ask;
 use frame::Place;
 use frame::Stamp;
 use frame::send::ask_all;
+use group::decoding::all_of;
 use group::decoding::regain;
-use group::decoding::unanimous;
 ghost use mathlib.Core.Path.{_≡_};
 ghost use mathlib.Core.Option.{some};
 ghost use lib.ListN.{length};
@@ -52,7 +52,7 @@ fn regain_value(
     let ls = field::logs();
     let mut value = [0u8; 256];
     regain(on, at, area, g, &mut value[..size], &ps, &ls);
-    if !unanimous(&value[..size], on, at, area, g, &ps, &ls) {
+    if !all_of(&value[..size], on, at, area, g, &ps, &ls) {
         return false;
     }
     area::put(result, 0, &value[..size]);

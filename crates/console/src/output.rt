@@ -2,6 +2,7 @@
 use crate::counts::count_of;
 use crate::patience::is_again;
 use crate::patience::left_after;
+use case_text::text::put_digits;
 
 // How many bytes wait at the front of the area; and whether a write failed, after which nothing more is written.
 pub struct Out {
@@ -106,4 +107,29 @@ pub fn put_decimal(out: Out, area: &mut [u8], x: u64) -> Out {
     let mut digits = [0u8; 20];
     let k = io::decimal(x, &mut digits);
     put(out, area, &digits[..k])
+}
+
+// Puts bytes as hexadecimal digits.
+pub fn put_hex(out: Out, area: &mut [u8], bytes: &[u8]) -> Out {
+    let mut y = out;
+    let mut i = 0;
+    while i < bytes.len() {
+        let mut two = [0u8; 2];
+        put_digits(&mut two, 0, bytes[i]);
+        y = put(y, area, &two);
+        i += 1;
+    }
+    y
+}
+
+// Puts the answer to a line that is none.
+pub fn put_what(out: Out, area: &mut [u8]) -> Out {
+    put(out, area, b"what?\n")
+}
+
+// Puts the answer to what is refused, with the refusal's number.
+pub fn put_refused(out: Out, area: &mut [u8], number: u64) -> Out {
+    let word = put(out, area, b"refused ");
+    let digits = put_decimal(word, area, number);
+    put(digits, area, b"\n")
 }

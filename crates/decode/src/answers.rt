@@ -2,36 +2,22 @@
 use crate::words::decimal;
 use crate::words::spelt;
 use blocks::Coded;
-use blocks::Fault;
 use blocks::Params;
 use blocks::faults::fault_number;
-use case_text::text::put_bytes;
 use case_text::text::word_at;
 use console::counts::count_of;
 use console::output::Out;
 use console::output::put;
-use console::output::put_decimal;
+use console::output::put_hex;
+use console::output::put_refused;
+use console::output::put_what;
 ghost use Prim.Native.Nat.{_≤_};
 ghost use lib.ListN.{length};
 
-fn put_what(out: Out, text: &mut [u8]) -> Out {
-    put(out, text, b"what?\n")
-}
-
-fn put_refused(out: Out, text: &mut [u8], f: Fault) -> Out {
-    let word = put(out, text, b"refused ");
-    let number = put_decimal(word, text, fault_number(f));
-    put(number, text, b"\n")
-}
-
-fn put_value(out: Out, text: &mut [u8], value: &[u8]) -> Out
-    requires { ⌜ length (now value) ≤ 256 ⌝ }
-{
-    let mut digits = [0u8; 512];
-    let n = put_bytes(&mut digits, 0, value);
+fn put_value(out: Out, text: &mut [u8], value: &[u8]) -> Out {
     let word = put(out, text, b"value ");
-    let digits_put = put(word, text, &digits[..n]);
-    put(digits_put, text, b"\n")
+    let digits = put_hex(word, text, value);
+    put(digits, text, b"\n")
 }
 
 // Decodes with as much of the area as room says.
@@ -43,13 +29,11 @@ fn decode_in(
     area: &mut [u8],
     out: Out,
     text: &mut [u8],
-) -> Out
-    requires { ⌜ length (now area) ≤ 256 ⌝ }
-{
+) -> Out {
     let most = count_of(room, area);
     let said = blocks::decode(g, numbers, blocks, &mut area[..most]);
     if let Coded::Refused(f) = said {
-        return put_refused(out, text, f);
+        return put_refused(out, text, fault_number(f));
     }
     let n = count_of(g.size, area);
     put_value(out, text, &area[..n])

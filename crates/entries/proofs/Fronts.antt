@@ -10,7 +10,7 @@ use lib.Dec.{eqb, ltb, leb}
 use borrow.Author.Tests.{ltb-true, ltb-false, leb-true, eqb-true, eqb-false, not-true, not-false, lt-ltb, le-ltb, le-leb, lt-leb, eq-eqb, ne-eqb}
 use Rattle.area.specs.Area.{pick}
 use Rattle.area.specs.Numbers.{be2}
-use Rattle.area.proofs.Tests.{and-left, and-right}
+use Rattle.area.proofs.Tests.{impossible, and-left, and-right, or-split, or-false}
 use Rattle.frame.specs.declared.Party.{Party}
 use Rattle.entries.specs.declared.Closing.the-variants as C
 use Rattle.entries.specs.declared.Found.{Found}
@@ -21,17 +21,9 @@ use Rattle.entries.specs.Entries.{malformed, cut, readingOf}
 
 -- ---- tests
 
-or-false : (a b : Bool) → a || b ≡ false → (a ≡ false) × (b ≡ false)
-or-false false b e = (refl, e)
-or-false true b e = absurd (let z : true ≡ false = e in let w : _≡_ {A = ℕ} 0 1 = cc in omega arith)
-
-pub or-true : (a b : Bool) → a || b ≡ true → (a ≡ true) ⊎ (b ≡ true)
-or-true true b e = inl refl
-or-true false b e = inr e
-
 and-false : (a b : Bool) → a && b ≡ false → a ≡ true → b ≡ false
 and-false true b e f = e
-and-false false b e f = absurd (let z : false ≡ true = f in let w : _≡_ {A = ℕ} 0 1 = cc in omega arith)
+and-false false b e f = impossible (cc f)
 
 -- ---- an entry
 
@@ -77,11 +69,11 @@ unsound-second l (inr h) = class-high (leb-true 4 (length l) (and-left (leb 4 (l
 unsound-first : (l : List ℕ) → ((leb 2 (length l) && ltb (be2 l 0) 3) ≡ true)
     ⊎ (((leb 3 (length l) && not (eqb (getD l 2 0) 1)) || (leb 4 (length l) && ltb 1 (getD l 3 0))) ≡ true) → Unsound l
 unsound-first l (inl h) = length-low (leb-true 2 (length l) (and-left (leb 2 (length l)) _ h)) (ltb-true (be2 l 0) 3 (and-right (leb 2 (length l)) _ h))
-unsound-first l (inr h) = unsound-second l (or-true _ _ h)
+unsound-first l (inr h) = unsound-second l (or-split _ _ h)
 
 pub unsound-of : (l : List ℕ) → malformed l ≡ true → Unsound l
 unfolding malformed
-unsound-of l e = unsound-first l (or-true _ _ e)
+unsound-of l e = unsound-first l (or-split _ _ e)
 
 -- ---- the cases
 
@@ -102,7 +94,7 @@ begins-of l S e =
 
 cut-of : (l : List ℕ) → cut l ≡ true → length l < 2 + be2 l 0 ⊎ length l < 2
 unfolding cut
-cut-of l e = go (or-true _ _ e)
+cut-of l e = go (or-split _ _ e)
   where
     go : (ltb (length l) 2 ≡ true) ⊎ (ltb (length l) (2 + be2 l 0) ≡ true) → length l < 2 + be2 l 0 ⊎ length l < 2
     go (inl h) = inr (ltb-true _ _ h)

@@ -8,6 +8,7 @@ use lib.ListN.{length, getD, take, drop, replicate, length-append, length-replic
 use lib.Seq.{length-take-le, take-at, drop-at}
 use Rattle.area.specs.Area.{pick, part, Bytes}
 use Rattle.area.specs.Numbers.{be2, bytes2}
+use Rattle.area.proofs.Numbers.{Bytes-drop}
 use Rattle.frame.specs.declared.Party.{Party}
 use Rattle.frame.specs.declared.Party.the-variants as P
 use Rattle.frame.specs.Messages.{numberIn}
@@ -217,11 +218,6 @@ nothing-left : (l : List ℕ) → length l ≡ 0 → l ≡ []
 nothing-left [] h = refl
 nothing-left (x ∷ l) h = absurd (omega arith)
 
-pub bytes-drop : (l : List ℕ) (n : ℕ) → Bytes l → Bytes (drop n l)
-bytes-drop l zero p = p
-bytes-drop [] (suc n) p = p
-bytes-drop (x ∷ l) (suc n) p = bytes-drop l n (p .1)
-
 close-at : (l : List ℕ) (c : Closing) → Closes c l → Read l (closed c)
 unfolding traceBytes
 close-at l c k = record { rest = l; writable = tt; is = refl; closes = k }
@@ -239,7 +235,7 @@ read-next l t g r = record {
 reads : (m : ℕ) (l : List ℕ) → length l ≤ m → Bytes l → Read l (traceFrom m l)
 unfolding traceFrom thenTrace
 reads zero l h p = close-at l C.Whole (nothing-left l (omega arith))
-reads (suc m) l h p = go (λ B. reads m (drop (2 + be2 l 0) l) (fewer l B m h) (bytes-drop l (2 + be2 l 0) p)) (front l)
+reads (suc m) l h p = go (λ B. reads m (drop (2 + be2 l 0) l) (fewer l B m h) (Bytes-drop (2 + be2 l 0) l p)) (front l)
   where
     go : (Begins l → Read (drop (2 + be2 l 0) l) (traceFrom m (drop (2 + be2 l 0) l))) → {r : Reading} → Front l r → Read l (thenTrace r l (traceFrom m))
     go f (none e) = close-at l C.Whole (nothing-left l e)

@@ -6,6 +6,7 @@ use mathlib.Core.List.{List, [], _∷_}
 use lib.ListN.{length, take, drop, length-drop}
 use lib.Seq.{take-all, drop-drop}
 use Rattle.area.specs.Numbers.{be2}
+use Rattle.area.proofs.Tests.{impossible}
 use Rattle.entries.specs.declared.Closing.{Closing}
 use Rattle.entries.specs.declared.Closing.the-variants as C
 use Rattle.entries.specs.declared.Reading.{Reading}
@@ -97,9 +98,9 @@ pub entry-within : (l : List ℕ) (x : Found) → readingOf l ≡ R.Entry x → 
 entry-within l x = go (front l)
   where
     go : {r : Reading} → Front l r → r ≡ R.Entry x → (5 ≤ x .end) × (x .end ≤ length l)
-    go (none h) e = absurd (let z : _≡_ {A = ℕ} 0 1 = cc in omega arith)
-    go (bad u) e = absurd (let z : _≡_ {A = ℕ} 0 1 = cc in omega arith)
-    go (short h s c) e = absurd (let z : _≡_ {A = ℕ} 0 1 = cc in omega arith)
+    go (none h) e = impossible (cc e)
+    go (bad u) e = impossible (cc e)
+    go (short h s c) e = impossible (cc e)
     go (one B) e =
         let i : foundAt l ≡ x = cc in
         let k : 2 + be2 l 0 ≡ x .end = ap (λ (y : Found). y .end) i in

@@ -1,29 +1,25 @@
 -- Only written forms are read: a frame that opens is the frame of the message that it says. Assumes nothing.
 use Prim.Native.Nat.{ℕ, zero, suc, _+_, _≤_, _<_}
 use native.Mathlib.Omega.{arith}
-use native.Mathlib.Numerals.{add-one}
-use mathlib.Core.Bool.{true, false}
+use mathlib.Core.Bool.{false}
 use mathlib.Core.Path.{_≡_, refl, ap, sym, _∙_}
-use mathlib.Core.List.{List, [], _∷_, _++_, append-assoc}
+use mathlib.Core.List.{List, [], _∷_, _++_}
 use lib.ListN.{length, getD, take, drop, length-drop, drop-of-length-le, take-append-drop}
 use lib.Seq.{take-all, drop-cons}
 use Rattle.area.specs.Area.{pick, part, Bytes}
 use Rattle.area.specs.Numbers.{be2, be4, be8, bytes2, bytes4, bytes8}
+use Rattle.area.proofs.Tests.{impossible}
 use Rattle.area.proofs.Sets.{length-part}
 use Rattle.area.proofs.Numbers.{part-part, bytes2-be2, bytes4-be4, bytes8-be8, be4-range, be8-range}
 use Rattle.blocks.specs.declared.Params.{Params}
-use Rattle.frame.specs.declared.Stamp.{Stamp}
 use Rattle.frame.specs.declared.Header.{Header}
-use Rattle.frame.specs.declared.Opened.{Opened}
 use Rattle.frame.specs.declared.Opened.the-variants as O
 use Rattle.frame.specs.Params.{width, listed, entryLength}
-use Rattle.frame.specs.Messages.{Entry, Stage, send, echo, ready, Body, getStamp, ack, askRead, readComplete}
-use Rattle.frame.specs.Messages.{stampIs, blockIs, valueIs, Message, message, Sized, FormedBody, Formed}
+use Rattle.frame.specs.Messages.{valueIs, message, Sized, FormedBody, Formed}
 use Rattle.frame.specs.Frames.{version, versionAt, kindAt, clientAt, sequenceAt, bodyAt, offerAt, writerAt, writeAt, valueAt}
 use Rattle.frame.specs.Frames.{kindOf, retired, bodyLength, lengthOf, entryBytes, offerBytes, stampBytes, bodyBytes}
 use Rattle.frame.specs.Frames.{headerBytes, frameOf, build, headerIn, stampIn, opened, entryIn, offerIn, bodyIn, messageIn}
-use Rattle.frame.proofs.Verdicts.{never}
-use Rattle.frame.proofs.Opening.{StampFine, Opens, opens-facts}
+use Rattle.frame.proofs.Opening.{StampFine, opens-facts}
 
 -- what holds of the kinds in use holds of every kind that is not retired
 kinds {ℓ} : (P : ℕ → Type ℓ) → P 1 → P 2 → P 3 → P 4 → P 5 → P 9 → P 10 → P 11 → P 12 → (k : ℕ) → 1 ≤ k → k ≤ 12 → retired k ≡ false → P k
@@ -34,9 +30,9 @@ kinds P a b c d e f g h i (suc (suc zero)) p q r = b
 kinds P a b c d e f g h i (suc (suc (suc zero))) p q r = c
 kinds P a b c d e f g h i (suc (suc (suc (suc zero)))) p q r = d
 kinds P a b c d e f g h i (suc (suc (suc (suc (suc zero))))) p q r = e
-kinds P a b c d e f g h i (suc (suc (suc (suc (suc (suc zero)))))) p q r = never (cc)
-kinds P a b c d e f g h i (suc (suc (suc (suc (suc (suc (suc zero))))))) p q r = never (cc)
-kinds P a b c d e f g h i (suc (suc (suc (suc (suc (suc (suc (suc zero)))))))) p q r = never (cc)
+kinds P a b c d e f g h i (suc (suc (suc (suc (suc (suc zero)))))) p q r = impossible (cc)
+kinds P a b c d e f g h i (suc (suc (suc (suc (suc (suc (suc zero))))))) p q r = impossible (cc)
+kinds P a b c d e f g h i (suc (suc (suc (suc (suc (suc (suc (suc zero)))))))) p q r = impossible (cc)
 kinds P a b c d e f g h i (suc (suc (suc (suc (suc (suc (suc (suc (suc zero))))))))) p q r = f
 kinds P a b c d e f g h i (suc (suc (suc (suc (suc (suc (suc (suc (suc (suc zero)))))))))) p q r = g
 kinds P a b c d e f g h i (suc (suc (suc (suc (suc (suc (suc (suc (suc (suc (suc zero))))))))))) p q r = h

@@ -1,20 +1,19 @@
 -- Who sends a frame, and who gets it: the two bytes of a party, the servers, and what goes to all of them. Assumes nothing.
 use Prim.Native.Nat.{ℕ, zero, suc, _≤_}
 use mathlib.Core.Path.{_≡_, refl, ap}
-use mathlib.Core.Bool.{true, false}
+use mathlib.Core.Bool.{true}
 use mathlib.Core.Logic.{⊎-elim}
 use mathlib.Core.List.{List, [], _∷_, _++_, List·Memᴰ, List·Memᴰ·not-nil, List·Memᴰ·cases-cons}
 use lib.Dec.{leb}
 use lib.ListN.{length, getD, drop}
 use borrow.Author.Tests.{leb-true}
 use Rattle.area.specs.Area.{pick}
-use Rattle.area.proofs.Tests.{and-left, and-right}
+use Rattle.area.proofs.Tests.{impossible, and-left, and-right}
 use Rattle.blocks.specs.declared.Params.{Params}
 use Rattle.frame.specs.declared.Party.{Party}
 use Rattle.frame.specs.declared.Party.the-variants as P
 use Rattle.frame.specs.Messages.{Message, Sending, toFrom, numberIn, fromServer}
 use Rattle.frame.specs.Outbox.{partyBytes, partyIn}
-use Rattle.frame.proofs.Verdicts.{never}
 
 -- ---- the two bytes of a party
 
@@ -41,7 +40,7 @@ party-back (P.Server j) l = (refl, refl)
 
 -- one of servers 1 to n
 pub server-number : (g : Params) (from : Party) → fromServer g from ≡ true → (1 ≤ numberIn from) × (numberIn from ≤ g .n)
-server-number g (P.Client c) e = never (cc)
+server-number g (P.Client c) e = impossible (cc)
 server-number g (P.Server j) e = (leb-true 1 j (and-left (leb 1 j) (leb j (g .n)) e), leb-true j (g .n) (and-right (leb 1 j) (leb j (g .n)) e))
 
 -- what goes to all servers is one of the messages

@@ -1,20 +1,23 @@
--- Frames of messages within their bounds are no longer than the largest frame; and the room that is left behind frames. Assumes nothing.
+-- Frames of messages within their bounds are no longer than the largest frame, and say how long they are; and the room that is left behind frames.
+-- Assumes nothing.
 use Prim.Native.Nat.{ℕ, _+_, _*_, _≤_}
 use native.Mathlib.Omega.{arith}
 use native.Mathlib.Nat.{add-mul, suc-mul, mul-le-mul-left, mul-le-mul-right}
-use mathlib.Core.List.{List, [], _∷_, _++_}
-use mathlib.Core.Path.{_≡_, ap, _∙_}
+use mathlib.Core.List.{List, [], _∷_, _++_, List·Memᴰ, List·Memᴰ·head, List·Memᴰ·tail}
+use mathlib.Core.Path.{_≡_, refl, ap, _∙_}
 use lib.ListN.{length, length-append}
 use lib.Seq.{length-sets}
-use Rattle.area.proofs.Numbers.{length-bytes8}
+use Rattle.area.specs.Numbers.{be2}
+use Rattle.area.proofs.Numbers.{length-bytes8, be2-front}
 use Rattle.blocks.specs.declared.Params.{Params}
-use Rattle.frame.specs.Params.{entryLength, largestFrame}
-use Rattle.frame.specs.Messages.{Stage, send, echo, ready, Body, getStamp, ack, askRead, readComplete}
-use Rattle.frame.specs.Messages.{stampIs, blockIs, valueIs, Message, Sending, FormedBody}
-use Rattle.frame.specs.Frames.{bodyAt, kindOf, entryBytes, stampBytes, bodyBytes, frameOf, build}
+use Rattle.frame.specs.Params.{entryLength, largestFrame, Bounded}
+use Rattle.frame.specs.Messages.{Body, getStamp, ack, askRead, readComplete}
+use Rattle.frame.specs.Messages.{stampIs, blockIs, valueIs, Message, Sending, FormedBody, Formed}
+use Rattle.frame.specs.Frames.{kindOf, entryBytes, stampBytes, bodyBytes, build}
 use Rattle.frame.specs.declared.Place.{Place}
 use Rattle.frame.specs.Outbox.{frames, receivers, Outbox, outbox, sent, Room}
-use Rattle.frame.proofs.RoundTrip.{length-frame, length-entry, length-offer, length-stamp}
+use Rattle.frame.proofs.RoundTrip.{length-frame, length-field, length-entry, length-offer, length-stamp}
+use Rattle.frame.proofs.Sizes.{small}
 
 pub body-room : (g : Params) (b : Body) → FormedBody g b → length (bodyBytes b) ≤ 13 + entryLength g
 unfolding bodyBytes
@@ -37,11 +40,27 @@ abbrev pub AllFormed : Params → List Sending → Type 0
 AllFormed g [] = Unit {0}
 AllFormed g (x ∷ xs) = FormedBody g (x .says .body) × AllFormed g xs
 
+pub all-formed : (g : Params) (xs : List Sending) → ((x : Sending) → List·Memᴰ x xs → Formed g (x .says)) → AllFormed g xs
+all-formed g [] f = tt
+all-formed g (x ∷ xs) f = (f x (List·Memᴰ·head refl) .body, all-formed g xs (λ y u. f y (List·Memᴰ·tail u)))
+
 pub frames-room : (g : Params) (xs : List Sending) → AllFormed g xs → length (frames xs) ≤ length xs * largestFrame g
 unfolding frames
 frames-room g [] f = omega arith
 frames-room g (x ∷ xs) f =
     rw suc-mul (omega (arith, length-append (build (x .says)) (frames xs), build-room g (x .says) (f .0), frames-room g xs (f .1)))
+
+-- a frame's length field says how long it is, whatever stands behind it
+module _ (g : Params) (B : Bounded g) where
+  frame-says : (m : Message) → FormedBody g (m .body) → 2 + be2 (build m) 0 ≡ length (build m)
+  unfolding build
+  frame-says m f =
+      let S = small g B in
+      let r = body-room g (m .body) f in
+      omega (arith, length-field (kindOf (m .body)) (m .client) (m .sequence) (bodyBytes (m .body)) (omega (arith, r, S .list-room, S .block-room)))
+
+  pub front-says : (m : Message) → FormedBody g (m .body) → (rest : List ℕ) → 2 + be2 (build m ++ rest) 0 ≡ length (build m)
+  front-says m f rest = ap (λ k. 2 + k) (be2-front (build m) rest (omega (arith, frame-says m f))) ∙ frame-says m f
 
 -- ---- the room of lent areas
 

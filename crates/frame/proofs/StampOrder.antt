@@ -1,16 +1,15 @@
--- Stamps are ordered by time, writer and sequence, strictly and totally; and so are their keys, one number each. Assumes nothing.
-use Prim.Native.Nat.{ℕ, _+_, _*_, _≤_, _<_}
+-- Stamps are ordered by time, writer and sequence, strictly and totally. Assumes nothing.
+use Prim.Native.Nat.{ℕ, _≤_, _<_}
 use native.Mathlib.Omega.{arith}
 use native.Mathlib.Decide.{decLe}
-use mathlib.Core.Bool.{Bool, true, false, _&&_, _||_}
+use mathlib.Core.Bool.{Bool, true, false, _||_}
 use mathlib.Core.Path.{_≡_, refl, ap, sym, _∙_}
 use mathlib.Core.Logic.{_⊎_, inl, inr, ⊎-elim}
 use lib.Dec.{ltb, eqb}
 use borrow.Author.Tests.{ltb-true, eqb-true, lt-ltb, le-ltb, eq-eqb, ne-eqb}
-use Rattle.area.proofs.Tests.{and-left, and-right, and-true, or-split, or-left, or-right}
+use Rattle.area.proofs.Tests.{impossible, and-left, and-right, and-true, or-split, or-left, or-right}
 use Rattle.frame.specs.declared.Stamp.{Stamp}
 use Rattle.frame.specs.Stamps.{older, sameStamp, zeroStamp}
-use Rattle.frame.proofs.Verdicts.{never}
 
 -- a comes before b; a is at most b
 abbrev pub Less : Stamp → Stamp → Type 0
@@ -117,7 +116,7 @@ stamps-ordered = record {
 
 -- not before b: at least b
 pub at-most-of : (a b : Stamp) → older b a ≡ false → AtMost a b
-at-most-of a b e = ⊎-elim (λ h. inr h) (⊎-elim (λ h. inl h) (λ h. never (cc (e, older-of b a h)))) (total a b)
+at-most-of a b e = ⊎-elim (λ h. inr h) (⊎-elim (λ h. inl h) (λ h. impossible (cc (e, older-of b a h)))) (total a b)
 
 pub at-most-trans : (a b c : Stamp) → AtMost a b → AtMost b c → AtMost a c
 at-most-trans a b c (inl e) k = rw e k
@@ -133,7 +132,6 @@ at-most-both a b (inl e) k = e
 at-most-both a b (inr h) k = absurd (at-most-back b a k h)
 
 pub zero-least : (a : Stamp) → AtMost zeroStamp a
-unfolding zeroStamp
 zero-least a = ⊎-elim (λ h. inr h) (⊎-elim (λ h. inl h) (λ h. absurd (not h))) (total _ a)
   where
     not : Less a (record { time = 0; writer = 0; sequence = 0 }) → ⊥
@@ -141,48 +139,21 @@ zero-least a = ⊎-elim (λ h. inr h) (⊎-elim (λ h. inl h) (λ h. absurd (not
     not (inr (e, inl h)) = omega arith
     not (inr (e, inr (f, h))) = omega arith
 
--- ---- keys
-
--- the ranges of a frame's fields
-pub record InRange (s : Stamp) : Type 0 where
-  pub writer : s .writer < 16
-  pub sequence : s .sequence < 4294967296
-
-abbrev pub key : Stamp → ℕ
-key s = s .time * 68719476736 + s .writer * 4294967296 + s .sequence
-
-pub key-injective : (a b : Stamp) → InRange a → InRange b → key a ≡ key b → a ≡ b
-key-injective a b ra rb h =
-    let e : (a .time ≡ b .time) × (a .writer ≡ b .writer) × (a .sequence ≡ b .sequence) = omega arith in
-    λ i. record { time = e .0 i; writer = e .1 i; sequence = e .2 i }
-
-pub key-less : (a b : Stamp) → InRange a → InRange b → Less a b → key a < key b
-key-less a b ra rb (inl h) = omega arith
-key-less a b ra rb (inr (e, inl h)) = omega arith
-key-less a b ra rb (inr (e, inr (f, h))) = omega arith
-
-pub key-time : (a b : Stamp) → InRange a → InRange b → key a ≤ key b → a .time ≤ b .time
-key-time a b ra rb h = go (decLe (a .time) (b .time))
-  where
-    go : Dec (a .time ≤ b .time) → a .time ≤ b .time
-    go (yes z) = z
-    go (no z) = omega arith
-
 -- ---- the code's turns: the first part that differs decides
 
-or-false : (a : Bool) → (a || false) ≡ a
-or-false true = refl
-or-false false = refl
+or-neither : (a : Bool) → (a || false) ≡ a
+or-neither true = refl
+or-neither false = refl
 
 pub older-time : (a b : Stamp) → (a .time ≡ b .time → ⊥) → ltb (a .time) (b .time) ≡ older a b
 unfolding older
-older-time a b h = rw (ne-eqb _ _ h) (sym (or-false (ltb (a .time) (b .time))))
+older-time a b h = rw (ne-eqb _ _ h) (sym (or-neither (ltb (a .time) (b .time))))
 
 pub older-writer : (a b : Stamp) → a .time ≡ b .time → (a .writer ≡ b .writer → ⊥) → ltb (a .writer) (b .writer) ≡ older a b
 unfolding older
 older-writer a b e h =
     let k : b .time ≤ a .time = omega arith in
-    rw (le-ltb _ _ k, eq-eqb _ _ e, ne-eqb _ _ h) (sym (or-false (ltb (a .writer) (b .writer))))
+    rw (le-ltb _ _ k, eq-eqb _ _ e, ne-eqb _ _ h) (sym (or-neither (ltb (a .writer) (b .writer))))
 
 pub older-sequence : (a b : Stamp) → a .time ≡ b .time → a .writer ≡ b .writer → ltb (a .sequence) (b .sequence) ≡ older a b
 unfolding older

@@ -1,24 +1,18 @@
 -- What a chain of tests tells where nothing spoke against it. Assumes nothing.
 use mathlib.Core.Path.{_≡_, refl}
 use mathlib.Core.Bool.{Bool, true, false}
-use native.Mathlib.Omega.{arith}
-use Prim.Native.Nat.{ℕ}
 use Rattle.area.specs.Area.{pick}
-use Rattle.area.proofs.Tests.{pick-not, pick-is}
+use Rattle.area.proofs.Tests.{impossible, pick-not, pick-is}
 use Rattle.frame.specs.declared.Header.{Header}
 use Rattle.frame.specs.declared.Refusal.{Refusal}
 use Rattle.frame.specs.declared.Verdict.{Verdict}
 use Rattle.frame.specs.declared.Verdict.the-variants as J
-use Rattle.frame.specs.declared.Opened.{Opened}
 use Rattle.frame.specs.declared.Opened.the-variants as O
 use Rattle.frame.specs.Refusals.{andThen}
 use Rattle.frame.specs.Frames.{openedBy}
 
-pub never {ℓ} : {A : Type ℓ} → _≡_ {A = ℕ} 0 1 → A
-never z = absurd (omega arith)
-
 pub bad-fine : (r : Refusal) → J.Bad r ≡ J.Fine → ⊥
-bad-fine r e = never (cc)
+bad-fine r e = impossible (cc)
 
 -- a test that turns down where b holds
 pub fine-not : (b : Bool) (r : Refusal) (v : Verdict) → pick b (J.Bad r) v ≡ J.Fine → (b ≡ false) × (v ≡ J.Fine)
@@ -34,4 +28,4 @@ fine-both (J.Bad r) b e = absurd (bad-fine r e)
 
 pub fine-opened : (v : Verdict) (h h′ : Header) → openedBy v h ≡ O.Frame h′ → (v ≡ J.Fine) × (h ≡ h′)
 fine-opened J.Fine h h′ e = (refl, cc)
-fine-opened (J.Bad r) h h′ e = never (cc)
+fine-opened (J.Bad r) h h′ e = impossible (cc)

@@ -1,7 +1,7 @@
 -- Frames: "Length (2 bytes, big-endian, counting what follows it), version 1, kind, client (1), sequence (4), body." The bytes of a
 -- message's frame, and what opening a frame of any length and content finds. Assumes nothing: these are definitions.
 use Prim.Native.Nat.{ℕ, _+_}
-use mathlib.Core.Bool.{Bool, true, false, not, _&&_, _||_}
+use mathlib.Core.Bool.{Bool, _&&_}
 use mathlib.Core.List.{List, [], _∷_, _++_}
 use lib.ListN.{length, getD}
 use lib.Dec.{eqb, ltb, leb}
@@ -16,8 +16,8 @@ use Rattle.frame.specs.declared.Opened.{Opened}
 use Rattle.frame.specs.declared.Opened.the-variants as O
 use Rattle.frame.specs.Refusals.{andThen, refused}
 use Rattle.frame.specs.Params.{width, listed, entryLength, boundsTest}
-use Rattle.frame.specs.Stamps.{partsAgree}
-use Rattle.frame.specs.Messages.{Entry, entry, Offer, offer, Stage, send, echo, ready, Body, getStamp, ack}
+use Rattle.frame.specs.Stamps.{partsAgree, lastClient}
+use Rattle.frame.specs.Messages.{Entry, entry, Offer, offer, send, echo, ready, Body, getStamp, ack}
 use Rattle.frame.specs.Messages.{askRead, readComplete, stampIs, blockIs, valueIs, Message, message}
 
 -- ---- layout
@@ -133,7 +133,7 @@ headerTest v h =
     (pick (ltb 12 (h .kind)) (refused 6)
     (pick (retired (h .kind)) (refused 6)
     (pick (ltb (h .client) 1) (refused 7)
-    (pick (ltb 8 (h .client)) (refused 7)
+    (pick (ltb lastClient (h .client)) (refused 7)
     (pick (eqb (h .sequence) 0) (refused 7)
     J.Fine))))))
     (refused 5)
@@ -149,7 +149,7 @@ stampIn f = record { time = be8 f bodyAt; writer = getD f writerAt 0; sequence =
 -- 9, of a value's stamp
 unfoldable pub stampTest : Stamp → Verdict
 stampTest s =
-    pick (partsAgree (s .time) (s .writer) (s .sequence)) (pick (ltb 8 (s .writer)) (refused 9) J.Fine) (refused 9)
+    pick (partsAgree (s .time) (s .writer) (s .sequence)) (pick (ltb lastClient (s .writer)) (refused 9) J.Fine) (refused 9)
 
 -- 9
 unfoldable pub contentTest : ℕ → List ℕ → Verdict

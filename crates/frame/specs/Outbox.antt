@@ -13,7 +13,7 @@ use Rattle.frame.specs.declared.Broadcast.{Broadcast}
 use Rattle.frame.specs.declared.Broadcast.the-variants as B
 use Rattle.frame.specs.declared.Ask.{Ask}
 use Rattle.frame.specs.declared.Ask.the-variants as A
-use Rattle.frame.specs.Messages.{Sending, Stage, send, echo, ready, Body, getStamp, askRead, readComplete}
+use Rattle.frame.specs.Messages.{Sending, Stage, echo, ready, Body, getStamp, askRead, readComplete}
 use Rattle.frame.specs.Frames.{build}
 
 -- frames end to end
@@ -74,7 +74,6 @@ pub record Room (p : Place) (m size out to : ℕ) : Type 0 where
 
 -- the code's names of a broadcast's steps and of what clients ask
 abbrev pub stageOf : Broadcast → Stage
-stageOf B.Send = send
 stageOf B.Echo = echo
 stageOf B.Ready = ready
 

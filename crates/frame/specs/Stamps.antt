@@ -1,6 +1,6 @@
 -- "A stamp is (time, writer, write sequence), compared in that order." Assumes nothing: these are definitions.
-use Prim.Native.Nat.{ℕ, _<_}
-use mathlib.Core.Bool.{Bool, true, false, not, _&&_, _||_}
+use Prim.Native.Nat.{ℕ}
+use mathlib.Core.Bool.{Bool, not, _&&_, _||_}
 use lib.Dec.{eqb, ltb}
 use Rattle.area.specs.Area.{pick}
 use Rattle.frame.specs.declared.Stamp.{Stamp}
@@ -14,8 +14,8 @@ older a b =
 unfoldable pub sameStamp : Stamp → Stamp → Bool
 sameStamp a b = eqb (a .time) (b .time) && (eqb (a .writer) (b .writer) && eqb (a .sequence) (b .sequence))
 
--- "A fresh server holds stamp 0, client 0 and sequence 0"
-unfoldable pub zeroStamp : Stamp
+-- "A fresh server holds stamp 0, client 0 and sequence 0"; it stands too for what lies past the end of an array of stamps
+abbrev pub zeroStamp : Stamp
 zeroStamp = record { time = 0; writer = 0; sequence = 0 }
 
 -- "In a value the three stamp parts are all zero or none is"

@@ -42,7 +42,11 @@ pub const AREA_BYTES: usize = 97344;
 pub const ROWS_BYTES: usize = 23040;
 
 // Clients are 1 to 8.
-pub const CLIENTS: usize = 8;
+pub const LAST_CLIENT: u8 = 8;
 
-// The largest time, 2^64 - 1.
+pub const CLIENTS: usize = LAST_CLIENT as usize;
+
+// The largest sequence, 2^32 - 1, and the largest time, 2^64 - 1.
+pub const LAST_SEQUENCE: u32 = 4294967295;
+
 pub const LAST_TIME: u64 = 18446744073709551615;

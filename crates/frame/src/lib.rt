@@ -76,9 +76,8 @@ pub struct WriteTime {
     pub time: u64,
 }
 
-// The three steps of a broadcast.
+// What a server sends to all in a broadcast.
 pub enum Broadcast {
-    Send,
     Echo,
     Ready,
 }

@@ -9,6 +9,7 @@ use crate::bounds::width;
 use crate::layout::BODY_AT;
 use crate::layout::CLIENT_AT;
 use crate::layout::KIND_AT;
+use crate::layout::LAST_CLIENT;
 use crate::layout::LENGTH_AT;
 use crate::layout::SEQUENCE_AT;
 use crate::layout::VERSION;
@@ -19,7 +20,7 @@ use crate::stamps::parts_agree;
 use blocks::Params;
 ghost use mathlib.Core.Path.{_≡_};
 ghost use Prim.Native.Nat.{_+_, _≤_, _<_};
-ghost use lib.ListN.{length, getD};
+ghost use lib.ListN.{length};
 ghost use Rattle.frame.specs.Params.{Bounded};
 ghost use Rattle.frame.specs.Frames.{retired, lengthOf, bodyLength, framingTest, headerIn, headerTest};
 ghost use Rattle.frame.specs.Frames.{bodyTest, stampIn, stampTest, contentTest, opened, openedUnder};
@@ -79,7 +80,7 @@ pub fn header_test(version: u8, h: Header) -> Verdict
     if h.client < 1 {
         return Verdict::Bad(Refusal::Owner);
     }
-    if 8 < h.client {
+    if LAST_CLIENT < h.client {
         return Verdict::Bad(Refusal::Owner);
     }
     if h.sequence == 0 {
@@ -151,7 +152,7 @@ pub fn stamp_test(s: Stamp) -> Verdict
     if !parts_agree(s) {
         return Verdict::Bad(Refusal::Content);
     }
-    if 8 < s.writer {
+    if LAST_CLIENT < s.writer {
         return Verdict::Bad(Refusal::Content);
     }
     Verdict::Fine

@@ -15,8 +15,8 @@ ghost use Prim.Native.Nat.{_+_, _*_, _≤_, _<_};
 ghost use lib.ListN.{length};
 ghost use lib.Seq.{sets};
 ghost use Rattle.area.specs.Numbers.{bytes8};
-ghost use Rattle.frame.specs.Params.{Bounded, entryLength};
-ghost use Rattle.frame.specs.Messages.{entry, offer, message, sending, toAll, Sized, getStamp, ack, stampIs, blockIs, valueIs, send};
+ghost use Rattle.frame.specs.Params.{Bounded};
+ghost use Rattle.frame.specs.Messages.{entry, offer, message, sending, toAll, ack, stampIs, blockIs, valueIs, send};
 ghost use Rattle.frame.specs.Frames.{kindOf, stampBytes, headerBytes, frameOf};
 ghost use Rattle.frame.specs.Outbox.{outbox, sent, wrote, wroteTo, Room, stageOf, askOf};
 
@@ -155,7 +155,6 @@ fn block_kind(z: Broadcast) -> u8
     ensures { λ r. ⌜ r ≡ kindOf (blockIs (stageOf z) (offer 0 (entry [] []))) ⌝ }
 {
     match z {
-        Broadcast::Send => 3,
         Broadcast::Echo => 4,
         Broadcast::Ready => 5,
     }

@@ -7,7 +7,7 @@ use mathlib.Core.List.{List}
 use lib.ListN.{length, getD, drop}
 use borrow.Author.Tests.{not-true, not-false}
 use Rattle.area.specs.Area.{pick, part, same, joined}
-use Rattle.quorum.proofs.Logic.{and-split}
+use Rattle.quorum.proofs.Logic.{impossible, and-split, and-false}
 use Rattle.blocks.specs.declared.Params.{Params}
 use Rattle.blocks.specs.Code.{blockOf}
 use Rattle.sha256.specs.Hash.{digestOf}
@@ -21,7 +21,7 @@ use Rattle.group.proofs.Digests.{block-digests, rest, rest-start, rest-
 
 -- two tests in turn
 both-false : (a b x y : Bool) → a && b ≡ false → (a && x) && (b && y) ≡ false
-both-false true true x y e = absurd (let z : _≡_ {A = ℕ} 0 1 = cc in omega arith)
+both-false true true x y e = impossible (cc e)
 both-false true false true y e = refl
 both-false true false false y e = refl
 both-false false b x y e = refl
@@ -35,10 +35,6 @@ toCompare g at a on v list j = left g at a on v j && same (joined (λ i. digestO
 abbrev pub checked : Bool → List ℕ → List ℕ → List ℕ → ℕ → Bool
 checked m own u list j = pick m (same own u) true && fits digestOf (entry list u) j
 
-and-false : (x : Bool) → x && false ≡ false
-and-false true = refl
-and-false false = refl
-
 and-true-right : (x : Bool) → x && true ≡ x
 and-true-right true = refl
 and-true-right false = refl
@@ -48,7 +44,7 @@ module _ (m : Bool) (own u u′ list : List ℕ) (j : ℕ) (r : Bool) (e : u′ 
   fit-is b h = sym (ap (λ (x : List ℕ). fits digestOf (entry list x) j) e) ∙ sym f ∙ h
 
   pub no-fit : not r ≡ true → false ≡ checked m own u list j
-  no-fit t = sym (ap (λ (b : Bool). pick m (same own u) true && b) (fit-is false (not-true r t)) ∙ and-false (pick m (same own u) true))
+  no-fit t = sym (ap (λ (b : Bool). pick m (same own u) true && b) (fit-is false (not-true r t)) ∙ and-false (pick m (same own u) true) false refl)
 
   pub fit-unflagged : not r ≡ false → not m ≡ true → true ≡ checked m own u list j
   unfolding pick

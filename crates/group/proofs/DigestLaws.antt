@@ -2,24 +2,35 @@
 use Prim.Native.Nat.{ℕ, _+_, _*_, _-_, _≤_, _<_}
 use native.Mathlib.Omega.{arith}
 use native.Mathlib.Nat.{mul-comm, div-le-of-le-mul}
-use mathlib.Core.Bool.{Bool}
+use mathlib.Core.Bool.{Bool, true, false, not}
 use mathlib.Core.Path.{_≡_, refl, ap, sym, _∙_}
 use mathlib.Core.List.{List, _++_}
 use lib.ListN.{length, take, drop}
 use lib.Seq.{sets}
-use Rattle.area.specs.Area.{part, same, joined}
+use borrow.Author.Tests.{not-true, not-false}
+use Rattle.area.specs.Area.{pick, part, same, joined}
 use Rattle.area.proofs.Sets.{sets-next, part-sets-same}
 use Rattle.area.proofs.Fills.{joined-snoc, length-joined}
 use Rattle.blocks.specs.Code.{blockLength, blockOf}
 use Rattle.blocks.proofs.Stripes.{length-blockOf}
-use Rattle.frame.specs.Messages.{entry}
-use Rattle.group_rules.specs.Coded.{fits}
+use Rattle.frame.specs.declared.Verdict.the-variants as J
+use Rattle.frame.specs.Refusals.{refused}
+use Rattle.frame.specs.Messages.{Entry, entry}
+use Rattle.group_rules.specs.Coded.{fits, fitTest}
 use Rattle.frame.proofs.Writing.{part-at}
 
 pub fits-by : (H : List ℕ → List ℕ) (d b o : List ℕ) (j : ℕ) (r : Bool) → o ≡ H b
     → r ≡ same o (take (32 * j - 32 + 32 - (32 * j - 32)) (drop (32 * j - 32) d)) → r ≡ fits H (entry d b) j
 unfolding fits
 fits-by H d b o j r e q = let p = part-at d (32 * j - 32) 32 32 refl in q ∙ (λ i. same (e i) (p i))
+
+pub fit-bad : (H : List ℕ → List ℕ) (e : Entry) (j : ℕ) (b : Bool) → b ≡ fits H e j → not b ≡ true → refused 14 ≡ fitTest H e j
+unfolding fitTest pick
+fit-bad H e j b p q = let d : fits H e j ≡ false = sym p ∙ not-true b q in rw d
+
+pub fit-fine : (H : List ℕ → List ℕ) (e : Entry) (j : ℕ) (b : Bool) → b ≡ fits H e j → not b ≡ false → J.Fine ≡ fitTest H e j
+unfolding fitTest pick
+fit-fine H e j b p q = let d : fits H e j ≡ true = sym p ∙ not-false b q in rw d
 
 pub block-high : (L k : ℕ) → 0 < k → L ≤ 256 → blockLength L k ≤ 256
 unfolding blockLength

@@ -1,6 +1,6 @@
 -- Lists of 32 bytes end to end, as loops store them and compare them with a digest list. Assumes nothing.
 use mathlib.Core.Path.{_≡_, sym, ap, ap₂, _∙_}
-use mathlib.Core.Bool.{Bool, true, false, _&&_}
+use mathlib.Core.Bool.{Bool, true, _&&_}
 use mathlib.Core.List.{List, _++_}
 use Prim.Native.Nat.{ℕ, suc, _+_, _-_, _*_, _≤_, _<_}
 use native.Mathlib.Nat.{div-le-of-le-mul}
@@ -8,7 +8,7 @@ use native.Mathlib.Omega.{arith}
 use lib.ListN.{length, take, drop, length-drop, drop-of-length-le}
 use lib.Seq.{sets, drop-drop}
 use Rattle.area.specs.Area.{part, same, joined}
-use Rattle.area.proofs.Sets.{sets-next}
+use Rattle.area.proofs.Sets.{sets-next, take-front}
 use Rattle.area.proofs.Fills.{joined-snoc, length-joined}
 use Rattle.blocks.specs.declared.Params.{Params}
 use Rattle.blocks.specs.Code.{blockLength, blockOf}
@@ -17,7 +17,7 @@ use Rattle.sha256.specs.Hash.{digestOf}
 use Rattle.sha256.proofs.Bytes.{length-digest}
 use Rattle.frame.specs.Params.{listed}
 use Rattle.group_rules.specs.Coded.{digestsOf}
-use Rattle.group.proofs.Lists.{take-front, same-split}
+use Rattle.group.proofs.Lists.{same-split}
 
 module _ (f : ℕ → List ℕ) (sized : (j : ℕ) → length (f j) ≡ 32) where
   -- f (j + 1) was stored behind f 1 to f j

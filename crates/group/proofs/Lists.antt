@@ -11,9 +11,8 @@ use lib.Seq.{sets, take-all, take-append-le, length-take-le}
 use lib.Dec.{eqb, ltb}
 use borrow.Author.Tests.{eqb-true, eqb-false, eq-eqb, ne-eqb, lt-ltb, le-ltb}
 use Rattle.area.specs.Area.{pick, same, table}
-use Rattle.area.proofs.Sets.{part-sets-same}
+use Rattle.area.proofs.Sets.{sets-whole}
 use Rattle.area.proofs.Fills.{length-table, sets-table}
-use Rattle.blocks.proofs.Values.{sets-whole}
 
 -- ---- stores at the front
 
@@ -33,12 +32,6 @@ stored-as a b d r i e q = q ∙ ap (sets d i) e
 
 pub compared-with : (a b l : List ℕ) (r : Bool) → a ≡ b → r ≡ same a l → r ≡ same b l
 compared-with a b l r e q = q ∙ ap (λ t. same t l) e
-
--- the front that was stored
-pub take-front : (l vs : List ℕ) (k : ℕ) → length vs ≡ k → k ≤ length l → take k (sets l 0 vs) ≡ vs
-take-front l vs k e h =
-    let z : 0 + length vs ≤ length l = omega arith in
-    rw (← e) (part-sets-same l 0 vs z)
 
 -- every element of a front is below what all elements are below
 pub below-take : (k : ℕ) (l : List ℕ) (b : ℕ) → 0 < b → ((i : ℕ) → getD l i 0 < b) → (i : ℕ) → getD (take k l) i 0 < b

@@ -7,6 +7,7 @@ use native.Mathlib.Nat.{mul-div-le}
 use native.Mathlib.Omega.{arith}
 use lib.ListN.{length, take}
 use lib.Seq.{sets, length-sets, length-take-le}
+use Rattle.area.proofs.Sets.{take-front}
 use Rattle.blocks.specs.declared.Params.{Params}
 use Rattle.blocks.specs.Code.{blockLength, valueOf}
 use Rattle.blocks.proofs.Values.{length-valueOf}
@@ -14,7 +15,6 @@ use Rattle.frame.specs.Params.{width}
 use Rattle.group.specs.Entries.{marked}
 use Rattle.group.specs.Choice.{lowest, blocksIn, valueFrom}
 use Rattle.group.specs.Needs.{Collecting, Decoding}
-use Rattle.group.proofs.Lists.{take-front}
 use Rattle.group.proofs.Choosing.{length-lowest, lowest-below}
 use Rattle.group.proofs.Collecting.{length-blocksIn}
 

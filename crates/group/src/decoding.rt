@@ -14,7 +14,6 @@ ghost use Rattle.area.specs.Area.{pick, same};
 ghost use Rattle.field.specs.Field.{Tables};
 ghost use Rattle.blocks.specs.Code.{blockLength, blockOf};
 ghost use Rattle.frame.specs.Params.{width, Bounded};
-ghost use Rattle.frame.specs.Messages.{Entry};
 ghost use Rattle.frame.specs.Chunks.{chunkAt, entryAt};
 ghost use Rattle.group.specs.Entries.{marked, Within};
 ghost use Rattle.group.specs.Choice.{lowest, blocksIn, valueFrom, allOf};
@@ -115,7 +114,7 @@ fn is_block(
 }
 
 // Whether the blocks of all flagged servers of 1 to n are those of the value.
-pub fn unanimous(
+pub fn all_of(
     value: &[u8],
     on: [bool; 11],
     at: [usize; 11],

@@ -1,11 +1,14 @@
 -- Digest lists, and values from the blocks that servers sent. H is the digest; it is never unfolded. Assumes nothing: these are definitions.
 use Prim.Native.Nat.{ℕ, zero, suc, _*_, _-_}
-use mathlib.Core.Bool.{Bool, true, false}
+use mathlib.Core.Bool.{Bool, false}
 use mathlib.Core.Option.{Option, none, some}
 use mathlib.Core.List.{List, [], _∷_, _++_, map}
 use Rattle.area.specs.Area.{pick, part, same, joined}
 use Rattle.blocks.specs.declared.Params.{Params}
 use Rattle.blocks.specs.Code.{blockOf, candidate, agree, decodedAll}
+use Rattle.frame.specs.declared.Verdict.{Verdict}
+use Rattle.frame.specs.declared.Verdict.the-variants as J
+use Rattle.frame.specs.Refusals.{refused}
 use Rattle.frame.specs.Messages.{Entry, entry}
 
 -- a block with its number
@@ -67,6 +70,10 @@ module _ (H : List ℕ → List ℕ) (g : Params) where
   unfoldable pub entryOf : List ℕ → ℕ → Entry
   entryOf v j = entry (digestsOf v) (blockAt v j)
 
--- 14: whether an entry's block has the digest at place j of its list
+-- whether an entry's block has the digest at place j of its list
 unfoldable pub fits : (List ℕ → List ℕ) → Entry → ℕ → Bool
 fits H e j = same (H (e .block)) (part (e .digests) (32 * j - 32) 32)
+
+-- 14: "block against its digest"
+unfoldable pub fitTest : (List ℕ → List ℕ) → Entry → ℕ → Verdict
+fitTest H e j = pick (fits H e j) J.Fine (refused 14)

@@ -8,12 +8,11 @@ use crate::parties::read;
 use crate::parties::write;
 use crate::print::put_ready;
 use crate::print::put_refused;
-use crate::print::put_what;
 use blocks::Params;
 use console::output::Out;
+use console::output::put_what;
 use server_rules::Reply;
-ghost use mathlib.Core.Path.{_≡_};
-ghost use lib.ListN.{length};
+ghost use Rattle.hall.specs.Areas.{Parties, Servers};
 
 fn with_params(h: Hall, g: Params, o: Out) -> Hall {
     let mut y = h;
@@ -38,7 +37,7 @@ fn begin(
     initials: &mut [u8],
     text: &mut [u8],
 ) -> Hall
-    requires { ⌜ (length (now areas) ≡ 1070784) × (length (now initials) ≡ 2816) ⌝ }
+    requires { ⌜ Servers (now areas) (now initials) ⌝ }
 {
     let r = fresh_servers(g, value, areas, initials);
     if let Reply::Refused(x) = r {
@@ -58,7 +57,7 @@ pub fn answer(
     values: &mut [u8],
     text: &mut [u8],
 ) -> Hall
-    requires { ⌜ (length (now areas) ≡ 1070784) × (length (now initials) ≡ 2816) × (length (now rows) ≡ 207360) × (length (now values) ≡ 2304) ⌝ }
+    requires { ⌜ Parties (now areas) (now initials) (now rows) (now values) ⌝ }
 {
     match ask {
         Ask::Other => with_out(h, put_what(h.out, text)),

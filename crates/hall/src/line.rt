@@ -1,4 +1,10 @@
 // A line of the script, read byte by byte: up to six fields with one space between, and the bytes that its last field spells.
+use case_text::field::Field;
+use case_text::field::field_with;
+use case_text::field::is_bytes;
+use case_text::field::is_number;
+use case_text::field::no_field;
+use case_text::field::store;
 
 // The words of the script, by number; 0 stands for any other.
 pub const HALL: u8 = 1;
@@ -15,7 +21,7 @@ pub const READ: u8 = 6;
 
 pub const WRITE: u8 = 7;
 
-// How they are spelt, as one number, the first byte first: hall, read, write, S, C, c and s; and - for no bytes.
+// How they are spelt, as one number, the first byte first: hall, read, write, S, C, c and s.
 const SPELT_HALL: u64 = 0x68616c6c;
 
 const SPELT_READ: u64 = 0x72656164;
@@ -30,21 +36,7 @@ const SPELT_FROM_CLIENT: u64 = 0x63;
 
 const SPELT_FROM_SERVER: u64 = 0x73;
 
-const NO_BYTES: u64 = 0x2d;
-
-// The field being read: how many bytes it has, 9 standing for more than 8; these as one number; its value as a decimal number, 1000 standing for more;
-// whether it is such a number, without leading zeros; whether it is hexadecimal, and the digit that waits for its second.
-pub struct Field {
-    pub length: usize,
-    pub word: u64,
-    pub number: u16,
-    pub decimal: bool,
-    pub hex: bool,
-    pub odd: bool,
-    pub half: u8,
-}
-
-// What is kept of a field: which word it is; whether it is a decimal number, and its value; whether it spells bytes.
+// What is kept of a field: which word it is; whether it is a decimal number, and its value, 1000 standing for more; whether it spells bytes.
 pub struct Mark {
     pub word: u8,
     pub decimal: bool,
@@ -58,18 +50,6 @@ pub struct Line {
     pub marks: [Mark; 6],
     pub field: Field,
     pub used: usize,
-}
-
-fn no_field() -> Field {
-    Field {
-        length: 0,
-        word: 0,
-        number: 0,
-        decimal: true,
-        hex: true,
-        odd: false,
-        half: 0,
-    }
 }
 
 fn no_mark() -> Mark {
@@ -88,85 +68,6 @@ pub fn no_line() -> Line {
         field: no_field(),
         used: 0,
     }
-}
-
-// The value of a lower-case hexadecimal digit, 16 for any other byte.
-fn digit(b: u8) -> u8 {
-    if b < 48 {
-        return 16;
-    }
-    if b < 58 {
-        return b - 48;
-    }
-    if b < 97 {
-        return 16;
-    }
-    if b < 103 {
-        return b - 87;
-    }
-    16
-}
-
-fn longer(length: usize) -> usize {
-    if length < 9 {
-        return length + 1;
-    }
-    9
-}
-
-// The bytes before and this one, as one number; of more than eight, the last eight.
-fn spelled(word: u64, b: u8) -> u64 {
-    (word % 72057594037927936) * 256 + b as u64
-}
-
-fn decimal_with(number: u16, d: u8) -> u16 {
-    if number < 100 {
-        return number * 10 + d as u16;
-    }
-    1000
-}
-
-// Whether a field stays a decimal number without leading zeros by this digit.
-fn stays_decimal(f: Field, d: u8) -> bool {
-    if !f.decimal {
-        return false;
-    }
-    if 9 < d {
-        return false;
-    }
-    if f.length == 0 {
-        return true;
-    }
-    f.number != 0
-}
-
-fn stays_hex(hex: bool, d: u8) -> bool {
-    if !hex {
-        return false;
-    }
-    d < 16
-}
-
-fn field_with(f: Field, b: u8) -> Field {
-    let d = digit(b);
-    Field {
-        length: longer(f.length),
-        word: spelled(f.word, b),
-        number: decimal_with(f.number, d),
-        decimal: stays_decimal(f, d),
-        hex: stays_hex(f.hex, d),
-        odd: !f.odd,
-        half: d,
-    }
-}
-
-// Stores the byte that two digits spell. What has no room in bytes is counted as one byte too many, which no frame or value has.
-fn store(bytes: &mut [u8], used: usize, high: u8, low: u8) -> usize {
-    if bytes.len() <= used {
-        return used;
-    }
-    bytes[used] = (high % 16) * 16 + low % 16;
-    used + 1
 }
 
 // The number of the word of so many bytes.
@@ -207,33 +108,22 @@ fn letter_of(word: u64) -> u8 {
     0
 }
 
-// Whether a field is a number.
-fn is_number(f: Field) -> bool {
-    if f.length == 0 {
-        return false;
+// A field's value as a number, 1000 standing for more.
+fn small(f: Field) -> u16 {
+    if f.large {
+        return 1000;
     }
-    f.decimal
-}
-
-// Whether a field spells bytes: two digits each, or `-` for none.
-fn is_bytes(f: Field) -> bool {
-    if f.length == 0 {
-        return false;
+    if 1000 < f.number {
+        return 1000;
     }
-    if f.odd {
-        if f.length == 1 {
-            return f.word == NO_BYTES;
-        }
-        return false;
-    }
-    f.hex
+    f.number as u16
 }
 
 fn mark_of(f: Field) -> Mark {
     Mark {
         word: word_of(f.length, f.word),
         decimal: is_number(f),
-        number: f.number,
+        number: small(f),
         bytes: is_bytes(f),
     }
 }

@@ -7,7 +7,11 @@ use crate::line::Line;
 use crate::line::ended;
 use crate::line::is_begun;
 use crate::line::no_line;
+use crate::parties::AREAS;
 use crate::parties::Hall;
+use crate::parties::INITIALS;
+use crate::parties::ROWS;
+use crate::parties::VALUES;
 use crate::parties::no_hall;
 use crate::script::Next;
 use crate::script::next_ask;
@@ -19,6 +23,7 @@ use console::patience::left_after;
 ghost use mathlib.Core.Path.{_≡_};
 ghost use Prim.Native.Nat.{_≤_, _<_};
 ghost use lib.ListN.{length};
+ghost use Rattle.hall.specs.Areas.{Parties};
 
 mod asks;
 mod calls;
@@ -52,7 +57,7 @@ fn step(
     values: &mut [u8],
     text: &mut [u8],
 ) -> Run
-    requires { ⌜ (length (now areas) ≡ 1070784) × (length (now initials) ≡ 2816) × (length (now rows) ≡ 207360) × (length (now values) ≡ 2304) ⌝ }
+    requires { ⌜ Parties (now areas) (now initials) (now rows) (now values) ⌝ }
     ensures { λ x. ⌜ x .at ≡ n .at ⌝ }
 {
     let line = n.line;
@@ -79,7 +84,7 @@ fn take_next(
     text: &mut [u8],
 ) -> Run
     requires { ⌜ r .at < length (now piece) ⌝ }
-    requires { ⌜ (length (now areas) ≡ 1070784) × (length (now initials) ≡ 2816) × (length (now rows) ≡ 207360) × (length (now values) ≡ 2304) ⌝ }
+    requires { ⌜ Parties (now areas) (now initials) (now rows) (now values) ⌝ }
     ensures { λ x. ⌜ (r .at < x .at) × (x .at ≤ length (now (piece .entry))) ⌝ }
 {
     let h = r.hall;
@@ -106,7 +111,7 @@ fn take_all(
     values: &mut [u8],
     text: &mut [u8],
 ) -> Run
-    requires { ⌜ (length (now areas) ≡ 1070784) × (length (now initials) ≡ 2816) × (length (now rows) ≡ 207360) × (length (now values) ≡ 2304) ⌝ }
+    requires { ⌜ Parties (now areas) (now initials) (now rows) (now values) ⌝ }
 {
     let mut y = from_start(r);
     while y.at < piece.len() {
@@ -133,7 +138,7 @@ fn take_piece(
     values: &mut [u8],
     text: &mut [u8],
 ) -> Taken
-    requires { ⌜ (length (now areas) ≡ 1070784) × (length (now initials) ≡ 2816) × (length (now rows) ≡ 207360) × (length (now values) ≡ 2304) ⌝ }
+    requires { ⌜ Parties (now areas) (now initials) (now rows) (now values) ⌝ }
 {
     let mut chunk = io::large_buffer();
     let p = read_piece(fd, &mut chunk);
@@ -166,7 +171,7 @@ fn end_script(
     values: &mut [u8],
     text: &mut [u8],
 )
-    requires { ⌜ (length (now areas) ≡ 1070784) × (length (now initials) ≡ 2816) × (length (now rows) ≡ 207360) × (length (now values) ≡ 2304) ⌝ }
+    requires { ⌜ Parties (now areas) (now initials) (now rows) (now values) ⌝ }
 {
     let line = r.line;
     if !is_begun(line) {
@@ -189,7 +194,7 @@ fn read_script(
     values: &mut [u8],
     text: &mut [u8],
 )
-    requires { ⌜ (length (now areas) ≡ 1070784) × (length (now initials) ≡ 2816) × (length (now rows) ≡ 207360) × (length (now values) ≡ 2304) ⌝ }
+    requires { ⌜ Parties (now areas) (now initials) (now rows) (now values) ⌝ }
 {
     let mut r = Run {
         hall: no_hall(),
@@ -219,29 +224,29 @@ fn serve(
     values: &mut [u8],
     text: &mut [u8],
 ) {
-    if areas.len() != 1070784 {
+    if areas.len() != AREAS {
         return;
     }
-    if initials.len() != 2816 {
+    if initials.len() != INITIALS {
         return;
     }
-    if rows.len() != 207360 {
+    if rows.len() != ROWS {
         return;
     }
-    if values.len() != 2304 {
+    if values.len() != VALUES {
         return;
     }
     read_script(fd, bytes, areas, initials, rows, values, text);
 }
 
 // Eleven state areas.
-fn no_areas() -> [u8; 1070784] {
-    [0; 1070784]
+fn no_areas() -> [u8; AREAS] {
+    [0; AREAS]
 }
 
 // Nine rows areas.
-fn no_rows() -> [u8; 207360] {
-    [0; 207360]
+fn no_rows() -> [u8; ROWS] {
+    [0; ROWS]
 }
 
 // A frame has at most 65537 bytes, by its length field. A field that spells more fills the last place too, and is then no frame and no value.
@@ -251,9 +256,9 @@ fn no_bytes() -> [u8; 65538] {
 
 fn main() {
     let mut areas = no_areas();
-    let mut initials = [0u8; 2816];
+    let mut initials = [0u8; INITIALS];
     let mut rows = no_rows();
-    let mut values = [0u8; 2304];
+    let mut values = [0u8; VALUES];
     let mut bytes = no_bytes();
     let mut text = io::large_buffer();
     let fd = open_input();

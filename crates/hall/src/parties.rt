@@ -16,12 +16,24 @@ use console::counts::count_of;
 use console::output::Out;
 use console::output::nothing;
 use frame::Party;
+use frame::layout::AREA_BYTES;
+use frame::layout::ROWS_BYTES;
 use server::setup::construct;
 use server_rules::Reply;
 use server_rules::Server;
 ghost use mathlib.Core.Path.{_≡_};
-ghost use Prim.Native.Nat.{_+_, _≤_};
+ghost use Prim.Native.Nat.{_+_, _*_, _≤_};
 ghost use lib.ListN.{length};
+ghost use Rattle.hall.specs.Areas.{Clients, Servers};
+
+// The areas of all parties, with a place 0 that nobody has: state areas and initial blocks of servers 1 to 10, rows areas and values of clients 1 to 8.
+pub const AREAS: usize = 11 * AREA_BYTES;
+
+pub const INITIALS: usize = 11 * 256;
+
+pub const ROWS: usize = 9 * ROWS_BYTES;
+
+pub const VALUES: usize = 9 * 256;
 
 // What waits to be printed goes with them.
 pub struct Hall {
@@ -80,17 +92,17 @@ fn with_client(h: Hall, i: usize, s: Client, o: Out) -> Hall {
 
 // Makes servers 1 to n afresh with this initial value. The first refusal is the reply; the parameters being the same, it is the first server's.
 pub fn fresh_servers(g: Params, value: &[u8], areas: &mut [u8], initials: &mut [u8]) -> Reply
-    requires { ⌜ (length (now areas) ≡ 1070784) × (length (now initials) ≡ 2816) ⌝ }
+    requires { ⌜ Servers (now areas) (now initials) ⌝ }
 {
     let mut j = 1;
     while j < 11 {
-        let at = 97344 * j;
+        let at = AREA_BYTES * j;
         let first = 256 * j;
         let r = construct(
             g,
             j as u8,
             value,
-            &mut areas[at..at + 97344],
+            &mut areas[at..at + AREA_BYTES],
             &mut initials[first..first + 256],
         );
         let reply = r.reply;
@@ -122,10 +134,10 @@ pub fn hand_server(
     initials: &[u8],
     text: &mut [u8],
 ) -> Hall
-    requires { ⌜ (length (now areas) ≡ 1070784) × (length (now initials) ≡ 2816) ⌝ }
+    requires { ⌜ Servers (now areas) (now initials) ⌝ }
 {
     let i = place_of(j, 10);
-    let at = 97344 * i;
+    let at = AREA_BYTES * i;
     let first = 256 * i;
     let g = h.g;
     let servers = h.servers;
@@ -137,7 +149,7 @@ pub fn hand_server(
         byte_of(j),
         from,
         f,
-        &mut areas[at..at + 97344],
+        &mut areas[at..at + AREA_BYTES],
         &initials[first..first + 256],
         &mut out,
         &mut to,
@@ -189,10 +201,10 @@ pub fn hand_client(
     values: &[u8],
     text: &mut [u8],
 ) -> Hall
-    requires { ⌜ (length (now rows) ≡ 207360) × (length (now values) ≡ 2304) ⌝ }
+    requires { ⌜ Clients (now rows) (now values) ⌝ }
 {
     let i = place_of(j, Server::CLIENTS);
-    let at = 23040 * i;
+    let at = ROWS_BYTES * i;
     let first = 256 * i;
     let g = h.g;
     let clients = h.clients;
@@ -208,7 +220,7 @@ pub fn hand_client(
         &value[..size],
         from,
         f,
-        &mut rows[at..at + 23040],
+        &mut rows[at..at + ROWS_BYTES],
         &mut result,
         &mut out,
         &mut to,
@@ -247,7 +259,7 @@ fn keep(a: Answer, value: &[u8], values: &mut [u8], at: usize)
 
 // Client j begins the write of a value.
 pub fn write(h: Hall, j: usize, value: &[u8], values: &mut [u8], text: &mut [u8]) -> Hall
-    requires { ⌜ length (now values) ≡ 2304 ⌝ }
+    requires { ⌜ length (now values) ≡ 9 * 256 ⌝ }
 {
     let i = place_of(j, Server::CLIENTS);
     let mut out = [0u8; 12000];

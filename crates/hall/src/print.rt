@@ -2,52 +2,19 @@
 use console::output::Out;
 use console::output::put;
 use console::output::put_decimal;
+use console::output::put_hex;
 use frame::Refusal;
 use frame::Stamp;
 use frame::refusals::number_of;
 ghost use Prim.Native.Nat.{_≤_};
 ghost use lib.ListN.{length};
-ghost use Rattle.io.specs.Counts.{Counts};
 
-fn glyph(d: u8) -> u8 {
-    if d < 10 {
-        return 48 + d;
-    }
-    if d < 16 {
-        return 87 + d;
-    }
-    63
-}
-
-// Bytes as lower-case hexadecimal at the start of the text, as many as have room there; the answer is how many digits these are.
-fn spell(bytes: &[u8], text: &mut [u8]) -> usize
-    ensures { λ r. ⌜ Counts r (now (text .exit)) ⌝ }
-{
-    let room = text.len() / 2;
-    let mut i = 0;
-    while i < bytes.len() {
-        if room <= i {
-            break;
-        }
-        let two = [glyph(bytes[i] / 16), glyph(bytes[i] % 16)];
-        area::put(text, 2 * i, &two);
-        i += 1;
-    }
-    2 * i
-}
-
-// Puts bytes, `-` for none. What is put is a part of an out or a result area, and has room in the digits.
+// Puts bytes, `-` for none.
 fn put_bytes(o: Out, text: &mut [u8], bytes: &[u8]) -> Out {
     if bytes.len() == 0 {
         return put(o, text, b"-");
     }
-    let mut digits = [0u8; 24000];
-    let k = spell(bytes, &mut digits);
-    put(o, text, &digits[..k])
-}
-
-pub fn put_what(o: Out, text: &mut [u8]) -> Out {
-    put(o, text, b"what?\n")
+    put_hex(o, text, bytes)
 }
 
 pub fn put_ready(o: Out, text: &mut [u8]) -> Out {
@@ -55,9 +22,7 @@ pub fn put_ready(o: Out, text: &mut [u8]) -> Out {
 }
 
 pub fn put_refused(o: Out, text: &mut [u8], r: Refusal) -> Out {
-    let a = put(o, text, b"refused ");
-    let b = put_decimal(a, text, number_of(r) as u64);
-    put(b, text, b"\n")
+    console::output::put_refused(o, text, number_of(r) as u64)
 }
 
 fn put_field(o: Out, text: &mut [u8], x: u64) -> Out {

@@ -6,8 +6,8 @@ use crate::line::Line;
 use crate::line::add_byte;
 use crate::line::ended;
 use crate::line::no_line;
-use crate::print::put_what;
 use console::output::Out;
+use console::output::put_what;
 ghost use Prim.Native.Nat.{_≤_, _<_};
 ghost use lib.ListN.{length};
 

@@ -1,9 +1,8 @@
 -- Numbers in columns: how many columns the digits of a number take, and the stores that put them. Assumes nothing.
 use mathlib.Core.Path.{_≡_, refl, sym, ap, _∙_}
-use mathlib.Core.Bool.{true}
 use mathlib.Core.List.{List, [], _∷_, _++_, append-assoc, append-nil}
 use Prim.Native.Nat.{ℕ, zero, suc, _+_, _-_, _*_, _/_, _%_, _^_, _<_, _≤_}
-use native.Mathlib.Nat.{pow-suc, sub-zero}
+use native.Mathlib.Nat.{sub-zero}
 use native.Mathlib.Omega.{arith}
 use lib.Dec.{ltb}
 use lib.ListN.{length, set, replicate, length-append, length-replicate}
@@ -11,8 +10,9 @@ use lib.Seq.{sets, set-comm}
 use borrow.Author.Tests.{ltb-true, ltb-false}
 use Rattle.area.proofs.Sets.{sets-snoc}
 use Rattle.order.proofs.Lists.{by-test}
-use Rattle.history_text.specs.Decimals.{areDigits, valueFrom, decimalOf, decimal}
-use Rattle.history_text.proofs.Decimals.{decimal-small, decimal-large, decimal-from, cons-digits, is-digit}
+use Rattle.history_text.specs.Decimals.{valueFrom, decimalOf, decimal}
+use Rattle.history_text.proofs.Decimals.{decimal-small, decimal-large, decimal-from, cons-digits, no-digits, is-digit}
+use Rattle.history_text.proofs.Bounds.{digits-long}
 use Rattle.history_sheet.specs.Sheet.{aligned}
 
 -- ---- the digits of a number
@@ -20,10 +20,6 @@ use Rattle.history_sheet.specs.Sheet.{aligned}
 pub decimal-one : (n : ℕ) → n < 10 → decimal n ≡ (n + 48) ∷ []
 unfolding decimal
 decimal-one n h = decimal-small 19 n h
-
-no-digits : areDigits [] ≡ true
-unfolding areDigits
-no-digits = refl
 
 value-one : (n c : ℕ) → valueFrom n (c ∷ []) ≡ n * 10 + (c - 48)
 unfolding valueFrom
@@ -40,28 +36,9 @@ decimal-more n g h =
     ap decimal (sym e) ∙ decimal-from (n / 10) (c ∷ []) (omega arith) (cons-digits c [] (is-digit c (omega arith) (omega arith)) no-digits) k
 
 -- a number below 10 ^ w has at most w digits
-length-small : (k w n : ℕ) → n < 10 → length (decimalOf (suc k) n) ≤ suc w
-length-small k w n g = let e = ap length (decimal-small k n g) in omega arith
-
-length-of : (k w n : ℕ) → n < 10 ^ suc w → length (decimalOf k n) ≤ suc w
-unfolding decimalOf
-length-of zero w n h = omega arith
-length-of (suc k) zero n h = length-small k 0 n h
-length-of (suc k) (suc w) n h =
-    by-test (ltb n 10)
-    (λ b. length-small k (suc w) n (ltb-true n 10 b))
-    (λ b.
-    let g : 10 ≤ n = ltb-false n 10 b in
-    let p : n < 10 ^ suc w * 10 = rw pow-suc at h in
-    let q : n / 10 < 10 ^ suc w = omega arith in
-    let r = length-of k w (n / 10) q in
-    let e = ap length (decimal-large k n g) in
-    let l = length-append (decimalOf k (n / 10)) ((n % 10 + 48) ∷ []) in
-    omega arith)
-
 pub length-decimal : (w n : ℕ) → n < 10 ^ suc w → length (decimal n) ≤ suc w
 unfolding decimal
-length-decimal w n h = length-of 20 w n h
+length-decimal w n h = digits-long 20 w n h
 
 -- and at least one
 pub decimal-some : (n : ℕ) → 1 ≤ length (decimal n)

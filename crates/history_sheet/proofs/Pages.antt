@@ -1,15 +1,15 @@
 -- Pages: lines end to end, and the stores of the code. Assumes nothing.
 use mathlib.Core.Path.{_≡_, refl, sym, ap, ap₂, subst, _∙_}
-use mathlib.Core.List.{List, [], _∷_, _++_, append-assoc}
+use mathlib.Core.List.{List, [], _∷_, _++_}
 use Prim.Native.Nat.{ℕ, zero, suc, _+_, _-_, _*_, _/_, _<_, _≤_, min}
-use native.Mathlib.Nat.{add-zero, zero-add, add-suc, suc-add, suc-mul}
+use native.Mathlib.Nat.{add-zero, zero-add, add-suc, suc-add}
 use native.Mathlib.Omega.{arith}
 use lib.Dec.{eqb, ltb}
 use lib.ListN.{length, getD, length-append}
 use lib.Seq.{sets}
 use borrow.Author.Tests.{lt-ltb, le-ltb, ltb-true, ltb-false, eq-eqb, ne-eqb}
-use Rattle.area.specs.Area.{pick, table, joined}
-use Rattle.area.proofs.Fills.{joined-snoc, length-table, getD-table}
+use Rattle.area.specs.Area.{joined}
+use Rattle.area.proofs.Fills.{joined-snoc, joined-split, length-lines, length-table, getD-table}
 use Rattle.order.proofs.Picks.{pick-yes, pick-no}
 use Rattle.order.proofs.Lists.{by-test}
 use Rattle.order.specs.Histories.{noOperation}
@@ -24,24 +24,6 @@ use Rattle.history_sheet.proofs.Spaced.{put-next}
 use Rattle.history_sheet.proofs.Lines.{length-operation, length-blank}
 
 -- ---- lists end to end
-
--- lists that have one length, each in its place
-pub length-lines : {A : Type 0} (f : ℕ → List A) (w i n : ℕ) → ((j : ℕ) → i ≤ j → j < i + n → length (f j) ≡ w) → length (joined f i n) ≡ n * w
-unfolding joined
-length-lines f w i zero e = sym (omega arith)
-length-lines f w i (suc n) e =
-    length-append (f i) (joined f (suc i) n)
-    ∙ ap₂ (λ x y. x + y) (e i (omega arith) (omega arith)) (length-lines f w (suc i) n (λ j a b. e j (omega arith) (omega arith)))
-    ∙ (let z : w + n * w ≡ suc n * w = rw suc-mul (omega arith) in z)
-
-joined-split : {A : Type 0} (f : ℕ → List A) (i n m : ℕ) → joined f i (n + m) ≡ joined f i n ++ joined f (i + n) m
-unfolding joined
-joined-split f i zero m = ap₂ (joined f) (sym (add-zero i)) (let z : 0 + m ≡ m = omega arith in z)
-joined-split f i (suc n) m =
-    (let z : suc n + m ≡ suc (n + m) = omega arith in ap (joined f i) z)
-    ∙ ap (λ l. f i ++ l) (joined-split f (suc i) n m)
-    ∙ sym (append-assoc (f i) (joined f (suc i) n) (joined f (suc i + n) m))
-    ∙ (let z : suc i + n ≡ i + suc n = omega arith in ap (λ k. (f i ++ joined f (suc i) n) ++ joined f k m) z)
 
 joined-agree : {A : Type 0} (f g : ℕ → List A) (i k n : ℕ) → ((j : ℕ) → j < n → f (i + j) ≡ g (k + j)) → joined f i n ≡ joined g k n
 unfolding joined

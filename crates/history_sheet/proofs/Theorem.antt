@@ -1,15 +1,16 @@
 -- What is proved of sheets (specs/Board.antt): their size and newlines, that each line reads back, that a sheet determines the row, and that each operation
 -- stands on it once. Assumes nothing.
-use mathlib.Core.Path.{_≡_, refl, sym, ap, ap₂, subst, _∙_}
-use mathlib.Core.List.{List, [], _∷_, _++_}
+use mathlib.Core.Path.{_≡_, refl, sym, ap, _∙_}
+use mathlib.Core.List.{List, [], _∷_}
 use Prim.Native.Nat.{ℕ, _+_, _-_, _*_, _/_, _%_, _<_, _≤_}
 use native.Mathlib.Nat.{zero-add}
 use native.Mathlib.Omega.{arith}
 use lib.Dec.{eqb, ltb}
-use lib.ListN.{length, getD, length-append}
+use lib.ListN.{length, getD}
 use lib.Seq.{take-at, ext-getD}
 use borrow.Author.Tests.{ltb-true, ltb-false, eqb-true}
 use Rattle.area.specs.Area.{pick, part, joined}
+use Rattle.area.proofs.Fills.{length-lines}
 use Rattle.order.proofs.Picks.{pick-yes, pick-no}
 use Rattle.order.proofs.Lists.{by-test}
 use Rattle.order.proofs.Arranged.{theRow, size, row-is-row}
@@ -23,7 +24,7 @@ use Rattle.history_sheet.specs.Laying.{inOrder}
 use Rattle.history_sheet.specs.Board.{lineOn, lineFor, fieldsIn, placeOf, operationOf, Fits, Theorem}
 use Rattle.history_sheet.proofs.Columns.{length-aligned}
 use Rattle.history_sheet.proofs.Lines.{line-whole, blank-whole}
-use Rattle.history_sheet.proofs.Pages.{length-lines, place-used, place-free, length-place, length-page, number-fits}
+use Rattle.history_sheet.proofs.Pages.{place-used, place-free, length-place, length-page, number-fits}
 use Rattle.history_sheet.proofs.Layings.{order-length, order-at, order-fits}
 use Rattle.history_sheet.proofs.Parts.{part-left, part-right, part-joined, element}
 use Rattle.history_sheet.proofs.Fields.{line-place, line-operation, free-place}

@@ -1,6 +1,6 @@
 -- How long texts can be: a line has at most 60 bytes (`line-long`), so that a text of more than 64 times as many is refused (`long-refused`).
 -- Assumes nothing.
-use mathlib.Core.Path.{_≡_, refl, sym, ap, _∙_}
+use mathlib.Core.Path.{_≡_, refl, sym, ap}
 use mathlib.Core.List.{List, [], _∷_}
 use Prim.Native.Nat.{ℕ, zero, suc, _+_, _*_, _/_, _%_, _^_, _<_, _≤_}
 use native.Mathlib.Omega.{arith}
@@ -19,7 +19,7 @@ use Rattle.history_text.proofs.Shown.{shown, printed-length}
 use Rattle.history_text.proofs.Texts.{only-printed}
 
 -- a number below a power of ten has no more digits than that power
-digits-long : (k d n : ℕ) → n < 10 ^ suc d → length (decimalOf k n) ≤ suc d
+pub digits-long : (k d n : ℕ) → n < 10 ^ suc d → length (decimalOf k n) ≤ suc d
 digits-long zero d n h = let e = ap length (decimal-none n) in omega arith
 digits-long (suc k) zero n h = let g : n < 10 = h in let e = ap length (decimal-small k n g) in omega arith
 digits-long (suc k) (suc d) n h =

@@ -42,7 +42,7 @@ digits-append : (f g : List ℕ) → areDigits f ≡ true → areDigits g ≡ tr
 digits-append [] g h e = e
 digits-append (c ∷ f) g h e = let p = digits-cons c f h in cons-digits c (f ++ g) (p .0) (digits-append f g (p .1) e)
 
-no-digits : areDigits [] ≡ true
+pub no-digits : areDigits [] ≡ true
 unfolding areDigits
 no-digits = refl
 
@@ -58,6 +58,10 @@ decimal-large k n h = sym (pick-no _ _ _ refl (le-ltb n 10 h) refl)
 
 pub tenth : (k n : ℕ) → n < 10 ^ suc k → n / 10 < 10 ^ k
 tenth k n h = let p : n < 10 ^ k * 10 = rw pow-suc at h in omega arith
+
+-- a number of at most 64 bits has at most 20 digits
+pub below-all : (n limit : ℕ) → n ≤ limit → limit ≤ 18446744073709551615 → n < 10 ^ 20
+below-all n limit h g = omega arith
 
 pub decimal-none : (n : ℕ) → decimalOf 0 n ≡ []
 unfolding decimalOf

@@ -3,7 +3,7 @@
 use mathlib.Core.Path.{_≡_, refl, sym, ap, ap₂, subst, _∙_}
 use mathlib.Core.Bool.{Bool, true}
 use mathlib.Core.List.{List, [], _∷_, _++_, map, append-assoc}
-use Prim.Native.Nat.{ℕ, _^_, _<_, _≤_}
+use Prim.Native.Nat.{ℕ, _<_, _≤_}
 use native.Mathlib.Omega.{arith}
 use borrow.Author.Tests.{leb-true, le-leb}
 use Rattle.area.specs.Area.{pick, same}
@@ -17,7 +17,7 @@ use Rattle.order.proofs.StampLaws.{false-true}
 use Rattle.history_text.specs.Decimals.{areDigits, valueOf, isPlain, isNumber, decimal}
 use Rattle.history_text.specs.Lines.{split, isWrite, isKind, widths, areNumbers, isFormed, recordWith, recordOf, recordThen, recordsOf, linesOf}
 use Rattle.history_text.specs.Printed.{join, kindOf, numbersIn, fieldsOf, printed, Within, InWidth}
-use Rattle.history_text.proofs.Decimals.{digit-is, digits-cons, digits-all, plain-decimal, value-decimal, decimal-plain}
+use Rattle.history_text.proofs.Decimals.{below-all, digit-is, digits-cons, digits-all, plain-decimal, value-decimal, decimal-plain}
 use Rattle.history_text.proofs.Pieces.{pieces, join-split, Free, AllFree, split-ended, split-join, free-join}
 
 -- ---- numbers
@@ -31,9 +31,6 @@ widths-small : Small widths
 unfolding widths
 widths-small = (omega arith, (omega arith, (omega arith, (omega arith, (omega arith, (omega arith, tt))))))
 
-below : (n m : ℕ) → n ≤ m → m ≤ 18446744073709551615 → n < 10 ^ 20
-below n m h g = omega arith
-
 number-is : (m : ℕ) (f : List ℕ) → isNumber m f ≡ true → (isPlain f ≡ true) × (valueOf f ≤ m)
 unfolding isNumber
 number-is m f e = let p = pick-is _ _ _ _ false-true e in (p .0, leb-true (valueOf f) m (p .1))
@@ -41,7 +38,7 @@ number-is m f e = let p = pick-is _ _ _ _ false-true e in (p .0, leb-true (value
 is-number : (m n : ℕ) → n ≤ m → m ≤ 18446744073709551615 → isNumber m (decimal n) ≡ true
 unfolding isNumber
 is-number m n h g =
-    let b = below n m h g in
+    let b = below-all n m h g in
     sym (pick-yes _ _ _ refl (plain-decimal n b) (sym (le-leb (valueOf (decimal n)) m (subst (λ x. x ≤ m) (sym (value-decimal n b)) h))))
 
 numbers-cons : (m : ℕ) (ms : List ℕ) (f : List ℕ) (fs : List (List ℕ)) → areNumbers (m ∷ ms) (f ∷ fs) ≡ true → (isNumber m f ≡ true) × (areNumbers ms fs ≡ true)
@@ -62,7 +59,7 @@ numbers-are (m ∷ ms) (f ∷ fs) s e =
     let p = numbers-cons m ms f fs e in
     let n = number-is m f (p .0) in
     let r = numbers-are ms fs (s .1) (p .1) in
-    (ap₂ (λ x l. x ∷ l) (decimal-plain f (n .0) (below (valueOf f) m (n .1) (s .0))) (r .0), (n .1, r .1))
+    (ap₂ (λ x l. x ∷ l) (decimal-plain f (n .0) (below-all (valueOf f) m (n .1) (s .0))) (r .0), (n .1, r .1))
 
 -- and the decimals of numbers are such fields
 are-numbers : (ms xs : List ℕ) → Small ms → Within ms xs → (areNumbers ms (map decimal xs) ≡ true) × (map valueOf (map decimal xs) ≡ xs)
@@ -73,7 +70,7 @@ are-numbers (m ∷ ms) [] s w = absurd w
 are-numbers (m ∷ ms) (x ∷ xs) s w =
     let r = are-numbers ms xs (s .1) (w .1) in (
       cons-numbers m ms (decimal x) (map decimal xs) (is-number m x (w .0) (s .0)) (r .0),
-      ap₂ (λ y l. y ∷ l) (value-decimal x (below x m (w .0) (s .0))) (r .1),
+      ap₂ (λ y l. y ∷ l) (value-decimal x (below-all x m (w .0) (s .0))) (r .1),
     )
 
 -- ---- fields

@@ -21,7 +21,7 @@ use Rattle.history_text.specs.declared.number.Field.the-variants.{Number
 use Rattle.history_text.specs.declared.line.Interval.the-variants as I
 use Rattle.history_text.specs.declared.line.Stamp.the-variants as S
 use Rattle.history_text.specs.declared.line.Line.the-variants as L
-use Rattle.history_text.proofs.Decimals.{decimal-small, decimal-large, head}
+use Rattle.history_text.proofs.Decimals.{decimal-small, decimal-large, below-all, head}
 use Rattle.history_text.proofs.Shown.{shown, printed-shown, printed-length}
 use Rattle.history_text.proofs.Lines.{line-whole}
 use Rattle.history_text.proofs.Laws.{digits-stop, digits-more, number-zero, number-digits, field-found, then-number}
@@ -78,9 +78,6 @@ digits-read (suc k) n limit u t h l =
     ∙ ap₂ (λ x y. digitsOf limit x y t) v o)
 
 -- ---- a number, and a number with the byte behind it
-
-below-all : (n limit : ℕ) → n ≤ limit → limit ≤ 18446744073709551615 → n < 10 ^ 20
-below-all n limit h g = omega arith
 
 number-read : (n limit c : ℕ) (t : List ℕ) → n ≤ limit → limit ≤ 18446744073709551615 → 9 < digitOf c
     → numberOf limit (decimal n ++ c ∷ t) ≡ Number n (length (decimal n))

@@ -3,7 +3,7 @@ use Prim.Native.Nat.{ℕ, _+_, _*_, _%_, _≤_, _<_}
 use native.Mathlib.Omega.{arith}
 use native.Mathlib.Decide.{ℕ-discrete}
 use mathlib.Core.Bool.{Bool, true, false, _||_}
-use mathlib.Core.Path.{_≡_, refl, sym, ap, ap₂, subst, _∙_}
+use mathlib.Core.Path.{_≡_, refl, sym, ap, subst, _∙_}
 use mathlib.Core.List.{List, [], _∷_, _++_}
 use mathlib.Core.Logic.{⊎-elim}
 use lib.ListN.{length, getD}
@@ -17,7 +17,6 @@ use Rattle.sha256.specs.Hash.{digestOf}
 use Rattle.blocks.specs.declared.Params.{Params}
 use Rattle.frame.specs.declared.Party.{Party}
 use Rattle.frame.specs.declared.Party.the-variants as P
-use Rattle.frame.specs.declared.Verdict.{Verdict}
 use Rattle.frame.specs.declared.Verdict.the-variants as J
 use Rattle.frame.specs.declared.Refusal.{Refusal}
 use Rattle.frame.specs.declared.Refusal.the-variants as R
@@ -40,19 +39,19 @@ use Rattle.client_rules.specs.Delivery as CD
 use Rattle.client_rules.specs.Beginning as CB
 use Rattle.runs.specs.World as W
 use Rattle.runs.specs.World.{Setup, Sound, Call, ServerSide, ClientSide, World, put, caller, initialOf, lentTo, start, step, run}
-use Rattle.runs.specs.Admissible.{Proper, Admissible}
+use Rattle.runs.specs.Admissible.{Admissible}
 use Rattle.runs.specs.Demand.{TheoremSha256}
-use Rattle.runs.specs.Promises.{valueBy, GoesOn, RunsGoOn}
+use Rattle.runs.specs.Promises.{valueBy, RunsGoOn}
 use Rattle.runs.proofs.Assumed.{assumed}
 use Rattle.runs.proofs.OrderLaws.{fresh-fine}
 use Rattle.runs.proofs.Promises.{other-put, runs-go-on}
 use Rattle.runs.proofs.Theorem.{theorem-sha256, sha256-size}
+use Rattle.layout.specs.Fields.{stampSize}
 use Rattle.layout.specs.Clients.{clientSize, clientBytes, clientIn}
 use Rattle.layout.specs.Servers.{serverSize, serverBytes, serverIn, slotBytes, readerBytes, scopeSets}
-use Rattle.answers.specs.Answers.{testAnswer, isRefusal, clientAnswer, openAnswer, isTurnedDown, serverAnswer}
-use Rattle.answers.specs.Short.{readShort, valueShort, frameShort, stampShort}
+use Rattle.answers.specs.Answers.{isRefusal, clientAnswer, openAnswer, isTurnedDown, serverAnswer}
 use Rattle.semduoli.specs.Calls.{Wrote, wrote, freshCall, Began, began, beganOf, stateAfter, readCall, writeCall}
-use Rattle.semduoli.specs.Handed.{senderOf, stampSize, stampAfter, ClientGot, clientGot, clientGotOf, clientCall}
+use Rattle.semduoli.specs.Handed.{senderOf, stampAfter, ClientGot, clientGotOf, clientCall}
 use Rattle.semduoli.specs.ServerCalls.{Made, made, madeOf, freshAfter, scopeAfter, makeCall, ServerGot, serverGot, serverGotOf, serverCall}
 use Rattle.semduoli.specs.Asked.{openOf, clientOpenCall}
 use Rattle.semduoli.proofs.Laws.{enough}
@@ -61,7 +60,7 @@ use Rattle.semduoli.proofs.RecordBack.{record-back, make-back, fresh-server}
 use Rattle.semduoli.proofs.ClientRecordBack.{fresh-back, read-back, write-back, client-record-back}
 use Rattle.semduoli.proofs.StayBytes.{fresh-bytes, read-bytes, write-bytes, client-call-bytes, make-bytes, server-call-bytes}
 use Rattle.hosts.specs.Hosts.{ServerHost, ClientHost, Hosts, Records, Lent, HostCall, serverDeliver, clientDeliver, beginRead, beginWrite, writeOpen}
-use Rattle.hosts.specs.Hosts.{lentBy, keptBy, first, hostStep, hosted, callOf, callsOf, Told, told, toldBy, toldIn, Fit, ServerSays, ClientSays, Hosted}
+use Rattle.hosts.specs.Hosts.{lentBy, keptBy, first, hostStep, hosted, callOf, callsOf, Told, told, toldBy, toldIn, Fit, ServerSays, ClientSays}
 use Rattle.hosts.specs.Hosts.{HostsTheorem}
 
 -- ---- areas keep their lengths

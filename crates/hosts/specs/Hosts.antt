@@ -16,11 +16,12 @@ use Rattle.runs.specs.World as W
 use Rattle.runs.specs.World.{Setup, Sound, Call, ServerSide, ClientSide, World, put, initialOf, lentTo, run}
 use Rattle.runs.specs.Admissible.{Admissible}
 use Rattle.runs.specs.Demand.{Demand3}
+use Rattle.layout.specs.Fields.{stampSize}
 use Rattle.layout.specs.Clients.{clientSize, clientIn}
 use Rattle.layout.specs.Servers.{serverSize, serverIn}
 use Rattle.answers.specs.Answers.{clientAnswer, serverAnswer}
 use Rattle.semduoli.specs.Calls.{freshCall, readCall, writeCall}
-use Rattle.semduoli.specs.Handed.{senderOf, stampSize, stampAfter, clientCall}
+use Rattle.semduoli.specs.Handed.{senderOf, stampAfter, clientCall}
 use Rattle.semduoli.specs.ServerCalls.{makeCall, serverCall}
 use Rattle.semduoli.specs.Asked.{clientOpenCall}
 

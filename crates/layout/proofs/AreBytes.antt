@@ -1,20 +1,21 @@
 -- A record's bytes are bytes, where its numbers are within their widths. Assumes nothing.
-use Prim.Native.Nat.{ℕ, zero, suc, _+_, _<_}
+use Prim.Native.Nat.{ℕ, _+_, _<_}
 use native.Mathlib.Omega.{arith}
-use mathlib.Core.Path.{_≡_}
 use mathlib.Core.Bool.{Bool, true, false}
 use mathlib.Core.List.{List, [], _∷_, _++_}
-use lib.ListN.{length, getD}
-use Rattle.area.specs.Area.{pick, Bytes, joined}
+use lib.ListN.{getD}
+use Rattle.area.specs.Area.{pick, Bytes}
 use Rattle.area.specs.Numbers.{bytes4, bytes8}
 use Rattle.area.proofs.Numbers.{Bytes-append, Bytes-bytes4, Bytes-bytes8}
+use Rattle.blocks.proofs.ByteLists.{Bytes-joined}
 use Rattle.frame.specs.declared.Stamp.{Stamp}
 use Rattle.frame.specs.Frames.{stampBytes}
+use Rattle.frame.specs.Stamps.{zeroStamp}
 use Rattle.client_rules.specs.declared.Phase.{Phase}
 use Rattle.client_rules.specs.declared.Phase.the-variants as F
 use Rattle.client_rules.specs.declared.Row.{Row}
 use Rattle.client_rules.specs.declared.Client.{Client}
-use Rattle.client_rules.specs.State.{noStamp, noRow}
+use Rattle.client_rules.specs.State.{noRow}
 use Rattle.server_rules.specs.declared.BlockPart.{BlockPart}
 use Rattle.server_rules.specs.declared.Slot.{Slot}
 use Rattle.server_rules.specs.declared.Reader.{Reader}
@@ -34,25 +35,19 @@ unfolding flagByte pick
 flag-byte true = omega arith
 flag-byte false = omega arith
 
-joined-bytes : (f : ℕ → List ℕ) (i m : ℕ) → ((j : ℕ) → j < i + m → Bytes (f j)) → Bytes (joined f i m)
-unfolding joined
-joined-bytes f i zero h = tt
-joined-bytes f i (suc m) h =
-    Bytes-append (f i) (joined f (suc i) m) (h i (omega arith)) (joined-bytes f (suc i) m (λ j k. h j (omega (arith, k))))
-
 row-bytes : {A : Type 0} (P : A → Type 0) (f : A → List ℕ) (m : ℕ) (d : A) (xs : List A) → ((x : A) → P x → Bytes (f x)) → Array m P xs
     → Bytes (rowBytes f m d xs)
 unfolding rowBytes
 row-bytes P f m d xs h e =
-    let n = e .0 in joined-bytes (λ j. f (getD xs j d)) 0 m (λ j k. h (getD xs j d) (getD-every P xs j d (e .1) (omega (arith, k, n))))
+    let n = e .0 in Bytes-joined (λ j. f (getD xs j d)) 0 m (λ j k. h (getD xs j d) (getD-every P xs j d (e .1) (omega (arith, k, n))))
 
 flags-bytes : (xs : List Bool) → Bytes (flagsBytes xs)
 unfolding flagsBytes rowBytes
-flags-bytes xs = joined-bytes _ 0 11 (λ j k. (flag-byte (getD xs j false), tt))
+flags-bytes xs = Bytes-joined _ 0 11 (λ j k. (flag-byte (getD xs j false), tt))
 
 numbers-bytes : (xs : List ℕ) → Bytes (numbersBytes xs)
 unfolding numbersBytes rowBytes
-numbers-bytes xs = joined-bytes _ 0 11 (λ j k. Bytes-bytes8 (getD xs j 0))
+numbers-bytes xs = Bytes-joined _ 0 11 (λ j k. Bytes-bytes8 (getD xs j 0))
 
 -- a stamp
 pub stamp-bytes : (s : Stamp) → TypedStamp s → Bytes (stampBytes s)
@@ -72,7 +67,7 @@ kept-bytes : (r : Row) → TypedRow r → Bytes (keptBytes r)
 unfolding keptBytes stampsBytes
 kept-bytes r t =
     Bytes-append (bytes8 (r .count)) (stampsBytes (r .stamps)) (Bytes-bytes8 (r .count))
-    (row-bytes TypedStamp stampBytes 4 noStamp (r .stamps) stamp-bytes (t .stamps))
+    (row-bytes TypedStamp stampBytes 4 zeroStamp (r .stamps) stamp-bytes (t .stamps))
 
 head-bytes : (w r : ℕ) (b : Bool) (p : Phase) → Bytes (headBytes w r b p)
 unfolding headBytes

@@ -12,11 +12,12 @@ use Rattle.area.proofs.Numbers.{length-bytes4, length-bytes8}
 use Rattle.frame.specs.declared.Stamp.{Stamp}
 use Rattle.frame.specs.Frames.{stampBytes}
 use Rattle.frame.proofs.RoundTrip.{length-stamp}
+use Rattle.frame.specs.Stamps.{zeroStamp}
 use Rattle.client_rules.specs.declared.Phase.{Phase}
 use Rattle.client_rules.specs.declared.Phase.the-variants as F
 use Rattle.client_rules.specs.declared.Row.{Row}
 use Rattle.client_rules.specs.declared.Client.{Client}
-use Rattle.client_rules.specs.State.{noStamp, noRow}
+use Rattle.client_rules.specs.State.{noRow}
 use Rattle.layout.specs.Fields.{flagByte, flagAt, stampAt, flagsBytes, numbersBytes}
 use Rattle.layout.specs.Clients.{clientSize, phaseByte, phaseIn, stampsBytes, stampsAt, keptBytes, keptAt}
 use Rattle.layout.specs.Clients.{rowsBytes, rowsAt, headBytes, clientBytes, clientAt, clientIn}
@@ -34,7 +35,7 @@ phase-back F.Reading = refl
 
 stamps-at : (l : List ℕ) (i : ℕ) (xs : List Stamp) → Array 4 TypedStamp xs → Stands l i (stampsBytes xs) → stampsAt l i ≡ xs
 unfolding stampsBytes stampsAt
-stamps-at l i xs t p = row-at stampBytes stampAt 4 13 noStamp TypedStamp length-stamp stamp-at l i xs t p
+stamps-at l i xs t p = row-at stampBytes stampAt 4 13 zeroStamp TypedStamp length-stamp stamp-at l i xs t p
 
 kept-at : (l : List ℕ) (i : ℕ) (r : Row) → TypedRow r → Stands l i (keptBytes r) → keptAt l i ≡ r
 unfolding keptAt keptBytes

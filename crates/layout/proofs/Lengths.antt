@@ -10,10 +10,11 @@ use Rattle.area.proofs.Fills.{length-joined}
 use Rattle.frame.specs.declared.Stamp.{Stamp}
 use Rattle.frame.specs.Frames.{stampBytes}
 use Rattle.frame.proofs.RoundTrip.{length-stamp}
+use Rattle.frame.specs.Stamps.{zeroStamp}
 use Rattle.client_rules.specs.declared.Phase.{Phase}
 use Rattle.client_rules.specs.declared.Row.{Row}
 use Rattle.client_rules.specs.declared.Client.{Client}
-use Rattle.client_rules.specs.State.{noStamp, noRow}
+use Rattle.client_rules.specs.State.{noRow}
 use Rattle.server_rules.specs.declared.BlockPart.{BlockPart}
 use Rattle.server_rules.specs.declared.Slot.{Slot}
 use Rattle.server_rules.specs.declared.Reader.{Reader}
@@ -40,7 +41,7 @@ length-numbers xs = length-joined (λ j. bytes8 (getD xs j 0)) 8 0 11 (λ j. len
 
 length-stamps : (xs : List Stamp) → length (stampsBytes xs) ≡ 52
 unfolding stampsBytes rowBytes
-length-stamps xs = length-joined (λ j. stampBytes (getD xs j noStamp)) 13 0 4 (λ j. length-stamp (getD xs j noStamp))
+length-stamps xs = length-joined (λ j. stampBytes (getD xs j zeroStamp)) 13 0 4 (λ j. length-stamp (getD xs j zeroStamp))
 
 pub length-kept : (r : Row) → length (keptBytes r) ≡ 60
 unfolding keptBytes

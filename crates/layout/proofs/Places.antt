@@ -1,14 +1,16 @@
 -- Stores one behind the other, and loops over arrays of elements of a fixed number of bytes. Assumes nothing.
-use Prim.Native.Nat.{ℕ, _+_, _*_, _≤_}
+use Prim.Native.Nat.{ℕ, _+_, _*_}
 use native.Mathlib.Nat.{zero-add}
 use native.Mathlib.Omega.{arith}
 use mathlib.Core.Path.{_≡_, ap, _∙_}
-use mathlib.Core.List.{List, _++_, append-nil}
-use lib.ListN.{length, set, drop-of-length-le}
-use lib.Seq.{sets, sets-eq}
+use mathlib.Core.List.{List, _++_}
+use lib.ListN.{length}
+use lib.Seq.{sets}
 use Rattle.area.specs.Area.{table, joined}
 use Rattle.area.proofs.Sets.{sets-next}
-use Rattle.area.proofs.Fills.{length-table, joined-snoc, length-joined, sets-table}
+use Rattle.area.proofs.Fills.{joined-snoc, length-joined}
+use Rattle.group.proofs.Lists.{table-end}
+pub use Rattle.group.proofs.Lists.{table-turn}
 
 -- ---- stores, one behind the other
 
@@ -29,18 +31,8 @@ put-turn f w d l m i j p e h a b =
 pub put-end : (f : ℕ → List ℕ) (d l : List ℕ) (i j m : ℕ) → j ≡ m → l ≡ sets d i (joined f 0 j) → l ≡ sets d i (joined f 0 m)
 put-end f d l i j m e p = rw e at p
 
--- ---- a loop that reads an array
-
--- the turn j, of the value x
-pub get-turn : {A : Type 0} (f : ℕ → A) (d l : List A) (j : ℕ) (x : A) → l ≡ sets d 0 (table j f) → x ≡ f j → set l j x ≡ sets d 0 (table (j + 1) f)
-get-turn f d l j x p q =
-    let s : set (sets d 0 (table j f)) j (f j) ≡ sets d 0 (table (j + 1) f) = rw zero-add at (sets-table d 0 j f) in
-    rw (p, q) s
+-- ---- a loop that reads an array: its turn is `table-turn`
 
 -- all of it
 pub get-end : {A : Type 0} (f : ℕ → A) (d l : List A) (j m : ℕ) → j ≡ m → length d ≡ m → l ≡ sets d 0 (table j f) → l ≡ table m f
-get-end f d l j m q e p₀ =
-    let p : l ≡ sets d 0 (table m f) = rw q at p₀ in
-    let h : 0 + length (table m f) ≤ length d = omega (arith, length-table m f) in
-    let k : length d ≤ 0 + length (table m f) = omega (arith, length-table m f) in
-    p ∙ sets-eq (table m f) d 0 h ∙ rw (drop-of-length-le d k) (append-nil (table m f))
+get-end f d l j m q e p = table-end f d l j m e (omega arith) (omega arith) p

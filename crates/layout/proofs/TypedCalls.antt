@@ -19,14 +19,14 @@ use Rattle.frame.specs.declared.Verdict.the-variants as J
 use Rattle.frame.specs.Refusals.{andThen}
 use Rattle.frame.specs.Params.{paramsTest}
 use Rattle.frame.specs.Stamps.{zeroStamp, lastSequence, lastClient}
-use Rattle.frame.specs.Messages.{Entry, Body, stampIs, valueIs, FormedBody, Message, numberIn, judgedBy, after}
+use Rattle.frame.specs.Messages.{Body, valueIs, FormedBody, Message, numberIn, judgedBy, after}
 use Rattle.frame.specs.Frames.{headerIn, frameTest, openedBy, opened, messageIn}
 use Rattle.frame.proofs.Verdicts.{fine-not, fine-both}
 use Rattle.frame.proofs.Converse.{formed-opened}
 use Rattle.client_rules.specs.declared.Phase.{Phase}
 use Rattle.client_rules.specs.declared.Row.{Row}
 use Rattle.client_rules.specs.declared.Client.{Client}
-use Rattle.client_rules.specs.State.{freshRow, freshClient, idle, rowOf, inPhase, noRow, withRow}
+use Rattle.client_rules.specs.State.{freshRow, freshClient, idle, noRow}
 use Rattle.client_rules.specs.Rows.{rowWith}
 use Rattle.client_rules.specs.Tests.{sendRoom, roomTest, valueTest, messageTest, judgeOpened, judge}
 use Rattle.client_rules.specs.Steps.{Effect}
@@ -66,7 +66,7 @@ fresh-times : Array 11 Long (replicate 11 0)
 fresh-times = (refl, every-replicate Long 11 0 (omega arith))
 
 fresh-row : TypedRow freshRow
-unfolding freshRow zeroStamp
+unfolding freshRow
 fresh-row =
     let z : TypedStamp zeroStamp = record { time = omega arith; writer = omega arith; sequence = omega arith } in
     record { count = omega arith; stamps = (refl, every-replicate TypedStamp 4 zeroStamp z) }
@@ -84,10 +84,9 @@ typed-client-fresh = fresh-within clientWidths fresh-parts (omega arith)
 -- ---- beginnings
 
 -- an operation begins only where a number is left
-number-left : (s : Client) (last : ℕ) → idleTest s last ≡ J.Fine → Word (last + 1)
-unfolding idleTest
-number-left s last e =
-    let u = fine-not (not (idle (s .phase))) R.Busy _ e .1 in
+number-left : (p : Phase) (last : ℕ) → idleTest p last ≡ J.Fine → Word (last + 1)
+number-left p last e =
+    let u = fine-not (not (idle p)) R.Busy _ e .1 in
     let h = leb-false lastSequence last (fine-not (leb lastSequence last) R.Exhausted J.Fine u .0) in
     omega (arith, h)
 
@@ -97,23 +96,23 @@ module _ (g : Params) (me : ℕ) (s : Client) (t : TypedClient s) where
   typed-begun J.Fine x h = h refl
   typed-begun (J.Bad r) x h = t
 
-  read-open : idleTest s (s .reads) ≡ J.Fine → TypedClient (openRead g me s .client)
-  read-open e = read-within clientWidths fresh-parts g me s t (number-left s (s .reads) e)
+  read-open : idleTest (s .phase) (s .reads) ≡ J.Fine → TypedClient (openRead g me s .client)
+  read-open e = read-within clientWidths fresh-parts g me s t (number-left (s .phase) (s .reads) e)
 
-  write-open : idleTest s (s .writes) ≡ J.Fine → TypedClient (openWrite g me s .client)
-  write-open e = write-within clientWidths fresh-parts g me s t (number-left s (s .writes) e)
+  write-open : idleTest (s .phase) (s .writes) ≡ J.Fine → TypedClient (openWrite g me s .client)
+  write-open e = write-within clientWidths fresh-parts g me s t (number-left (s .phase) (s .writes) e)
 
-  read-left : (out to : List ℕ) → readTest g me s out to ≡ J.Fine → idleTest s (s .reads) ≡ J.Fine
+  read-left : (out to : List ℕ) → readTest g me s out to ≡ J.Fine → idleTest (s .phase) (s .reads) ≡ J.Fine
   unfolding readTest
   read-left out to e = fine-both (sendRoom g (length out) (length to)) _ (fine-both (paramsTest g me lastClient) _ e .1) .1
 
-  write-left : (v out to : List ℕ) → writeTest g me s v out to ≡ J.Fine → idleTest s (s .writes) ≡ J.Fine
+  write-left : (v out to : List ℕ) → writeTest g me s v out to ≡ J.Fine → idleTest (s .phase) (s .writes) ≡ J.Fine
   unfolding writeTest
   write-left v out to e =
       let a = fine-both (paramsTest g me lastClient) _ e .1 in
       let b = fine-both (lengthTest g (length v)) _ a .1 in
       let c = fine-both (sendRoom g (length out) (length to)) _ b .1 in
-      fine-both (idleTest s (s .writes)) (closedTest s) c .0
+      fine-both (idleTest (s .phase) (s .writes)) (closedTest (s .closed)) c .0
 
   -- the beginning of a read keeps a client's numbers within their widths
   pub typed-read : (out to : List ℕ) → TypedClient (readBeginning g me s out to .client)
@@ -181,5 +180,5 @@ module _ (H : List ℕ → List ℕ) (g : Params) (me : ℕ) where
     pub typed-client-delivery : (f result out to : List ℕ) → Bytes f → TypedClient (delivery H g me s a value from f result out to .client)
     unfolding delivery outcomeOf delivered judge opened
     typed-client-delivery f result out to i =
-        typed-after f (andThen (paramsTest g me lastClient) (valueTest g s (length value))) (frameTest g f)
+        typed-after f (andThen (paramsTest g me lastClient) (valueTest g (s .phase) (length value))) (frameTest g f)
         (roomTest g (length a) (length result) (length out) (length to)) i refl

@@ -9,12 +9,13 @@ use Rattle.area.specs.Area.{pick}
 use Rattle.area.specs.Numbers.{be4, be8, bytes4, bytes8}
 use Rattle.frame.specs.declared.Stamp.{Stamp}
 use Rattle.frame.specs.Frames.{stampBytes}
+use Rattle.frame.specs.Stamps.{zeroStamp}
 use Rattle.client_rules.specs.declared.Phase.{Phase}
 use Rattle.client_rules.specs.declared.Phase.the-variants as F
 use Rattle.client_rules.specs.declared.Row.{Row}
 use Rattle.client_rules.specs.declared.Client.{Client}
-use Rattle.client_rules.specs.State.{noStamp, noRow}
-use Rattle.layout.specs.Fields.{flagByte, flagAt, stampAt, rowBytes, rowAt, flagsBytes, flagsAt, numbersBytes, numbersAt}
+use Rattle.client_rules.specs.State.{noRow}
+use Rattle.layout.specs.Fields.{flagByte, flagAt, stampSize, stampAt, rowBytes, rowAt, flagsBytes, flagsAt, numbersBytes, numbersAt}
 
 abbrev pub clientSize : ℕ
 clientSize = 769
@@ -33,10 +34,10 @@ phaseIn x = pick (eqb x 1) F.Asking (pick (eqb x 2) F.Acking (pick (eqb x 3) F.R
 -- ---- rows
 
 unfoldable pub stampsBytes : List Stamp → List ℕ
-stampsBytes xs = rowBytes stampBytes 4 noStamp xs
+stampsBytes xs = rowBytes stampBytes 4 zeroStamp xs
 
 unfoldable pub stampsAt : List ℕ → ℕ → List Stamp
-stampsAt l i = rowAt stampAt 4 13 l i
+stampsAt l i = rowAt stampAt 4 stampSize l i
 
 unfoldable pub keptBytes : Row → List ℕ
 keptBytes r = bytes8 (r .count) ++ stampsBytes (r .stamps)

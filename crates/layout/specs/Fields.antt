@@ -20,6 +20,9 @@ unfoldable pub flagAt : List ℕ → ℕ → Bool
 flagAt l i = flagIn (getD l i 0)
 
 -- a stamp is time, writer and sequence, of 8, 1 and 4 bytes, as in a frame (`stampBytes` of frame)
+abbrev pub stampSize : ℕ
+stampSize = 13
+
 unfoldable pub stampAt : List ℕ → ℕ → Stamp
 stampAt l i = record { time = be8 l i; writer = getD l (i + 8) 0; sequence = be4 l (i + 9) }
 

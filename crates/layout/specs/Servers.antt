@@ -12,7 +12,7 @@ use Rattle.server_rules.specs.declared.Slot.{Slot}
 use Rattle.server_rules.specs.declared.Reader.{Reader}
 use Rattle.server_rules.specs.declared.Server.{Server}
 use Rattle.server_rules.specs.State.{noSlot, noReader}
-use Rattle.layout.specs.Fields.{flagByte, flagAt, stampAt, rowBytes, rowAt, flagsBytes, flagsAt, numbersBytes, numbersAt}
+use Rattle.layout.specs.Fields.{flagByte, flagAt, stampSize, stampAt, rowBytes, rowAt, flagsBytes, flagsAt, numbersBytes, numbersAt}
 
 -- ---- sizes and places
 
@@ -38,7 +38,7 @@ readersSize = 162
 
 -- where the slots and the readers begin
 abbrev pub slotsPlace : ℕ
-slotsPlace = 13
+slotsPlace = stampSize
 
 abbrev pub readersPlace : ℕ
 readersPlace = 1966

@@ -1,4 +1,5 @@
 // A client's record as bytes.
+use crate::fields::STAMP_SIZE;
 use crate::fields::flag_byte;
 use crate::fields::flag_in;
 use crate::fields::flags_at;
@@ -57,7 +58,7 @@ fn put_stamps(x: [Stamp; 4], out: &mut [u8], at: usize)
 {
     let mut j = 0;
     while j < 4 {
-        put_stamp(x[j], out, at + j * 13);
+        put_stamp(x[j], out, at + j * STAMP_SIZE);
         j += 1;
     }
 }
@@ -70,7 +71,7 @@ fn stamps_at(bytes: &[u8], at: usize) -> [Stamp; 4]
     let mut x = [first; 4];
     let mut j = 0;
     while j < 4 {
-        x[j] = stamp_at(bytes, at + j * 13);
+        x[j] = stamp_at(bytes, at + j * STAMP_SIZE);
         j += 1;
     }
     x

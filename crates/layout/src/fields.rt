@@ -7,7 +7,7 @@ ghost use lib.ListN.{length};
 ghost use lib.Seq.{sets};
 ghost use Rattle.area.specs.Numbers.{bytes8};
 ghost use Rattle.frame.specs.Frames.{stampBytes};
-ghost use Rattle.layout.specs.Fields.{flagByte, flagIn, stampAt, flagsBytes, flagsAt, numbersBytes, numbersAt};
+ghost use Rattle.layout.specs.Fields.{flagByte, flagIn, stampSize, stampAt, flagsBytes, flagsAt, numbersBytes, numbersAt};
 
 pub fn put_byte(b: u8, out: &mut [u8], at: usize)
     requires { ⌜ at + 1 ≤ length (now out) ⌝ }
@@ -35,8 +35,10 @@ pub fn flag_in(x: u8) -> bool
 
 // ---- stamps
 
+pub const STAMP_SIZE: usize = 13;
+
 pub fn put_stamp(s: Stamp, out: &mut [u8], at: usize)
-    requires { ⌜ at + 13 ≤ length (now out) ⌝ }
+    requires { ⌜ at + stampSize ≤ length (now out) ⌝ }
     ensures { λ _. ⌜ now (out .exit) ≡ sets (now (out .entry)) at (stampBytes s) ⌝ }
 {
     area::write8(out, at, s.time);
@@ -45,7 +47,7 @@ pub fn put_stamp(s: Stamp, out: &mut [u8], at: usize)
 }
 
 pub fn stamp_at(bytes: &[u8], at: usize) -> Stamp
-    requires { ⌜ at + 13 ≤ length (now bytes) ⌝ }
+    requires { ⌜ at + stampSize ≤ length (now bytes) ⌝ }
     ensures { λ r. ⌜ r ≡ stampAt (now (bytes .entry)) at ⌝ }
 {
     let time = area::read8(bytes, at);

@@ -1,4 +1,5 @@
 // A server's record as bytes.
+use crate::fields::STAMP_SIZE;
 use crate::fields::flag_byte;
 use crate::fields::flag_in;
 use crate::fields::flags_at;
@@ -31,7 +32,7 @@ const SLOT_SIZE: usize = 217;
 const READER_SIZE: usize = 18;
 
 // The slots and the readers in the record.
-const SLOTS_AT: usize = 13;
+const SLOTS_AT: usize = STAMP_SIZE;
 
 pub const READERS_AT: usize = 1966;
 

@@ -8,8 +8,9 @@ use native.Mathlib.Omega.{arith}
 use lib.ListN.{length, getD}
 use borrow.Author.Tests.{ltb-false, leb-false, eqb-false}
 use Rattle.area.proofs.Tests.{pick-case, pick-is, pick-not}
+use Rattle.area.specs.Area.{count}
 use Rattle.order.specs.Operations.{less, stamp, precedes, standsAfter, offends}
-use Rattle.order.specs.Histories.{count, place, writes, writings, malformed, unlisted, noOperation}
+use Rattle.order.specs.Histories.{place, writes, writings, malformed, unlisted, noOperation}
 use Rattle.order.specs.Orders.{Line, inLine, inPlace, Order, HasOrder, NoPair, Accepted}
 use Rattle.order.specs.declared.operation.Operation.{Operation}
 use Rattle.order.proofs.Picks.{pick-yes}

@@ -7,9 +7,9 @@ use native.Mathlib.Nat.{not-suc-le-zero, zero-add}
 use native.Mathlib.Omega.{arith}
 use lib.ListN.{length, getD}
 use borrow.Author.Tests.{ltb-false}
-use Rattle.area.specs.Area.{pick}
+use Rattle.area.specs.Area.{pick, count}
 pub use Rattle.area.proofs.Tests.{by-test, not-true}
-use Rattle.order.specs.Histories.{count, place, any}
+use Rattle.order.specs.Histories.{place, any}
 
 -- ---- searching
 

@@ -11,9 +11,9 @@ use Rattle.area.specs.Area.{part}
 use Rattle.area.specs.Numbers.{be2, bytes2}
 use Rattle.area.proofs.Numbers.{length-bytes2}
 use Rattle.server_rules.specs.declared.Reply.{Reply}
-use Rattle.playback.specs.Reports.{replyNumber}
+use Rattle.server_rules.specs.Delivery.{replyNumber, replyCount}
 use Rattle.area.proofs.Sets.{sets-next, length-part}
-use Rattle.playback.specs.Stages.{replyCount, sentIn, Lie, reportIn}
+use Rattle.playback.specs.Stages.{sentIn, Lie, reportIn}
 
 -- a number further back in a list
 pub be2-drop : (l : List ℕ) (i : ℕ) → be2 (drop i l) 0 ≡ be2 l i

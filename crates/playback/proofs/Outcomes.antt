@@ -15,7 +15,7 @@ use Rattle.server_rules.specs.declared.Server.{Server}
 use Rattle.server_rules.specs.declared.Reply.{Reply}
 use Rattle.server_rules.specs.declared.Reply.the-variants as Y
 use Rattle.server_rules.specs.State.{freshServer}
-use Rattle.server_rules.specs.Delivery.{constructTest}
+use Rattle.server_rules.specs.Delivery.{replyNumber, constructTest}
 use Rattle.server.proofs.Constructing.{sound-of}
 use Rattle.entries.specs.declared.Closing.{Closing}
 use Rattle.entries.specs.declared.Closing.the-variants as C
@@ -27,7 +27,6 @@ use Rattle.playback.specs.declared.Ending.the-variants as E
 use Rattle.playback.specs.declared.player.Done.{Done}
 use Rattle.playback.specs.declared.Answer.the-variants as A
 use Rattle.playback.specs.declared.Playback.{Playback}
-use Rattle.playback.specs.Reports.{replyNumber}
 use Rattle.playback.specs.Playback.{refused, endingOf, outcome, outTest, playTest, playbackBy, playback}
 use Rattle.playback.specs.Stages.{done, playedAll}
 

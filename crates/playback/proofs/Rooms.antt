@@ -25,7 +25,6 @@ use Rattle.server_rules.specs.Steps as S
 use Rattle.server_rules.specs.Delivery as SD
 use Rattle.entries.specs.Entries.{TraceEntry}
 use Rattle.playback.specs.Playback.{spareOut, spareTo, reportOf, serverAfter, areaAfter}
-use Rattle.playback.specs.Stages.{replyCount}
 use Rattle.playback.specs.Theorem.{Enough}
 
 -- ---- the test
@@ -58,13 +57,13 @@ module _ (H : List ℕ → List ℕ) (g : Params) (me : ℕ) (initial : List ℕ
       (roomy g (length a) (length initial) out to E ∙ sym (roomy g (length a) (length initial) (spareOut g) (spareTo g) (spare-enough g)))
 
   -- what a reply says was sent is how much was sent
-  counted : (j : Judged) → replyCount (SD.replyOf H g me j (length (SD.effectBy H g me j s a initial (e .sender) .sends)))
+  counted : (j : Judged) → SD.replyCount (SD.replyOf H g me j (length (SD.effectBy H g me j s a initial (e .sender) .sends)))
       ≡ length (SD.effectBy H g me j s a initial (e .sender) .sends)
-  unfolding SD.replyOf SD.effectBy replyCount
+  unfolding SD.replyOf SD.effectBy SD.replyCount
   counted (bad r) = refl
   counted (good m) = refl
 
-  pub count-is : replyCount (reportOf H g me initial s a e .reply) ≡ length (reportOf H g me initial s a e .sends)
+  pub count-is : SD.replyCount (reportOf H g me initial s a e .reply) ≡ length (reportOf H g me initial s a e .sends)
   unfolding reportOf SD.delivery SD.outcomeOf SD.delivered
   count-is = counted (judged (spareOut g) (spareTo g))
 

@@ -3,18 +3,17 @@ use Prim.Native.Nat.{ℕ, suc, _+_, _*_, _≤_}
 use native.Mathlib.Omega.{arith}
 use native.Mathlib.Nat.{suc-mul, mul-le-mul-right}
 use mathlib.Core.Path.{_≡_, refl, sym, ap, ap₂, subst, _∙_}
-use mathlib.Core.List.{List, [], _∷_, _++_, append-assoc, List·Memᴰ, List·Memᴰ·head, List·Memᴰ·tail}
+use mathlib.Core.List.{List, [], _∷_, _++_, append-assoc}
 use lib.ListN.{length, take, drop, length-append}
 use lib.Seq.{sets, sets-eq, take-at, drop-at, length-sets}
 use Rattle.area.specs.Numbers.{be2, bytes2}
-use Rattle.area.proofs.Numbers.{length-bytes2, be2-front}
+use Rattle.area.proofs.Numbers.{length-bytes2}
 use Rattle.blocks.specs.declared.Params.{Params}
 use Rattle.frame.specs.Params.{largestFrame, serverFrames, outRoom, toRoom, Bounded}
-use Rattle.frame.specs.Messages.{Message, Sending, Formed, FormedBody}
-use Rattle.frame.specs.Frames.{bodyBytes, kindOf, build}
+use Rattle.frame.specs.Messages.{Sending}
+use Rattle.frame.specs.Frames.{build}
 use Rattle.frame.specs.Outbox.{frames, receivers, partyBytes}
-use Rattle.frame.proofs.Rooms.{body-room, build-room, AllFormed, frames-room}
-use Rattle.frame.proofs.RoundTrip.{length-field}
+use Rattle.frame.proofs.Rooms.{build-room, AllFormed, frames-room, front-says}
 use Rattle.frame.proofs.PartyLaws.{length-party}
 use Rattle.frame.proofs.Outbox.{length-receivers}
 use Rattle.frame.proofs.Sizes.{small}
@@ -22,29 +21,10 @@ use Rattle.playback.specs.Reports.{addressed, Report, reportBytes}
 use Rattle.playback.specs.Playback.{entryNeed}
 use Rattle.playback.specs.Stages.{sentIn, Lie}
 
--- every message is within its bounds
-pub all-formed : (g : Params) (xs : List Sending) → ((x : Sending) → List·Memᴰ x xs → Formed g (x .says)) → AllFormed g xs
-all-formed g [] f = tt
-all-formed g (x ∷ xs) f = (f x (List·Memᴰ·head refl) .body, all-formed g xs (λ y u. f y (List·Memᴰ·tail u)))
-
 module _ (g : Params) (B : Bounded g) where
   pub largest-few : largestFrame g ≤ 598
   unfolding largestFrame
   largest-few = let S = small g B in omega (arith, S .list-room, S .block-room)
-
-  -- a frame's length field says how long it is
-  pub frame-says : (m : Message) → FormedBody g (m .body) → 2 + be2 (build m) 0 ≡ length (build m)
-  unfolding build
-  frame-says m f =
-      let S = small g B in
-      let r = body-room g (m .body) f in
-      omega (arith, length-field (kindOf (m .body)) (m .client) (m .sequence) (bodyBytes (m .body)) (omega (arith, r, S .list-room, S .block-room)))
-
-  frame-two : (m : Message) → FormedBody g (m .body) → 2 ≤ length (build m)
-  frame-two m f = omega (arith, frame-says m f)
-
-  pub front-says : (m : Message) → FormedBody g (m .body) → (rest : List ℕ) → 2 + be2 (build m ++ rest) 0 ≡ length (build m)
-  front-says m f rest = ap (λ k. 2 + k) (be2-front (build m) rest (frame-two m f)) ∙ frame-says m f
 
   -- ---- in a step's areas
 
@@ -56,7 +36,7 @@ module _ (g : Params) (B : Bounded g) where
       let p = partyBytes (x .receiver) in
       let u : (b ++ frames xs) ++ r ≡ b ++ (frames xs ++ r) = append-assoc b (frames xs) r in
       let v : (p ++ receivers xs) ++ t ≡ p ++ (receivers xs ++ t) = append-assoc p (receivers xs) t in
-      let n = sym (front-says (x .says) (f .0) (frames xs ++ r)) in
+      let n = sym (front-says g B (x .says) (f .0) (frames xs ++ r)) in
       let k = length xs in
       let l = b ++ (frames xs ++ r) in
       ap₂ (λ o q. take 2 q ++ (take (2 + be2 o 0) o ++ sentIn k (drop (2 + be2 o 0) o) (drop 2 q))) u v
@@ -71,10 +51,10 @@ module _ (g : Params) (B : Bounded g) where
   lies (x ∷ xs) f r =
       let b = build (x .says) in
       let u : (b ++ frames xs) ++ r ≡ b ++ (frames xs ++ r) = append-assoc b (frames xs) r in
-      let e = front-says (x .says) (f .0) (frames xs ++ r) in
+      let e = front-says g B (x .says) (f .0) (frames xs ++ r) in
       let l = length-append b (frames xs ++ r) in
       subst (Lie (suc (length xs))) (sym u) (
-        omega (arith, l, frame-two (x .says) (f .0)),
+        omega (arith, l, e),
         omega (arith, l, e),
         subst (Lie (length xs)) (sym (drop-at b (frames xs ++ r) _ (sym e))) (lies xs (f .1) r),
       )

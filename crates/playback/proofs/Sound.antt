@@ -11,7 +11,7 @@ use Rattle.frame.specs.declared.Verdict.the-variants as J
 use Rattle.frame.specs.Params.{width, Bounded}
 use Rattle.frame.specs.Chunks.{areaBytes}
 use Rattle.frame.specs.Messages.{Formed}
-use Rattle.frame.proofs.Rooms.{AllFormed}
+use Rattle.frame.proofs.Rooms.{AllFormed, all-formed}
 use Rattle.frame.proofs.Converse.{formed-opened}
 use Rattle.server_rules.specs.declared.Server.{Server}
 use Rattle.server_rules.specs.Steps as S
@@ -21,7 +21,6 @@ use Rattle.steps.proofs.ServerRanges.{InBounds, in-bounds-fresh, effect-good}
 use Rattle.steps.proofs.SendCount.{server-sends}
 use Rattle.entries.specs.Entries.{TraceEntry}
 use Rattle.playback.specs.Playback.{spareOut, spareTo, reportOf, serverAfter, areaAfter}
-use Rattle.playback.proofs.Sends.{all-formed}
 
 pub record Sound (s : Server) (a : List ℕ) : Type 0 where
   pub in-bounds : InBounds s

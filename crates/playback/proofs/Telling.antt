@@ -15,14 +15,15 @@ use Rattle.frame.specs.Params.{width, Bounded}
 use Rattle.frame.specs.Messages.{Sending, Message, FormedBody}
 use Rattle.frame.specs.Frames.{build}
 use Rattle.frame.specs.Outbox.{partyBytes, partyIn}
-use Rattle.frame.proofs.Rooms.{AllFormed}
+use Rattle.frame.proofs.Rooms.{AllFormed, front-says}
 use Rattle.server_rules.specs.declared.Server.{Server}
+use Rattle.server_rules.specs.Delivery.{replyNumber}
 use Rattle.entries.specs.Entries.{TraceEntry}
 use Rattle.entries.proofs.Theorem.{AllFrames}
-use Rattle.playback.specs.Reports.{replyNumber, addressed, Report, reportBytes, reportsBytes}
+use Rattle.playback.specs.Reports.{addressed, Report, reportBytes, reportsBytes}
 use Rattle.playback.specs.Playback.{entryNeed, serverAfter, areaAfter, played}
 use Rattle.playback.specs.Theorem.{Posted, postedIn, behindPosted, toldIn, toldOf}
-use Rattle.playback.proofs.Sends.{front-says, report-few}
+use Rattle.playback.proofs.Sends.{report-few}
 use Rattle.playback.proofs.Sound.{Sound, steps}
 
 -- what is reported can be read: frames that are within their bounds, and few

@@ -32,7 +32,7 @@ use Rattle.entries.proofs.Theorem.{back, only, frames-of}
 use Rattle.playback.specs.declared.Ending.the-variants as E
 use Rattle.playback.specs.declared.Summary.{Summary}
 use Rattle.playback.specs.declared.Answer.the-variants as A
-use Rattle.playback.specs.Reports.{replyNumber, addressed, reportBytes, reportsBytes}
+use Rattle.playback.specs.Reports.{addressed, reportBytes, reportsBytes}
 use Rattle.playback.specs.Playback.{entryNeed, outTest, Played, played, playTest, playedFrom}
 use Rattle.playback.specs.Playback.{endingOf, summaryOf, Outcome, outcomeOf, playbackBy, playback}
 use Rattle.playback.specs.Theorem.{Handed, AllEnough, entriesOf, taken, takenFrom, AllAgree, toldIn, IsSteps, GoesOn, Restarts, Unchanged, Theorem}
@@ -242,7 +242,7 @@ module _ (H : List ℕ → List ℕ) (g : Params) (me : ℕ) where
       }
 
   pub theorem : Theorem H g me
-  unfolding reportBytes replyNumber addressed bytes2 outTest pick
+  unfolding reportBytes SD.replyNumber addressed bytes2 outTest pick
   theorem = record {
     refused = refused;
     room = room;

@@ -1,5 +1,5 @@
 -- The loop over the entries: what is played and what is left give the whole playback. Assumes nothing.
-use Prim.Native.Nat.{ℕ, zero, suc, _+_, _*_, _-_, _≤_, _<_}
+use Prim.Native.Nat.{ℕ, _+_, _*_, _-_, _≤_, _<_}
 use native.Mathlib.Omega.{arith}
 use native.Mathlib.Nat.{suc-mul, mul-le-mul}
 use mathlib.Core.Path.{_≡_, refl, sym, ap, ap₂, subst, _∙_}
@@ -11,6 +11,7 @@ use borrow.Author.Tests.{ltb-false}
 use Rattle.area.specs.Area.{Bytes}
 use Rattle.area.specs.Numbers.{bytes2}
 use Rattle.area.proofs.Sets.{sets-append}
+use Rattle.area.proofs.Numbers.{Bytes-take, Bytes-drop}
 use Rattle.blocks.specs.declared.Params.{Params}
 use Rattle.frame.specs.Params.{width, largestFrame, outRoom, toRoom, Bounded}
 use Rattle.frame.specs.declared.Refusal.the-variants as Refusals
@@ -27,10 +28,9 @@ use Rattle.entries.specs.declared.Reading.{Reading}
 use Rattle.entries.specs.declared.Reading.the-variants as R
 use Rattle.entries.specs.Entries.{TraceEntry, before, foundIn, readingOf, traceOf}
 use Rattle.entries.proofs.Traces.{lent-rest, rest-closed, rest-within, rest-entry}
-use Rattle.entries.proofs.Theorem.{bytes-drop}
-use Rattle.playback.specs.Reports.{replyNumber, addressed, Report, reportBytes, reportsBytes}
+use Rattle.playback.specs.Reports.{addressed, Report, reportBytes, reportsBytes}
 use Rattle.playback.specs.Playback.{entryNeed, outTest, reportOf, serverAfter, areaAfter, Played, played, playTest, playedFrom}
-use Rattle.playback.specs.Stages.{replyCount, sentIn, Lie, reportIn, done, playedAll}
+use Rattle.playback.specs.Stages.{sentIn, Lie, reportIn, done, playedAll}
 use Rattle.playback.specs.Theorem.{Enough}
 use Rattle.playback.proofs.Rooms.{same-initial, count-is, step-reply, step-server, step-area, step-out, step-to}
 use Rattle.playback.proofs.Sends.{largest-few, report-few, sent-in, lie-in, to-many}
@@ -43,11 +43,6 @@ scratch-enough g B out to o t =
     let m : (g .n + 9) * largestFrame g ≤ 19 * 598 =
     mul-le-mul {n₁ = g .n + 9} {m₁ = largestFrame g} {n₂ = 19} {m₂ = 598} (omega (arith, B .servers-high)) (largest-few g B) in
     record { out-room = omega (arith, m, o); to-room = omega (arith, B .servers-high, t) }
-
-bytes-take : (l : List ℕ) (n : ℕ) → Bytes l → Bytes (take n l)
-bytes-take l zero p = tt
-bytes-take [] (suc n) p = tt
-bytes-take (x ∷ l) (suc n) p = (p .0, bytes-take l n (p .1))
 
 module _ (H : List ℕ → List ℕ) (g : Params) (me : ℕ) (initial trace : List ℕ) (whole : Played) (out₀ : List ℕ) where
   -- the entries from index at on
@@ -117,7 +112,7 @@ module _ (H : List ℕ → List ℕ) (g : Params) (me : ℕ) (initial trace : Li
       entry-bytes : Bytes (e .frame)
       entry-bytes =
           let l = take (length trace - at) (drop at trace) in
-          bytes-take (drop 5 l) (x .end - 5) (bytes-drop l 5 (bytes-take (drop at trace) (length trace - at) (bytes-drop trace at (T .bytes))))
+          Bytes-take (x .end - 5) (drop 5 l) (Bytes-drop 5 l (Bytes-take (length trace - at) (drop at trace) (Bytes-drop at trace (T .bytes))))
 
       taken : Steps H g B me initial s a e
       taken = steps H g B me initial (T .initial-room) s a (T .sound) e entry-bytes
@@ -136,8 +131,8 @@ module _ (H : List ℕ → List ℕ) (g : Params) (me : ℕ) (initial trace : Li
         reply-is : v .reply ≡ report .reply
         reply-is = ap (λ y. y .reply) q ∙ step-reply H g me initial s a e frames₀ to₀ E
 
-        count : replyCount (v .reply) ≡ length (report .sends)
-        count = ap replyCount reply-is ∙ count-is H g me initial s a e
+        count : SD.replyCount (v .reply) ≡ length (report .sends)
+        count = ap SD.replyCount reply-is ∙ count-is H g me initial s a e
 
         frames-are : frames′ ≡ sets frames₀ 0 (frames (report .sends))
         frames-are = ap (λ y. y .out) q ∙ step-out H g me initial s a e frames₀ to₀ E
@@ -148,17 +143,17 @@ module _ (H : List ℕ → List ℕ) (g : Params) (me : ℕ) (initial trace : Li
         report-is : reportIn (v .reply) frames′ to′ ≡ reportBytes report
         unfolding reportIn reportBytes
         report-is =
-            let c : sentIn (replyCount (v .reply)) frames′ to′ ≡ addressed (report .sends) =
+            let c : sentIn (SD.replyCount (v .reply)) frames′ to′ ≡ addressed (report .sends) =
             ap (λ (k : ℕ). sentIn k frames′ to′) count
             ∙ ap₂ (sentIn (length (report .sends))) frames-are to-are
             ∙ sent-in g B (report .sends) (taken .formed) (taken .few) frames₀ to₀ (E .out-room) (E .to-room) in
-            ap₂ (λ n l. n ∷ l) (ap replyNumber reply-is) (ap₂ (λ k l. bytes2 k ++ l) count c)
+            ap₂ (λ n l. n ∷ l) (ap SD.replyNumber reply-is) (ap₂ (λ k l. bytes2 k ++ l) count c)
 
         -- what the report asks
         pub record Asks : Type 0 where
-          pub lie : Lie (replyCount (v .reply)) frames′
-          pub receivers-in : 2 * replyCount (v .reply) ≤ length to′
-          pub few : replyCount (v .reply) < 65536
+          pub lie : Lie (SD.replyCount (v .reply)) frames′
+          pub receivers-in : 2 * SD.replyCount (v .reply) ≤ length to′
+          pub few : SD.replyCount (v .reply) < 65536
           pub fits : used + length (reportIn (v .reply) frames′ to′) ≤ length out
 
         pub turn-asks : Asks

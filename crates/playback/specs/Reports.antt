@@ -4,17 +4,11 @@ use Prim.Native.Nat.{ℕ}
 use mathlib.Core.List.{List, [], _∷_, _++_}
 use lib.ListN.{length}
 use Rattle.area.specs.Numbers.{bytes2}
-use Rattle.frame.specs.Refusals.{numberOf}
 use Rattle.frame.specs.Messages.{Sending}
 use Rattle.frame.specs.Frames.{build}
 use Rattle.frame.specs.Outbox.{partyBytes}
 use Rattle.server_rules.specs.declared.Reply.{Reply}
-use Rattle.server_rules.specs.declared.Reply.the-variants as Y
-
--- "the answer's number (1 byte, 0 for a step)"
-unfoldable pub replyNumber : Reply → ℕ
-replyNumber (Y.Step m) = 0
-replyNumber (Y.Refused r) = numberOf r
+use Rattle.server_rules.specs.Delivery.{replyNumber}
 
 -- frames, each "after its receiver's class and number"
 unfoldable pub addressed : List Sending → List ℕ

@@ -8,19 +8,13 @@ use Rattle.area.specs.Numbers.{be2, bytes2}
 use Rattle.blocks.specs.declared.Params.{Params}
 use Rattle.server_rules.specs.declared.Server.{Server}
 use Rattle.server_rules.specs.declared.Reply.{Reply}
-use Rattle.server_rules.specs.declared.Reply.the-variants as Y
-use Rattle.server_rules.specs.Delivery.{construction}
+use Rattle.server_rules.specs.Delivery.{replyNumber, replyCount, construction}
 use Rattle.entries.specs.Entries.{Trace}
 use Rattle.playback.specs.declared.player.Done.{Done}
-use Rattle.playback.specs.Reports.{replyNumber, reportsBytes}
+use Rattle.playback.specs.Reports.{reportsBytes}
 use Rattle.playback.specs.Playback.{playedFrom}
 
 -- ---- a step's areas
-
--- how many frames a reply says were sent
-unfoldable pub replyCount : Reply → ℕ
-replyCount (Y.Step m) = m
-replyCount (Y.Refused r) = 0
 
 -- m frames that lie end to end in an out area, each after its receiver from a to area
 unfoldable pub sentIn : ℕ → List ℕ → List ℕ → List ℕ

@@ -25,8 +25,8 @@ use Rattle.entries.specs.Forms.{AllWritable}
 use Rattle.playback.specs.declared.Ending.the-variants as E
 use Rattle.playback.specs.declared.Summary.{Summary}
 use Rattle.playback.specs.declared.Answer.the-variants as A
-use Rattle.playback.specs.Reports.{replyNumber, Report, reportBytes}
-use Rattle.playback.specs.Playback.{entryNeed, outTest, reportOf, Played, played, playedFrom, Outcome, playback}
+use Rattle.playback.specs.Reports.{Report, reportBytes}
+use Rattle.playback.specs.Playback.{entryNeed, outTest, reportOf, played, playedFrom, Outcome, playback}
 
 -- ---- the steps, one after the other
 
@@ -111,7 +111,7 @@ toldIn zero l = []
 toldIn (suc m) l = record { number = getD l 0 0; posted = postedIn (be2 l 1) (drop 3 l) } ∷ toldIn m (behindPosted (be2 l 1) (drop 3 l))
 
 unfoldable pub toldOf : Report → Told
-toldOf r = record { number = replyNumber (r .reply); posted = map (λ x. record { receiver = x .receiver; frame = build (x .says) }) (r .sends) }
+toldOf r = record { number = SD.replyNumber (r .reply); posted = map (λ x. record { receiver = x .receiver; frame = build (x .says) }) (r .sends) }
 
 -- ---- what is proved
 

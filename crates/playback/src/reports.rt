@@ -8,8 +8,8 @@ ghost use lib.ListN.{length};
 ghost use lib.Seq.{sets};
 ghost use Rattle.area.specs.Area.{part};
 ghost use Rattle.area.specs.Numbers.{be2};
-ghost use Rattle.playback.specs.Reports.{replyNumber};
-ghost use Rattle.playback.specs.Stages.{replyCount, sentIn, Lie, reportIn};
+ghost use Rattle.server_rules.specs.Delivery.{replyNumber, replyCount};
+ghost use Rattle.playback.specs.Stages.{sentIn, Lie, reportIn};
 
 // 0 for a step, else the refusal's number.
 fn reply_number(a: Reply) -> u8

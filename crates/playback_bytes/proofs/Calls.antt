@@ -36,11 +36,11 @@ module _ (x : Summary) where
   unfolding summaryAnswer closedAnswer
   whole-summary p = sym (ap (λ (y : Ending). closedAnswer y + counted) p ∙ zero-add counted)
 
-  pub malformed-summary : (i : ℕ) → x .ending ≡ E.Malformed i → 5632 + counted ≡ summaryAnswer x
+  pub malformed-summary : (i : ℕ) → x .ending ≡ E.Malformed i → 256 * 22 + counted ≡ summaryAnswer x
   unfolding summaryAnswer closedAnswer
   malformed-summary i p = sym (ap (λ (y : Ending). closedAnswer y + counted) p)
 
-  pub cut-summary : (i : ℕ) → x .ending ≡ E.Cut i → 5888 + counted ≡ summaryAnswer x
+  pub cut-summary : (i : ℕ) → x .ending ≡ E.Cut i → 256 * 23 + counted ≡ summaryAnswer x
   unfolding summaryAnswer closedAnswer
   cut-summary i p = sym (ap (λ (y : Ending). closedAnswer y + counted) p)
 

@@ -11,6 +11,8 @@ use Rattle.blocks.specs.declared.Params.{Params}
 use Rattle.frame.specs.Refusals.{numberOf}
 use Rattle.server_rules.specs.declared.Server.{Server}
 use Rattle.layout.specs.Servers.{serverSize, serverBytes}
+use Rattle.entries.specs.declared.Closing.the-variants as C
+use Rattle.entries.specs.Entries.{closingNumber}
 use Rattle.playback.specs.declared.Answer.{Answer}
 use Rattle.playback.specs.declared.Answer.the-variants as A
 use Rattle.playback.specs.declared.Ending.{Ending}
@@ -25,8 +27,8 @@ use Rattle.answers.specs.Short.{valueShort}
 -- how the trace closed, in the byte above the refusal's: 256 times 22 or 23, 0 where it is whole
 unfoldable pub closedAnswer : Ending → ℕ
 closedAnswer E.Whole = 0
-closedAnswer (E.Malformed i) = 5632
-closedAnswer (E.Cut i) = 5888
+closedAnswer (E.Malformed i) = 256 * closingNumber C.Malformed
+closedAnswer (E.Cut i) = 256 * closingNumber C.Cut
 
 -- the entries played stand from bit 24 on; the byte between stays 0
 unfoldable pub summaryAnswer : Summary → ℕ

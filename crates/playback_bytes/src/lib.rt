@@ -18,6 +18,11 @@ ghost use Rattle.playback_bytes.specs.Calls.{summaryAnswer, playbackAnsw
 
 // ---- the answer
 
+// 22 and 23 in the byte above a refusal's.
+const MALFORMED: u64 = 256 * 22;
+
+const CUT: u64 = 256 * 23;
+
 // How many entries were played, above how the trace closed.
 fn summary_answer(x: Summary) -> u64
     ensures { λ r. ⌜ r ≡ summaryAnswer x ⌝ }
@@ -26,8 +31,8 @@ fn summary_answer(x: Summary) -> u64
     let entries = x.entries as u64 % 1099511627776;
     match ending {
         Ending::Whole => 16777216 * entries,
-        Ending::Malformed(_) => 5632 + 16777216 * entries,
-        Ending::Cut(_) => 5888 + 16777216 * entries,
+        Ending::Malformed(_) => MALFORMED + 16777216 * entries,
+        Ending::Cut(_) => CUT + 16777216 * entries,
     }
 }
 

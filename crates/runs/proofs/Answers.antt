@@ -1,32 +1,29 @@
 -- What is read off an answer's out and to areas is exactly what the run takes as sent. Assumes nothing.
-use Prim.Native.Nat.{ℕ, _+_, _*_, _≤_}
+use Prim.Native.Nat.{ℕ, _+_, _≤_}
 use native.Mathlib.Omega.{arith}
-use native.Mathlib.Nat.{suc-mul, mul-le-mul-right}
+use native.Mathlib.Nat.{mul-le-mul-right}
 use mathlib.Core.Path.{_≡_, refl, ap, sym, _∙_, subst}
 use mathlib.Core.Option.{Option, none, some}
-use mathlib.Core.List.{List, [], _∷_, _++_, map, append-assoc, List·Memᴰ, List·Memᴰ·head, List·Memᴰ·tail}
+use mathlib.Core.List.{List, [], _∷_, _++_, map, append-assoc}
 use mathlib.Core.Logic.{inl}
-use lib.ListN.{length, getD, take, drop, length-append, List·getD-append}
+use lib.ListN.{length, getD, take, drop}
 use lib.Seq.{sets, sets-eq, take-at, drop-at}
 use borrow.Author.Tests.{ltb-false}
 use Rattle.quorum.proofs.Logic.{impossible}
-use Rattle.area.specs.Area.{pick}
 use Rattle.area.specs.Numbers.{be2}
 use Rattle.blocks.specs.declared.Params.{Params}
 use Rattle.frame.specs.declared.Party.{Party}
 use Rattle.frame.specs.declared.Opened.{Opened}
 use Rattle.frame.specs.declared.Verdict.{Verdict}
-use Rattle.frame.specs.declared.Party.the-variants as P
 use Rattle.frame.specs.declared.Opened.the-variants as O
 use Rattle.frame.specs.declared.Verdict.the-variants as J
-use Rattle.frame.specs.Params.{largestFrame, entryLength, serverFrames, clientFrames, outRoom, toRoom, Bounded, paramsTest}
-use Rattle.frame.specs.Messages.{Body, getStamp, ack, askRead, readComplete, stampIs, blockIs, valueIs}
-use Rattle.frame.specs.Messages.{send, echo, ready, Message, Sending, Formed, Judged, bad, good}
-use Rattle.frame.specs.Frames.{build, bodyBytes, kindOf, bodyLength, lengthOf, opened, messageIn}
-use Rattle.frame.specs.Outbox.{frames, receivers, partyBytes}
+use Rattle.frame.specs.Params.{largestFrame, serverFrames, clientFrames, outRoom, toRoom, Bounded, paramsTest}
+use Rattle.frame.specs.Messages.{Message, Sending, Judged, bad, good}
+use Rattle.frame.specs.Frames.{build, opened, messageIn}
+use Rattle.frame.specs.Outbox.{frames, receivers, partyBytes, partyIn}
 use Rattle.frame.specs.Stamps.{lastClient}
-use Rattle.frame.proofs.Opening.{opens-facts}
-use Rattle.frame.proofs.RoundTrip.{opened-build, length-frame, length-body}
+use Rattle.frame.proofs.PartyLaws.{party-back}
+use Rattle.frame.proofs.Rooms.{AllFormed, all-formed, frames-room, front-says}
 use Rattle.frame.proofs.Outbox.{length-receivers}
 use Rattle.frame.proofs.Verdicts.{fine-both, fine-not}
 use Rattle.frame.proofs.Sizes.{Small}
@@ -42,79 +39,27 @@ use Rattle.steps.proofs.ClientTaken.{by-fine, after-fine, send-room, took-room}
 use Rattle.steps.proofs.SendCount.{server-sends, eventSends, client-sends, read-sends, write-sends}
 use Rattle.runs.specs.World.{Setup, Call, toServer, toClient, beginRead, beginWrite, caller, World, initialOf, lentTo, run, sends}
 use Rattle.runs.specs.Admissible.{Honest, Proper, Admissible}
-use Rattle.runs.specs.Answers.{framesIn, partyIn, receiversIn, replyCount, answerCount, said, AnswersReadBack}
+use Rattle.runs.specs.Answers.{framesIn, receiversIn, answerCount, said, AnswersReadBack}
 use Rattle.runs.proofs.Assumed.{Assumed, assumed}
 use Rattle.runs.proofs.Agreement.{small}
 use Rattle.runs.proofs.Formation.{formed}
 
 -- ---- frames end to end
 
-abbrev AllFormed : Params → List Sending → Type 0
-AllFormed g xs = (x : Sending) → List·Memᴰ x xs → Formed g (x .says)
-
 module _ (g : Params) (B : Bounded g) where
-  -- a frame's length is at most that of a value's
-  body-few : (b : Body) → bodyLength g (kindOf b) ≤ 13 + entryLength g
-  unfolding bodyLength lengthOf kindOf pick
-  body-few getStamp = omega arith
-  body-few ack = omega arith
-  body-few askRead = omega arith
-  body-few readComplete = omega arith
-  body-few (stampIs T) = omega arith
-  body-few (blockIs send o) = omega arith
-  body-few (blockIs echo o) = omega arith
-  body-few (blockIs ready o) = omega arith
-  body-few (valueIs s e) = omega arith
-
-  frame-few : (m : Message) → Formed g m → length (build m) ≤ largestFrame g
-  unfolding build largestFrame
-  frame-few m f =
-      let p = length-frame (kindOf (m .body)) (m .client) (m .sequence) (bodyBytes (m .body)) in
-      let q = length-body g (m .body) (f .body) in
-      let r = body-few (m .body) in
-      omega (arith, p, q, r)
-
-  frames-few : (xs : List Sending) → AllFormed g xs → length (frames xs) ≤ length xs * largestFrame g
-  unfolding frames
-  frames-few [] f = omega arith
-  frames-few (x ∷ xs) f =
-      let p = length-append (build (x .says)) (frames xs) in
-      let q = frame-few (x .says) (f x (List·Memᴰ·head refl)) in
-      let r = frames-few xs (λ y u. f y (List·Memᴰ·tail u)) in
-      let s = suc-mul (length xs) (largestFrame g) in
-      omega (arith, p, q, r, s)
-
-  -- the front of a list
-  be2-front : (u w : List ℕ) → 2 ≤ length u → be2 (u ++ w) 0 ≡ be2 u 0
-  unfolding be2
-  be2-front u w h =
-      let p = List·getD-append u w 0 0 (omega (arith, h)) in
-      let q = List·getD-append u w 0 1 (omega (arith, h)) in
-      omega (arith, p, q)
-
-  frame-says : (m : Message) → Formed g m → be2 (build m) 0 + 2 ≡ length (build m)
-  frame-says m f = opens-facts g (build m) _ (opened-build g B m f .opens) .length-field
-
   pub frames-back : (xs : List Sending) → AllFormed g xs → (rest : List ℕ) → framesIn (length xs) (frames xs ++ rest) ≡ map (λ x. build (x .says)) xs
   unfolding framesIn frames
   frames-back [] f rest = refl
   frames-back (x ∷ xs) f rest =
       let b = build (x .says) in
-      let says = frame-says (x .says) (f x (List·Memᴰ·head refl)) in
       let l : (b ++ frames xs) ++ rest ≡ b ++ (frames xs ++ rest) = append-assoc b (frames xs) rest in
-      let n : length b ≡ be2 (b ++ (frames xs ++ rest)) 0 + 2 = sym says ∙ ap (λ z. z + 2) (sym (be2-front b (frames xs ++ rest) (omega (arith, says)))) in
+      let n : length b ≡ be2 (b ++ (frames xs ++ rest)) 0 + 2 = omega (arith, front-says g B (x .says) (f .0) (frames xs ++ rest)) in
       let t : take (be2 (b ++ (frames xs ++ rest)) 0 + 2) (b ++ (frames xs ++ rest)) ≡ b = take-at b (frames xs ++ rest) _ n in
       let d : drop (be2 (b ++ (frames xs ++ rest)) 0 + 2) (b ++ (frames xs ++ rest)) ≡ frames xs ++ rest = drop-at b (frames xs ++ rest) _ n in
-      let r = frames-back xs (λ y u. f y (List·Memᴰ·tail u)) rest in
+      let r = frames-back xs (f .1) rest in
       ap (λ z. take (be2 z 0 + 2) z ∷ framesIn (length xs) (drop (be2 z 0 + 2) z)) l ∙ (λ i. t i ∷ framesIn (length xs) (d i)) ∙ ap (λ z. b ∷ z) r
 
 -- ---- receivers
-
-party-back : (p : Party) (rest : List ℕ)
-    → (partyIn (getD (partyBytes p ++ rest) 0 0) (getD (partyBytes p ++ rest) 1 0) ≡ p) × (drop 2 (partyBytes p ++ rest) ≡ rest)
-unfolding partyBytes
-party-back (P.Client c) rest = (refl, refl)
-party-back (P.Server j) rest = (refl, refl)
 
 pub receivers-back : (xs : List Sending) (rest : List ℕ) → receiversIn (length xs) (receivers xs ++ rest) ≡ map (λ x. x .receiver) xs
 unfolding receiversIn receivers
@@ -140,7 +85,7 @@ written-back : (g : Params) → Bounded g → (xs : List Sending) → AllFormed 
     → toRoom m ≤ length to → Back (length xs) xs (sets out 0 (frames xs)) (sets to 0 (receivers xs))
 unfolding outRoom toRoom
 written-back g B xs f m h out to o t =
-    let few = frames-few g B xs f in
+    let few = frames-room g xs f in
     let more = mul-le-mul-right {m = length xs} {n = m} (largestFrame g) h in
     let long : 0 + length (frames xs) ≤ length out = omega (arith, few, more, o) in
     let wide : 0 + length (receivers xs) ≤ length to = omega (arith, length-receivers xs, h, t) in (
@@ -194,26 +139,28 @@ module _ (H : List ℕ → List ℕ) (g : Params) (me : ℕ) where
 
 -- ---- in a run
 
+-- who answers a call is honest
+pub honest-caller : (Z : Setup) (ks : List Call) (k : Call) → Proper Z ks k → Honest Z (caller k)
+honest-caller Z ks (toServer i from f out to) p = p .0
+honest-caller Z ks (toClient c from f lent result out to) p = p .0
+honest-caller Z ks (beginRead c out to) p = p
+honest-caller Z ks (beginWrite c v out to) p = p .0
+
 module _ (Z : Setup) (G : Assumed Z) where
   open Setup Z using (H, g)
 
   abbrev M : Small g
   M = small Z G
 
-  honest-caller : (ks : List Call) (k : Call) → Proper Z ks k → Honest Z (caller k)
-  honest-caller ks (toServer i from f out to) p = p .0
-  honest-caller ks (toClient c from f lent result out to) p = p .0
-  honest-caller ks (beginRead c out to) p = p
-  honest-caller ks (beginWrite c v out to) p = p .0
-
-  all-formed : (ks : List Call) (k : Call) → Admissible Z (k ∷ ks) → AllFormed g (sends Z (run Z ks) k)
-  all-formed ks k a x u = formed Z G M (k ∷ ks) a (caller k) (x .receiver) (x .says) (honest-caller ks k (a .0)) (inl (refl, u))
+  sends-formed : (ks : List Call) (k : Call) → Admissible Z (k ∷ ks) → AllFormed g (sends Z (run Z ks) k)
+  sends-formed ks k a =
+      all-formed g _ (λ x u. formed Z G M (k ∷ ks) a (caller k) (x .receiver) (x .says) (honest-caller Z ks k (a .0)) (inl (refl, u)))
 
   abbrev Answer : World → Call → Type 0
   Answer w k = AllFormed g (sends Z w k) → Back (said Z w k .count) (sends Z w k) (said Z w k .out) (said Z w k .to)
 
   server-back : (w : World) (i : ℕ) (from : Party) (f out to : List ℕ) → Answer w (toServer i from f out to)
-  unfolding said sends SD.delivery SD.outcomeOf SD.replyOf SD.delivered SD.effectBy
+  unfolding said sends SD.replyCount SD.delivery SD.outcomeOf SD.replyOf SD.delivered SD.effectBy
   server-back w i from f out to F = go (ST.judge H g i s a (initialOf Z i) from f out to) refl F
     where
       s : Server
@@ -223,14 +170,15 @@ module _ (Z : Setup) (G : Assumed Z) where
       a = w .servers i .area
 
       go : (j : Judged) → ST.judge H g i s a (initialOf Z i) from f out to ≡ j → AllFormed g (SD.effectBy H g i j s a (initialOf Z i) from .sends)
-          → Back (replyCount (SD.replyOf H g i j (length (SD.effectBy H g i j s a (initialOf Z i) from .sends))))
+          → Back (SD.replyCount (SD.replyOf H g i j (length (SD.effectBy H g i j s a (initialOf Z i) from .sends))))
           (SD.effectBy H g i j s a (initialOf Z i) from .sends)
           (sets out 0 (frames (SD.effectBy H g i j s a (initialOf Z i) from .sends)))
           (sets to 0 (receivers (SD.effectBy H g i j s a (initialOf Z i) from .sends)))
       go (bad r) e F = nothing-back _ _
       go (good m) e F =
           let r = server-room H g i s a (initialOf Z i) from f out to m e in
-          written-back g (G .bounded) _ F (serverFrames g) (server-sends H g i s a (initialOf Z i) from m) out to (r .0) (r .1)
+          let xs = SD.effectBy H g i (good m) s a (initialOf Z i) from .sends in
+          written-back g (G .bounded) xs F (serverFrames g) (server-sends H g i s a (initialOf Z i) from m) out to (r .0) (r .1)
 
   client-back : (w : World) (c : ℕ) (from : Party) (f lent result out to : List ℕ) → Answer w (toClient c from f lent result out to)
   unfolding said sends CD.delivery CD.outcomeOf CD.answerOf CD.delivered CD.effectBy
@@ -271,7 +219,7 @@ module _ (Z : Setup) (G : Assumed Z) where
       go (J.Bad r) e F = nothing-back _ _
       go J.Fine e F =
           let r = send-room H g c out to (read-room g c s out to e) in
-          written-back g (G .bounded) _ F (clientFrames g) (read-sends H g c s) out to (r .0) (r .1)
+          written-back g (G .bounded) (CB.openRead g c s .sends) F (clientFrames g) (read-sends H g c s) out to (r .0) (r .1)
 
   write-back : (w : World) (c : ℕ) (v out to : List ℕ) → Answer w (beginWrite c v out to)
   unfolding said sends CB.writeBeginning CB.begunOf CB.beginAnswer CB.writeBegun CB.beginBy
@@ -286,7 +234,7 @@ module _ (Z : Setup) (G : Assumed Z) where
       go (J.Bad r) e F = nothing-back _ _
       go J.Fine e F =
           let r = send-room H g c out to (write-room g c s v out to e) in
-          written-back g (G .bounded) _ F (clientFrames g) (write-sends H g c s) out to (r .0) (r .1)
+          written-back g (G .bounded) (CB.openWrite g c s .sends) F (clientFrames g) (write-sends H g c s) out to (r .0) (r .1)
 
   answer-back : (w : World) (k : Call) → Answer w k
   answer-back w (toServer i from f out to) = server-back w i from f out to
@@ -298,5 +246,5 @@ pub answers-read-back : AnswersReadBack
 unfolding AnswersReadBack
 answers-read-back Z S D k ks a =
     let G = assumed Z S D in
-    let w = answer-back Z G (run Z ks) k (all-formed Z G ks k a) in
+    let w = answer-back Z G (run Z ks) k (sends-formed Z G ks k a) in
     record { frames = w .0; receivers = w .1 }

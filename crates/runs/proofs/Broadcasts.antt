@@ -7,6 +7,7 @@ use mathlib.Core.Path.{_≡_, refl, ap, sym, _∙_, subst}
 use mathlib.Core.Logic.{_⊎_, inl, inr, ⊎-elim}
 use mathlib.Core.Option.{Option, some}
 use mathlib.Core.List.{List, [], _∷_, List·Memᴰ, List·Memᴰ·not-nil}
+use lib.ListN.{length}
 use lib.Dec.{leb}
 use borrow.Author.Tests.{leb-true, le-leb}
 use Rattle.quorum.specs.Quorum.{Among}
@@ -20,7 +21,6 @@ use Rattle.frame.specs.Frames.{build, opened, messageIn, headerFor}
 use Rattle.frame.specs.Messages.{Offer, Stage, send, echo, ready, Body, blockIs, Message, message, Sending, sending, Formed}
 use Rattle.frame.proofs.RoundTrip.{opened-build}
 use Rattle.frame.proofs.Sizes.{Small}
-use Rattle.server_rules.specs.declared.Server.{Server}
 use Rattle.server_rules.specs.Broadcast.{Rules, Part}
 use Rattle.server_rules.specs.Rules.{blockRules}
 use Rattle.server_rules.specs.State.{slotOf}
@@ -103,6 +103,18 @@ module _ (Z : Setup) (G : Assumed Z) (M : Small (Z .g)) where
   unfolding run step
   server-left ks k j C =
       subst (λ y. serverAt (y ∷ ks) j ≡ serverLeft Z (effectOf C)) (sym (C .is)) (put-same (run Z ks .servers) j _ ∙ ap (serverLeft Z) (C .moves))
+
+  pub left-part : (ks : List Call) (k : Call) (j : ℕ) (C : Takes ks k j) (c : ℕ)
+      → partAt g (serverAt (k ∷ ks) j .server) (serverAt (k ∷ ks) j .area) c ≡ partAt g (effectOf C .server) (effectOf C .area) c
+  left-part ks k j C c = ap (λ h. partAt g (h .server) (h .area) c) (server-left ks k j C)
+
+  pub left-seq : (ks : List Call) (k : Call) (j : ℕ) (C : Takes ks k j) (c : ℕ)
+      → slotOf (serverAt (k ∷ ks) j .server) c .sequence ≡ slotOf (effectOf C .server) c .sequence
+  left-seq ks k j C c = ap (λ h. slotOf (h .server) c .sequence) (server-left ks k j C)
+
+  pub accepts-now : (ks : List Call) (k : Call) (j : ℕ) (C : Takes ks k j) (w : S.Write) → List·Memᴰ w (effectOf C .accepted)
+      → At (Accepts Z j w) (k ∷ ks) (length ks)
+  accepts-now ks k j C w u = inl (refl, subst (λ y. Accepts Z j w ks y) (sym (C .is)) (refl, subst (λ r. List·Memᴰ w (r .accepted)) (sym (C .moves)) u))
 
   pub shape : (ks : List Call) (i : ℕ) → ServerShape (serverAt ks i .server) (serverAt ks i .area)
   unfolding run start
@@ -230,12 +242,6 @@ module _ (Z : Setup) (G : Assumed Z) (M : Small (Z .g)) where
           → (Among 8 c × (o : Offer) × (agreed o ≡ d) × (f j ≡ some o)) ⊎ SaidBy z ks j c (slotOf (serverAt ks i .server) c .sequence) d)
       known i C c ic f z d m = B.at-least-map (λ j is y ok. ⊎-elim (λ a. inl (ic, y .0, y .1, a)) (λ a. inr (this i C c j z (y .0) d (y .1) ok is a)) (y .2))
 
-      moved : (i c : ℕ) (C : Takes ks k i) → part (k ∷ ks) i c ≡ partAt g (effectOf C .server) (effectOf C .area) c
-      moved i c C = ap (λ h. partAt g (h .server) (h .area) c) (server-left ks k i C)
-
-      moved-seq : (i c : ℕ) (C : Takes ks k i) → slotOf (serverAt (k ∷ ks) i .server) c .sequence ≡ slotOf (effectOf C .server) c .sequence
-      moved-seq i c C = ap (λ h. slotOf (h .server) c .sequence) (server-left ks k i C)
-
       on-sent : (i c : ℕ) (u v : Bool) → (Among 8 c → u ≡ true → v ≡ true) → (inRange c && u) ≡ true → (inRange c && v) ≡ true
       on-sent i c u v f e = let w = and-split (inRange c) u e in rw (w .0) (f (in-range c (w .0)) (w .1))
 
@@ -249,8 +255,8 @@ module _ (Z : Setup) (G : Assumed Z) (M : Small (Z .g)) where
             (λ N.
             let C = N .0 in
             ⊎-elim
-            (λ w. inl (moved-seq i c C ∙ w .0, λ u. ap (λ y. inRange c && y .sent) (moved i c C) ∙ on-sent i c _ _ (w .1) u))
-            (λ w. inr (omega (arith, w, moved-seq i c C)))
+            (λ w. inl (left-seq ks k i C c ∙ w .0, λ u. ap (λ y. inRange c && y .sent) (left-part ks k i C c) ∙ on-sent i c _ _ (w .1) u))
+            (λ w. inr (omega (arith, w, left-seq ks k i C c)))
             (F i C .onward c))
             (server-next ks k i);
         echo-new = λ i c s d u. ⊎-elim
@@ -263,8 +269,8 @@ module _ (Z : Setup) (G : Assumed Z) (M : Small (Z .g)) where
               current = w .0;
               first = and-false (inRange c) _ (w .1);
               then = ⊎-elim
-                  (λ z. inl (moved-seq i c C ∙ z .0, ap (λ y. inRange c && y .sent) (moved i c C) ∙ and-true (inRange c) _ (range-in c ic) (z .1)))
-                  (λ z. inr (omega (arith, z, moved-seq i c C))) (w .2);
+                  (λ z. inl (left-seq ks k i C c ∙ z .0, ap (λ y. inRange c && y .sent) (left-part ks k i C c) ∙ and-true (inRange c) _ (range-in c ic) (z .1)))
+                  (λ z. inr (omega (arith, z, left-seq ks k i C c))) (w .2);
               sent = λ h.
                   let r : SentMessage ks (A.Client c) (A.Server i) (message c (slotOf (serverAt ks i .server) c .sequence) (blockIs send (u .1))) =
                   subst (λ a. SentMessage ks a (A.Server i) _) (w .3)
@@ -286,15 +292,15 @@ module _ (Z : Setup) (G : Assumed Z) (M : Small (Z .g)) where
             (λ e. (ap (λ h. slotOf (h .server) c .sequence) e, inl (u .0, u .1, u .2, ap (λ h. partAt g (h .server) (h .area) c .echoes j) (sym e) ∙ u .3)))
             (λ N.
             let C = N .0 in
-            let w = F i C .echo-kept c (u .0) j (u .1) (ap (λ y. y .echoes j) (sym (moved i c C)) ∙ u .3) in
-            (moved-seq i c C ∙ w .0, ⊎-elim (λ a. inl (u .0, u .1, u .2, a)) (λ a. inr (this i C c j echo (u .1) d (u .2) ok is a)) (w .1)))
+            let w = F i C .echo-kept c (u .0) j (u .1) (ap (λ y. y .echoes j) (sym (left-part ks k i C c)) ∙ u .3) in
+            (left-seq ks k i C c ∙ w .0, ⊎-elim (λ a. inl (u .0, u .1, u .2, a)) (λ a. inr (this i C c j echo (u .1) d (u .2) ok is a)) (w .1)))
             (server-next ks k i);
         ready-kept = λ i c j d is ok u. ⊎-elim
             (λ e. (ap (λ h. slotOf (h .server) c .sequence) e, inl (u .0, u .1, u .2, ap (λ h. partAt g (h .server) (h .area) c .readies j) (sym e) ∙ u .3)))
             (λ N.
             let C = N .0 in
-            let w = F i C .ready-kept c (u .0) j (u .1) (ap (λ y. y .readies j) (sym (moved i c C)) ∙ u .3) in
-            (moved-seq i c C ∙ w .0, ⊎-elim (λ a. inl (u .0, u .1, u .2, a)) (λ a. inr (this i C c j ready (u .1) d (u .2) ok is a)) (w .1)))
+            let w = F i C .ready-kept c (u .0) j (u .1) (ap (λ y. y .readies j) (sym (left-part ks k i C c)) ∙ u .3) in
+            (left-seq ks k i C c ∙ w .0, ⊎-elim (λ a. inl (u .0, u .1, u .2, a)) (λ a. inr (this i C c j ready (u .1) d (u .2) ok is a)) (w .1)))
             (server-next ks k i);
         ready-new = λ i c s d u. ⊎-elim
             (λ o. inl (u .0, u .1, u .2, o))
@@ -325,8 +331,8 @@ module _ (Z : Setup) (G : Assumed Z) (M : Small (Z .g)) where
             (λ e. (ap (λ h. slotOf (h .server) c .sequence) e, inl (u .0, u .1, u .2, ap (λ h. partAt g (h .server) (h .area) c .done) (sym e) ∙ u .3)))
             (λ N.
             let C = N .0 in
-            let w = F i C .done-kept c (u .0) (u .1) (ap (λ y. y .done) (sym (moved i c C)) ∙ u .3) in (
-              moved-seq i c C ∙ w .0,
+            let w = F i C .done-kept c (u .0) (u .1) (ap (λ y. y .done) (sym (left-part ks k i C c)) ∙ u .3) in (
+              left-seq ks k i C c ∙ w .0,
               ⊎-elim
                   (λ a. inl (u .0, u .1, u .2, a))
                   (λ a. inr (rw (← u .2) (known i C c (u .0) (part ks i c .readies) ready (agreed (u .1)) (R .all) a))) (w .1),

@@ -1,14 +1,12 @@
 -- The laws of precedence that concern clients, at each call of an admissible run. Assumes nothing.
 use Prim.Native.Nat.{ℕ, _-_, _≤_}
 use native.Mathlib.Omega.{arith}
-use mathlib.Core.Bool.{Bool, true, false, cond}
+use mathlib.Core.Bool.{true, false}
 use mathlib.Core.Path.{_≡_, refl, ap, sym, _∙_, subst}
 use mathlib.Core.Logic.{_⊎_, inl, inr, ⊎-elim}
 use mathlib.Core.Option.{some}
 use mathlib.Core.List.{List, [], _∷_, List·Memᴰ}
 use lib.ListN.{length}
-use lib.Dec.{eqb}
-use borrow.Author.Tests.{eqb-false}
 use Rattle.quorum.specs.Quorum.{Among}
 use Rattle.quorum.proofs.Logic.{impossible}
 use Rattle.quorum.proofs.Quorums.{AtLeast, at-least-map}
@@ -22,7 +20,7 @@ use Rattle.frame.specs.Messages.{valueIs, Message, message, numberIn, Formed}
 use Rattle.frame.proofs.Converse.{formed-opened}
 use Rattle.frame.proofs.RoundTrip.{opened-build}
 use Rattle.frame.proofs.Sizes.{Small}
-use Rattle.server_rules.proofs.Parts.{put-cases}
+use Rattle.server_rules.proofs.Parts.{put-cases, put-same}
 use Rattle.client_rules.specs.declared.Client.{Client}
 use Rattle.client_rules.specs.declared.Phase.the-variants as F
 use Rattle.client_rules.specs.Rows.{Found, Kept, rowView}
@@ -36,20 +34,13 @@ use Rattle.client_rules.proofs.CallFacts.{Nought, quiet-facts, effect-facts, re
 use Rattle.steps.proofs.ClientTaken.{Taken, Delivered, refused, taken, delivered, passed}
 use Rattle.runs.specs.Admissible.{Named, Honest, Proper, Admissible}
 use Rattle.runs.specs.World.{Setup, Call, toServer, toClient, beginRead, beginWrite, caller, ClientSide}
-use Rattle.runs.specs.World.{lentTo, clientEffect, readEffect, writeEffect, start, step, run, sends, put}
+use Rattle.runs.specs.World.{lentTo, clientEffect, readEffect, writeEffect, start, step, run, sends}
 use Rattle.runs.specs.Events as Rn
 use Rattle.runs.proofs.Broadcasts.{Agreed, SentMessage, sent-message}
 use Rattle.runs.proofs.Formation.{formed}
 use Rattle.runs.proofs.StampViews.{views, Stamped}
 use Rattle.runs.proofs.Roomy.{roomy, roomy-long, roomy-same}
 use Rattle.runs.proofs.Assumed.{Assumed}
-
-pub put-at : (h : ℕ → ClientSide) (i : ℕ) (v : ClientSide) → put h i v i ≡ v
-put-at h i v = go (eqb i i) refl
-  where
-    go : (b : Bool) → eqb i i ≡ b → cond b v (h i) ≡ v
-    go true e = refl
-    go false e = absurd (eqb-false i i e refl)
 
 module _ (Z : Setup) (G : Assumed Z) (M : Small (Z .g)) where
   open Setup Z using (H, g, initialValue, faultyServer, faultyClient, rowsAreas)
@@ -162,7 +153,7 @@ module _ (Z : Setup) (G : Assumed Z) (M : Small (Z .g)) where
         let z : c ≡ d = cc in
         subst (λ y. Acts ks (toClient d from f lent result out to) y) (sym z)
         (to-acts (toClient d from f lent result out to) d (clientEffect Z (run Z ks) d from f lent result out to) _
-        (put-at (run Z ks .clients) d _) refl refl refl refl
+        (put-same (run Z ks .clients) d _) refl refl refl refl
         (by-frame d (subst (λ y. ClientShape (home ks y .client) (rows ks y)) z X) from f lent result out to pr _
         (delivered H g d (home ks d .client) (home ks d .area) (lentTo Z (run Z ks) d lent) from f result out to)))
     on-client (beginRead d out to) pr c X e =
@@ -173,7 +164,7 @@ module _ (Z : Setup) (G : Assumed Z) (M : Small (Z .g)) where
           facts = subst
               (λ y. ClientFacts H g M (G .bounded .servers-high) d (home ks d .client) (rows ks d) (Nought H g M (G .bounded .servers-high) d) (y .client)
               (roomy (y .area)) (readEffect Z (run Z ks) d out to .sends) (readEffect Z (run Z ks) d out to .event))
-              (sym (put-at (run Z ks .clients) d _)) (read-facts H g M (G .bounded .servers-high) d (home ks d .client) (rows ks d) Y out to);
+              (sym (put-same (run Z ks .clients) d _)) (read-facts H g M (G .bounded .servers-high) d (home ks d .client) (rows ks d) Y out to);
           brought = λ j m is ok n. absurd n;
         })
     on-client (beginWrite d v out to) pr c X e =
@@ -184,7 +175,7 @@ module _ (Z : Setup) (G : Assumed Z) (M : Small (Z .g)) where
           facts = subst
               (λ y. ClientFacts H g M (G .bounded .servers-high) d (home ks d .client) (rows ks d) (Nought H g M (G .bounded .servers-high) d) (y .client)
               (roomy (y .area)) (writeEffect Z (run Z ks) d v out to .sends) (writeEffect Z (run Z ks) d v out to .event))
-              (sym (put-at (run Z ks .clients) d _)) (write-facts H g M (G .bounded .servers-high) d (home ks d .client) (rows ks d) Y v out to);
+              (sym (put-same (run Z ks .clients) d _)) (write-facts H g M (G .bounded .servers-high) d (home ks d .client) (rows ks d) Y v out to);
           brought = λ j m is ok n. absurd n;
         })
 

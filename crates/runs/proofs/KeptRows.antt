@@ -18,7 +18,7 @@ use Rattle.frame.specs.declared.Refusal.the-variants as R
 use Rattle.frame.specs.declared.Verdict.the-variants as J
 use Rattle.frame.specs.declared.Opened.the-variants as O
 use Rattle.frame.specs.Chunks.{storeEntry, rowsBytes, placeAt}
-use Rattle.group_rules.specs.Coded.{fits}
+use Rattle.group_rules.specs.Coded.{fits, fitTest}
 use Rattle.frame.specs.Frames.{messageIn, opened}
 use Rattle.frame.specs.Messages.{Entry, Body, valueIs, Message, numberIn, Carries, Sized}
 use Rattle.frame.proofs.Sizes.{Small}
@@ -112,7 +112,7 @@ module _ (H : List ℕ → List ℕ) (g : Params) (me : ℕ) where
 
     value-fits : (s : Client) (from : Party) (m : Message) → CT.messageTest H g me s from m ≡ J.Fine → (x : Stamp) (e : Entry) → m .body ≡ valueIs x e
         → Among 10 (numberIn from) × (fits H e (numberIn from) ≡ true)
-    unfolding CT.fitTest CT.orderTest
+    unfolding fitTest CT.orderTest
     value-fits s from m t x e p =
         let w = passed H g me s from _ t in
         let (j, ej, is) = is-server g from (w .server) in
@@ -120,7 +120,7 @@ module _ (H : List ℕ → List ℕ) (g : Params) (me : ℕ) where
         let y = CT.awaited (CS.reading (s .phase)
         && (eqb (m .sequence) (s .reads) && not (hasStamp (rowOf s (numberIn from) .stamps) (used (rowOf s (numberIn from))) x))) in
         let o = ap (CT.orderTest H g me s (numberIn from) (m .sequence)) (sym p) ∙ w .order in
-        ((at .0, omega (arith, at .1, few)), fine-is (fits H e (numberIn from)) R.Digest J.Fine (fine-both y (CT.fitTest H e (numberIn from)) o .1) .0)
+        ((at .0, omega (arith, at .1, few)), fine-is (fits H e (numberIn from)) R.Digest J.Fine (fine-both y (fitTest H e (numberIn from)) o .1) .0)
 
     delivered-holds : (s : Client) (a v : List ℕ) (from : Party) (f result out to : List ℕ)
         → ((j : ℕ) (h : Header) (x : Stamp) (e : Entry) → opened g f ≡ O.Frame h → messageIn g h f .body ≡ valueIs x e → fits H e j ≡ true → Q j e)

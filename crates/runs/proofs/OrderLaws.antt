@@ -1,19 +1,18 @@
 -- Every call of an admissible run keeps the laws that precedence by stamps asks for. Assumes nothing.
-use Prim.Native.Nat.{ℕ, zero, suc, _≤_}
+use Prim.Native.Nat.{ℕ}
 use native.Mathlib.Omega.{arith}
 use mathlib.Core.Bool.{false}
-use mathlib.Core.Path.{_≡_, refl, _∙_, subst}
+use mathlib.Core.Path.{_≡_, refl, _∙_}
 use mathlib.Core.Logic.{inr, ⊎-elim}
 use mathlib.Core.List.{List, [], _∷_}
 use lib.ListN.{length, getD, replicate}
-use lib.Seq.{sets}
 use lib.Dec.{leb}
 use borrow.Author.Tests.{le-ltb, eq-eqb}
 use Rattle.quorum.specs.Quorum.{Among}
 use Rattle.quorum.proofs.Logic.{impossible, and-false}
 use Rattle.precedence.specs.Laws as PL
-use Rattle.area.specs.Area.{pick, part}
-use Rattle.area.proofs.Sets.{part-sets-same}
+use Rattle.area.specs.Area.{pick}
+use Rattle.area.proofs.Sets.{of-copies, take-front}
 use Rattle.blocks.specs.declared.Params.{Params}
 use Rattle.blocks.proofs.Parameters.{parties-yes, threshold-yes, length-yes}
 use Rattle.frame.specs.declared.Verdict.{Verdict}
@@ -35,14 +34,9 @@ use Rattle.runs.proofs.Assumed.{Assumed}
 use Rattle.runs.proofs.ClientLaws as CO
 use Rattle.runs.proofs.ServerLaws as SO
 
-silent : (n c : ℕ) → getD (replicate n freshReader) c noReader .listening ≡ false
+pub silent : (n c : ℕ) → getD (replicate n freshReader) c noReader .listening ≡ false
 unfolding freshReader
-silent zero c = refl
-silent (suc n) zero = refl
-silent (suc n) (suc c) = silent n c
-
-present-digests : (a d : List ℕ) (w : ℕ) → length d ≡ w → w ≤ length a → part (sets a 0 d) 0 w ≡ d
-present-digests a d w e h = subst (λ y. part (sets a 0 d) 0 y ≡ d) e (part-sets-same a 0 d (omega (arith, e)))
+silent = of-copies (λ r. r .listening) freshReader noReader false refl refl
 
 -- parameters within their bounds pass
 pub params-fine : (g : Params) → Bounded g → (me most : ℕ) → Among most me → paramsTest g me most ≡ J.Fine
@@ -90,7 +84,7 @@ module _ (Z : Setup) (G : Assumed Z) (M : Small (Z .g)) where
       go (J.Bad r) e = impossible (cc)
       go J.Fine e = λ i. (
         zeroStamp,
-        present-digests (stateAreas j) (digestsOf H g initialValue) (listed g) (digests-size H g j (G .digest-size) initialValue)
+        take-front (stateAreas j) (digestsOf H g initialValue) (listed g) (digests-size H g j (G .digest-size) initialValue)
             (omega (arith, G .state-room j, M .list-room)) i,
       )
 

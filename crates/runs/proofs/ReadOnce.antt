@@ -21,16 +21,17 @@ use Rattle.frame.specs.Messages.{Entry, Body, valueIs, numberIn}
 use Rattle.frame.specs.Params.{paramsTest}
 use Rattle.frame.proofs.Verdicts.{fine-both, fine-is}
 use Rattle.server_rules.proofs.Parts.{put-same, put-cases}
+use Rattle.group_rules.specs.Coded.{fitTest}
 use Rattle.client_rules.specs.declared.Client.{Client}
 use Rattle.client_rules.specs.Rows.{Found, rowView, search}
 use Rattle.client_rules.specs.Beginning as CB
 use Rattle.client_rules.specs.Delivery as CD
 use Rattle.client_rules.specs.State as CS
 use Rattle.client_rules.specs.Steps as C
-use Rattle.client_rules.proofs.Shapes.{Keeps, drops, keeps, Shape, idle, hears, sends, shuts, counts, ends}
+use Rattle.client_rules.proofs.Shapes.{Shape, idle, hears, sends, shuts, counts, ends}
 use Rattle.client_rules.proofs.Shapes.{waits, completes, Delivery, refused, taken, shape-delivered}
 use Rattle.client_rules.specs.Tests as CT
-use Rattle.steps.proofs.ClientTaken.{awaited-true, took}
+use Rattle.steps.proofs.ClientTaken.{awaited-true, took, keeps-reads}
 use Rattle.steps.proofs.ClientTaken as Passing
 use Rattle.runs.specs.Admissible.{Admissible}
 use Rattle.runs.specs.Events.{At, StopsRead, OpensWrite}
@@ -42,7 +43,7 @@ module _ (H : List ℕ → List ℕ) (g : Params) (me : ℕ) where
       → CT.messageTest H g me s from (record { client = c; sequence = q; body = valueIs x e }) ≡ J.Fine → CS.reading (s .phase) ≡ true
   unfolding CT.orderTest
   value-awaited s from c q x e h =
-      let w = fine-both _ (CT.fitTest H e (numberIn from)) (Passing.passed H g me s from _ h .order) .0 in
+      let w = fine-both _ (fitTest H e (numberIn from)) (Passing.passed H g me s from _ h .order) .0 in
       and-split (CS.reading (s .phase)) _ (awaited-true H g me _ w) .0
 
   -- what a delivery does to the read
@@ -60,10 +61,6 @@ module _ (H : List ℕ → List ℕ) (g : Params) (me : ℕ) where
       → Does s r
   none-does s r e p n = record { number = e; still = λ h. impossible (cc (p, h)); gives = λ x z. absurd (n x z); found = λ x z. absurd (n x z) }
 
-  keeps-number : (s : Client) (a v : List ℕ) (j : ℕ) {x : Stamp} {e : Entry} {s′ : Client} {a′ : List ℕ} → Keeps H g me s a v j x e s′ a′ → s′ .reads ≡ s .reads
-  keeps-number s a v j (drops z) = refl
-  keeps-number s a v j (keeps i z) = refl
-
   shape-does : (s : Client) (a v : List ℕ) (from : Party) (c q : ℕ) {b : Body} {r : C.Effect}
       → CT.messageTest H g me s from (record { client = c; sequence = q; body = b }) ≡ J.Fine → Shape H g me s a v (numberIn from) b r → Does s r
   unfolding rowView
@@ -74,13 +71,13 @@ module _ (H : List ℕ → List ℕ) (g : Params) (me : ℕ) where
   shape-does s a v from c q h (counts z) = none-does s _ refl refl (λ x e. impossible (cc e))
   shape-does s a v from c q h (ends z) = none-does s _ refl refl (λ x e. impossible (cc e))
   shape-does s a v from c q h (waits x e k z) = record {
-    number = keeps-number s a v (numberIn from) k;
+    number = keeps-reads H g me s a v (numberIn from) k;
     still = λ y. value-awaited s from c q x e h;
     gives = λ x e. impossible (cc e);
     found = λ x e. impossible (cc e);
   }
   shape-does s a v from c q h (completes x e k y z) = record {
-    number = keeps-number s a v (numberIn from) k;
+    number = keeps-reads H g me s a v (numberIn from) k;
     still = λ w. value-awaited s from c q x e h;
     gives = λ w i. (value-awaited s from c q x e h, refl);
     found = λ w i. let u : y ≡ w = cc i in z ∙ ap some u;

@@ -10,36 +10,24 @@ use lib.ListN.{length}
 use lib.Dec.{leb}
 use borrow.Author.Tests.{leb-true, le-leb}
 use Rattle.quorum.specs.Quorum.{Among}
-use Rattle.quorum.proofs.Logic.{impossible, and-split, and-true}
+use Rattle.quorum.proofs.Logic.{and-split, and-true}
 use Rattle.precedence.specs.Laws as PL
-use Rattle.area.specs.Area.{pick}
+use Rattle.area.proofs.Tests.{pick-true, pick-false}
 use Rattle.frame.specs.declared.Stamp.{Stamp}
 use Rattle.frame.specs.declared.Party.{Party}
 use Rattle.frame.specs.declared.Party.the-variants as A
 use Rattle.frame.specs.Messages.{getStamp, askRead, Message, message}
 use Rattle.frame.proofs.Sizes.{Small}
-use Rattle.server_rules.specs.declared.Server.{Server}
 use Rattle.server_rules.specs.State.{readerOf, presentEntry}
 use Rattle.server_rules.specs.Steps as S
 use Rattle.steps.proofs.ServerStamps.{StampFacts, order-facts}
 use Rattle.steps.proofs.Keys.{key}
 use Rattle.runs.specs.Admissible.{Honest, Proper, Admissible}
-use Rattle.runs.specs.Events.{At, Accepts}
 use Rattle.runs.specs.World.{Setup, Call, toServer, initialOf}
-use Rattle.runs.proofs.Broadcasts.{Agreed, serverAt, SentMessage, Takes, effectOf, server-next, server-left, shape, sent-new, message-sent}
+use Rattle.runs.proofs.Broadcasts.{Agreed, serverAt, SentMessage, Takes, effectOf, server-next, server-left, accepts-now, shape, sent-new, message-sent}
 use Rattle.runs.proofs.Formation.{heard, in-bounds, formed}
 use Rattle.runs.proofs.StampViews.{views, Stamped, stamps, shown}
 use Rattle.runs.proofs.Assumed.{Assumed}
-
-pick-true : {A : Type 0} (b : Bool) (x y : A) → b ≡ true → pick b x y ≡ x
-unfolding pick
-pick-true true x y e = refl
-pick-true false x y e = impossible (cc)
-
-pick-false : {A : Type 0} (b : Bool) (x y : A) → b ≡ false → pick b x y ≡ y
-unfolding pick
-pick-false true x y e = impossible (cc)
-pick-false false x y e = refl
 
 key-of : (T c q : ℕ) (x : S.Write) → x .time ≡ T → x .client ≡ c → x .sequence ≡ q → key (record { time = suc T; writer = c; sequence = q }) ≡ key (S.stampOf x)
 key-of T c q x a b d = omega (arith, a, ap (λ y. y % 16) b, ap (λ y. y % 4294967296) d)
@@ -87,12 +75,9 @@ module _ (Z : Setup) (G : Assumed Z) (M : Small (Z .g)) where
         let r = message-sent Z G M (formed Z G M) adm pr C (subst (Honest Z) (sym ef) (is, h)) in
         (A.Server j, subst (λ a. SentMessage Z G M ks a (A.Server j) m) ef (subst (SentMessage Z G M ks (C .from) (A.Server j)) em r))
 
-    taken : (j : ℕ) (C : Takes Z G M ks k j) (tk : S.Write) → List·Memᴰ tk (effectOf Z G M C .accepted) → At (Accepts Z j tk) (k ∷ ks) (length ks)
-    taken j C tk e = inl (refl, subst (λ y. Accepts Z j tk ks y) (sym (C .is)) (refl, subst (λ r. List·Memᴰ tk (r .accepted)) (sym (C .moves)) e))
-
     accepted : (j : ℕ) (C : Takes Z G M ks k j) (tk : S.Write) → List·Memᴰ tk (effectOf Z G M C .accepted) → (c q : ℕ) → tk .client ≡ c → tk .sequence ≡ q
         → Vw .Accepted (k ∷ ks) j c q (tk .time, tk .entry .digests)
-    accepted j C tk e c q ec eq = (tk, length ks, taken j C tk e, ec, eq, refl, refl)
+    accepted j C tk e c q ec eq = (tk, length ks, accepts-now Z G M ks k j C tk e, ec, eq, refl, refl)
 
     key-next : (j : ℕ) (C : Takes Z G M ks k j) → Ks .key (Vw .present (k ∷ ks) j) ≡ key (effectOf Z G M C .server .stamp)
     key-next j C = key-at (k ∷ ks) j (one-of j C) ∙ ap (λ h. key (h .server .stamp)) (server-left Z G M ks k j C)

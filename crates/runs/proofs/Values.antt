@@ -20,7 +20,7 @@ use Rattle.client_rules.specs.Beginning as CB
 use Rattle.client_rules.specs.Steps as C
 use Rattle.runs.specs.Blocks.{of-initial, of-written, of-decoded, Collision}
 use Rattle.runs.specs.Demand.{Values}
-use Rattle.runs.specs.Events.{At, Accepts, StopsRead, CompletesRead, Disagrees, OpensWrite}
+use Rattle.runs.specs.Events.{At, Accepts, StopsRead, Disagrees, OpensWrite}
 use Rattle.runs.specs.World.{Setup, Call, toServer, toClient, beginRead, beginWrite, run, clientEffect}
 use Rattle.runs.proofs.Known.{Known, KnownValues, Rows}
 use Rattle.runs.proofs.Places.{at-map, stops, cut}
@@ -132,7 +132,6 @@ module _ (Z : Setup) (G : Assumed Z) (ks : List Call) (K : Known Z ks) (L : Know
   -- ---- digest lists
 
   not-zero : (y : Write) → stampOf y ≡ zeroStamp → ⊥
-  unfolding zeroStamp
   not-zero y e = omega (arith, ap (λ z. z .time) e)
 
   one-list : (c q p d r p′ : ℕ) (x y : Found) → At (StopsRead Z c q x) ks p → At (StopsRead Z d r y) ks p′ → x .stamp ≡ y .stamp → x .digests ≡ y .digests
@@ -154,7 +153,6 @@ module _ (Z : Setup) (G : Assumed Z) (ks : List Call) (K : Known Z ks) (L : Know
   zero-list c q p x u e = ⊎-elim (λ z. sym (z .1)) (λ z. absurd (not-zero (z .2) (z .4 ∙ e))) (K .read-from c q p x u)
 
   zero-sequence : (s : Stamp) → s ≡ zeroStamp → s .sequence ≡ 0
-  unfolding zeroStamp
   zero-sequence s e = ap (λ z. z .sequence) e
 
   own-list : (c q p d r p′ : ℕ) (x : Found) (v : List ℕ) → At (StopsRead Z c q x) ks p → At (OpensWrite Z d r v) ks p′

@@ -10,10 +10,8 @@ use Rattle.area.specs.Numbers.{be2}
 use Rattle.blocks.specs.declared.Params.{Params}
 use Rattle.frame.specs.declared.Stamp.{Stamp}
 use Rattle.frame.specs.declared.Party.{Party}
-use Rattle.frame.specs.declared.Party.the-variants as P
 use Rattle.frame.specs.Frames.{build}
-use Rattle.server_rules.specs.declared.Reply.{Reply}
-use Rattle.server_rules.specs.declared.Reply.the-variants as R
+use Rattle.frame.specs.Outbox.{partyIn}
 use Rattle.server_rules.specs.Delivery as SD
 use Rattle.client_rules.specs.declared.Answer.{Answer}
 use Rattle.client_rules.specs.declared.Answer.the-variants as A
@@ -31,19 +29,11 @@ framesIn zero l = []
 framesIn (suc m) l = take (be2 l 0 + 2) l ∷ framesIn m (drop (be2 l 0 + 2) l)
 
 -- m receivers from the front of a to area: class (0 client, 1 server) and number
-abbrev pub partyIn : ℕ → ℕ → Party
-partyIn zero c = P.Client c
-partyIn (suc k) j = P.Server j
-
 unfoldable pub receiversIn : ℕ → List ℕ → List Party
 receiversIn zero l = []
 receiversIn (suc m) l = partyIn (getD l 0 0) (getD l 1 0) ∷ receiversIn m (drop 2 l)
 
--- how many frames a reply, an answer says went out; a read that ends sends read-complete to all
-abbrev pub replyCount : Reply → ℕ
-replyCount (R.Step m) = m
-replyCount (R.Refused r) = 0
-
+-- how many frames a client's answer says went out; a read that ends sends read-complete to all (of a server's reply: `replyCount` of server_rules)
 abbrev pub answerCount : Params → Answer → ℕ
 answerCount g (A.Sent m) = m
 answerCount g A.Written = 0
@@ -65,7 +55,7 @@ module _ (Z : Setup) where
   unfoldable pub said : World → Call → Said
   said w (toServer i from f out to) =
       let r = SD.delivery H g i (w .servers i .server) (w .servers i .area) (initialOf Z i) from f out to in
-      record { count = replyCount (r .reply); out = r .out; to = r .to }
+      record { count = SD.replyCount (r .reply); out = r .out; to = r .to }
   said w (toClient c from f lent result out to) =
       let r = CD.delivery H g c (w .clients c .client) (w .clients c .area) (lentTo Z w c lent) from f result out to in
       record { count = answerCount g (r .answer); out = r .out; to = r .to }

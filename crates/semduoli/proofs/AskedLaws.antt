@@ -1,7 +1,6 @@
 -- What a host is answered that asks of a record, from what the code's calls promise. Assumes nothing.
 use Prim.Native.Nat.{ℕ, _*_, _%_, _<_, _≤_}
-use native.Mathlib.Omega.{arith}
-use mathlib.Core.Path.{_≡_, sym, ap, _∙_}
+use mathlib.Core.Path.{_≡_, ap, _∙_}
 use mathlib.Core.List.{List}
 use lib.ListN.{length}
 use lib.Seq.{sets}
@@ -14,11 +13,10 @@ use Rattle.client_rules.specs.declared.Client.{Client}
 use Rattle.server_rules.specs.declared.Scope.{Scope}
 use Rattle.server_rules.specs.State.{slotOf}
 use Rattle.server_rules.specs.Scopes.{scopeOf}
-use Rattle.layout.specs.Fields.{stampAt}
+use Rattle.layout.specs.Fields.{stampSize, stampAt}
 use Rattle.layout.specs.Clients.{clientSize, clientAt, clientIn}
 use Rattle.layout.specs.Servers.{serverSize, serverAt, serverIn}
 use Rattle.semduoli.specs.Calls.{Wrote, wrote}
-use Rattle.semduoli.specs.Handed.{stampSize}
 use Rattle.answers.specs.Answers.{openAnswer}
 use Rattle.semduoli.specs.Asked.{openOf, clientOpenCall, serverStampCall, serverOpenCall}
 use Rattle.semduoli.proofs.Laws.{enough, short}

@@ -27,6 +27,7 @@ use Rattle.client_rules.specs.Steps.{Event, nothing, written, outOfStamps, stop
 use Rattle.client_rules.specs.Beginning.{Begun, readTest, writeTest, openRead, openWrite, beginBy, readBegun}
 use Rattle.client_rules.specs.Beginning.{writeBegun, beginAnswer, begunOf, readBeginning, writeBeginning}
 use Rattle.client_rules.specs.Delivery.{Outcome, readAnswer, eventAnswer, answerOf, effectBy, delivered, outcomeOf, delivery}
+use Rattle.layout.specs.Fields.{stampSize}
 use Rattle.layout.specs.Clients.{clientSize, clientBytes, clientIn}
 use Rattle.layout.specs.Typed.{TypedClient}
 use Rattle.layout.proofs.ClientBack.{client-stored}
@@ -34,7 +35,7 @@ use Rattle.layout.proofs.TypedCalls.{typed-client-in, typed-client-fresh, typed
 use Rattle.answers.specs.Answers.{testAnswer, isRefusal}
 use Rattle.answers.specs.Short.{readShort, valueShort, frameShort, stampShort}
 use Rattle.semduoli.specs.Calls.{wrote, freshCall, Began, began, stateAfter, beganOf, readCall, writeCall}
-use Rattle.semduoli.specs.Handed.{stampSize, stampAfter, clientGot, clientGotOf, clientCall}
+use Rattle.semduoli.specs.Handed.{stampAfter, clientGot, clientGotOf, clientCall}
 use Rattle.semduoli.proofs.Laws.{enough, short, ends}
 use Rattle.semduoli.proofs.Handed.{client-whole}
 

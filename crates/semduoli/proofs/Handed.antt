@@ -13,11 +13,12 @@ use Rattle.frame.specs.Stamps.{lastClient}
 use Rattle.client_rules.specs.declared.Answer.{Answer}
 use Rattle.client_rules.specs.declared.Client.{Client}
 use Rattle.client_rules.specs.Delivery.{Outcome, delivery}
+use Rattle.layout.specs.Fields.{stampSize}
 use Rattle.layout.specs.Clients.{clientSize, clientAt, clientIn}
 use Rattle.answers.specs.Answers.{testAnswer, clientAnswer}
 use Rattle.answers.specs.Short.{frameShort, stampShort}
 use Rattle.semduoli.specs.Calls.{wrote, stateAfter}
-use Rattle.semduoli.specs.Handed.{stampSize, stampAfter, ClientGot, clientGot, clientGotOf, clientCall}
+use Rattle.semduoli.specs.Handed.{stampAfter, ClientGot, clientGot, clientGotOf, clientCall}
 use Rattle.semduoli.proofs.Laws.{enough, short}
 
 -- ---- a read's stamp

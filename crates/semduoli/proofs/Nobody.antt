@@ -17,7 +17,7 @@ use Rattle.frame.specs.declared.Verdict.{Verdict}
 use Rattle.frame.specs.declared.Refusal.the-variants as R
 use Rattle.frame.specs.declared.Verdict.the-variants as J
 use Rattle.frame.specs.declared.Opened.the-variants as O
-use Rattle.frame.specs.Refusals.{andThen, numberOf}
+use Rattle.frame.specs.Refusals.{andThen}
 use Rattle.frame.specs.Params.{ownTest, codeTest, paramsTest}
 use Rattle.frame.specs.Stamps.{lastClient}
 use Rattle.frame.specs.Frames.{clientAt, headerIn, openedBy}
@@ -121,7 +121,7 @@ module _ (g : Params) (me : ℕ) (h : 255 < me) where
         (ap (λ x. clientGot x rows result stamp state out to) (told (paramsTest g me lastClient) _ p))
         (done-none (delivery digestOf g me (clientIn state) rows value from f result out to)
         (call-refused g me (clientIn state) rows value from f result out to (J.Bad R.Parties)
-        (sym (stops (paramsTest g me lastClient) (valueTest g (clientIn state) (length value)) p)) R.Parties refl)))
+        (sym (stops (paramsTest g me lastClient) (valueTest g (clientIn state .phase) (length value)) p)) R.Parties refl)))
 
 -- ---- a server
 

@@ -118,7 +118,7 @@ fresh-by g me J.Fine value area initial = refl
 fresh-by g me (J.Bad r) value area initial = refl
 
 pub typed-fresh : TypedServer freshServer
-unfolding zeroStamp freshReader
+unfolding freshReader
 typed-fresh =
     let s : TypedStamp zeroStamp = record { time = omega arith; writer = omega arith; sequence = omega arith } in
     server-within widths (record { flags = refl; time = omega arith }) (omega arith) s (record { sequence = omega arith; noted = s })

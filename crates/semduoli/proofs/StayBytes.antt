@@ -18,6 +18,7 @@ use Rattle.client_rules.specs.Beginning.{Begun}
 use Rattle.server_rules.specs.State.{slotOf, readerOf}
 use Rattle.server_rules.specs.Delivery as S
 use Rattle.server_rules.proofs.Within.{either, reader-within}
+use Rattle.layout.specs.Fields.{stampSize}
 use Rattle.layout.specs.Clients.{clientSize, clientBytes, clientIn}
 use Rattle.layout.specs.Servers.{serverSize, slotSize, readerSize, slotsPlace, readersPlace, serverBytes, serverIn, slotBytes, readerBytes, scopeSets}
 use Rattle.layout.specs.Typed.{TypedClient, TypedServer}
@@ -26,7 +27,7 @@ use Rattle.layout.proofs.TypedSteps.{typed-in, typed-delivery}
 use Rattle.layout.proofs.AreBytes.{stamp-bytes, client-bytes, slot-bytes, reader-bytes, server-bytes}
 use Rattle.answers.specs.Answers.{isRefusal, isTurnedDown}
 use Rattle.semduoli.specs.Calls.{Wrote, wrote, freshCall, Began, began, stateAfter, beganOf, readCall, writeCall}
-use Rattle.semduoli.specs.Handed.{stampSize, ClientGot, clientGot, clientGotOf, clientCall}
+use Rattle.semduoli.specs.Handed.{ClientGot, clientGot, clientGotOf, clientCall}
 use Rattle.semduoli.specs.ServerCalls.{freshAfter, scopeAfter, Made, made, madeOf, makeCall, ServerGot, serverGot, serverGotOf, serverCall}
 use Rattle.semduoli.proofs.RecordBack.{few, fresh-server, typed-fresh}
 

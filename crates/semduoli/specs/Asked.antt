@@ -10,11 +10,11 @@ use Rattle.frame.specs.Stamps.{lastClient}
 use Rattle.frame.specs.Frames.{stampBytes}
 use Rattle.client_rules.specs.declared.Client.{Client}
 use Rattle.server_rules.specs.State.{slotOf}
+use Rattle.layout.specs.Fields.{stampSize}
 use Rattle.layout.specs.Clients.{clientSize, clientIn}
 use Rattle.layout.specs.Servers.{serverSize, serverIn}
 use Rattle.answers.specs.Answers.{openAnswer}
 use Rattle.semduoli.specs.Calls.{Wrote, wrote}
-use Rattle.semduoli.specs.Handed.{stampSize}
 
 -- the version of include/semduoli.h that these calls are those of
 abbrev pub headerVersion : ℕ

@@ -15,6 +15,7 @@ use Rattle.frame.specs.Outbox.{partyIn}
 use Rattle.client_rules.specs.declared.Answer.{Answer}
 use Rattle.client_rules.specs.declared.Answer.the-variants as Y
 use Rattle.client_rules.specs.Delivery.{Outcome, delivery}
+use Rattle.layout.specs.Fields.{stampSize}
 use Rattle.layout.specs.Clients.{clientSize, clientIn}
 use Rattle.answers.specs.Answers.{testAnswer, clientAnswer}
 use Rattle.answers.specs.Short.{frameShort, stampShort}
@@ -26,10 +27,6 @@ nobody = P.Client 255
 
 unfoldable pub senderOf : ℕ → ℕ → Party
 senderOf class j = pick (ltb 255 j) nobody (pick (ltb 1 class) nobody (partyIn class j))
-
--- a stamp as bytes: time (8), writer (1) and write sequence (4), as in a frame
-abbrev pub stampSize : ℕ
-stampSize = 13
 
 -- the stamp area after a call: a completed read's stamp, "where its search stopped", goes to its start
 unfoldable pub stampAfter : Answer → List ℕ → List ℕ

@@ -1,7 +1,9 @@
 // What a host may ask of a record.
 use answers::calls::open_answer;
+use frame::layout::CLIENTS;
 use layout::clients::CLIENT_SIZE;
 use layout::clients::client_at;
+use layout::fields::STAMP_SIZE;
 use layout::fields::put_stamp;
 use layout::fields::stamp_at;
 use layout::servers::SERVER_SIZE;
@@ -39,7 +41,7 @@ pub extern "C" fn semduoli_server_stamp(state: &[u8], stamp: &mut [u8]) -> u64
     if state.len() < SERVER_SIZE {
         return 10;
     }
-    if stamp.len() < 13 {
+    if stamp.len() < STAMP_SIZE {
         return 10;
     }
     let x = stamp_at(state, 0);
@@ -55,7 +57,7 @@ pub extern "C" fn semduoli_server_open(client: usize, state: &[u8]) -> u64
     if client < 1 {
         return 7;
     }
-    if 8 < client {
+    if CLIENTS < client {
         return 7;
     }
     if state.len() < SERVER_SIZE {

@@ -11,17 +11,20 @@ use blocks::Params;
 use client::fresh::fresh_client;
 use client_rules::Answer;
 use client_rules::Client;
+use frame::layout::CLIENTS;
 use layout::clients::CLIENT_SIZE;
 use layout::clients::client_at;
 use layout::clients::put_client;
+use layout::fields::STAMP_SIZE;
 use layout::fields::put_stamp;
 ghost use mathlib.Core.Path.{_≡_};
 ghost use Prim.Native.Nat.{_≤_};
 ghost use lib.ListN.{length};
+ghost use Rattle.layout.specs.Fields.{stampSize};
 ghost use Rattle.layout.specs.Clients.{clientSize};
 ghost use Rattle.answers.specs.Answers.{clientAnswer};
 ghost use Rattle.semduoli.specs.Calls.{params, wrote, freshCall, began, stateAfter, readCall, writeCall};
-ghost use Rattle.semduoli.specs.Handed.{senderOf, stampSize, stampAfter, clientGot, clientCall};
+ghost use Rattle.semduoli.specs.Handed.{senderOf, stampAfter, clientGot, clientCall};
 
 // Writes a fresh client's record.
 #[no_mangle]
@@ -105,7 +108,7 @@ pub extern "C" fn semduoli_begin_write(
     let own = me as u8;
     let g = Params { n, t, k, size };
     if state.len() < CLIENT_SIZE {
-        let short = value_short(g, own, 8, value.len());
+        let short = value_short(g, own, CLIENTS, value.len());
         return test_answer(short);
     }
     let s = client_at(state, 0);
@@ -161,11 +164,11 @@ pub extern "C" fn semduoli_client_deliver(
     let own = me as u8;
     let g = Params { n, t, k, size };
     if state.len() < CLIENT_SIZE {
-        let short = frame_short(g, own, 8, f);
+        let short = frame_short(g, own, CLIENTS, f);
         return test_answer(short);
     }
     let s = client_at(state, 0);
-    if stamp.len() < 13 {
+    if stamp.len() < STAMP_SIZE {
         let short = stamp_short(g, own, s, value.len(), f);
         return test_answer(short);
     }

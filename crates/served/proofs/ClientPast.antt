@@ -14,7 +14,7 @@ use borrow.Author.Tests.{eqb-true, not-true, eq-eqb}
 use Rattle.quorum.specs.Quorum.{Among}
 use Rattle.quorum.proofs.Logic.{impossible, and-split}
 use Rattle.area.specs.Area.{pick}
-use Rattle.group_rules.specs.Coded.{fits}
+use Rattle.group_rules.specs.Coded.{fits, fitTest}
 use Rattle.frame.specs.declared.Stamp.{Stamp}
 use Rattle.frame.specs.declared.Refusal.the-variants as X
 use Rattle.frame.specs.declared.Verdict.the-variants as J
@@ -356,7 +356,7 @@ module _ (Z : Setup) (G : Assumed Z) where
       go (no z) = inl (omega (arith, l, z))
 
   pub stale-past : (c : ℕ) (s : Client) (j q : ℕ) (b : Body) → Begun s q b → CT.orderTest H g c s j q b ≡ J.Bad X.Stale → AnswerPast s j q b
-  unfolding CT.orderTest CT.fitTest CT.awaited pick
+  unfolding CT.orderTest fitTest CT.awaited pick
   stale-past c s j q getStamp u e = tt
   stale-past c s j q ack (inl l) e = inl l
   stale-past c s j q ack (inr (z, l)) e = ⊎-elim
@@ -377,7 +377,7 @@ module _ (Z : Setup) (G : Assumed Z) where
       fit-stale false e = impossible (cc e)
 
       go : (b : Bool) → (reading (s .phase) && (eqb q (s .reads) && not (hasStamp (rowOf s j .stamps) (used (rowOf s j)) x))) ≡ b
-          → andThen (CT.awaited b) (CT.fitTest H y j) ≡ J.Bad X.Stale → AnswerPast s j q (valueIs x y)
+          → andThen (CT.awaited b) (fitTest H y j) ≡ J.Bad X.Stale → AnswerPast s j q (valueIs x y)
       go true p e = fit-stale (fits H y j) e
       go false p e = ⊎-elim
           (λ n. ⊎-elim (λ b. inl b) (λ z. inr (z, inl (not-reading (s .phase) n))) (at-or-below q (s .reads) l))

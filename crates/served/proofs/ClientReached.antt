@@ -15,9 +15,7 @@ use Rattle.quorum.proofs.Logic.{impossible}
 use Rattle.precedence.proofs.Precedence as PP
 use Rattle.area.specs.Area.{pick}
 use Rattle.blocks.specs.declared.Params.{Params}
-use Rattle.group_rules.specs.Coded.{fits}
-use Rattle.frame.specs.declared.Party.{Party}
-use Rattle.frame.specs.declared.Refusal.{Refusal}
+use Rattle.group_rules.specs.Coded.{fits, fitTest}
 use Rattle.frame.specs.declared.Verdict.{Verdict}
 use Rattle.frame.specs.declared.Party.the-variants as A
 use Rattle.frame.specs.declared.Opened.the-variants as O
@@ -27,9 +25,9 @@ use Rattle.frame.specs.Chunks.{rowsBytes}
 use Rattle.frame.specs.Frames.{build, opened, messageIn, headerFor}
 use Rattle.frame.specs.declared.Stamp.{Stamp}
 use Rattle.frame.specs.Messages.{send, echo, ready, Body, getStamp, ack, askRead, readComplete, stampIs}
-use Rattle.frame.specs.Messages.{blockIs, valueIs, Message, message, sending, good, judgedBy, Formed}
+use Rattle.frame.specs.Messages.{blockIs, valueIs, Message, message, good, judgedBy, Formed}
 use Rattle.frame.specs.Params.{clientFrames, outRoom, toRoom}
-use Rattle.frame.specs.Refusals.{numberOf, andThen}
+use Rattle.frame.specs.Refusals.{andThen}
 use Rattle.frame.proofs.RoundTrip.{opened-build}
 use Rattle.frame.proofs.Sizes.{Small}
 use Rattle.client_rules.specs.declared.Phase.{Phase}
@@ -39,7 +37,7 @@ use Rattle.client_rules.specs.Delivery as CD
 use Rattle.client_rules.specs.State.{writing}
 use Rattle.client_rules.specs.Steps as C
 use Rattle.client_rules.specs.Tests as CT
-use Rattle.runs.specs.Admissible.{Sent, Honest, Proper, Admissible}
+use Rattle.runs.specs.Admissible.{Honest, Proper, Admissible}
 use Rattle.runs.specs.Events.{At}
 use Rattle.runs.specs.World.{Setup, Call, toServer, toClient, beginRead, beginWrite, lentTo, run}
 use Rattle.runs.proofs.Agreement.{small}
@@ -56,27 +54,14 @@ use Rattle.served.proofs.Clients.{home, takes-of}
 use Rattle.served.proofs.ClientState.{SentBy, Doing, stands}
 use Rattle.served.proofs.ClientPast.{AnswerPast, past-onward, client-onward, taken-past, Begun, stale-past}
 use Rattle.served.proofs.ClientWords.{words}
+use Rattle.served.proofs.ServerPast.{refusalIn, rooms-cases, sent-frame}
 use Rattle.served.proofs.ServerWords.{Fitting, server-word}
-
--- with what number a verdict turns down
-abbrev refusalIn : Verdict → Option Refusal
-refusalIn J.Fine = none
-refusalIn (J.Bad r) = some r
 
 -- the test of the lent areas says nothing or 10
 room-cases : (g : Params) (area result out to : ℕ) → (CT.roomTest g area result out to ≡ J.Fine) ⊎ (CT.roomTest g area result out to ≡ J.Bad X.Room)
-unfolding CT.roomTest CT.sendRoom pick
-room-cases g area result out to = go (ltb area rowsBytes) (ltb result (g .size)) (ltb out (outRoom g (clientFrames g))) (ltb to (toRoom (clientFrames g)))
-  where
-    tests : Bool → Bool → Bool → Bool → Verdict
-    tests a b c d = pick a (J.Bad X.Room) (pick b (J.Bad X.Room) (pick c (J.Bad X.Room) (pick d (J.Bad X.Room) J.Fine)))
-
-    go : (a b c d : Bool) → (tests a b c d ≡ J.Fine) ⊎ (tests a b c d ≡ J.Bad X.Room)
-    go true b c d = inr refl
-    go false true c d = inr refl
-    go false false true d = inr refl
-    go false false false true = inr refl
-    go false false false false = inl refl
+unfolding CT.roomTest CT.sendRoom
+room-cases g area result out to =
+    rooms-cases (ltb area rowsBytes) (ltb result (g .size)) (ltb out (outRoom g (clientFrames g))) (ltb to (toRoom (clientFrames g)))
 
 room-fine : (g : Params) (area result out to : ℕ) → rowsBytes ≤ area → g .size ≤ result → outRoom g (clientFrames g) ≤ out → toRoom (clientFrames g) ≤ to
     → CT.roomTest g area result out to ≡ J.Fine
@@ -157,7 +142,7 @@ module _ (Z : Setup) (G : Assumed Z) where
   working ks c F.Reading e d = impossible (cc e)
 
   value-fine : (ks : List Call) → Admissible Z ks → (c : ℕ) (lent : List ℕ)
-      → CT.valueTest g (home Z ks c .client) (length (lentTo Z (run Z ks) c lent)) ≡ J.Fine
+      → CT.valueTest g (home Z ks c .client .phase) (length (lentTo Z (run Z ks) c lent)) ≡ J.Fine
   unfolding CT.valueTest pick
   value-fine ks adm c lent = go (writing (home Z ks c .client .phase)) refl
     where
@@ -186,7 +171,7 @@ module _ (Z : Setup) (G : Assumed Z) where
   fit-fine false e = impossible (cc e)
 
   order : (c : ℕ) (s : Client) (j q : ℕ) (b : Body) → Fitting Z G j b → (CT.orderTest H g c s j q b ≡ J.Fine) ⊎ (CT.orderTest H g c s j q b ≡ J.Bad X.Stale)
-  unfolding CT.orderTest CT.fitTest
+  unfolding CT.orderTest fitTest
   order c s j q getStamp f = inl refl
   order c s j q ack f = pass-or-stale _
   order c s j q askRead f = inl refl
@@ -194,8 +179,8 @@ module _ (Z : Setup) (G : Assumed Z) where
   order c s j q (stampIs T) f = pass-or-stale _
   order c s j q (blockIs z o) f = inl refl
   order c s j q (valueIs x e) f = ⊎-elim
-      (λ h. inl (ap (λ v. andThen v (CT.fitTest H e j)) h ∙ fit-fine (fits H e j) f))
-      (λ h. inr (ap (λ v. andThen v (CT.fitTest H e j)) h))
+      (λ h. inl (ap (λ v. andThen v (fitTest H e j)) h ∙ fit-fine (fits H e j) f))
+      (λ h. inr (ap (λ v. andThen v (fitTest H e j)) h))
       (pass-or-stale _)
 
   module _ (j c : ℕ) (m : Message) (W : Fair j c m) (ks : List Call) (adm : Admissible Z ks) where
@@ -347,11 +332,6 @@ module _ (Z : Setup) (G : Assumed Z) where
   past-at j c m W (beginRead d out to ∷ ks) adm p (inl u) = absurd (u .1)
   past-at j c m W (beginWrite d v out to ∷ ks) adm p (inl u) = absurd (u .1)
 
-  sent-frame : (ks : List Call) (a b : Party) (m : Message) → SentBy Z G ks a b m → Sent Z ks a b (build m)
-  sent-frame [] a b m u = absurd u
-  sent-frame (k ∷ ks) a b m (inl (e, u)) = inl (e, sending b m, u, refl, refl)
-  sent-frame (k ∷ ks) a b m (inr u) = inr (sent-frame ks a b m u)
-
   pub answer-reached : (ks : List Call) → Admissible Z ks → Finished Z ks → (j c : ℕ) (m : Message) → Honest Z (A.Server j) → Honest Z (A.Client c)
       → SentBy Z G ks (A.Server j) (A.Client c) m → AnswerPast (home Z ks c .client) j (m .sequence) (m .body)
   answer-reached ks adm N j c m hj hc u =
@@ -368,4 +348,4 @@ module _ (Z : Setup) (G : Assumed Z) where
       ⊎-elim
       (λ (p, v). past-at j c m W ks adm p v)
       (λ x. past-now j c m W ks adm u x)
-      (N (A.Server j) (A.Client c) (build m) hj hc (sent-frame ks (A.Server j) (A.Client c) m u))
+      (N (A.Server j) (A.Client c) (build m) hj hc (sent-frame Z G ks (A.Server j) (A.Client c) m u))

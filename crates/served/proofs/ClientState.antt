@@ -35,7 +35,7 @@ use Rattle.client_rules.specs.Steps as C
 use Rattle.client_rules.specs.Tests as CT
 use Rattle.client_rules.proofs.Shapes.{largestNow, dispersed, Keeps, drops, keeps, Shape, hears, shuts}
 use Rattle.client_rules.proofs.Shapes.{counts, ends, waits, completes, sends as disperses, idle as idles}
-use Rattle.client_rules.proofs.CallFacts.{awaited-true}
+use Rattle.client_rules.proofs.CallFacts.{awaited-true, no-flag, fresh-row}
 use Rattle.runs.specs.Events.{At, EndsWrite, OpensWrite}
 use Rattle.runs.specs.World.{Setup, Call, caller, ClientSide, clientDone, clientLeft, start, run, sends}
 use Rattle.runs.proofs.Agreement.{small}
@@ -44,11 +44,6 @@ use Rattle.runs.proofs.Broadcasts.{SentMessage}
 use Rattle.served.proofs.Clients.{home, TakesFrame, ClientTurn, rests, takes, begins-read, begins-write, client-turn}
 
 -- ---- nothing counted, nothing kept
-
-no-flag : (m j : ℕ) → getD (replicate m false) j false ≡ false
-no-flag zero j = refl
-no-flag (suc m) zero = refl
-no-flag (suc m) (suc j) = no-flag m j
 
 no-flags : (m n : ℕ) → count (λ j. getD (replicate m false) j false) n ≡ 0
 unfolding count
@@ -65,12 +60,6 @@ none-quorate g L = go (leb (g .n) (count (λ j. getD (replicate 11 false) j fals
         absurd (omega (arith, l, no-flags 11 (g .n), L .faults-high, L .faults-low))
     go false e = refl
 
-fresh-count : (m j : ℕ) → getD (replicate m freshRow) j noRow .count ≡ 0
-unfolding freshRow
-fresh-count zero j = refl
-fresh-count (suc m) zero = refl
-fresh-count (suc m) (suc j) = fresh-count m j
-
 rows-none : (f : ℕ → List Kept) → ((j : ℕ) → f j ≡ []) → (j m : ℕ) → rowsFrom f j m ≡ []
 unfolding rowsFrom
 rows-none f e j zero = refl
@@ -78,7 +67,7 @@ rows-none f e j (suc m) = rw (e j) (rows-none f e (suc j) m)
 
 fresh-view : (g : Params) (s : Client) (a : List ℕ) → s .rows ≡ replicate 11 freshRow → (j : ℕ) → rowView g s a j ≡ []
 unfolding rowView placesFrom
-fresh-view g s a e j = ap (placesFrom g a j (rowOf s j) 0) (ap (λ l. used (getD l j noRow)) e ∙ ap (λ m. min m 4) (fresh-count 11 j))
+fresh-view g s a e j = ap (placesFrom g a j (rowOf s j) 0) (ap (λ l. used (getD l j noRow)) e ∙ ap (λ m. min m 4) (fresh-row 11 j))
 
 none-found : (g : Params) (s : Client) (a : List ℕ) → s .rows ≡ replicate 11 freshRow → search g (rowView g s a) ≡ none
 unfolding search foundBy firstAgreed
@@ -230,22 +219,21 @@ module _ (Z : Setup) (G : Assumed Z) where
           same-write _ ew refl (λ q n. let (y, u) = d (sym ec ∙ q) (omega (arith, n, ew)) in (y, inr (subst (λ n. At (EndsWrite Z c n) ks y) (sym ew) u)))
 
     -- the tests of a beginning: no operation is open, and a write only where none closed as out of stamps
-    began-idle : (last : ℕ) → CB.idleTest s last ≡ J.Fine → s .phase ≡ F.Idle
-    unfolding CB.idleTest
+    began-idle : (last : ℕ) → CB.idleTest (s .phase) last ≡ J.Fine → s .phase ≡ F.Idle
     began-idle last e = phase-idle (s .phase) (not-false (idle (s .phase)) (fine-not _ _ _ e .0))
 
     pub read-begun-idle : (out to : List ℕ) → CB.readTest g c s out to ≡ J.Fine → s .phase ≡ F.Idle
     unfolding CB.readTest
     read-begun-idle out to e = began-idle (s .reads)
-        (fine-both (CT.sendRoom g (length out) (length to)) (CB.idleTest s (s .reads)) (fine-both (paramsTest g c lastClient) _ e .1) .1)
+        (fine-both (CT.sendRoom g (length out) (length to)) (CB.idleTest (s .phase) (s .reads)) (fine-both (paramsTest g c lastClient) _ e .1) .1)
 
     pub write-begun : (v out to : List ℕ) → CB.writeTest g c s v out to ≡ J.Fine → (s .phase ≡ F.Idle) × (s .closed ≡ false)
-    unfolding CB.writeTest CB.closedTest
+    unfolding CB.writeTest
     write-begun v out to e =
         let p₁ = fine-both (paramsTest g c lastClient) _ e .1 in
         let p₂ = fine-both (CB.lengthTest g (length v)) _ p₁ .1 in
         let p₃ = fine-both (CT.sendRoom g (length out) (length to)) _ p₂ .1 in
-        let p₄ = fine-both (CB.idleTest s (s .writes)) _ p₃ in
+        let p₄ = fine-both (CB.idleTest (s .phase) (s .writes)) _ p₃ in
         (began-idle (s .writes) (p₄ .0), fine-not _ _ _ (p₄ .1) .0)
 
     read-stands : (out to : List ℕ) → caller k ≡ A.Client c → CB.readTest g c s out to ≡ J.Fine → sends Z (run Z ks) k ≡ CB.openRead g c s .sends

@@ -16,7 +16,6 @@ use Rattle.frame.specs.Chunks.{rowsBytes}
 use Rattle.frame.specs.Messages.{Message, sending, numberIn, good}
 use Rattle.server_rules.proofs.Parts.{put-same, put-cases}
 use Rattle.server_rules.proofs.Passing.{is-server}
-use Rattle.client_rules.specs.declared.Client.{Client}
 use Rattle.client_rules.specs.Beginning as CB
 use Rattle.client_rules.specs.Delivery as CD
 use Rattle.client_rules.specs.State.{writing}
@@ -45,7 +44,7 @@ module _ (Z : Setup) where
     pub v : List ℕ
     pub own : writing (home ks c .client .phase) ≡ true → v ≡ home ks c .value
     pub order : CT.orderTest H g c (home ks c .client) j (m .sequence) (m .body) ≡ J.Fine
-    pub value : CT.valueTest g (home ks c .client) (length v) ≡ J.Fine
+    pub value : CT.valueTest g (home ks c .client .phase) (length v) ≡ J.Fine
     pub room : rowsBytes ≤ length (home ks c .area)
     pub r : C.Effect
     pub did : r ≡ C.onBody H g c (home ks c .client) (home ks c .area) v j (m .body)

@@ -9,9 +9,7 @@ use Rattle.precedence.proofs.Precedence as PP
 use Rattle.service.proofs.Presents as SP
 use Rattle.service.proofs.Total as ST
 use Rattle.frame.specs.declared.Party.the-variants as A
-use Rattle.frame.specs.Stamps.{zeroStamp}
 use Rattle.frame.proofs.Sizes.{Small}
-use Rattle.steps.proofs.Keys.{key}
 use Rattle.runs.specs.Admissible.{Honest, Admissible}
 use Rattle.runs.specs.Blocks.{Collision}
 use Rattle.runs.specs.World.{Setup, Call}
@@ -65,7 +63,6 @@ module _ (Z : Setup) (G : Assumed Z) (ks : List Call) (adm : Admissible Z ks) wh
       (omega (arith, e, c8, s32, d8, p32), omega (arith, e, c8, s32, d8, p32))
 
   least : (c s : ℕ) (x : Agreed) → Ks .key (Ks .initial) < Ks .key (Ks .stamped x c s)
-  unfolding zeroStamp
   least c s x = omega arith
 
   module _ (fin : Finished Z ks) where

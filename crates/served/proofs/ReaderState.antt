@@ -1,6 +1,6 @@
 -- How an honest server stands to an honest client's read: who listens asked for it and was told of the present value, and who does not has completed it.
 -- Assumes nothing.
-use Prim.Native.Nat.{ℕ, zero, suc, _≤_}
+use Prim.Native.Nat.{ℕ, _≤_}
 use native.Mathlib.Omega.{arith}
 use mathlib.Core.Bool.{true, false}
 use mathlib.Core.Path.{_≡_, refl, ap, sym, _∙_, subst}
@@ -9,6 +9,7 @@ use mathlib.Core.List.{List, [], _∷_, List·Memᴰ}
 use lib.ListN.{length, getD, replicate}
 use Rattle.quorum.specs.Quorum.{Among}
 use Rattle.quorum.proofs.Logic.{impossible}
+use Rattle.area.proofs.Sets.{of-copies}
 use Rattle.frame.specs.declared.Stamp.{Stamp}
 use Rattle.frame.specs.declared.Verdict.{Verdict}
 use Rattle.frame.specs.declared.Party.the-variants as A
@@ -28,6 +29,7 @@ use Rattle.runs.proofs.Agreement.{small}
 use Rattle.runs.proofs.Assumed.{Assumed}
 use Rattle.runs.proofs.Broadcasts.{serverAt, Takes, effectOf, server-next, server-left, message-sent, shape}
 use Rattle.runs.proofs.Formation.{formed}
+use Rattle.runs.proofs.OrderLaws.{silent}
 use Rattle.taking.proofs.Holding.{presents}
 use Rattle.taking.proofs.Readers as R
 use Rattle.taking.proofs.Readers.{Note, note, tells, value-told}
@@ -36,15 +38,7 @@ use Rattle.served.proofs.ServerState.{sent-now}
 
 fresh-number : (m c : ℕ) → getD (replicate m freshReader) c noReader .sequence ≡ 0
 unfolding freshReader
-fresh-number zero c = refl
-fresh-number (suc m) zero = refl
-fresh-number (suc m) (suc c) = fresh-number m c
-
-fresh-silent : (m c : ℕ) → getD (replicate m freshReader) c noReader .listening ≡ false
-unfolding freshReader
-fresh-silent zero c = refl
-fresh-silent (suc m) zero = refl
-fresh-silent (suc m) (suc c) = fresh-silent m c
+fresh-number = of-copies (λ r. r .sequence) freshReader noReader 0 refl refl
 
 module _ (Z : Setup) (G : Assumed Z) where
   open Setup Z using (H, g, initialValue, stateAreas, initialAreas)
@@ -76,8 +70,8 @@ module _ (Z : Setup) (G : Assumed Z) where
     where
       go : (b : Verdict) → (readerOf (SD.constructBy H g j b initialValue (stateAreas j) (initialAreas j) .server) c .sequence ≡ 0)
           × (readerOf (SD.constructBy H g j b initialValue (stateAreas j) (initialAreas j) .server) c .listening ≡ false)
-      go (J.Bad r) = (fresh-number 9 c, fresh-silent 9 c)
-      go J.Fine = (fresh-number 9 c, fresh-silent 9 c)
+      go (J.Bad r) = (fresh-number 9 c, silent 9 c)
+      go J.Fine = (fresh-number 9 c, silent 9 c)
 
   same : (ks : List Call) (k : Call) (j c : ℕ) → serverAt Z G M (k ∷ ks) j ≡ serverAt Z G M ks j → ReaderStands ks j c → ReaderStands (k ∷ ks) j c
   same ks k j c e S =

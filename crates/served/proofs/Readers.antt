@@ -23,7 +23,7 @@ use Rattle.frame.specs.declared.Stamp.{Stamp}
 use Rattle.frame.specs.declared.Party.the-variants as A
 use Rattle.frame.specs.Chunks.{entryAt, rowsBytes}
 use Rattle.frame.specs.Messages.{askRead, valueIs, message}
-use Rattle.frame.specs.Stamps.{sameStamp, zeroStamp}
+use Rattle.frame.specs.Stamps.{sameStamp}
 use Rattle.frame.proofs.Sizes.{Small}
 use Rattle.frame.proofs.StampOrder.{older-of, stamp-of, same-of}
 use Rattle.client_rules.specs.declared.Client.{Client}
@@ -31,6 +31,7 @@ use Rattle.client_rules.specs.declared.Phase.the-variants as F
 use Rattle.client_rules.specs.Rows.{Kept, used, hasStamp, rowView, atStamp, rowsFrom, agreed, firstBy, firstAgreed, foundBy, search}
 use Rattle.client_rules.specs.State.{freshRow, freshClient, noRow, rowOf}
 use Rattle.client_rules.specs.Beginning as CB
+use Rattle.client_rules.proofs.CallFacts.{fresh-row}
 use Rattle.client_rules.proofs.Shapes.{shape-length}
 use Rattle.client_rules.proofs.Views.{placed, of-placed}
 use Rattle.steps.proofs.Keys.{key, older-key}
@@ -101,12 +102,6 @@ module _ (g : Params) (f : ℕ → List Kept) where
       go (some y) q e = impossible (cc e)
 
 -- ---- a rows area that is too short has nothing in it
-
-fresh-row : (m j : ℕ) → getD (replicate m freshRow) j noRow .count ≡ 0
-unfolding freshRow
-fresh-row zero j = refl
-fresh-row (suc m) zero = refl
-fresh-row (suc m) (suc j) = fresh-row m j
 
 opened-rows : (g : Params) (c : ℕ) (s : Client) → CB.openRead g c s .client .rows ≡ replicate 11 freshRow
 unfolding CB.openRead
@@ -240,7 +235,6 @@ module _ (Z : Setup) (G : Assumed Z) (ks : List Call) (adm : Admissible Z ks) (N
 
     -- with its list
     one-list : (k : Kept) → List·Memᴰ k (rows j) → k .stamp ≡ stampAt Z G ks j → k .entry .digests ≡ listAt Z G ks j
-    unfolding zeroStamp
     one-list k u q = go (written k u .1)
         (PP.present-of (stamps Z G M) (views Z G M) (g .n) (g .t) faultyServer faultyClient (fresh Z G M) ks (lawful-run Z G M ks adm) j)
       where

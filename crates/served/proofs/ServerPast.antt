@@ -14,7 +14,7 @@ use Rattle.quorum.specs.Quorum.{Among}
 use Rattle.quorum.proofs.Logic.{impossible, and-true}
 use Rattle.area.specs.Area.{pick}
 use Rattle.blocks.specs.declared.Params.{Params}
-use Rattle.group_rules.specs.Coded.{entryOf, fits}
+use Rattle.group_rules.specs.Coded.{entryOf, fits, fitTest}
 use Rattle.frame.specs.declared.Party.{Party}
 use Rattle.frame.specs.declared.Refusal.{Refusal}
 use Rattle.frame.specs.declared.Verdict.{Verdict}
@@ -27,7 +27,7 @@ use Rattle.frame.specs.Messages.{Offer, Stage, send, echo, ready, Body}
 use Rattle.frame.specs.Messages.{getStamp, ack, askRead, readComplete, stampIs, blockIs, valueIs}
 use Rattle.frame.specs.Messages.{Message, message, sending, numberIn, Judged, good, judgedBy, Formed}
 use Rattle.frame.specs.Params.{width, serverFrames, outRoom, toRoom}
-use Rattle.frame.specs.Refusals.{numberOf, andThen}
+use Rattle.frame.specs.Refusals.{andThen}
 use Rattle.frame.proofs.RoundTrip.{opened-build}
 use Rattle.frame.proofs.Sizes.{Small}
 use Rattle.server_rules.specs.declared.Slot.{Slot}
@@ -38,10 +38,10 @@ use Rattle.server_rules.proofs.Taking.{took}
 use Rattle.steps.proofs.CastFacts.{partAt}
 use Rattle.runs.specs.Admissible.{Sent, Honest, Admissible}
 use Rattle.runs.specs.Events.{At}
-use Rattle.runs.specs.World.{Setup, Call, toServer, toClient, beginRead, beginWrite, ServerSide, initialOf, run, sends}
+use Rattle.runs.specs.World.{Setup, Call, toServer, toClient, beginRead, beginWrite, ServerSide, initialOf, run}
 use Rattle.runs.proofs.Agreement.{small}
 use Rattle.runs.proofs.Assumed.{Assumed}
-use Rattle.runs.proofs.Broadcasts.{serverAt, Takes, effectOf, server-next, server-left, shape}
+use Rattle.runs.proofs.Broadcasts.{serverAt, Takes, effectOf, server-next, server-left, left-part, left-seq, shape}
 use Rattle.runs.proofs.Formation.{formed, initial-long}
 use Rattle.runs.proofs.OrderLaws.{params-fine}
 use Rattle.taking.proofs.Does as D
@@ -51,28 +51,30 @@ use Rattle.served.specs.Finished.{Final, replyRefusal, serverAnswer, Ans
 use Rattle.served.proofs.ClientState.{SentBy}
 use Rattle.served.proofs.ClientWords.{Word, words}
 use Rattle.served.proofs.ReaderState.{reader, reader-up}
-use Rattle.served.proofs.ServerState.{seq, part, sent-now, left-part, left-seq, seq-up, rises}
+use Rattle.served.proofs.ServerState.{seq, part, sent-now, seq-up, rises}
 use Rattle.served.proofs.ServerWords.{entry-fits, Fitting, server-word}
 
 -- with what number a verdict turns down
-abbrev refusalIn : Verdict → Option Refusal
+abbrev pub refusalIn : Verdict → Option Refusal
 refusalIn J.Fine = none
 refusalIn (J.Bad r) = some r
 
--- the test of the lent areas says nothing or 10
-room-cases : (g : Params) (area initial out to : ℕ) → (ST.roomTest g area initial out to ≡ J.Fine) ⊎ (ST.roomTest g area initial out to ≡ J.Bad X.Room)
-unfolding ST.roomTest pick
-room-cases g area initial out to = go (ltb area areaBytes) (ltb initial (width g)) (ltb out (outRoom g (serverFrames g))) (ltb to (toRoom (serverFrames g)))
-  where
-    tests : Bool → Bool → Bool → Bool → Verdict
-    tests a b c d = pick a (J.Bad X.Room) (pick b (J.Bad X.Room) (pick c (J.Bad X.Room) (pick d (J.Bad X.Room) J.Fine)))
+-- four areas that may be too short: the test says nothing or 10
+abbrev pub rooms : Bool → Bool → Bool → Bool → Verdict
+rooms a b c d = pick a (J.Bad X.Room) (pick b (J.Bad X.Room) (pick c (J.Bad X.Room) (pick d (J.Bad X.Room) J.Fine)))
 
-    go : (a b c d : Bool) → (tests a b c d ≡ J.Fine) ⊎ (tests a b c d ≡ J.Bad X.Room)
-    go true b c d = inr refl
-    go false true c d = inr refl
-    go false false true d = inr refl
-    go false false false true = inr refl
-    go false false false false = inl refl
+pub rooms-cases : (a b c d : Bool) → (rooms a b c d ≡ J.Fine) ⊎ (rooms a b c d ≡ J.Bad X.Room)
+unfolding pick
+rooms-cases true b c d = inr refl
+rooms-cases false true c d = inr refl
+rooms-cases false false true d = inr refl
+rooms-cases false false false true = inr refl
+rooms-cases false false false false = inl refl
+
+room-cases : (g : Params) (area initial out to : ℕ) → (ST.roomTest g area initial out to ≡ J.Fine) ⊎ (ST.roomTest g area initial out to ≡ J.Bad X.Room)
+unfolding ST.roomTest
+room-cases g area initial out to =
+    rooms-cases (ltb area areaBytes) (ltb initial (width g)) (ltb out (outRoom g (serverFrames g))) (ltb to (toRoom (serverFrames g)))
 
 room-fine : (g : Params) (area initial out to : ℕ) → areaBytes ≤ area → width g ≤ initial → outRoom g (serverFrames g) ≤ out → toRoom (serverFrames g) ≤ to
     → ST.roomTest g area initial out to ≡ J.Fine
@@ -120,9 +122,9 @@ module _ (Z : Setup) (G : Assumed Z) where
     h = serverAt Z G M ks j
 
     keeps-got : (c : ℕ) → Among 8 c → (z : Stage) (i : ℕ) → seq Z G (k ∷ ks) j c ≡ seq Z G ks j c → Got z (part Z G ks j c) i → Got z (part Z G (k ∷ ks) j c) i
-    keeps-got c is z i e u = subst (λ w. Got z w i) (sym (left-part Z G ks k j C c))
+    keeps-got c is z i e u = subst (λ w. Got z w i) (sym (left-part Z G M ks k j C c))
         (D.keeps-got H g (G .bounded) j (h .server) (h .area) (initialOf Z j) (shape Z G M ks j) (C .from) (C .m)
-        (C .took .client) (C .took .sized) (C .took .passes) c is z i (sym (left-seq Z G ks k j C c) ∙ e) u)
+        (C .took .client) (C .took .sized) (C .took .passes) c is z i (sym (left-seq Z G M ks k j C c) ∙ e) u)
 
     -- ---- what is taken is past
 
@@ -132,8 +134,8 @@ module _ (Z : Setup) (G : Assumed Z) where
         let (n, w) = D.takes-got H g (G .bounded) j (h .server) (h .area) (initialOf Z j) (shape Z G M ks j) (C .from) (C .m)
         (C .took .client) (C .took .sized) (C .took .passes) c q is z o e in
         ⊎-elim
-        (λ r. inl (omega (arith, n, r, left-seq Z G ks k j C c)))
-        (λ (r, u). inr (n ∙ sym (left-seq Z G ks k j C c ∙ r), subst (λ w. Got z w (numberIn (C .from))) (sym (left-part Z G ks k j C c)) u))
+        (λ r. inl (omega (arith, n, r, left-seq Z G M ks k j C c)))
+        (λ (r, u). inr (n ∙ sym (left-seq Z G M ks k j C c ∙ r), subst (λ w. Got z w (numberIn (C .from))) (sym (left-part Z G M ks k j C c)) u))
         w
 
     read-taken : (c q : ℕ) → C .m ≡ message c q askRead → q ≤ reader Z G (k ∷ ks) j c .sequence
@@ -203,7 +205,7 @@ module _ (Z : Setup) (G : Assumed Z) where
 
     block-order : (z : Stage) (o : Offer) → fits H (o .entry) (ST.placeIn j z (numberIn a)) ≡ true
         → Order ks j a c q (blockIs z o) (ST.blockTest H g j slot (numberIn a) q z o)
-    unfolding ST.openTest ST.fitTest pick
+    unfolding ST.openTest fitTest pick
     block-order z o f = go (ltb q (slot .sequence)) (ltb (slot .sequence) q) (ST.counted slot (numberIn a) (blockIs z o)) refl refl refl
       where
         fit : Verdict

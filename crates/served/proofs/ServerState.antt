@@ -26,7 +26,7 @@ use Rattle.runs.specs.Events.{At, Accepts}
 use Rattle.runs.specs.World.{Setup, Call, caller, initialOf, sends, run}
 use Rattle.runs.proofs.Agreement.{small, start-slot}
 use Rattle.runs.proofs.Assumed.{Assumed}
-use Rattle.runs.proofs.Broadcasts.{serverAt, Takes, effectOf, server-next, server-left, accepts-new, shape}
+use Rattle.runs.proofs.Broadcasts.{serverAt, Takes, effectOf, server-next, left-part, left-seq, accepts-now, accepts-new, shape}
 use Rattle.runs.proofs.Places.{at-low}
 use Rattle.taking.proofs.Quiet.{Calm, Unripe, calm-empty}
 use Rattle.taking.proofs.Does as D
@@ -112,15 +112,6 @@ module _ (Z : Setup) (G : Assumed Z) where
       subst (λ k. List·Memᴰ (sending b m) (sends Z (run Z ks) k)) (sym (C .is)) (subst (λ r. List·Memᴰ (sending b m) (r .sends)) (sym (C .moves)) u),
     )
 
-    pub accepts-now : (w : S.Write) → List·Memᴰ w (effectOf Z G M C .accepted) → At (Accepts Z j w) (k ∷ ks) (length ks)
-    accepts-now w u = inl (refl, subst (λ y. Accepts Z j w ks y) (sym (C .is)) (refl, subst (λ r. List·Memᴰ w (r .accepted)) (sym (C .moves)) u))
-
-    pub left-part : (c : ℕ) → part (k ∷ ks) j c ≡ partAt g (effectOf Z G M C .server) (effectOf Z G M C .area) c
-    left-part c = ap (λ h. partAt g (h .server) (h .area) c) (server-left Z G M ks k j C)
-
-    pub left-seq : (c : ℕ) → seq (k ∷ ks) j c ≡ slotOf (effectOf Z G M C .server) c .sequence
-    left-seq c = ap (λ h. slotOf (h .server) c .sequence) (server-left Z G M ks k j C)
-
     abbrev quiet : (c : ℕ) → Among 8 c → Still (part ks j c) → Still (partAt g (effectOf Z G M C .server) (effectOf Z G M C .area) c)
     quiet = D.quiet-turn H g (G .bounded) j sv ar (initialOf Z j) (shape Z G M ks j) (C .from) (C .m) (C .took .client) (C .took .sized) (C .took .passes)
 
@@ -130,7 +121,7 @@ module _ (Z : Setup) (G : Assumed Z) where
 
     pub rises : (c : ℕ) → Among 8 c → (seq (k ∷ ks) j c ≡ seq ks j c)
         ⊎ ((seq (k ∷ ks) j c ≡ seq ks j c + 1) × (w : S.Write) × List·Memᴰ w (effectOf Z G M C .accepted) × (w .client ≡ c) × (w .sequence ≡ seq ks j c))
-    rises c i = ⊎-elim (λ e. inl (left-seq c ∙ e)) (λ w. inr (left-seq c ∙ w .0, w .1, w .2, w .3, w .4))
+    rises c i = ⊎-elim (λ e. inl (left-seq Z G M ks k j C c ∙ e)) (λ w. inr (left-seq Z G M ks k j C c ∙ w .0, w .1, w .2, w .3, w .4))
         (D.rises H g (G .bounded) j sv ar (initialOf Z j) (shape Z G M ks j) (C .from) (C .m) (C .took .client) (C .took .sized) (C .took .passes) c i)
 
     -- the write that client c's sequence passes
@@ -141,7 +132,7 @@ module _ (Z : Setup) (G : Assumed Z) where
         record {
           x = w;
           p = length ks;
-          accepted = accepts-now w u;
+          accepted = accepts-now Z G M ks k j C w u;
           client = ec;
           sequence = eq;
           acked = sent-now _ _ (subst (λ n. List·Memᴰ (sending (A.Client c) (message c n ack)) (effectOf Z G M C .sends)) eq
@@ -160,7 +151,7 @@ module _ (Z : Setup) (G : Assumed Z) where
     step c i T = ⊎-elim stayed risen (rises c i)
       where
         still : Still (part (k ∷ ks) j c)
-        still = subst Still (sym (left-part c)) (quiet c i (T .still))
+        still = subst Still (sym (left-part Z G M ks k j C c)) (quiet c i (T .still))
 
         stayed : seq (k ∷ ks) j c ≡ seq ks j c → ServerStands (k ∷ ks) j c
         stayed e = record {
@@ -170,12 +161,12 @@ module _ (Z : Setup) (G : Assumed Z) where
               (λ h. all-later ks k j c _ echo (T .echoed h))
               (λ (y, f). (y, λ i is. sent-now _ _ (f i is)))
               (D.echo-why H g (G .bounded) j sv ar (initialOf Z j) (shape Z G M ks j) (C .from) (C .m) (C .took .client) (C .took .sized) (C .took .passes) c i
-              (sym (left-seq c) ∙ e) (sym (ap (λ w. w .sent) (left-part c)) ∙ u)));
+              (sym (left-seq Z G M ks k j C c) ∙ e) (sym (ap (λ w. w .sent) (left-part Z G M ks k j C c)) ∙ u)));
           readied = λ u. subst (λ s. ToAllSent (k ∷ ks) j c s ready) (sym e) (⊎-elim
               (λ h. all-later ks k j c _ ready (T .readied h))
               (λ (y, f). (y, λ i is. sent-now _ _ (f i is)))
               (D.ready-why H g (G .bounded) j sv ar (initialOf Z j) (shape Z G M ks j) (C .from) (C .m) (C .took .client) (C .took .sized) (C .took .passes) c i
-              (sym (left-seq c) ∙ e) (sym (ap (λ w. w .ready) (left-part c)) ∙ u)));
+              (sym (left-seq Z G M ks k j C c) ∙ e) (sym (ap (λ w. w .ready) (left-part Z G M ks k j C c)) ∙ u)));
           passed = λ s l h. passed-later ks k j c s (T .passed s l (omega (arith, h, e)));
         }
 
@@ -183,9 +174,9 @@ module _ (Z : Setup) (G : Assumed Z) where
         risen : (seq (k ∷ ks) j c ≡ seq ks j c + 1) × (w : S.Write) × List·Memᴰ w (effectOf Z G M C .accepted) × (w .client ≡ c) × (w .sequence ≡ seq ks j c)
             → ServerStands (k ∷ ks) j c
         risen (e, w, u, ec, eq) =
-            let n : part (k ∷ ks) j c ≡ noPart = left-part c
+            let n : part (k ∷ ks) j c ≡ noPart = left-part Z G M ks k j C c
             ∙ D.risen-empty H g (G .bounded) j sv ar (initialOf Z j) (shape Z G M ks j) (C .from) (C .m) (C .took .client) (C .took .sized)
-            (C .took .passes) c i (sym (left-seq c) ∙ e) in
+            (C .took .passes) c i (sym (left-seq Z G M ks k j C c) ∙ e) in
             record {
               still = still;
               begun = omega (arith, e);
@@ -239,7 +230,7 @@ module _ (Z : Setup) (G : Assumed Z) where
       let i = D.accepted-client H g (G .bounded) j (serverAt Z G M ks j .server) (serverAt Z G M ks j .area) (initialOf Z j) (shape Z G M ks j) (C .from) (C .m)
       (C .took .client) (C .took .sized) (C .took .passes) x m in
       let E = acceptance ks k j C x m (server-stands ks j (x .client) i .still) in
-      let n = left-seq ks k j C (x .client) in
+      let n = left-seq Z G M ks k j C (x .client) in
       (record { client = E .client; passed = omega (arith, E .sequence, E .next, n); below = E .below }, E .sequence)
 
   pub closed : (ks : List Call) (j p : ℕ) (x : S.Write) → At (Accepts Z j x) ks p → Closed ks j x

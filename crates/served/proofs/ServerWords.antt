@@ -1,19 +1,18 @@
 -- What a server has sent: to whom, that its blocks fit at its own place, and that its readies are of values that it decoded. Assumes nothing.
-use Prim.Native.Nat.{ℕ, _+_, _≤_}
+use Prim.Native.Nat.{ℕ, _+_}
 use native.Mathlib.Omega.{arith}
 use mathlib.Core.Bool.{true, false}
 use mathlib.Core.Path.{_≡_, refl, ap, sym, _∙_, subst}
 use mathlib.Core.Logic.{inl, inr, ⊎-elim}
 use mathlib.Core.List.{List, [], _∷_, List·Memᴰ}
 use lib.ListN.{length, take}
-use lib.Seq.{sets}
 use lib.Dec.{eqb}
 use borrow.Author.Tests.{ne-eqb}
 use Rattle.quorum.specs.Quorum.{Among}
 use Rattle.quorum.proofs.Logic.{impossible}
 use Rattle.area.specs.Area.{Bytes, pick, same}
 use Rattle.area.proofs.Same.{same-refl}
-use Rattle.area.proofs.Sets.{part-sets-same}
+use Rattle.area.proofs.Sets.{take-front}
 use Rattle.frame.specs.declared.Stamp.{Stamp}
 use Rattle.frame.specs.declared.Party.{Party}
 use Rattle.frame.specs.declared.Verdict.{Verdict}
@@ -23,7 +22,6 @@ use Rattle.frame.specs.Chunks.{entryAt, presentAt}
 use Rattle.frame.specs.Messages.{Entry, entry, Offer, send, echo, ready, Body}
 use Rattle.frame.specs.Messages.{getStamp, ack, askRead, readComplete, stampIs, blockIs, valueIs, Message, message, sending}
 use Rattle.frame.specs.Params.{width}
-use Rattle.frame.specs.Stamps.{zeroStamp}
 use Rattle.frame.proofs.Sizes.{Small}
 use Rattle.group_rules.specs.Coded.{blockAt, digestsOf, entryOf, fits}
 use Rattle.server_rules.specs.State.{presentBlock, presentEntry}
@@ -91,9 +89,6 @@ module _ (Z : Setup) (G : Assumed Z) where
       shown x a initial ∙ (λ i. entry (y .digests) (pick (b i) (take (width g) initial) (y .block)))
 
   -- the initial block
-  whole : (a b : List ℕ) (w : ℕ) → length b ≡ w → w ≤ length a → take w (sets a 0 b) ≡ b
-  whole a b w e h = subst (λ w. take w (sets a 0 b) ≡ b) e (part-sets-same a 0 b (omega (arith, e, h)))
-
   initial-block : (j : ℕ) → Among (g .n) j → take (width g) (initialOf Z j) ≡ blockAt H g initialValue j
   unfolding SD.construction SD.constructBy
   initial-block j is = go (SD.constructTest H g j initialValue (length (stateAreas j)) (length (initialAreas j))) (OL.fresh-fine Z G j is)
@@ -101,10 +96,10 @@ module _ (Z : Setup) (G : Assumed Z) where
       go : (b : Verdict) → b ≡ J.Fine
           → take (width g) (SD.constructBy H g j b initialValue (stateAreas j) (initialAreas j) .initial) ≡ blockAt H g initialValue j
       go (J.Bad r) e = impossible (cc e)
-      go J.Fine e = whole (initialAreas j) (blockAt H g initialValue j) (width g) (block-width g initialValue j (G .initial-size)) (G .initial-room j)
+      go J.Fine e = take-front (initialAreas j) (blockAt H g initialValue j) (width g) (block-width g initialValue j (G .initial-size)) (G .initial-room j)
 
   start-coded : (j : ℕ) → Among (g .n) j → Encodes H g j (presentOf j (serverAt Z G M [] j))
-  unfolding presentEntry entryOf pick zeroStamp
+  unfolding presentEntry entryOf pick
   start-coded j is =
       let h = serverAt Z G M [] j in
       let e = sym (SL.stamp-at Z G M [] j is) ∙ OL.fresh Z G M .initial-stamp j in

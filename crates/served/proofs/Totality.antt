@@ -30,11 +30,12 @@ use Rattle.server_rules.specs.Steps as S
 use Rattle.server_rules.proofs.Shapes.{offerOf}
 use Rattle.server_rules.proofs.Thresholds.{agreed, blocks-sane, alike-of}
 use Rattle.client_rules.specs.declared.Phase.the-variants as F
-use Rattle.runs.specs.Admissible.{Honest, Proper, Admissible}
+use Rattle.runs.specs.Admissible.{Honest, Admissible}
 use Rattle.runs.specs.Blocks.{Collision, of-written, of-decoded}
 use Rattle.runs.specs.Events.{At, Accepts, OpensWrite}
-use Rattle.runs.specs.World.{Setup, Call, toServer, toClient, beginRead, beginWrite, caller}
+use Rattle.runs.specs.World.{Setup, Call, toServer, toClient, beginRead, beginWrite}
 use Rattle.runs.proofs.Agreement.{small, empty}
+use Rattle.runs.proofs.Answers.{honest-caller}
 use Rattle.runs.proofs.Assumed.{Assumed}
 use Rattle.runs.proofs.Broadcasts.{Agreed, SaidBy, views, lawful-run}
 use Rattle.runs.proofs.Formation.{formed, accepted-in-bounds}
@@ -58,16 +59,9 @@ module _ (Z : Setup) (G : Assumed Z) where
   abbrev M : Small g
   M = small Z G
 
-  -- who answers a call is honest
-  caller-honest : (ks : List Call) (k : Call) → Proper Z ks k → Honest Z (caller k)
-  caller-honest ks (toServer i from f out to) p = p .0
-  caller-honest ks (toClient c from f lent result out to) p = p .0
-  caller-honest ks (beginRead c out to) p = p
-  caller-honest ks (beginWrite c v out to) p = p .0
-
   pub sender-honest : (ks : List Call) → Admissible Z ks → (a b : Party) (m : Message) → SentBy Z G ks a b m → Honest Z a
   sender-honest [] adm a b m u = absurd u
-  sender-honest (k ∷ ks) adm a b m (inl (e, u)) = subst (Honest Z) e (caller-honest ks k (adm .0))
+  sender-honest (k ∷ ks) adm a b m (inl (e, u)) = subst (Honest Z) e (honest-caller Z ks k (adm .0))
   sender-honest (k ∷ ks) adm a b m (inr u) = sender-honest ks (adm .1) a b m u
 
   pub accepts-honest : (ks : List Call) → Admissible Z ks → (i p : ℕ) (x : S.Write) → At (Accepts Z i x) ks p → Honest Z (A.Server i)

@@ -12,6 +12,7 @@ use borrow.Author.Tests.{leb-true}
 use Rattle.quorum.specs.Quorum.{Among}
 use Rattle.quorum.proofs.Logic.{impossible, and-true, or-split}
 use Rattle.area.specs.Area.{pick, same}
+use Rattle.area.proofs.Tests.{pick-some}
 use Rattle.area.proofs.Same.{same-refl}
 use Rattle.blocks.specs.Code.{decodedAll}
 use Rattle.group_rules.specs.Coded.{lowestValue, agreeing, decoded, digestsOf, fits}
@@ -59,11 +60,6 @@ module _ (Z : Setup) (G : Assumed Z) (ks : List Call) where
   abbrev Good : List ℕ → Bool → List ℕ → Type 0
   Good d b v = (b ≡ true) × (digestsOf H g v ≡ d)
 
-  picked : (b : Bool) (x v : List ℕ) → pick b (some x) none ≡ some v → (b ≡ true) × (x ≡ v)
-  unfolding pick
-  picked true x v e = (refl, cc e)
-  picked false x v e = impossible (cc e)
-
   abbrev FrameGood : (ℕ → Option Offer) → Offer → Type 0
   FrameGood f o = Good (o .entry .digests) (agreeing g (atTime f (o .time)) (o .entry .digests)) (lowestValue g (atTime f (o .time)) (o .entry .digests))
 
@@ -72,7 +68,7 @@ module _ (Z : Setup) (G : Assumed Z) (ks : List Call) where
       → FrameGood f o ⊎ Collision Z ks
   unfolding atTime decoded decodedAll lowestValue agreeing
   group f fit o l (v, S, e) = ⊎-elim
-      (λ q. let (b, x) = picked _ _ v q in inl (b, ap (digestsOf H g) x ∙ e))
+      (λ q. let (b, x) = pick-some _ _ v q in inl (b, ap (digestsOf H g) x ∙ e))
       (λ c. inr c)
       (one-value Z G ks (atTime f (o .time)) (o .entry .digests) (omega (arith, l, votes-are H g f o))
       (λ j y is q. let (p, u, z) = by-time (f j) (o .time) y q in subst (λ y. fits H y j ≡ true) z (fit j p u .0))

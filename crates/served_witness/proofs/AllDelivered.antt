@@ -10,7 +10,7 @@ use lib.ListN.{length, length-replicate}
 use native.Mathlib.Omega.{arith}
 use Rattle.quorum.proofs.Logic.{and-split}
 use Rattle.frame.specs.declared.Party.the-variants as P
-use Rattle.frame.specs.declared.Refusal.the-variants as R
+use Rattle.frame.specs.Refusals.{refusal}
 use Rattle.frame.specs.declared.Verdict.the-variants as J
 use Rattle.frame.specs.Params.{serverFrames, clientFrames, outRoom, toRoom, Bounded}
 use Rattle.frame.specs.Messages.{echo, ready}
@@ -102,7 +102,7 @@ record Computed : Type 0 where
   pub read-opens : (image Z asking .clients 2 .client .reads + 1 ≡ 1)
       × (CB.readTest g 2 (image Z asking .clients 2 .client) (Toy.zeros (outRoom g (clientFrames g))) (Toy.zeros (toRoom (clientFrames g))) ≡ J.Fine)
   -- one frame finds no room
-  pub no-room : refusedIn Z (image Z (block echo 2 1 ∷ block echo 1 1 ∷ blockTo 3 ∷ blockTo 2 ∷ blockTo 1 ∷ opening)) noRoom ≡ some R.Room
+  pub no-room : refusedIn Z (image Z (block echo 2 1 ∷ block echo 1 1 ∷ blockTo 3 ∷ blockTo 2 ∷ blockTo 1 ∷ opening)) noRoom ≡ some (refusal 10)
   -- they end
   pub ended : (image Z accepted .clients 1 .client .writes ≡ 1) × (endIn Z (image Z accepted) (ackFrom 3) ≡ written)
   pub completed-is : (image Z told .clients 2 .client .reads ≡ 1) × (endIn Z (image Z told) (valueFrom 3) ≡ stopped found)
@@ -124,17 +124,17 @@ unfolding FrChunks.entryAt RuWorld.start SeDelivery.constructBy SeDelivery.const
     FrFrames.headerBytes FrFrames.frameOf FrFrames.build FrFrames.framingTest FrFrames.headerIn FrFrames.headerTest FrFrames.bodyTest FrFrames.stampIn
     FrFrames.stampTest FrFrames.contentTest FrFrames.frameTest FrFrames.opened FrFrames.openedUnder FrFrames.bodyIn FrFrames.messageIn FrMessages.toFrom
     FrMessages.toAll FrParams.width FrParams.quota FrParams.largestFrame FrParams.outRoom FrParams.toRoom FrParams.ownTest FrParams.codeTest FrParams.boundsTest
-    FrParams.paramsTest FrStamps.older FrStamps.sameStamp FrStamps.zeroStamp FrStamps.partsAgree SeBroadcast.votes SeBroadcast.enough SeBroadcast.due
+    FrParams.paramsTest FrStamps.older FrStamps.sameStamp FrStamps.partsAgree SeBroadcast.votes SeBroadcast.enough SeBroadcast.due
     SeBroadcast.full SeBroadcast.matters SeRules.atTime SeRules.chosen SeRules.regained SeRules.unanimous SeState.freshBlocks SeState.freshSlot
     SeState.freshReader SeState.freshServer SeState.blockView SeState.presentBlock SeState.presentEntry SeSteps.votedBlock SeSteps.onBlock SeSteps.tellFrom
     SeSteps.accept SeSteps.ripeBy SeSteps.ripe SeSteps.freeBy SeSteps.free SeSteps.freed SeSteps.settle SeSteps.onRead SeSteps.onReadComplete SeSteps.onBody
-    SeSteps.effect SeTests.roomTest SeTests.senderRight SeTests.counted SeTests.openTest SeTests.readTest SeTests.doneTest SeTests.fitTest SeTests.orderTest
-    SeTests.messageTest SeTests.judgeOpened SeTests.judge CB.idleTest CB.closedTest CB.lengthTest CB.readTest CB.writeTest CB.openRead CB.openWrite CB.beginBy
+    SeSteps.effect SeTests.roomTest SeTests.senderRight SeTests.counted SeTests.openTest SeTests.readTest SeTests.doneTest FrCoded.fitTest SeTests.orderTest
+    SeTests.messageTest SeTests.judgeOpened SeTests.judge CB.lengthTest CB.readTest CB.writeTest CB.openRead CB.openWrite CB.beginBy
     CB.readBegun CB.writeBegun CB.beginAnswer CB.begunOf CB.readBeginning CB.writeBeginning ClRows.placesFrom ClRows.rowView ClRows.hasStamp ClRows.smallest
     ClRows.placeFor ClRows.atStamp ClRows.rowsFrom ClRows.agreed ClRows.firstBy ClRows.firstAgreed ClRows.foundOf ClRows.foundBy ClRows.search ClState.freshRow
     ClState.freshClient ClState.largest ClSteps.quorate ClSteps.sendBelow ClSteps.gatherBy ClSteps.onStamp ClSteps.endBy ClSteps.onAck ClSteps.completeBy
     ClSteps.settle ClSteps.keepBy ClSteps.onValue ClSteps.onBody ClSteps.effect ClTests.sendRoom ClTests.roomTest ClTests.valueTest ClTests.answers
-    ClTests.awaited ClTests.fitTest ClTests.orderTest ClTests.messageTest ClTests.judgeOpened ClTests.judge
+    ClTests.awaited ClTests.orderTest ClTests.messageTest ClTests.judgeOpened ClTests.judge
 delivering = record {
   whole = refl;
   nothing-from = refl;
@@ -158,17 +158,17 @@ unfolding FrChunks.entryAt RuWorld.start SeDelivery.constructBy SeDelivery.const
     FrFrames.headerBytes FrFrames.frameOf FrFrames.build FrFrames.framingTest FrFrames.headerIn FrFrames.headerTest FrFrames.bodyTest FrFrames.stampIn
     FrFrames.stampTest FrFrames.contentTest FrFrames.frameTest FrFrames.opened FrFrames.openedUnder FrFrames.bodyIn FrFrames.messageIn FrMessages.toFrom
     FrMessages.toAll FrParams.width FrParams.quota FrParams.largestFrame FrParams.outRoom FrParams.toRoom FrParams.ownTest FrParams.codeTest FrParams.boundsTest
-    FrParams.paramsTest FrStamps.older FrStamps.sameStamp FrStamps.zeroStamp FrStamps.partsAgree SeBroadcast.votes SeBroadcast.enough SeBroadcast.due
+    FrParams.paramsTest FrStamps.older FrStamps.sameStamp FrStamps.partsAgree SeBroadcast.votes SeBroadcast.enough SeBroadcast.due
     SeBroadcast.full SeBroadcast.matters SeRules.atTime SeRules.chosen SeRules.regained SeRules.unanimous SeState.freshBlocks SeState.freshSlot
     SeState.freshReader SeState.freshServer SeState.blockView SeState.presentBlock SeState.presentEntry SeSteps.votedBlock SeSteps.onBlock SeSteps.tellFrom
     SeSteps.accept SeSteps.ripeBy SeSteps.ripe SeSteps.freeBy SeSteps.free SeSteps.freed SeSteps.settle SeSteps.onRead SeSteps.onReadComplete SeSteps.onBody
-    SeSteps.effect SeTests.roomTest SeTests.senderRight SeTests.counted SeTests.openTest SeTests.readTest SeTests.doneTest SeTests.fitTest SeTests.orderTest
-    SeTests.messageTest SeTests.judgeOpened SeTests.judge CB.idleTest CB.closedTest CB.lengthTest CB.readTest CB.writeTest CB.openRead CB.openWrite CB.beginBy
+    SeSteps.effect SeTests.roomTest SeTests.senderRight SeTests.counted SeTests.openTest SeTests.readTest SeTests.doneTest FrCoded.fitTest SeTests.orderTest
+    SeTests.messageTest SeTests.judgeOpened SeTests.judge CB.lengthTest CB.readTest CB.writeTest CB.openRead CB.openWrite CB.beginBy
     CB.readBegun CB.writeBegun CB.beginAnswer CB.begunOf CB.readBeginning CB.writeBeginning ClRows.placesFrom ClRows.rowView ClRows.hasStamp ClRows.smallest
     ClRows.placeFor ClRows.atStamp ClRows.rowsFrom ClRows.agreed ClRows.firstBy ClRows.firstAgreed ClRows.foundOf ClRows.foundBy ClRows.search ClState.freshRow
     ClState.freshClient ClState.largest ClSteps.quorate ClSteps.sendBelow ClSteps.gatherBy ClSteps.onStamp ClSteps.endBy ClSteps.onAck ClSteps.completeBy
     ClSteps.settle ClSteps.keepBy ClSteps.onValue ClSteps.onBody ClSteps.effect ClTests.sendRoom ClTests.roomTest ClTests.valueTest ClTests.answers
-    ClTests.awaited ClTests.fitTest ClTests.orderTest ClTests.messageTest ClTests.judgeOpened ClTests.judge
+    ClTests.awaited ClTests.orderTest ClTests.messageTest ClTests.judgeOpened ClTests.judge
 computed = record {
   would = (refl, refl, refl);
   write-opens = (refl, refl);
@@ -201,10 +201,10 @@ reads : At (OpensRead Z 2 1) calls 7
 unfolding asking opening echoing waiting accepted told calls Z Toy.setup Toy.startRead
 reads = at-drop (OpensRead Z 2 1) 35 calls 7 (inl (refl, opens-read-by Z exact asking 2 1 _ _ (computed .read-opens .0) (computed .read-opens .1)))
 
-room : At (Refuses Z R.Room) calls 15
+room : At (Refuses Z 10) calls 15
 unfolding asking opening echoing waiting accepted told calls
-room = at-drop (Refuses Z R.Room) 27 calls 15
-    (inl (refl, refuses-by Z exact (block echo 2 1 ∷ block echo 1 1 ∷ blockTo 3 ∷ blockTo 2 ∷ blockTo 1 ∷ opening) noRoom R.Room (computed .no-room)))
+room = at-drop (Refuses Z 10) 27 calls 15
+    (inl (refl, refuses-by Z exact (block echo 2 1 ∷ block echo 1 1 ∷ blockTo 3 ∷ blockTo 2 ∷ blockTo 1 ∷ opening) noRoom 10 (computed .no-room)))
 
 ends : At (EndsWrite Z 1 1) calls 34
 unfolding asking opening echoing waiting accepted told calls ackFrom Toy.handClient

@@ -10,7 +10,6 @@ use Rattle.blocks.specs.declared.Params.{Params}
 use Rattle.frame.specs.declared.Stamp.{Stamp}
 use Rattle.frame.specs.declared.Party.{Party}
 use Rattle.frame.specs.declared.Party.the-variants as P
-use Rattle.frame.specs.declared.Refusal.the-variants as R
 use Rattle.frame.specs.Stamps.{zeroStamp}
 use Rattle.frame.specs.Messages.{Entry, offer, Stage, send, echo, ready, Message, message, getStamp, stampIs, blockIs, ack, askRead, readComplete, valueIs}
 use Rattle.frame.specs.Frames.{build}
@@ -140,7 +139,7 @@ pub record Shown : Type 0 where
   -- a write and a read begin and end; a frame is at first answered 10
   pub writes : At (OpensWrite Z 1 1 value) calls 0
   pub reads : At (OpensRead Z 2 1) calls 7
-  pub room : At (Refuses Z R.Room) calls 15
+  pub room : At (Refuses Z 10) calls 15
   pub ends : At (EndsWrite Z 1 1) calls 34
   pub completes : At (CompletesRead Z 2 1 found) calls 39
   -- so nothing is open

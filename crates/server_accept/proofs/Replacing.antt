@@ -6,18 +6,10 @@ use mathlib.Core.List.{List}
 use lib.ListN.{length, getD, set, take, drop}
 use lib.Seq.{sets, length-take-le, getD-take, getD-drop}
 use Rattle.area.specs.Area.{part}
-use Rattle.area.proofs.Sets.{sets-more, length-part, part-sets-after}
+use Rattle.area.proofs.Sets.{sets-more, getD-after, length-part, part-sets-after}
 use Rattle.blocks.specs.declared.Params.{Params}
 use Rattle.frame.specs.Params.{width}
 use Rattle.frame.specs.Chunks.{entryAt, storeEntry, presentAt, chunkBytes, listBytes, chunkAt, blockPlace}
-
-first-of : (l : List ℕ) (k : ℕ) → getD (part l k 1) 0 0 ≡ getD l k 0
-first-of l k = getD-take 1 (drop k l) 0 0 (omega arith) ∙ getD-drop k l 0 0 ∙ ap (λ (i : ℕ). getD l i 0) (omega arith)
-
--- an element behind those that were stored
-pub getD-after : (l : List ℕ) (i : ℕ) (vs : List ℕ) (k : ℕ) → i + length vs ≤ k → getD (sets l i vs) k 0 ≡ getD l k 0
-getD-after l i vs k h =
-    sym (first-of (sets l i vs) k) ∙ ap (λ (z : List ℕ). getD z 0 0) (part-sets-after l i vs k 1 h) ∙ first-of l k
 
 pub copy-turn : (a b : List ℕ) (at from n j : ℕ) → at + n ≤ from → from + n ≤ length a → j < n → b ≡ sets a at (take j (part a from n))
     → set b (at + j) (getD b (from + j) 0) ≡ sets a at (take (j + 1) (part a from n))
@@ -27,7 +19,7 @@ copy-turn a b at from n j u v h e =
     let k : at + length (take j (part a from n)) ≤ from + j = omega (arith, length-take-le j (part a from n) (omega arith)) in
     let w : getD b (from + j) 0 ≡ getD (part a from n) j 0 =
     ap (λ (z : List ℕ). getD z (from + j) 0) e
-    ∙ getD-after a at (take j (part a from n)) (from + j) k
+    ∙ getD-after a at (take j (part a from n)) (from + j) 0 k
     ∙ sym (getD-take n (drop from a) j 0 h ∙ getD-drop from a j 0) in
     ap (λ (z : List ℕ). set z (at + j) (getD b (from + j) 0)) e ∙ ap (set (sets a at (take j (part a from n))) (at + j)) w ∙ sets-more a at (part a from n) j i
 

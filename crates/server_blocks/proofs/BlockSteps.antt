@@ -1,11 +1,10 @@
 -- The tests of a write's frames, and what a counted one leaves. Assumes nothing.
 use Prim.Native.Nat.{ℕ, _+_}
 use mathlib.Core.Path.{_≡_, refl, ap, sym, _∙_}
-use mathlib.Core.Bool.{Bool, true, false, not}
+use mathlib.Core.Bool.{Bool, true, false}
 use mathlib.Core.List.{List}
 use lib.ListN.{getD}
 use lib.Dec.{eqb}
-use borrow.Author.Tests.{not-true, not-false}
 use Rattle.area.specs.Area.{pick}
 use Rattle.sha256.specs.Hash.{digestOf}
 use Rattle.frame.specs.declared.Place.{Place}
@@ -15,14 +14,14 @@ use Rattle.frame.specs.declared.Verdict.{Verdict}
 use Rattle.frame.specs.declared.Verdict.the-variants as J
 use Rattle.frame.specs.Refusals.{andThen}
 use Rattle.frame.specs.Messages.{Entry, Offer, Stage, message, send, echo, ready, blockIs, toAll, numberIn, fromServer}
-use Rattle.group_rules.specs.Coded.{fits}
+use Rattle.group_rules.specs.Coded.{fitTest}
 use Rattle.frame.specs.Chunks.{storeEntry}
 use Rattle.frame.specs.Outbox.{Outbox, outbox, sent}
 use Rattle.frame.proofs.Verdicts.{fine-both}
 use Rattle.frame.proofs.Within.{stop-first, go-second}
 use Rattle.server_rules.specs.declared.Slot.{Slot}
 use Rattle.server_rules.specs.State.{withBlocks, blockSent}
-use Rattle.server_rules.specs.Tests.{fromOwner, openTest, fitTest, senderRight, counted}
+use Rattle.server_rules.specs.Tests.{fromOwner, openTest, senderRight, counted}
 use Rattle.server_rules.specs.Steps.{Counting, votedBlock, onBlock}
 use Rattle.server.specs.declared.Call.{Call}
 use Rattle.server.specs.Stages.{Left, left, counts, handled, sentBy, blockFrame}
@@ -31,14 +30,6 @@ use Rattle.server.proofs.Handling.{refused-frame, counted-frame}
 use Rattle.server_blocks.specs.Stage.{voteStage, voteCounted, votesFrom, verdictOf, sendVerdict, votedBefore, voteVerdict}
 
 -- ---- the tests
-
-pub fit-bad : (H : List ℕ → List ℕ) (e : Entry) (j : ℕ) (b : Bool) → b ≡ fits H e j → not b ≡ true → J.Bad R.Digest ≡ fitTest H e j
-unfolding fitTest pick
-fit-bad H e j b p q = let d : fits H e j ≡ false = sym p ∙ not-true b q in rw d
-
-pub fit-fine : (H : List ℕ → List ℕ) (e : Entry) (j : ℕ) (b : Bool) → b ≡ fits H e j → not b ≡ false → J.Fine ≡ fitTest H e j
-unfolding fitTest pick
-fit-fine H e j b p q = let d : fits H e j ≡ true = sym p ∙ not-false b q in rw d
 
 -- the sender is tested first, by b, and then u and w in that order
 split : (b : Bool) (u w : Verdict) → andThen (pick b u (J.Bad R.Sender)) w ≡ pick b (andThen u w) (J.Bad R.Sender)

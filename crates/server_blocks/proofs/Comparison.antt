@@ -1,5 +1,5 @@
 -- The value of a group, its blocks, and their digests. Assumes nothing.
-use Prim.Native.Nat.{ℕ, _+_, _*_, _-_, _≤_, _<_}
+use Prim.Native.Nat.{ℕ, _+_, _-_, _≤_, _<_}
 use native.Mathlib.Omega.{arith}
 use mathlib.Core.Path.{_≡_, refl, ap, ap₂, sym, _∙_}
 use mathlib.Core.Bool.{Bool, true, false, _&&_}
@@ -9,6 +9,7 @@ use lib.Seq.{sets, length-sets, length-take-le}
 use lib.Dec.{leb}
 use borrow.Author.Tests.{leb-true, leb-false, le-leb, lt-leb}
 use Rattle.area.specs.Area.{pick, same}
+use Rattle.area.proofs.Sets.{take-front}
 use Rattle.field.specs.Field.{Tables}
 use Rattle.quorum.specs.Quorum.{count}
 use Rattle.blocks.specs.declared.Params.{Params}
@@ -21,7 +22,7 @@ use Rattle.group_rules.specs.Coded.{digestsOf}
 use Rattle.group.specs.Entries.{marked, placesFrom, Within}
 use Rattle.group.specs.Choice.{lowest, blocksIn, valueFrom, allOf}
 use Rattle.group.specs.Needs.{Decoding, Valued}
-use Rattle.group.proofs.Lists.{take-front}
+use Rattle.server_rules.proofs.Thresholds.{quota-blocks}
 use Rattle.group.proofs.Choosing.{length-lowest}
 use Rattle.group.proofs.Digests.{short-block}
 use Rattle.group.proofs.Matched.{within-places}
@@ -30,10 +31,6 @@ use Rattle.server_blocks.specs.declared.Group.{Group}
 use Rattle.server_blocks.specs.Group.{groupOf, groupValue, groupEqual, Regaining}
 
 -- ---- the group
-
-quota-least : (g : Params) → g .k ≤ quota g
-unfolding quota
-quota-least g = omega arith
 
 -- which of the two it is
 module _ (g : Params) (v : Voters) (c q : ℕ) (at : List ℕ) (q-is : q ≡ quota g) where
@@ -60,7 +57,7 @@ module _ (g : Params) (v : Voters) (c : ℕ) (a : List ℕ) (R : Regaining g v c
 
   -- the readies are enough
   many-readies : quota g ≤ v .readied → g .k ≤ count (marked (v .readies)) (g .n)
-  many-readies h = let k = quota-least g in omega (arith, k, h, R .number)
+  many-readies h = let k = quota-blocks g in omega (arith, k, h, R .number)
 
   -- the chosen ones are enough, and lie in the area
   chosen-right : (b : Bool) → leb (quota g) (v .readied) ≡ b

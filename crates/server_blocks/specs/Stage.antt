@@ -17,7 +17,8 @@ use Rattle.frame.specs.Chunks.{storeIf, completeAt}
 use Rattle.server_rules.specs.declared.BlockPart.{BlockPart}
 use Rattle.server_rules.specs.declared.Slot.{Slot}
 use Rattle.server_rules.specs.State.{withBlocks, blockEcho, blockReady, blockMarks}
-use Rattle.server_rules.specs.Tests.{fromOwner, openTest, fitTest, blockTest}
+use Rattle.group_rules.specs.Coded.{fitTest}
+use Rattle.server_rules.specs.Tests.{fromOwner, openTest, blockTest}
 use Rattle.server_rules.specs.Steps.{Counting, votedBlock}
 use Rattle.server.specs.declared.Call.{Call}
 use Rattle.server.specs.declared.Moved.{Moved}

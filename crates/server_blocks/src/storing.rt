@@ -3,7 +3,6 @@ use crate::voted_block;
 use blocks::Params;
 use frame::Broadcast;
 use frame::Place;
-use frame::Refusal;
 use frame::Verdict;
 use frame::WriteTime;
 use frame::entries::put_entry;
@@ -12,7 +11,7 @@ use frame::layout::ECHOES_BACK;
 use frame::layout::READIES_BACK;
 use frame::parties::number_in;
 use frame::send::block_all;
-use group::fitting::block_fits;
+use group::fitting::fit_test;
 use server::Call;
 use server::Counted;
 use server::state::block_echo;
@@ -28,21 +27,8 @@ ghost use lib.ListN.{length};
 ghost use Rattle.area.specs.Area.{pick};
 ghost use Rattle.frame.specs.Messages.{entry, offer, send};
 ghost use Rattle.frame.specs.Params.{Bounded};
-ghost use Rattle.sha256.specs.Hash.{digestOf};
 ghost use Rattle.server_rules.specs.State.{withBlocks};
-ghost use Rattle.server_rules.specs.Tests.{fitTest};
 ghost use Rattle.server_blocks.specs.Stage.{Carried, Own, RoomFor, LentFor, voteStage, voteCounted, votesFrom, sendVerdict, voteVerdict, BlockHandled};
-
-// 14: a block against the digest at place j of its list.
-fn fit_test(list: &[u8], block: &[u8], j: u8, g: Params) -> Verdict
-    requires { ⌜ Bounded g × Carried g (length (now list)) (length (now block)) × (1 ≤ j) × (j ≤ g .n) ⌝ }
-    ensures { λ r. ⌜ r ≡ fitTest digestOf (entry (now (list .entry)) (now (block .entry))) j ⌝ }
-{
-    if !block_fits(list, block, j as usize) {
-        return Verdict::Bad(Refusal::Digest);
-    }
-    Verdict::Fine
-}
 
 // 11 to 14 of the owner's frame.
 fn send_test(x: Slot, k: Call, list: &[u8], block: &[u8]) -> Verdict
@@ -56,8 +42,7 @@ fn send_test(x: Slot, k: Call, list: &[u8], block: &[u8]) -> Verdict
     if let Verdict::Bad(r) = v {
         return Verdict::Bad(r);
     }
-    let g = k.params;
-    fit_test(list, block, k.me, g)
+    fit_test(list, block, k.me as usize)
 }
 
 // The flags of the echoes, or of the readies.
@@ -86,8 +71,8 @@ fn vote_test(x: Slot, k: Call, list: &[u8], block: &[u8]) -> Verdict
     if let Verdict::Bad(r) = v {
         return Verdict::Bad(r);
     }
-    let j = number_in(from);
-    fit_test(list, block, j, g)
+    let j = number_in(from) as usize;
+    fit_test(list, block, j)
 }
 
 // 3: the owner's time, digest list and block, echoed to all.

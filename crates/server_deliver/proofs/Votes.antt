@@ -13,10 +13,11 @@ use Rattle.frame.specs.Messages.{Offer, Stage, send, echo, ready, message, numb
 use Rattle.frame.specs.Frames.{offerIn, bodyIn}
 use Rattle.frame.specs.Outbox.{Outbox, outbox, firstPlace}
 use Rattle.frame.proofs.Verdicts.{fine-is, fine-both}
+use Rattle.group_rules.specs.Coded.{fitTest}
 use Rattle.server_rules.specs.declared.Slot.{Slot}
 use Rattle.server_rules.specs.declared.Server.{Server}
 use Rattle.server_rules.specs.State.{slotOf}
-use Rattle.server_rules.specs.Tests.{senderRight, openTest, fitTest, counted, placeIn, blockTest, orderTest, messageTest}
+use Rattle.server_rules.specs.Tests.{senderRight, openTest, counted, placeIn, blockTest, orderTest, messageTest}
 use Rattle.server_rules.specs.Steps.{Counting, votedBlock, onBlock, free, freed, settle, onBody, effect}
 use Rattle.server.specs.declared.Call.{Call}
 use Rattle.server.specs.declared.Counted.{Counted}

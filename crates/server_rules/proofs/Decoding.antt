@@ -6,7 +6,7 @@ use mathlib.Core.Bool.{Bool, true, false, not, _&&_}
 use mathlib.Core.Path.{_≡_, refl, ap, _∙_, subst}
 use mathlib.Core.Logic.{_⊎_, inl, inr, ⊎-elim}
 use mathlib.Core.Option.{Option, none, some}
-use mathlib.Core.List.{List, [], _∷_, List·Memᴰ, List·Memᴰ·head}
+use mathlib.Core.List.{List, [], _∷_, List·Memᴰ}
 use lib.ListN.{length, take, length-map}
 use lib.Seq.{length-take-le}
 use lib.Dec.{leb}
@@ -14,6 +14,7 @@ use borrow.Author.Tests.{leb-true, le-leb}
 use Rattle.quorum.specs.Quorum.{count, bit}
 use Rattle.quorum.proofs.Logic.{impossible, and-split, and-true, or-right}
 use Rattle.area.specs.Area.{Bytes, pick, same}
+use Rattle.area.proofs.Tests.{in-pick}
 use Rattle.blocks.specs.declared.Params.{Params}
 use Rattle.blocks.specs.Code.{blockOf, blockLength, candidate}
 use Rattle.blocks.proofs.Stripes.{length-blockOf}
@@ -125,11 +126,6 @@ module _ (H : List ℕ → List ℕ) (g : Params) (kk : 1 ≤ g .k) where
   regained-bytes es rs d =
       let l = pieces (chosen g es rs d) d 1 (g .n) in
       Bytes-valueOf (take (g .k) (numbers l)) (g .size) (take (g .k * blockLength (g .size) (g .k)) (joinedBytes l))
-
-  in-pick : (b : Bool) (v : List ℕ) → b ≡ true → List·Memᴰ v (pick b (v ∷ []) [])
-  unfolding pick
-  in-pick true v e = List·Memᴰ·head refl
-  in-pick false v e = impossible (cc e)
 
   full-has : (w : Part Offer) (o : Offer) → w .done ≡ none → full (blockRules H g) (g .n) (g .t) w o ≡ true → Has H g (decodes H g w o) (o .entry .digests)
   unfolding full matters votes

@@ -22,7 +22,7 @@ use Rattle.frame.specs.Refusals.{andThen}
 use Rattle.frame.specs.Params.{quota, Bounded}
 use Rattle.frame.specs.Messages.{Entry, Offer, send, echo, Body, getStamp, ack, askRead, readComplete}
 use Rattle.frame.specs.Messages.{stampIs, blockIs, valueIs, Message, message, sending, toAll, numberIn}
-use Rattle.group_rules.specs.Coded.{fits}
+use Rattle.group_rules.specs.Coded.{fits, fitTest}
 use Rattle.server_rules.specs.declared.Slot.{Slot}
 use Rattle.server_rules.specs.declared.Reader.{Reader}
 use Rattle.server_rules.specs.declared.Server.{Server}
@@ -95,8 +95,8 @@ open-ahead x q again e = ⊎-elim
     (pick-ahead (ltb q (x .sequence)) _ _ e)
 
 module _ (H : List ℕ → List ℕ) (g : Params) (me : ℕ) (s : Server) where
-  fit-ahead : (e : Entry) (j : ℕ) → Ahead (ST.fitTest H e j) → ⊥
-  unfolding ST.fitTest
+  fit-ahead : (e : Entry) (j : ℕ) → Ahead (fitTest H e j) → ⊥
+  unfolding fitTest
   fit-ahead e j h = ⊎-elim (λ k. impossible (cc (k .1))) (λ k. impossible (cc k)) (pick-ahead (fits H e j) _ _ h)
 
   read-ahead : (r : Reader) (q : ℕ) → Ahead (ST.readTest r q) → ⊥

@@ -11,7 +11,7 @@ use lib.ListN.{length, drop, length-drop}
 use lib.Seq.{getD-set-same, getD-set-other, length-take-le}
 use Rattle.quorum.specs.Quorum.{Among}
 use Rattle.area.specs.Area.{pick}
-use Rattle.area.proofs.Tests.{not-true}
+use Rattle.area.proofs.Tests.{kept-some, not-true}
 use Rattle.blocks.specs.declared.Params.{Params}
 use Rattle.frame.specs.Chunks.{entryAt, storeIf, presentAt, completeAt, areaBytes}
 use Rattle.frame.specs.Messages.{Offer, offer, Sending, Sized}
@@ -25,7 +25,6 @@ use Rattle.server_rules.specs.declared.Server.{Server}
 use Rattle.server_rules.specs.State.{freshSlot, noSlot, slotOf, blockView}
 use Rattle.server_rules.specs.Steps as S
 use Rattle.server_rules.specs.WellFormed.{Within}
-use Rattle.server_rules.proofs.Parts.{kept-some}
 use Rattle.server_rules.proofs.Views.{shapes, Shaped, present-if}
 use Rattle.server_rules.proofs.Accepting.{Told, ackOf, accept-mem, accept-ack, accept-length}
 use Rattle.server_rules.proofs.Shapes.{offerOf, Ripe, Freed, nothing, accepts}
@@ -36,7 +35,7 @@ pub done-sized : (g : Params) → Small g → (a : List ℕ) → areaBytes ≤ l
 unfolding blockView entryAt
 done-sized g M a R c is x y q =
     let o = offer (x .blocks .time) (entryAt g a (completeAt c)) in
-    let e : o ≡ y = kept-some (x .blocks .complete) o y q in
+    let e : o ≡ y = kept-some (x .blocks .complete) o y q .1 in
     rw (← e) (record {
       list-is = length-take-le (listed g) (drop (576 * completeAt c) a) (rw length-drop (omega (arith, M .list-room)));
       block-is = length-take-le (width g) (drop (576 * completeAt c + 320) a) (rw length-drop (omega (arith, M .block-room)));

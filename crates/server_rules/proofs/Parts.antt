@@ -111,10 +111,6 @@ pub kept-when : {P : Type 0} (b : Bool) (v w : P) → (b ≡ true → v ≡ w) �
 kept-when true v w f = ap some (f refl)
 kept-when false v w f = refl
 
-pub kept-some : {P : Type 0} (b : Bool) (v y : P) → kept b v ≡ some y → v ≡ y
-kept-some true v y e = cc
-kept-some false v y e = impossible (cc)
-
 -- eleven flags, of which the first is never set
 pub record Flags (l : List Bool) : Type 0 where
   pub many : length l ≡ 11

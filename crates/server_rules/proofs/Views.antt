@@ -1,16 +1,16 @@
 -- What each store does to the view of a server's slot: one law for each. Assumes nothing.
 use Prim.Native.Nat.{ℕ, _+_, _≤_}
 use native.Mathlib.Omega.{arith}
-use native.Mathlib.Decide.{decLe}
 use mathlib.Core.Bool.{Bool, true, false, not, _&&_, _||_}
 use mathlib.Core.Path.{_≡_, refl, ap}
 use mathlib.Core.Option.{some}
 use mathlib.Core.List.{List}
-use lib.ListN.{length, getD, set, replicate, getD-replicate, List·getD-eq-default}
+use lib.ListN.{length, getD, set, replicate}
 use lib.Seq.{getD-set-same, getD-set-other}
 use Rattle.quorum.specs.Quorum.{Among}
 use Rattle.area.specs.Area.{pick}
 use Rattle.area.proofs.Tests.{and-right}
+use Rattle.area.proofs.Sets.{of-copies}
 use Rattle.blocks.specs.declared.Params.{Params}
 use Rattle.frame.specs.Chunks.{entryAt, storeEntry, storeIf, completeAt, echoAt, readyAt, areaBytes}
 use Rattle.frame.specs.Messages.{Entry, Offer, offer, Sized}
@@ -138,11 +138,7 @@ module _ (g : Params) (M : Small g) (a : List ℕ) (room : areaBytes ≤ length 
 
 -- a fresh slot shows nothing
 fresh-flag : (m : ℕ) → getD (replicate 11 false) m false ≡ false
-fresh-flag m = go (decLe 11 m)
-  where
-    go : Dec (11 ≤ m) → getD (replicate 11 false) m false ≡ false
-    go (yes h) = List·getD-eq-default (replicate 11 false) false h
-    go (no h) = getD-replicate 11 m false false (omega (arith, h))
+fresh-flag m = of-copies (λ b. b) false false false refl refl 11 m
 
 pub fresh-block-view : (g : Params) (a : List ℕ) (c q : ℕ) → blockView g a c (freshSlot q) ≡ noPart
 unfolding blockView freshSlot freshBlocks

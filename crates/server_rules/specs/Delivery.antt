@@ -11,7 +11,7 @@ use Rattle.blocks.specs.declared.Params.{Params}
 use Rattle.frame.specs.declared.Party.{Party}
 use Rattle.frame.specs.declared.Verdict.{Verdict}
 use Rattle.frame.specs.declared.Verdict.the-variants as J
-use Rattle.frame.specs.Refusals.{andThen, refused}
+use Rattle.frame.specs.Refusals.{numberOf, andThen, refused}
 use Rattle.frame.specs.Params.{width, paramsTest}
 use Rattle.frame.specs.Messages.{Judged, bad, good}
 use Rattle.frame.specs.Outbox.{frames, receivers}
@@ -24,6 +24,18 @@ use Rattle.server_rules.specs.declared.Reply.the-variants as Y
 use Rattle.server_rules.specs.State.{freshServer}
 use Rattle.server_rules.specs.Tests.{judge}
 use Rattle.server_rules.specs.Steps.{Effect, sendOnly, effect}
+
+-- ---- what a reply says
+
+-- its number: 0 of a step, else why the call was turned down
+unfoldable pub replyNumber : Reply → ℕ
+replyNumber (Y.Step c) = 0
+replyNumber (Y.Refused r) = numberOf r
+
+-- its value: how many frames were sent
+unfoldable pub replyCount : Reply → ℕ
+replyCount (Y.Step c) = c
+replyCount (Y.Refused r) = 0
 
 -- ---- a frame is handed in
 

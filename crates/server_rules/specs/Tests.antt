@@ -15,11 +15,11 @@ use Rattle.frame.specs.declared.Verdict.the-variants as J
 use Rattle.frame.specs.declared.Opened.the-variants as O
 use Rattle.frame.specs.Refusals.{andThen, refused}
 use Rattle.frame.specs.Params.{width, serverFrames, outRoom, toRoom, paramsTest}
-use Rattle.frame.specs.Messages.{Entry, Offer, Stage, send, echo, ready, Body, getStamp, ack, askRead, readComplete, stampIs, blockIs, valueIs, Message}
+use Rattle.frame.specs.Messages.{Offer, Stage, send, echo, ready, Body, getStamp, ack, askRead, readComplete, stampIs, blockIs, valueIs, Message}
 use Rattle.frame.specs.Messages.{numberIn, fromServer, Judged, bad, judgedBy, after}
 use Rattle.frame.specs.Frames.{opened, messageIn}
 use Rattle.frame.specs.Chunks.{areaBytes}
-use Rattle.group_rules.specs.Coded.{fits}
+use Rattle.group_rules.specs.Coded.{fitTest}
 use Rattle.server_rules.specs.declared.Slot.{Slot}
 use Rattle.server_rules.specs.declared.Reader.{Reader}
 use Rattle.server_rules.specs.declared.Server.{Server}
@@ -86,10 +86,6 @@ doneTest r q =
     J.Fine)
 
 -- ---- 12 to 14
-
--- 14: "block against its digest"
-unfoldable pub fitTest : (List ℕ → List ℕ) → Entry → ℕ → Verdict
-fitTest H e j = pick (fits H e j) J.Fine (refused 14)
 
 -- the place in the digest list of the block that party j sends to server me
 abbrev pub placeIn : ℕ → Stage → ℕ → ℕ

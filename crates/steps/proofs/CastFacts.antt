@@ -56,7 +56,7 @@ New s from m c z j o = (from ≡ A.Server j) × (m ≡ message c (slotOf s c .se
 abbrev pub NewSend : Server → Party → Message → ℕ → Offer → Type 0
 NewSend s from m c o = (from ≡ A.Client c) × (m ≡ message c (slotOf s c .sequence) (blockIs send o))
 
-fresh-sequence : (q : ℕ) → freshSlot q .sequence ≡ q
+pub fresh-sequence : (q : ℕ) → freshSlot q .sequence ≡ q
 unfolding freshSlot
 fresh-sequence q = refl
 

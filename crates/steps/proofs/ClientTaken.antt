@@ -2,12 +2,12 @@
 use Prim.Native.Nat.{ℕ, _+_, _≤_, _<_}
 use native.Mathlib.Omega.{arith}
 use native.Mathlib.Nat.{mul-comm}
-use mathlib.Core.Bool.{Bool, true, false, not, _&&_}
+use mathlib.Core.Bool.{Bool, true, false, _&&_}
 use mathlib.Core.Path.{_≡_, refl, _∙_, subst}
 use mathlib.Core.List.{List, [], List·Memᴰ·not-nil}
 use lib.ListN.{length}
 use lib.Dec.{eqb}
-use borrow.Author.Tests.{leb-false, ltb-false, eqb-true, not-false}
+use borrow.Author.Tests.{leb-false, ltb-false, eqb-true}
 use Rattle.quorum.specs.Quorum.{Among}
 use Rattle.quorum.proofs.Logic.{impossible, and-split}
 use Rattle.area.specs.Area.{Bytes, pick}
@@ -43,6 +43,7 @@ use Rattle.client_rules.proofs.Shapes.{Keeps, drops, keeps, Shape, idle, hears,
 use Rattle.client_rules.proofs.Shapes.{sends as disperses}
 use Rattle.client_rules.specs.Tests as CT
 pub use Rattle.client_rules.proofs.CallFacts.{awaited-true}
+use Rattle.client_rules.proofs.CallFacts.{value-whole}
 use Rattle.steps.proofs.ServerRanges.{AllFormed, formed-all}
 use Rattle.server_rules.proofs.Decoding.{block-width}
 
@@ -60,13 +61,13 @@ module _ (H : List ℕ → List ℕ) (g : Params) (me : ℕ) where
     pub opens : opened g f ≡ O.Frame header
     pub says : messageIn g header f ≡ m
     pub passes : CT.messageTest H g me s from m ≡ J.Fine
-    pub value : CT.valueTest g s (length v) ≡ J.Fine
+    pub value : CT.valueTest g (s .phase) (length v) ≡ J.Fine
 
   pub data Delivered (s : Client) (a v : List ℕ) (from : Party) (f : List ℕ) (r : C.Effect) : Type 0 where
     refused : r ≡ C.quiet s a → Delivered s a v from f r
     taken : (m : Message) → Taken s v from f m → rowsBytes ≤ length a → r ≡ C.effect H g me s a v from m → Delivered s a v from f r
 
-  took-by : (o : Opened) (room : Verdict) (s : Client) (v : List ℕ) (from : Party) (f : List ℕ) (m : Message) → CT.valueTest g s (length v) ≡ J.Fine
+  took-by : (o : Opened) (room : Verdict) (s : Client) (v : List ℕ) (from : Party) (f : List ℕ) (m : Message) → CT.valueTest g (s .phase) (length v) ≡ J.Fine
       → opened g f ≡ o → CT.judgeOpened H g me o room s from f ≡ good m → Taken s v from f m
   unfolding CT.judgeOpened
   took-by (O.Refused r) room s v from f m t p q = impossible (cc)
@@ -81,12 +82,12 @@ module _ (H : List ℕ → List ℕ) (g : Params) (me : ℕ) where
   pub took : (s : Client) (a v : List ℕ) (from : Party) (f result out to : List ℕ) (m : Message) → CT.judge H g me s a v from f result out to ≡ good m
       → Taken s v from f m
   unfolding CT.judge CT.judgeOpened
-  took s a v from f result out to m e = go (andThen (paramsTest g me 8) (CT.valueTest g s (length v))) refl e
+  took s a v from f result out to m e = go (andThen (paramsTest g me lastClient) (CT.valueTest g (s .phase) (length v))) refl e
     where
-      go : (y : Verdict) → andThen (paramsTest g me 8) (CT.valueTest g s (length v)) ≡ y
+      go : (y : Verdict) → andThen (paramsTest g me lastClient) (CT.valueTest g (s .phase) (length v)) ≡ y
           → after y (CT.judgeOpened H g me (opened g f) (CT.roomTest g (length a) (length result) (length out) (length to)) s from f) ≡ good m
           → Taken s v from f m
-      go J.Fine p e = took-by (opened g f) _ s v from f m (fine-both (paramsTest g me 8) _ p .1) refl e
+      go J.Fine p e = took-by (opened g f) _ s v from f m (fine-both (paramsTest g me lastClient) _ p .1) refl e
       go (J.Bad r) p e = impossible (cc)
 
   -- what is taken found room
@@ -107,7 +108,7 @@ module _ (H : List ℕ → List ℕ) (g : Params) (me : ℕ) where
   pub took-room : (s : Client) (a v : List ℕ) (from : Party) (f result out to : List ℕ) (m : Message)
       → CT.judge H g me s a v from f result out to ≡ good m → Room a result out to
   unfolding CT.judge CT.judgeOpened CT.roomTest
-  took-room s a v from f result out to m e = go (opened g f) (after-fine (andThen (paramsTest g me lastClient) (CT.valueTest g s (length v))) _ m e)
+  took-room s a v from f result out to m e = go (opened g f) (after-fine (andThen (paramsTest g me lastClient) (CT.valueTest g (s .phase) (length v))) _ m e)
     where
       room : Verdict
       room = CT.roomTest g (length a) (length result) (length out) (length to)
@@ -165,28 +166,20 @@ module _ (H : List ℕ → List ℕ) (g : Params) (me : ℕ) where
   asking-writing F.Acking e = refl
   asking-writing F.Reading e = impossible (cc)
 
-  value-long : (s : Client) (v : ℕ) → CT.valueTest g s v ≡ J.Fine → writing (s .phase) ≡ true → v ≡ g .size
-  unfolding CT.valueTest
-  value-long s v e w = go (writing (s .phase)) w (fine-not _ _ _ e .0)
-    where
-      go : (b : Bool) → b ≡ true → (b && not (eqb v (g .size))) ≡ false → v ≡ g .size
-      go true p z = eqb-true v (g .size) (not-false _ z)
-      go false p z = impossible (cc)
-
   none-formed : AllFormed g []
   none-formed x u = absurd (List·Memᴰ·not-nil u)
+
+  pub keeps-reads : (s : Client) (a v : List ℕ) (j : ℕ) {x : Stamp} {e : Entry} {s′ : Client} {a′ : List ℕ} → Keeps H g me s a v j x e s′ a′
+      → s′ .reads ≡ s .reads
+  keeps-reads s a v j (drops z) = refl
+  keeps-reads s a v j (keeps i z) = refl
 
   module _ (D : (b : List ℕ) → length (H b) ≡ 32) (is : Among 8 me) where
     said : (q : ℕ) → 1 ≤ q → q < 4294967296 → (b : Body) → FormedBody g b → Formed g (message me q b)
     said q lo hi b f = record { client-low = is .0; client-high = is .1; sequence-low = lo; sequence-high = hi; body = f }
 
-    keeps-reads : (s : Client) (a v : List ℕ) (j : ℕ) {x : Stamp} {e : Entry} {s′ : Client} {a′ : List ℕ} → Keeps H g me s a v j x e s′ a′
-        → s′ .reads ≡ s .reads
-    keeps-reads s a v j (drops z) = refl
-    keeps-reads s a v j (keeps i z) = refl
-
     shape-formed : (s : Client) (a v : List ℕ) (j c q : ℕ) {b : Body} {r : C.Effect} → Formed g (message c q b) → CT.orderTest H g me s j q b ≡ J.Fine
-        → CT.valueTest g s (length v) ≡ J.Fine → Shape H g me s a v j b r → AllFormed g (r .sends)
+        → CT.valueTest g (s .phase) (length v) ≡ J.Fine → Shape H g me s a v j b r → AllFormed g (r .sends)
     unfolding CT.orderTest
     shape-formed s a v j c q f o t (idle b) = none-formed
     shape-formed s a v j c q f o t (hears T z) = none-formed
@@ -195,7 +188,7 @@ module _ (H : List ℕ → List ℕ) (g : Params) (me : ℕ) where
         let y : q ≡ s .writes = eqb-true q (s .writes) (and-split (eqb q (s .writes)) _ (w .1) .0) in
         let lo : 1 ≤ s .writes = omega (arith, y, f .sequence-low) in
         let hi : s .writes < 4294967296 = omega (arith, y, f .sequence-high) in
-        let e = value-long s (length v) t (asking-writing (s .phase) (w .0)) in
+        let e = value-whole g (s .phase) (length v) t (asking-writing (s .phase) (w .0)) in
         formed-all g _ (λ i. said (s .writes) lo hi (blockIs send (offer _ (entryOf H g v i))) (entry-size D v e i, omega (arith, l)))
     shape-formed s a v j c q f o t (shuts T z l) = none-formed
     shape-formed s a v j c q f o t (counts z) = none-formed
@@ -218,24 +211,24 @@ module _ (H : List ℕ → List ℕ) (g : Params) (me : ℕ) where
             rw e (shape-formed s a v (numberIn from) (m .client) (m .sequence) F′ (passed s from m (T .passes) .order) (T .value)
             (shape-of H g me s a v from m))
 
-    idle-low : (s : Client) (last : ℕ) → CB.idleTest s last ≡ J.Fine → last < lastSequence
-    unfolding CB.idleTest
+    idle-low : (s : Client) (last : ℕ) → CB.idleTest (s .phase) last ≡ J.Fine → last < lastSequence
     idle-low s last e =
         let p₁ = fine-not _ _ _ e in
         let p₂ = fine-not _ _ _ (p₁ .1) in
         leb-false lastSequence last (p₂ .0)
 
-    pub read-idle : (s : Client) (out to : List ℕ) → CB.readTest g me s out to ≡ J.Fine → CB.idleTest s (s .reads) ≡ J.Fine
+    pub read-idle : (s : Client) (out to : List ℕ) → CB.readTest g me s out to ≡ J.Fine → CB.idleTest (s .phase) (s .reads) ≡ J.Fine
     unfolding CB.readTest
-    read-idle s out to e = fine-both (CT.sendRoom g (length out) (length to)) (CB.idleTest s (s .reads)) (fine-both (paramsTest g me 8) _ e .1) .1
+    read-idle s out to e =
+        fine-both (CT.sendRoom g (length out) (length to)) (CB.idleTest (s .phase) (s .reads)) (fine-both (paramsTest g me lastClient) _ e .1) .1
 
-    pub write-idle : (s : Client) (v out to : List ℕ) → CB.writeTest g me s v out to ≡ J.Fine → CB.idleTest s (s .writes) ≡ J.Fine
+    pub write-idle : (s : Client) (v out to : List ℕ) → CB.writeTest g me s v out to ≡ J.Fine → CB.idleTest (s .phase) (s .writes) ≡ J.Fine
     unfolding CB.writeTest
     write-idle s v out to e =
-        let p₁ = fine-both (paramsTest g me 8) _ e .1 in
+        let p₁ = fine-both (paramsTest g me lastClient) _ e .1 in
         let p₂ = fine-both (CB.lengthTest g (length v)) _ p₁ .1 in
         let p₃ = fine-both (CT.sendRoom g (length out) (length to)) _ p₂ .1 in
-        fine-both (CB.idleTest s (s .writes)) _ p₃ .0
+        fine-both (CB.idleTest (s .phase) (s .writes)) _ p₃ .0
 
     pub read-formed : (s : Client) (out to : List ℕ) → AllFormed g (CB.readBegun g me s out to .sends)
     unfolding CB.readBegun CB.openRead CB.beginBy

@@ -45,7 +45,7 @@ pub record StampInBounds (x : Stamp) : Type 0 where
   pub agree : partsAgree (x .time) (x .writer) (x .sequence) ≡ true
 
 pub zero-in-bounds : StampInBounds zeroStamp
-unfolding zeroStamp partsAgree pick
+unfolding partsAgree pick
 zero-in-bounds = record { time-high = omega arith; writer-high = omega arith; sequence-high = omega arith; agree = refl }
 
 agree-some : (T c q : ℕ) → 1 ≤ c → 1 ≤ q → partsAgree (T + 1) c q ≡ true

@@ -9,7 +9,7 @@ use mathlib.Core.List.{List, [], _∷_, List·Memᴰ, List·Memᴰ·head}
 use lib.ListN.{length}
 use Rattle.quorum.specs.Quorum.{Among}
 use Rattle.blocks.specs.declared.Params.{Params}
-use Rattle.group_rules.specs.Coded.{fits}
+use Rattle.group_rules.specs.Coded.{fits, fitTest}
 use Rattle.frame.specs.declared.Party.{Party}
 use Rattle.frame.specs.declared.Refusal.the-variants as X
 use Rattle.frame.specs.declared.Verdict.the-variants as J
@@ -37,14 +37,14 @@ module _ (H : List ℕ → List ℕ) (g : Params) (me : ℕ) (s : Server) (from 
   -- a frame of a write that is taken has a block that fits at its place
   pub taken-fits : (m : Message) → ST.messageTest H g me s from m ≡ J.Fine → (c q : ℕ) (z : Stage) (o : Offer) → m ≡ message c q (blockIs z o)
       → fits H (o .entry) (ST.placeIn me z (numberIn from)) ≡ true
-  unfolding ST.orderTest ST.fitTest
+  unfolding ST.orderTest fitTest
   taken-fits m e c q z o x =
       let t = test-split H g me s from m e .1 in
       let t′ : ST.orderTest H g me s (numberIn from) c q (blockIs z o) ≡ J.Fine =
       subst (λ m. ST.orderTest H g me s (numberIn from) (m .client) (m .sequence) (m .body) ≡ J.Fine) x t in
       fine-is (fits H (o .entry) (ST.placeIn me z (numberIn from))) X.Digest J.Fine
       (fine-both (ST.openTest (slotOf s c) q (ST.counted (slotOf s c) (numberIn from) (blockIs z o)))
-      (ST.fitTest H (o .entry) (ST.placeIn me z (numberIn from))) t′ .1) .0
+      (fitTest H (o .entry) (ST.placeIn me z (numberIn from))) t′ .1) .0
 
   module _ (L : Bounded g) (a initial : List ℕ) (F : ServerShape s a) where
     -- what a step r leaves as the present value: the same, or that of a write that it accepts, with a larger stamp

@@ -11,17 +11,17 @@ use lib.ListN.{length, getD, set}
 use lib.Seq.{getD-set-same, getD-set-other}
 use lib.Dec.{ltb}
 use borrow.Author.Tests.{ltb-true, ltb-false}
-use Rattle.quorum.proofs.Logic.{impossible, or-split, or-right}
+use Rattle.quorum.proofs.Logic.{impossible, or-split, or-left, or-right}
 use Rattle.area.specs.Area.{pick}
 use Rattle.frame.specs.declared.Stamp.{Stamp}
-use Rattle.frame.specs.Stamps.{older, sameStamp}
+use Rattle.frame.specs.Stamps.{older, sameStamp, zeroStamp}
 use Rattle.frame.proofs.StampOrder.{Less, AtMost, less-of, stamp-of, same-of, less-trans, at-most-of, at-most-trans}
 use Rattle.client_rules.specs.declared.Row.{Row}
 use Rattle.client_rules.specs.Rows.{used, hasStamp, smallest, placeFor, rowWith}
-use Rattle.client_rules.specs.State.{noStamp}
+use Rattle.client_rules.proofs.Views.{smallest-le, smallest-least}
 
 abbrev at : List Stamp → ℕ → Stamp
-at l i = getD l i noStamp
+at l i = getD l i zeroStamp
 
 -- the row has the stamp x, or four larger ones
 abbrev pub RowPast : Row → Stamp → Type 0
@@ -37,10 +37,6 @@ has-place l (suc m) x e = ⊎-elim
     (λ u. let (i, h, q) = has-place l m x u in (i, omega (arith, h), q))
     (or-split (sameStamp (at l m) x) _ e)
 
-or-left : (a b : Bool) → a ≡ true → (a || b) ≡ true
-or-left true b e = refl
-or-left false b e = impossible (cc e)
-
 place-has : (l : List Stamp) (m i : ℕ) (x : Stamp) → i < m → at l i ≡ x → hasStamp l m x ≡ true
 unfolding hasStamp
 place-has l zero i x h e = absurd (omega (arith, h))
@@ -49,27 +45,6 @@ place-has l (suc m) i x h e = go (ℕ-discrete i m) (λ k. place-has l m i x k e
     go : Dec (i ≡ m) → (i < m → hasStamp l m x ≡ true) → (sameStamp (at l m) x || hasStamp l m x) ≡ true
     go (yes z) f = or-left _ (hasStamp l m x) (same-of _ _ (ap (at l) (sym z) ∙ e))
     go (no z) f = or-right (sameStamp (at l m) x) _ (f (omega (arith, h, z)))
-
-smallest-least : (l : List Stamp) (m i : ℕ) → i ≤ m → AtMost (at l (smallest l m)) (at l i)
-unfolding smallest pick
-smallest-least l zero i h = let e : i ≡ 0 = omega (arith, h) in inl (ap (at l) (sym e))
-smallest-least l (suc m) i h = go (older (at l (suc m)) (at l (smallest l m))) refl (ℕ-discrete i (suc m)) (λ k. smallest-least l m i k)
-  where
-    go : (b : Bool) → older (at l (suc m)) (at l (smallest l m)) ≡ b → Dec (i ≡ suc m) → (i ≤ m → AtMost (at l (smallest l m)) (at l i))
-        → AtMost (at l (pick b (suc m) (smallest l m))) (at l i)
-    go true e (yes z) f = inl (ap (at l) (sym z))
-    go true e (no z) f = at-most-trans (at l (suc m)) (at l (smallest l m)) (at l i) (inr (less-of _ _ e)) (f (omega (arith, h, z)))
-    go false e (yes z) f = subst (λ j. AtMost (at l (smallest l m)) (at l j)) (sym z) (at-most-of (at l (smallest l m)) (at l (suc m)) e)
-    go false e (no z) f = f (omega (arith, h, z))
-
-smallest-low : (l : List Stamp) (m : ℕ) → smallest l m ≤ m
-unfolding smallest pick
-smallest-low l zero = omega arith
-smallest-low l (suc m) = go (older (at l (suc m)) (at l (smallest l m))) (smallest-low l m)
-  where
-    go : (b : Bool) → smallest l m ≤ m → pick b (suc m) (smallest l m) ≤ suc m
-    go true h = omega arith
-    go false h = omega (arith, h)
 
 -- ---- where a new stamp goes
 
@@ -104,7 +79,7 @@ with-used r i x = go (ltb (r .count) 4) refl
 
 module _ (r : Row) (many : length (r .stamps) ≡ 4) where
   here : (i : ℕ) (x : Stamp) → i < 4 → at (set (r .stamps) i x) i ≡ x
-  here i x h = getD-set-same (r .stamps) i x noStamp (omega (arith, h, many))
+  here i x h = getD-set-same (r .stamps) i x zeroStamp (omega (arith, h, many))
 
   pub past-kept : (x : Stamp) (i : ℕ) → placeFor r x ≡ some i → RowPast (rowWith r i x) x
   past-kept x i e = go (placeFor r x) e (place r x)
@@ -118,7 +93,7 @@ module _ (r : Row) (many : length (r .stamps) ≡ 4) where
           (with-used r i x)
       go (some j) q (instead h o) =
           let d : smallest (r .stamps) 3 ≡ i = cc q in
-          let l = smallest-low (r .stamps) 3 in
+          let l = smallest-le (r .stamps) 3 in
           ⊎-elim
           (λ (m, u, c). absurd (omega (arith, m, h)))
           (λ (m, u, c). inl (place-has (set (r .stamps) i x) (used (rowWith r i x)) i x (omega (arith, u, l, d)) (here i x (omega (arith, l, d)))))
@@ -143,7 +118,7 @@ module _ (r : Row) (many : length (r .stamps) ≡ 4) where
 
   -- what stood elsewhere stays
   stays-at : (y : Stamp) (i j : ℕ) → (j ≡ i → ⊥) → at (set (r .stamps) i y) j ≡ at (r .stamps) j
-  stays-at y i j ne = getD-set-other (r .stamps) i j y noStamp ne
+  stays-at y i j ne = getD-set-other (r .stamps) i j y zeroStamp ne
 
   -- x stood at the place of the smallest, where y goes
   replaced : (x y : Stamp) → 4 ≤ r .count → Less (at (r .stamps) (smallest (r .stamps) 3)) y → at (r .stamps) (smallest (r .stamps) 3) ≡ x
@@ -168,7 +143,7 @@ module _ (r : Row) (many : length (r .stamps) ≡ 4) where
 
       step : ((j : ℕ) → j < m → Less x (at (set (r .stamps) s y) j)) → Dec (m ≡ s)
           → ((j : ℕ) × (j < suc m) × (at (set (r .stamps) s y) j ≡ x)) ⊎ ((j : ℕ) → j < suc m → Less x (at (set (r .stamps) s y) j))
-      step f (yes q) = inr (all f (subst (λ v. Less x v) (sym (ap (at (set (r .stamps) s y)) q ∙ here s y (omega (arith, smallest-low (r .stamps) 3))))
+      step f (yes q) = inr (all f (subst (λ v. Less x v) (sym (ap (at (set (r .stamps) s y)) q ∙ here s y (omega (arith, smallest-le (r .stamps) 3))))
           (subst (λ v. Less v y) e l)))
       step f (no q) = ⊎-elim
           (λ z. inl (m, omega arith, stays-at y s m q ∙ sym z ∙ e))
@@ -199,7 +174,7 @@ module _ (r : Row) (many : length (r .stamps) ≡ 4) where
       go (inr (k, f)) u c = inr (omega (arith, k, c), λ j b. at-place j (ℕ-discrete j s) (f j b))
         where
           at-place : (j : ℕ) → Dec (j ≡ s) → Less x (at (r .stamps) j) → Less x (at (set (r .stamps) s y) j)
-          at-place j (yes z) q = subst (λ v. Less x v) (sym (ap (at (set (r .stamps) s y)) z ∙ here s y (omega (arith, smallest-low (r .stamps) 3))))
+          at-place j (yes z) q = subst (λ v. Less x v) (sym (ap (at (set (r .stamps) s y)) z ∙ here s y (omega (arith, smallest-le (r .stamps) 3))))
               (less-trans x (at (r .stamps) s) y (subst (λ j. Less x (at (r .stamps) j)) z q) l)
           at-place j (no z) q = subst (λ v. Less x v) (sym (stays-at y s j z)) q
       go (inl e) u c = let (j, k, q) = has-place (r .stamps) (used r) x e in by-place j (omega (arith, k)) q (ℕ-discrete j s)

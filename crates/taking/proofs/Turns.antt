@@ -38,13 +38,9 @@ use Rattle.server_rules.proofs.Passing.{SizedIn, open-passed, test-split, count
 use Rattle.server_rules.proofs.Within.{slot-within}
 use Rattle.server_rules.proofs.Freeing.{freed-client}
 use Rattle.server_rules.proofs.Counting.{hears}
-use Rattle.steps.proofs.CastFacts.{partAt, partOf, Behind, behind}
+use Rattle.steps.proofs.CastFacts.{partAt, partOf, fresh-sequence, Behind, behind}
 use Rattle.steps.proofs.ServerFits.{ServerShape, counted-shape}
 use Rattle.taking.proofs.Quiet.{Unripe, Uncounted}
-
-fresh-sequence : (q : ℕ) → freshSlot q .sequence ≡ q
-unfolding freshSlot
-fresh-sequence q = refl
 
 -- ---- acceptance
 

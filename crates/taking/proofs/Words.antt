@@ -6,13 +6,14 @@ use mathlib.Core.Bool.{Bool, true, false, not, _&&_, _||_}
 use mathlib.Core.Path.{_≡_, refl, ap, sym, _∙_, subst}
 use mathlib.Core.Logic.{_⊎_, inl, inr, ⊎-elim}
 use mathlib.Core.Option.{Option, none, some}
-use mathlib.Core.List.{List, [], _∷_, List·Memᴰ, List·Memᴰ·head, List·Memᴰ·not-nil, List·Memᴰ·append-cases, List·Memᴰ·eq-of-singleton, Memᴰ·append-right}
+use mathlib.Core.List.{List, [], _∷_, List·Memᴰ, List·Memᴰ·not-nil, List·Memᴰ·append-cases, List·Memᴰ·eq-of-singleton, Memᴰ·append-right}
 use lib.ListN.{length}
 use lib.Dec.{leb}
 use borrow.Author.Tests.{leb-true, leb-false}
 use Rattle.quorum.specs.Quorum.{Among}
 use Rattle.quorum.proofs.Logic.{impossible, and-split, and-true, or-split}
 use Rattle.area.specs.Area.{Bytes, pick}
+use Rattle.area.proofs.Tests.{in-pick}
 use Rattle.blocks.specs.declared.Params.{Params}
 use Rattle.blocks.proofs.Exactly.{candidate-bytes}
 use Rattle.group_rules.specs.Coded.{pieces, numbers, joinedBytes, lowestValue, blockAt, entryOf}
@@ -140,11 +141,6 @@ module _ (H : List ℕ → List ℕ) (g : Params) where
     unfolding S.votedBlock toAll pick
     voted-all e i is =
         rw e (all-mem (λ i. message c (x .sequence) (blockIs ready (R .own me (w .echoes) (w .readies) o))) 1 (g .n) i (is .0) (omega (arith, is .1)))
-
-    in-pick : (b : Bool) (v : List ℕ) → b ≡ true → List·Memᴰ v (pick b (v ∷ []) [])
-    unfolding pick
-    in-pick true v e = List·Memᴰ·head refl
-    in-pick false v e = impossible (cc e)
 
     voted-coded : Bounded g → (b : Party) (d n : ℕ) (y : Offer) → List·Memᴰ (sending b (message d n (blockIs ready y))) (S.votedBlock H g me a c x o .sends)
         → Coded me (S.votedBlock H g me a c x o .decodes) (y .entry)

@@ -1,7 +1,7 @@
 // The block code: encode and decode, with their answers and every byte of the lent area after the call.
 use blocks::Coded;
-use blocks::Fault;
 use blocks::Params;
+use blocks::faults::fault_number;
 use case_text::report::result;
 use case_text::text::bytes;
 use case_text::text::number;
@@ -57,19 +57,12 @@ fn marked() -> [u8; 2560]
     [0xee; 2560]
 }
 
-// The number of an answer: document 01's, or 0 where nothing is turned down.
+// The number of an answer, or 0 where nothing is turned down.
 fn answer_number(answer: Coded) -> u8 {
     let Coded::Refused(f) = answer else {
         return 0;
     };
-    match f {
-        Fault::Parties => 1,
-        Fault::Threshold => 2,
-        Fault::Length => 3,
-        Fault::Blocks => 9,
-        Fault::Room => 10,
-        Fault::Disagreement => 21,
-    }
+    (fault_number(f) % 256) as u8
 }
 
 // Writes the answer's number, a space and the area.

@@ -11,7 +11,7 @@ use Rattle.blocks.specs.declared.Params.{Params}
 use Rattle.frame.specs.declared.Stamp.{Stamp}
 use Rattle.frame.specs.declared.Party.{Party}
 use Rattle.frame.specs.Params.{Bounded, paramsTest}
-use Rattle.frame.specs.Stamps.{lastTime, lastClient}
+use Rattle.frame.specs.Stamps.{lastTime, lastClient, zeroStamp}
 use Rattle.frame.specs.Refusals.{andThen}
 use Rattle.frame.specs.Frames.{opened}
 use Rattle.frame.specs.Messages.{Entry, Sized, Body, getStamp, ack, askRead, readComplete, stampIs}
@@ -21,7 +21,7 @@ use Rattle.frame.proofs.Sizes.{Small}
 use Rattle.client_rules.specs.declared.Row.{Row}
 use Rattle.client_rules.specs.declared.Client.{Client}
 use Rattle.client_rules.specs.Rows.{Kept, used, placesFrom, rowView, placeFor, rowWith, Found, search}
-use Rattle.client_rules.specs.State.{noStamp, rowOf, inPhase, withRow, largest}
+use Rattle.client_rules.specs.State.{rowOf, inPhase, withRow, largest}
 use Rattle.client_rules.specs.declared.Phase.the-variants as F
 use Rattle.client_rules.specs.Steps as C
 use Rattle.client_rules.specs.Tests as CT
@@ -46,7 +46,7 @@ heard r f = record { client = r .client; entries = f; sends = r .sends; event = 
 -- places i to i + m - 1 of server j's row, and the row
 abbrev pub placesBy : (ℕ → Entry) → ℕ → Row → ℕ → ℕ → List Kept
 placesBy f j r i zero = []
-placesBy f j r i (suc m) = record { stamp = getD (r .stamps) i noStamp; entry = f (placeAt j i) } ∷ placesBy f j r (suc i) m
+placesBy f j r i (suc m) = record { stamp = getD (r .stamps) i zeroStamp; entry = f (placeAt j i) } ∷ placesBy f j r (suc i) m
 
 abbrev pub rowBy : (ℕ → Entry) → Client → ℕ → List Kept
 rowBy f s j = placesBy f j (rowOf s j) 0 (used (rowOf s j))
@@ -75,7 +75,7 @@ module _ (H : List ℕ → List ℕ) (g : Params) (me : ℕ) where
   -- the tests, where the rows area has its least length
   unfoldable pub judgeBy : Client → List ℕ → Party → List ℕ → List ℕ → List ℕ → List ℕ → Judged
   judgeBy s v from f result out to =
-      after (andThen (paramsTest g me lastClient) (CT.valueTest g s (length v)))
+      after (andThen (paramsTest g me lastClient) (CT.valueTest g (s .phase) (length v)))
       (CT.judgeOpened H g me (opened g f) (CT.roomTest g rowsBytes (length result) (length out) (length to)) s from f)
 
   -- the whole delivery
@@ -96,7 +96,7 @@ unfolding placesFrom
 places-seen g a f h j r i zero = refl
 places-seen g a f h j r i (suc m) =
     let w = places-seen g a f h j r (suc i) m in
-    λ d. record { stamp = getD (r .stamps) i noStamp; entry = h (placeAt j i) d } ∷ w d
+    λ d. record { stamp = getD (r .stamps) i zeroStamp; entry = h (placeAt j i) d } ∷ w d
 
 module _ (H : List ℕ → List ℕ) (g : Params) (B : Bounded g) (M : Small g) (me : ℕ) where
   complete-seen : (s : Client) (a : List ℕ) (f : ℕ → Entry) → Shows g rowsBytes a f → (o : Option Found)
@@ -155,7 +155,7 @@ module _ (H : List ℕ → List ℕ) (g : Params) (B : Bounded g) (M : Small g) 
       → CT.judge H g me s a v from f result out to ≡ judgeBy H g me s v from f result out to
   unfolding CT.judge judgeBy
   judge-seen s a v from f result out to e i =
-      after (andThen (paramsTest g me lastClient) (CT.valueTest g s (length v)))
+      after (andThen (paramsTest g me lastClient) (CT.valueTest g (s .phase) (length v)))
       (CT.judgeOpened H g me (opened g f) (CT.roomTest g (e i) (length result) (length out) (length to)) s from f)
 
   pub client-seen : (s : Client) (a : List ℕ) (h : ℕ → Entry) → Shows g rowsBytes a h → (v : List ℕ) (from : Party) (f result out to : List ℕ)

@@ -7,7 +7,7 @@ use mathlib.Core.Logic.{_⊎_, inl, inr, ⊎-elim}
 use mathlib.Core.Option.{some}
 use mathlib.Core.List.{List, [], _∷_, List·Memᴰ, List·Memᴰ·head, List·Memᴰ·cases-cons, List·Memᴰ·not-nil}
 use Rattle.quorum.proofs.Logic.{impossible}
-use Rattle.frame.specs.declared.Refusal.the-variants as R
+use Rattle.frame.specs.Refusals.{refusal}
 use Rattle.frame.specs.Stamps.{older}
 use Rattle.frame.specs.Params.{Bounded}
 use Rattle.frame.specs.Messages.{ready}
@@ -71,12 +71,12 @@ sound = Setups.sound Toy.toy g initial 4 (λ c. false) bounded (record { many = 
 record Computed : Type 0 where
   pub proper : image Z calls .proper ≡ true
   -- six calls are refused
-  pub stale : refusedIn Z (image Z asking) (readAsked 1) ≡ some R.Stale
-  pub busy : refusedIn Z (image Z (readAsked 1 ∷ asking)) (Toy.startWrite g 1 (value 2)) ≡ some R.Busy
-  pub framing : refusedIn Z (image Z (Toy.startWrite g 1 (value 2) ∷ readAsked 1 ∷ asking)) noFrame ≡ some R.Framing
-  pub kind : refusedIn Z (image Z (noFrame ∷ Toy.startWrite g 1 (value 2) ∷ readAsked 1 ∷ asking)) timeAlone ≡ some R.Kind
-  pub digest : refusedIn Z (image Z (timeAlone ∷ noFrame ∷ Toy.startWrite g 1 (value 2) ∷ readAsked 1 ∷ asking)) falseBlock ≡ some R.Digest
-  pub room : refusedIn Z (image Z (falseBlock ∷ timeAlone ∷ noFrame ∷ Toy.startWrite g 1 (value 2) ∷ readAsked 1 ∷ asking)) noRoom ≡ some R.Room
+  pub stale : refusedIn Z (image Z asking) (readAsked 1) ≡ some (refusal 12)
+  pub busy : refusedIn Z (image Z (readAsked 1 ∷ asking)) (Toy.startWrite g 1 (value 2)) ≡ some (refusal 15)
+  pub framing : refusedIn Z (image Z (Toy.startWrite g 1 (value 2) ∷ readAsked 1 ∷ asking)) noFrame ≡ some (refusal 4)
+  pub kind : refusedIn Z (image Z (noFrame ∷ Toy.startWrite g 1 (value 2) ∷ readAsked 1 ∷ asking)) timeAlone ≡ some (refusal 6)
+  pub digest : refusedIn Z (image Z (timeAlone ∷ noFrame ∷ Toy.startWrite g 1 (value 2) ∷ readAsked 1 ∷ asking)) falseBlock ≡ some (refusal 14)
+  pub room : refusedIn Z (image Z (falseBlock ∷ timeAlone ∷ noFrame ∷ Toy.startWrite g 1 (value 2) ∷ readAsked 1 ∷ asking)) noRoom ≡ some (refusal 10)
   -- two writes are accepted, and the read completes
   pub larger : acceptedIn Z (image Z first) (block ready 2 2 1) ≡ write 2 ∷ []
   pub smaller : acceptedIn Z (image Z second) (block ready 1 2 1) ≡ write 1 ∷ []
@@ -99,17 +99,17 @@ unfolding judgedBad verdictBad refusedIn FrChunks.entryAt RuWorld.start SeDelive
     FrFrames.framingTest FrFrames.headerIn FrFrames.headerTest FrFrames.bodyTest FrFrames.stampIn FrFrames.stampTest FrFrames.contentTest FrFrames.frameTest
     FrFrames.opened FrFrames.openedUnder FrFrames.bodyIn FrFrames.messageIn FrMessages.toFrom FrMessages.toAll FrParams.width FrParams.quota
     FrParams.largestFrame FrParams.outRoom FrParams.toRoom FrParams.ownTest FrParams.codeTest FrParams.boundsTest FrParams.paramsTest FrStamps.older
-    FrStamps.sameStamp FrStamps.zeroStamp FrStamps.partsAgree SeBroadcast.votes SeBroadcast.enough SeBroadcast.due SeBroadcast.full SeBroadcast.matters
+    FrStamps.sameStamp FrStamps.partsAgree SeBroadcast.votes SeBroadcast.enough SeBroadcast.due SeBroadcast.full SeBroadcast.matters
     SeRules.atTime SeRules.chosen SeRules.regained SeRules.unanimous SeState.freshBlocks SeState.freshSlot SeState.freshReader SeState.freshServer
     SeState.blockView SeState.presentBlock SeState.presentEntry SeSteps.votedBlock SeSteps.onBlock SeSteps.tellFrom SeSteps.accept SeSteps.ripeBy SeSteps.ripe
     SeSteps.freeBy SeSteps.free SeSteps.freed SeSteps.settle SeSteps.onRead SeSteps.onReadComplete SeSteps.onBody SeSteps.effect SeTests.roomTest
-    SeTests.senderRight SeTests.counted SeTests.openTest SeTests.readTest SeTests.doneTest SeTests.fitTest SeTests.orderTest SeTests.messageTest
-    SeTests.judgeOpened SeTests.judge CB.idleTest CB.closedTest CB.lengthTest CB.readTest CB.writeTest CB.openRead CB.openWrite CB.beginBy CB.readBegun
+    SeTests.senderRight SeTests.counted SeTests.openTest SeTests.readTest SeTests.doneTest FrCoded.fitTest SeTests.orderTest SeTests.messageTest
+    SeTests.judgeOpened SeTests.judge CB.lengthTest CB.readTest CB.writeTest CB.openRead CB.openWrite CB.beginBy CB.readBegun
     CB.writeBegun CB.beginAnswer CB.begunOf CB.readBeginning CB.writeBeginning ClRows.placesFrom ClRows.rowView ClRows.hasStamp ClRows.smallest ClRows.placeFor
     ClRows.atStamp ClRows.rowsFrom ClRows.agreed ClRows.firstBy ClRows.firstAgreed ClRows.foundOf ClRows.foundBy ClRows.search ClState.freshRow
     ClState.freshClient ClState.largest ClSteps.quorate ClSteps.sendBelow ClSteps.gatherBy ClSteps.onStamp ClSteps.endBy ClSteps.onAck ClSteps.completeBy
     ClSteps.settle ClSteps.keepBy ClSteps.onValue ClSteps.onBody ClSteps.effect ClTests.sendRoom ClTests.roomTest ClTests.valueTest ClTests.answers
-    ClTests.awaited ClTests.fitTest ClTests.orderTest ClTests.messageTest ClTests.judgeOpened ClTests.judge
+    ClTests.awaited ClTests.orderTest ClTests.messageTest ClTests.judgeOpened ClTests.judge
 computed = record {
   proper = refl;
   stale = refl;
@@ -126,33 +126,33 @@ computed = record {
 
 -- ---- so
 
-stale : At (Refuses Z R.Stale) calls 18
+stale : At (Refuses Z 12) calls 18
 unfolding opening asking refused rounds spread first second told calls
-stale = at-drop (Refuses Z R.Stale) 34 calls 18 (inl (refl, refuses-by Z exact asking (readAsked 1) R.Stale (computed .stale)))
+stale = at-drop (Refuses Z 12) 34 calls 18 (inl (refl, refuses-by Z exact asking (readAsked 1) 12 (computed .stale)))
 
-busy : At (Refuses Z R.Busy) calls 19
+busy : At (Refuses Z 15) calls 19
 unfolding opening asking refused rounds spread first second told calls
-busy = at-drop (Refuses Z R.Busy) 33 calls 19 (inl (refl, refuses-by Z exact (readAsked 1 ∷ asking) (Toy.startWrite g 1 (value 2)) R.Busy (computed .busy)))
+busy = at-drop (Refuses Z 15) 33 calls 19 (inl (refl, refuses-by Z exact (readAsked 1 ∷ asking) (Toy.startWrite g 1 (value 2)) 15 (computed .busy)))
 
-framing : At (Refuses Z R.Framing) calls 20
+framing : At (Refuses Z 4) calls 20
 unfolding opening asking refused rounds spread first second told calls
-framing = at-drop (Refuses Z R.Framing) 32 calls 20
-    (inl (refl, refuses-by Z exact (Toy.startWrite g 1 (value 2) ∷ readAsked 1 ∷ asking) noFrame R.Framing (computed .framing)))
+framing = at-drop (Refuses Z 4) 32 calls 20
+    (inl (refl, refuses-by Z exact (Toy.startWrite g 1 (value 2) ∷ readAsked 1 ∷ asking) noFrame 4 (computed .framing)))
 
-kind : At (Refuses Z R.Kind) calls 21
+kind : At (Refuses Z 6) calls 21
 unfolding opening asking refused rounds spread first second told calls
-kind = at-drop (Refuses Z R.Kind) 31 calls 21
-    (inl (refl, refuses-by Z exact (noFrame ∷ Toy.startWrite g 1 (value 2) ∷ readAsked 1 ∷ asking) timeAlone R.Kind (computed .kind)))
+kind = at-drop (Refuses Z 6) 31 calls 21
+    (inl (refl, refuses-by Z exact (noFrame ∷ Toy.startWrite g 1 (value 2) ∷ readAsked 1 ∷ asking) timeAlone 6 (computed .kind)))
 
-digest : At (Refuses Z R.Digest) calls 22
+digest : At (Refuses Z 14) calls 22
 unfolding opening asking refused rounds spread first second told calls
-digest = at-drop (Refuses Z R.Digest) 30 calls 22
-    (inl (refl, refuses-by Z exact (timeAlone ∷ noFrame ∷ Toy.startWrite g 1 (value 2) ∷ readAsked 1 ∷ asking) falseBlock R.Digest (computed .digest)))
+digest = at-drop (Refuses Z 14) 30 calls 22
+    (inl (refl, refuses-by Z exact (timeAlone ∷ noFrame ∷ Toy.startWrite g 1 (value 2) ∷ readAsked 1 ∷ asking) falseBlock 14 (computed .digest)))
 
-room : At (Refuses Z R.Room) calls 23
+room : At (Refuses Z 10) calls 23
 unfolding opening asking refused rounds spread first second told calls
-room = at-drop (Refuses Z R.Room) 29 calls 23
-    (inl (refl, refuses-by Z exact (falseBlock ∷ timeAlone ∷ noFrame ∷ Toy.startWrite g 1 (value 2) ∷ readAsked 1 ∷ asking) noRoom R.Room (computed .room)))
+room = at-drop (Refuses Z 10) 29 calls 23
+    (inl (refl, refuses-by Z exact (falseBlock ∷ timeAlone ∷ noFrame ∷ Toy.startWrite g 1 (value 2) ∷ readAsked 1 ∷ asking) noRoom 10 (computed .room)))
 
 larger : At (Accepts Z 1 (write 2)) calls 42
 unfolding opening asking refused rounds spread first second told calls block Toy.handServer

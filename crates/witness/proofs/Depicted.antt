@@ -17,6 +17,7 @@ use Rattle.frame.specs.declared.Party.{Party}
 use Rattle.frame.specs.declared.Verdict.{Verdict}
 use Rattle.frame.specs.declared.Header.{Header}
 use Rattle.frame.specs.declared.Refusal.{Refusal}
+use Rattle.frame.specs.Refusals.{refusal}
 use Rattle.frame.specs.declared.Party.the-variants as P
 use Rattle.frame.specs.declared.Verdict.the-variants as J
 use Rattle.frame.specs.declared.Opened.the-variants as O
@@ -25,11 +26,9 @@ use Rattle.frame.specs.Messages.{Sending, numberIn, Judged, bad, good}
 use Rattle.frame.specs.Frames.{build, opened}
 use Rattle.frame.specs.Chunks.{entryAt, areaBytes, rowsBytes}
 use Rattle.frame.proofs.Sizes.{Small, small}
-use Rattle.server_rules.specs.declared.Server.{Server}
 use Rattle.server_rules.specs.State.{freshServer}
 use Rattle.server_rules.specs.Tests as ST
 use Rattle.server_rules.specs.Delivery as SD
-use Rattle.client_rules.specs.declared.Client.{Client}
 use Rattle.client_rules.specs.State.{writing}
 use Rattle.client_rules.specs.Steps as C
 use Rattle.client_rules.specs.Tests as CT
@@ -358,18 +357,19 @@ module _ (Z : Setup) (G : Exact Z) where
       judge-client H g (G .bounded) M c (p .client) (p .area) (lentTo Z (run Z ks) c lent) from f result out to (D .area .long)
       ∙ (λ z. Asked.judgeBy H g c (D .client z) (lent-at (run Z ks) (image Z ks) (depicts ks) c lent z) from f result out to)
 
-  pub refuses-by : (ks : List Call) (k : Call) (r : Refusal) → refusedIn Z (image Z ks) k ≡ some r → Refuses Z r ks k
+  pub refuses-by : (ks : List Call) (k : Call) (n : ℕ) → refusedIn Z (image Z ks) k ≡ some (refusal n) → Refuses Z n ks k
   unfolding refusedIn SD.delivery SD.outcomeOf SD.replyOf CD.delivery CD.outcomeOf CD.answerOf CB.readBeginning CB.writeBeginning CB.begunOf CB.beginAnswer
-  refuses-by ks (toServer i from f out to) r e =
-      ap (λ x. SD.replyOf H g i x (length (serverEffect Z (run Z ks) i from f out to .sends))) (server-judged ks i from f out to ∙ judged-bad _ r e)
-  refuses-by ks (toClient c from f lent result out to) r e =
-      ap (λ x. CD.answerOf x (clientEffect Z (run Z ks) c from f lent result out to)) (client-judged ks c from f lent result out to ∙ judged-bad _ r e)
-  refuses-by ks (beginRead c out to) r e =
+  refuses-by ks (toServer i from f out to) n e =
+      ap (λ x. SD.replyOf H g i x (length (serverEffect Z (run Z ks) i from f out to .sends))) (server-judged ks i from f out to ∙ judged-bad _ (refusal n) e)
+  refuses-by ks (toClient c from f lent result out to) n e =
+      ap (λ x. CD.answerOf x (clientEffect Z (run Z ks) c from f lent result out to))
+      (client-judged ks c from f lent result out to ∙ judged-bad _ (refusal n) e)
+  refuses-by ks (beginRead c out to) n e =
       ap (λ b. CB.beginAnswer g c b (CB.readBegun g c (run Z ks .clients c .client) out to))
-      (ap (λ s. CB.readTest g c s out to) (depicts ks .clients c .client) ∙ verdict-bad _ r e)
-  refuses-by ks (beginWrite c v out to) r e =
+      (ap (λ s. CB.readTest g c s out to) (depicts ks .clients c .client) ∙ verdict-bad _ (refusal n) e)
+  refuses-by ks (beginWrite c v out to) n e =
       ap (λ b. CB.beginAnswer g c b (CB.writeBegun g c (run Z ks .clients c .client) v out to))
-      (ap (λ s. CB.writeTest g c s v out to) (depicts ks .clients c .client) ∙ verdict-bad _ r e)
+      (ap (λ s. CB.writeTest g c s v out to) (depicts ks .clients c .client) ∙ verdict-bad _ (refusal n) e)
 
 -- what happens before the last n calls happens in the run
 pub at-drop : (E : Event) (n : ℕ) (ks : List Call) (p : ℕ) → At E (drop n ks) p → At E ks p

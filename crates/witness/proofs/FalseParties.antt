@@ -60,20 +60,20 @@ unfolding allBytes Toy.toy Toy.zeros Toy.four Toy.setup Toy.handServer Toy.handC
     FrFrames.contentTest FrFrames.frameTest FrFrames.opened FrFrames.openedUnder FrFrames.bodyIn FrFrames.messageIn FrMessages.toFrom FrMessages.toAll
     FrOutbox.frames FrOutbox.partyBytes FrOutbox.receivers FrOutbox.sent FrOutbox.wrote FrOutbox.wroteTo FrParams.width FrParams.quota FrParams.largestFrame
     FrParams.outRoom FrParams.toRoom FrParams.ownTest FrParams.codeTest FrParams.boundsTest FrParams.paramsTest FrStamps.older
-    FrStamps.sameStamp FrStamps.zeroStamp FrStamps.partsAgree SeBroadcast.votes SeBroadcast.enough SeBroadcast.due SeBroadcast.full SeBroadcast.matters
+    FrStamps.sameStamp FrStamps.partsAgree SeBroadcast.votes SeBroadcast.enough SeBroadcast.due SeBroadcast.full SeBroadcast.matters
     SeDelivery.effectBy SeDelivery.delivered SeDelivery.replyOf SeDelivery.outcomeOf SeDelivery.delivery SeDelivery.constructTest SeDelivery.constructBy
     SeDelivery.construction SeRules.atTime SeRules.chosen SeRules.regained SeRules.unanimous SeState.freshBlocks SeState.freshSlot SeState.freshReader
     SeState.freshServer SeState.blockView SeState.presentBlock SeState.presentEntry SeSteps.votedBlock SeSteps.onBlock SeSteps.tellFrom SeSteps.accept
     SeSteps.ripeBy SeSteps.ripe SeSteps.freeBy SeSteps.free SeSteps.freed SeSteps.settle SeSteps.onRead SeSteps.onReadComplete SeSteps.onBody SeSteps.effect
-    SeTests.roomTest SeTests.senderRight SeTests.counted SeTests.openTest SeTests.readTest SeTests.doneTest SeTests.fitTest SeTests.orderTest
-    SeTests.messageTest SeTests.judgeOpened SeTests.judge ClBeginning.idleTest ClBeginning.closedTest ClBeginning.lengthTest ClBeginning.readTest
+    SeTests.roomTest SeTests.senderRight SeTests.counted SeTests.openTest SeTests.readTest SeTests.doneTest FrCoded.fitTest SeTests.orderTest
+    SeTests.messageTest SeTests.judgeOpened SeTests.judge ClBeginning.lengthTest ClBeginning.readTest
     ClBeginning.writeTest ClBeginning.openRead ClBeginning.openWrite ClBeginning.beginBy ClBeginning.readBegun ClBeginning.writeBegun ClBeginning.beginAnswer
     ClBeginning.begunOf ClBeginning.readBeginning ClBeginning.writeBeginning ClDelivery.eventAnswer ClDelivery.answerOf ClDelivery.resultOf ClDelivery.outcomeOf
     ClDelivery.effectBy ClDelivery.delivered ClDelivery.delivery ClRows.placesFrom ClRows.rowView ClRows.hasStamp ClRows.smallest ClRows.placeFor ClRows.atStamp
     ClRows.rowsFrom ClRows.agreed ClRows.firstBy ClRows.firstAgreed ClRows.foundOf ClRows.foundBy ClRows.search ClState.freshRow ClState.freshClient
     ClState.largest ClSteps.quorate ClSteps.sendBelow ClSteps.gatherBy ClSteps.onStamp ClSteps.endBy ClSteps.onAck ClSteps.completeBy ClSteps.settle
     ClSteps.keepBy ClSteps.onValue ClSteps.onBody ClSteps.effect ClTests.sendRoom ClTests.roomTest ClTests.valueTest ClTests.answers ClTests.awaited
-    ClTests.fitTest ClTests.orderTest ClTests.messageTest ClTests.judgeOpened ClTests.judge RuWorld.start RuWorld.step RuWorld.run RuWorld.sends
+    ClTests.orderTest ClTests.messageTest ClTests.judgeOpened ClTests.judge RuWorld.start RuWorld.step RuWorld.run RuWorld.sends
 computed = (
   inl (refl, ((refl, refl, refl), (initial, refl))),
   (

@@ -12,7 +12,6 @@ use Rattle.area.specs.Numbers.{bytes8}
 use Rattle.blocks.specs.declared.Params.{Params}
 use Rattle.frame.specs.declared.Stamp.{Stamp}
 use Rattle.frame.specs.declared.Party.the-variants as P
-use Rattle.frame.specs.declared.Refusal.the-variants as R
 use Rattle.frame.specs.Stamps.{zeroStamp}
 use Rattle.frame.specs.Messages.{Entry, entry, Offer, offer, Stage, send, echo, ready, message, getStamp, stampIs, blockIs, askRead, valueIs}
 use Rattle.frame.specs.Frames.{frameOf, build}
@@ -182,12 +181,12 @@ pub record Shown : Type 0 where
   pub admissible : Admissible Z calls
   -- six calls are refused: a read asked again (12), a write while one is open (15), what is no frame (4), a retired kind (6), a block against its
   -- digest (14), no room (10)
-  pub stale : At (Refuses Z R.Stale) calls 18
-  pub busy : At (Refuses Z R.Busy) calls 19
-  pub framing : At (Refuses Z R.Framing) calls 20
-  pub kind : At (Refuses Z R.Kind) calls 21
-  pub digest : At (Refuses Z R.Digest) calls 22
-  pub room : At (Refuses Z R.Room) calls 23
+  pub stale : At (Refuses Z 12) calls 18
+  pub busy : At (Refuses Z 15) calls 19
+  pub framing : At (Refuses Z 4) calls 20
+  pub kind : At (Refuses Z 6) calls 21
+  pub digest : At (Refuses Z 14) calls 22
+  pub room : At (Refuses Z 10) calls 23
   -- server 1 accepts client 2's write, then client 1's, and the read ends with client 2's
   pub larger : At (Accepts Z 1 (write 2)) calls 42
   pub smaller : At (Accepts Z 1 (write 1)) calls 45

@@ -1,28 +1,22 @@
--- Fewer pieces are left after each. Assumes nothing.
+-- Fewer parts are left after each. Assumes nothing.
 use mathlib.Core.Path.{_≡_}
 use lib.ListN.{length}
-use native.Mathlib.Omega.{arith}
 use borrow.Author.Needs.{needs}
 use Rattle.accession.proofs.read_all.Statement.{statement}
 use Rattle.accession.proofs.read_all.Tie as tie
-use Rattle.accession.proofs.read_all.Reads as reads
-use Rattle.accession.proofs.read_all.Lts as lts
-use Rattle.accession.proofs.finish.Reads as finish-reads
-use Rattle.accession.proofs.line.no_line.Reads as no-line-reads
-use Rattle.accession.proofs.take_piece.Reads as take-piece-reads
-use Rattle.accession_index.proofs.fresh.Reads as fresh-reads
-use Rattle.console.proofs.output.nothing.Reads as nothing-reads
-use Rattle.console.proofs.patience.left_after.Reads as left-after-reads
-use Rattle.io.proofs.buffer.Reads as buffer-reads
 
 abbrev Inv-loop : tie.InvT-loop
-Inv-loop fd text₀ r₀ failed₀ left₀ text r failed left = length text ≡ length text₀
+Inv-loop fd text₀ chunk₀ bytes₀ r₀ p₀ left₀ text chunk bytes r p left =
+    (length text ≡ length text₀) × (length chunk ≡ length chunk₀) × (length bytes ≡ length bytes₀)
 
 abbrev μ-loop : tie.MeasureT-loop
-μ-loop fd text₀ r₀ failed₀ left₀ text r failed left = left
+μ-loop fd text₀ chunk₀ bytes₀ r₀ p₀ left₀ text chunk bytes r p left = left
 
 buffer-requires : tie.Need-buffer-requires Inv-loop μ-loop
 buffer-requires c κs = search needs
+
+large-buffer-requires : tie.Need-large-buffer-requires Inv-loop μ-loop
+large-buffer-requires c κs = search needs
 
 fresh-requires : tie.Need-fresh-requires Inv-loop μ-loop
 fresh-requires c κs = search needs
@@ -33,14 +27,38 @@ no-line-requires c κs = search needs
 nothing-requires : tie.Need-nothing-requires Inv-loop μ-loop
 nothing-requires c κs = search needs
 
+no-part-requires : tie.Need-no-part-requires Inv-loop μ-loop
+no-part-requires c κs = search needs
+
 loop-holds : tie.Need-loop-holds Inv-loop μ-loop
 loop-holds c = search needs
 
-slice-aggregate-take-piece : tie.Need-slice-aggregate-take-piece Inv-loop μ-loop
-slice-aggregate-take-piece c = search needs
+slice-aggregate-next-part : tie.Need-slice-aggregate-next-part Inv-loop μ-loop
+slice-aggregate-next-part c = search needs
 
-take-piece-requires : tie.Need-take-piece-requires Inv-loop μ-loop
-take-piece-requires c κs = search needs
+slice-aggregate-next-part-2 : tie.Need-slice-aggregate-next-part-2 Inv-loop μ-loop
+slice-aggregate-next-part-2 c = search needs
+
+next-part-requires : tie.Need-next-part-requires Inv-loop μ-loop
+next-part-requires c κs = search needs
+
+sub-take : tie.Need-sub-take Inv-loop μ-loop
+sub-take c = search needs
+
+part-take-start : tie.Need-part-take-start Inv-loop μ-loop
+part-take-start c = search needs
+
+part-take-end : tie.Need-part-take-end Inv-loop μ-loop
+part-take-end c = search needs
+
+slice-aggregate-take : tie.Need-slice-aggregate-take Inv-loop μ-loop
+slice-aggregate-take c = search needs
+
+slice-aggregate-take-2 : tie.Need-slice-aggregate-take-2 Inv-loop μ-loop
+slice-aggregate-take-2 c = search needs
+
+take-requires : tie.Need-take-requires Inv-loop μ-loop
+take-requires c κs = search needs
 
 left-after-requires : tie.Need-left-after-requires Inv-loop μ-loop
 left-after-requires c κs = search needs
@@ -51,11 +69,11 @@ loop-less c = search needs
 loop-again : tie.Need-loop-again Inv-loop μ-loop
 loop-again c = search needs
 
-slice-aggregate-finish : tie.Need-slice-aggregate-finish Inv-loop μ-loop
-slice-aggregate-finish c = search needs
+slice-aggregate-flush : tie.Need-slice-aggregate-flush Inv-loop μ-loop
+slice-aggregate-flush c = search needs
 
-finish-requires : tie.Need-finish-requires Inv-loop μ-loop
-finish-requires c κs = search needs
+flush-requires : tie.Need-flush-requires Inv-loop μ-loop
+flush-requires c κs = search needs
 
 returns : tie.Need-returns Inv-loop μ-loop
 returns c = search needs
@@ -67,15 +85,24 @@ read-all-spec =
     Inv-loop
     μ-loop
     buffer-requires
+    large-buffer-requires
     fresh-requires
     no-line-requires
     nothing-requires
+    no-part-requires
     loop-holds
-    slice-aggregate-take-piece
-    take-piece-requires
+    slice-aggregate-next-part
+    slice-aggregate-next-part-2
+    next-part-requires
+    sub-take
+    part-take-start
+    part-take-end
+    slice-aggregate-take
+    slice-aggregate-take-2
+    take-requires
     left-after-requires
     loop-less
     loop-again
-    slice-aggregate-finish
-    finish-requires
+    slice-aggregate-flush
+    flush-requires
     returns)

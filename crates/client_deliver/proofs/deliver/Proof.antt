@@ -1,5 +1,4 @@
 -- The tests in the order of their numbers, then the step. Assumes nothing.
-use Rattle.client_rules.specs.Tests.{valueTest}
 use Rattle.client_deliver.proofs.Deliveries.{bounded-of-call, admitted-by, call-refused, not-opened, room-refused, frame-answered}
 use borrow.Author.Needs.{needs}
 use Rattle.client_deliver.proofs.deliver.Statement.{statement}
@@ -12,7 +11,6 @@ enum-known-call : tie.Need-enum-known-call
 enum-known-call c = search needs
 
 returns : tie.Need-returns
-unfolding valueTest
 returns c =
     let a = c .before .before .before .before .before .before .before .before .before .before .args in
     call-refused (a .g) (a .me) (a .s) (a .area .now) (a .value .now) (a .from) (a .f .now) (a .result .now) _ _ _ (c .before .before .before .call-test .ensures) _ (c .before .call .given .1)
@@ -36,7 +34,6 @@ enum-known-room : tie.Need-enum-known-room
 enum-known-room c = search needs
 
 returns-2 : tie.Need-returns-2
-unfolding valueTest
 returns-2 c =
     let a = c .before .before .before .before .before .before .before .before .before .before .before .before .before .before .before .before .before .args in
     room-refused (a .g) (a .me) (a .s) (a .area .now) (a .value .now) (a .from) (a .f .now) (a .result .now) _ _ _ (c .before .before .before .before .before .before .before .before .before .before .call-test .ensures) (c .before .before .before .before .before .before .before .before .enum-told .given .1) _ (c .before .before .before .before .before .before .before .open-frame .ensures) _ (c .before .before .before .before .before .opened2 .given .1) _ (c .before .before .before .room-test .ensures) _ (c .before .room .given .1)
@@ -50,7 +47,6 @@ step-requires c κs =
     admitted-by (a .g) (a .me) (a .s) _ _ _ _ _ _ _ _ _ _ (c .before .before .before .before .before .before .before .before .before .before .before .before .before .call-test .ensures) (c .before .before .before .before .before .before .before .before .before .before .before .enum-told .given .1) (c .before .before .before .before .before .before .before .before .before .before .open-frame .ensures) (c .before .before .before .before .before .before .before .before .opened2 .given .1) (c .before .before .before .before .before .before .room-test .ensures) (c .before .before .before .before .enum-told2 .given .1)
 
 returns-3 : tie.Need-returns-3
-unfolding valueTest
 returns-3 c =
     let a = c .before .before .before .before .before .before .before .before .before .before .before .before .before .args in
     not-opened (a .g) (a .me) (a .s) (a .area .now) (a .value .now) (a .from) (a .f .now) (a .result .now) _ _ _ (c .before .before .before .before .before .before .call-test .ensures) (c .before .before .before .before .enum-told .given .1) _ (c .before .before .before .open-frame .ensures) _ (c .before .opened .given .1)
@@ -68,7 +64,6 @@ same-length-4 : tie.Need-same-length-4
 same-length-4 c = search needs
 
 returns-4 : tie.Need-returns-4
-unfolding valueTest
 returns-4 c =
     let a = c .before .before .before .before .before .before .before .before .before .before .before .before .before .before .before .before .before .before .before .before .before .before .before .before .before .before .before .before .before .args in
     frame-answered (a .g) (a .me) (a .s) (a .area .now) (a .value .now) (a .from) (a .f .now) (a .result .now) _ _ _ (c .before .before .before .before .before .before .before .before .before .before .before .before .before .before .before .before .before .before .before .before .before .before .call-test .ensures) (c .before .before .before .before .before .before .before .before .before .before .before .before .before .before .before .before .before .before .before .before .enum-told .given .1) _ (c .before .before .before .before .before .before .before .before .before .before .before .before .before .before .before .before .before .before .before .open-frame .ensures) _ (c .before .before .before .before .before .before .before .before .before .before .before .before .before .before .before .before .before .opened2 .given .1) _ (c .before .before .before .before .before .before .before .before .before .before .before .before .before .before .before .room-test .ensures) _ (c .before .before .before .before .before .before .before .before .before .before .before .before .before .enum-told2 .given .1) (c .before .before .before .before .before .before .before .before .step .ensures)

@@ -1,8 +1,10 @@
 -- Safe and ending. Assumes nothing.
 use mathlib.Core.Path.{_≡_}
+use Prim.Native.Nat.{_*_}
 use lib.ListN.{length}
 use native.Mathlib.Omega.{arith}
 use borrow.Author.Needs.{needs}
+use Rattle.frame.specs.Chunks.{areaBytes, rowsBytes}
 use Rattle.hall.proofs.read_script.Statement.{statement}
 use Rattle.hall.proofs.read_script.Tie as tie
 use Rattle.hall.proofs.read_script.Reads as reads
@@ -16,7 +18,7 @@ use Rattle.hall.proofs.take_piece.Reads as take-piece-reads
 abbrev Inv-loop : tie.InvT-loop
 Inv-loop fd bytes₀ areas₀ initials₀ rows₀ values₀ text₀ r₀ failed₀ left₀ bytes areas initials rows values text r failed left =
     (length bytes ≡ length bytes₀) × (length areas ≡ length areas₀) × (length initials ≡ length initials₀) × (length rows ≡ length rows₀) × (length values ≡ length values₀) × (length text ≡ length text₀)
-    × (length areas ≡ 1070784) × (length initials ≡ 2816) × (length rows ≡ 207360) × (length values ≡ 2304)
+    × (length areas ≡ 11 * areaBytes) × (length initials ≡ 11 * 256) × (length rows ≡ 9 * rowsBytes) × (length values ≡ 9 * 256)
 
 abbrev μ-loop : tie.MeasureT-loop
 μ-loop fd bytes₀ areas₀ initials₀ rows₀ values₀ text₀ r₀ failed₀ left₀ bytes areas initials rows values text r failed left = left

@@ -1,9 +1,10 @@
 -- Safe and ending. Assumes nothing.
 use mathlib.Core.Path.{_≡_}
-use Prim.Native.Nat.{_-_, _≤_}
+use Prim.Native.Nat.{_*_, _-_, _≤_}
 use lib.ListN.{length}
 use native.Mathlib.Omega.{arith}
 use borrow.Author.Needs.{needs}
+use Rattle.frame.specs.Chunks.{areaBytes, rowsBytes}
 use Rattle.hall.proofs.take_all.Statement.{statement}
 use Rattle.hall.proofs.take_all.Tie as tie
 use Rattle.hall.proofs.take_all.Reads as reads
@@ -14,7 +15,7 @@ use Rattle.hall.proofs.take_next.Reads as take-next-reads
 abbrev Inv-loop : tie.InvT-loop
 Inv-loop piece bytes₀ areas₀ initials₀ rows₀ values₀ text₀ y₀ bytes areas initials rows values text y =
     (y .at ≤ length piece) × (length bytes ≡ length bytes₀) × (length areas ≡ length areas₀) × (length initials ≡ length initials₀) × (length rows ≡ length rows₀) × (length values ≡ length values₀) × (length text ≡ length text₀)
-    × (length areas ≡ 1070784) × (length initials ≡ 2816) × (length rows ≡ 207360) × (length values ≡ 2304)
+    × (length areas ≡ 11 * areaBytes) × (length initials ≡ 11 * 256) × (length rows ≡ 9 * rowsBytes) × (length values ≡ 9 * 256)
 
 abbrev μ-loop : tie.MeasureT-loop
 μ-loop piece bytes₀ areas₀ initials₀ rows₀ values₀ text₀ y₀ bytes areas initials rows values text y = length piece - y .at

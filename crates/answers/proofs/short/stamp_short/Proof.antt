@@ -1,6 +1,5 @@
 -- The parameters first, then the value, then the frame. Assumes nothing.
 use borrow.Author.Needs.{needs}
-use Rattle.client_rules.specs.Tests.{valueTest}
 use Rattle.answers.proofs.ShortLaws.{bounded-by, stamp-refused, stamp-value, stamp-opened}
 use Rattle.answers.proofs.short.stamp_short.Statement.{statement}
 use Rattle.answers.proofs.short.stamp_short.Tie as tie
@@ -24,7 +23,6 @@ enum-known-whole : tie.Need-enum-known-whole
 enum-known-whole c = search needs
 
 returns-2 : tie.Need-returns-2
-unfolding valueTest
 returns-2 c = stamp-value _ _ _ _ _ _ (c .before .before .before .before .before .before .params-test .ensures) _ (c .before .before .before .before .enum-told .given .1) (c .before .before .before .value-test .ensures) _ (c .before .whole .given .1)
 
 enum-told-2 : tie.Need-enum-told-2
@@ -37,7 +35,6 @@ opened-short-requires : tie.Need-opened-short-requires
 opened-short-requires c κs = search needs
 
 returns-3 : tie.Need-returns-3
-unfolding valueTest
 returns-3 c = stamp-opened _ _ _ _ _ _ (c .before .before .before .before .before .before .before .params-test .ensures) _ (c .before .before .before .before .before .enum-told .given .1) (c .before .before .before .before .value-test .ensures) _ _ (c .before .before .enum-told2 .given .1) (c .before .open-frame .ensures) (c .opened-short .ensures)
 
 pub stamp-short-spec : {M : Type 1} → statement M

@@ -6,10 +6,11 @@ use native.Mathlib.Nat.{mul-le-mul}
 use lib.ListN.{length, take}
 use lib.Seq.{sets}
 use Rattle.area.specs.Area.{joined}
+use Rattle.area.proofs.Sets.{sets-whole}
 use Rattle.blocks.specs.Poly.{through}
 use Rattle.blocks.specs.Code.{blockLength, row, valueOf}
 use Rattle.blocks.proofs.Stripes.{starts, block-small}
-use Rattle.blocks.proofs.Values.{sets-whole, value-start, stripe-turn, through-row-length, stripes, length-valueOf}
+use Rattle.blocks.proofs.Values.{value-start, stripe-turn, through-row-length, stripes, length-valueOf}
 use native.Mathlib.Omega.{arith}
 use borrow.Author.Needs.{needs}
 use Rattle.blocks.proofs.decoder.decode_into.Statement.{statement}

@@ -1,11 +1,9 @@
-use Rattle.client.proofs.Choices.{pick-true, pick-false}
+use mathlib.Core.Path.{refl}
+use Rattle.area.proofs.Tests.{pick-yes, pick-no}
 use native.Mathlib.Omega.{arith}
 use borrow.Author.Needs.{needs}
 use Rattle.client.proofs.rows.smaller.Statement.{statement}
 use Rattle.client.proofs.rows.smaller.Tie as tie
-use Rattle.client.proofs.rows.smaller.Reads as reads
-use Rattle.client.proofs.rows.smaller.Lts as lts
-use Rattle.frame.proofs.stamps.is_older.Reads as is-older-reads
 
 mul-x : tie.Need-mul-x
 mul-x c = search needs
@@ -23,10 +21,10 @@ is-older-requires : tie.Need-is-older-requires
 is-older-requires c κs = search needs
 
 returns : tie.Need-returns
-returns c = (pick-true _ _ _ _ (c .before .is-older .ensures) (c .if1 .taken), omega arith)
+returns c = (pick-yes _ _ _ (c .before .is-older .ensures) (c .if1 .taken) refl, omega arith)
 
 returns-2 : tie.Need-returns-2
-returns-2 c = (pick-false _ _ _ _ (c .before .is-older .ensures) (c .if1 .left), omega arith)
+returns-2 c = (pick-no _ _ _ (c .before .is-older .ensures) (c .if1 .left) refl, omega arith)
 
 pub smaller-spec : {M : Type 1} → statement M
 smaller-spec =

@@ -1,17 +1,13 @@
-use Rattle.client.proofs.Choices.{pick-true, pick-false}
+use Rattle.area.proofs.Tests.{pick-yes, pick-no}
 use mathlib.Core.Path.{refl}
-use native.Mathlib.Omega.{arith}
-use borrow.Author.Needs.{needs}
 use Rattle.client.proofs.tests.closed_test.Statement.{statement}
 use Rattle.client.proofs.tests.closed_test.Tie as tie
-use Rattle.client.proofs.tests.closed_test.Reads as reads
-use Rattle.client.proofs.tests.closed_test.Lts as lts
 
 returns : tie.Need-returns
-returns c = pick-true _ _ _ _ refl (c .if1 .taken)
+returns c = pick-yes _ _ _ refl (c .if1 .taken) refl
 
 returns-2 : tie.Need-returns-2
-returns-2 c = pick-false _ _ _ _ refl (c .if1 .left)
+returns-2 c = pick-no _ _ _ refl (c .if1 .left) refl
 
 pub closed-test-spec : {M : Type 1} → statement M
 closed-test-spec = tie.close (tie.spec returns returns-2)

@@ -1,14 +1,9 @@
 -- 11 first, then 12 and 14 of the sender's value. Assumes nothing.
 use mathlib.Core.Path.{ap, _∙_}
-use mathlib.Core.Bool.{not, _&&_}
-use lib.Dec.{eqb}
 use Rattle.sha256.specs.Hash.{digestOf}
-use Rattle.frame.specs.Refusals.{andThen}
-use Rattle.frame.specs.Frames.{entryIn}
+use Rattle.frame.specs.Frames.{entryIn, valueAt}
 use Rattle.frame.proofs.Within.{stop-not, go-on}
-use Rattle.client_rules.specs.State.{reading, rowOf}
-use Rattle.client_rules.specs.Rows.{used, hasStamp}
-use Rattle.client_rules.specs.Tests.{awaited, fitTest}
+use Rattle.client_rules.specs.Tests.{keptTest}
 use Rattle.client_deliver.proofs.Senders.{sender-facts}
 use borrow.Author.Needs.{needs}
 use Rattle.client_deliver.proofs.tests.entry_test.Statement.{statement}
@@ -37,7 +32,7 @@ returns-2 c =
     let a = c .before .before .before .before .before .args in
     go-on _ _ _ _ _ (c .before .before .before .sender-right .ensures) (c .before .before .if1 .left)
     (c .kept-test .ensures
-    ∙ ap (λ j. andThen (awaited (reading (a .s .phase) && (eqb (a .h .sequence) (a .s .reads) && not (hasStamp (rowOf (a .s) j .stamps) (used (rowOf (a .s) j)) (a .x))))) (fitTest digestOf (entryIn (a .g) (a .f .now) 22) j)) (c .before .number-in .ensures))
+    ∙ ap (λ j. keptTest digestOf (a .s) j (a .h .sequence) (a .x) (entryIn (a .g) (a .f .now) valueAt)) (c .before .number-in .ensures))
 
 pub entry-test-spec : {M : Type 1} → statement M
 entry-test-spec =

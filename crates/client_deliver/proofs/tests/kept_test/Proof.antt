@@ -34,13 +34,13 @@ returns c =
 enum-told : tie.Need-enum-told
 enum-told c = search needs
 
-fit-test-requires : tie.Need-fit-test-requires
-fit-test-requires c κs = search needs
+entry-fit-requires : tie.Need-entry-fit-requires
+entry-fit-requires c κs = search needs
 
 returns-2 : tie.Need-returns-2
 returns-2 c =
     let a = c .before .before .before .before .before .before .before .before .before .before .args in
-    go-second _ _ _ _ (awaited-new _ _ _ (a .q) (a .t1 .reads) _ _ _ _ (a .x) (c .before .before .before .awaited-test .ensures) (c .before .before .before .before .is-reading .ensures) (c .before .before .before .before .before .has-stamp .ensures) (c .before .before .before .before .before .before .used-places .ensures .0)) (c .before .enum-told .given .1) (c .fit-test .ensures)
+    go-second _ _ _ _ (awaited-new _ _ _ (a .q) (a .t1 .reads) _ _ _ _ (a .x) (c .before .before .before .awaited-test .ensures) (c .before .before .before .before .is-reading .ensures) (c .before .before .before .before .before .has-stamp .ensures) (c .before .before .before .before .before .before .used-places .ensures .0)) (c .before .enum-told .given .1) (c .entry-fit .ensures)
 
 pub kept-test-spec : {M : Type 1} → statement M
 kept-test-spec =
@@ -55,5 +55,5 @@ kept-test-spec =
     enum-known-order
     returns
     enum-told
-    fit-test-requires
+    entry-fit-requires
     returns-2)

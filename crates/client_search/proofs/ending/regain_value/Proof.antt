@@ -41,15 +41,15 @@ array-share-prefix-value c =
     let d = c .before .regain in
     omega (arith, length-front (zeros 256) (d .last .1 .1 .1 .1 .0) (c .before .before .before .before .before .before .before .before .before .before .before .before .before .args .g .size) (d .kept .1 .1 .1 .1 .0), P .searching .bounded .size-high)
 
-slice-aggregate-unanimous : tie.Need-slice-aggregate-unanimous
-slice-aggregate-unanimous c =
+slice-aggregate-all-of : tie.Need-slice-aggregate-all-of
+slice-aggregate-all-of c =
     let P = c .before .before .before .before .before .before .before .before .before .before .before .before .before .before .pre in
     let d = c .before .before .regain in
     let f = front-back (zeros 256) (d .last .1 .1 .1 .1 .0) _ (P .searching .bounded .size-high) (d .kept .1 .1 .1 .1 .0) ∙ d .ensures in
     sym (value-length _ _ _ _ _ _ P _ _ (c .before .before .before .before .before .before .before .before .before .before .before .hits .ensures) (c .before .before .before .before .before .before .before .before .before .before .holders .ensures) _ f _ _ (c .before .before .before .before .before .before .before .powers .ensures) (c .before .before .before .before .before .before .logs .ensures))
 
-unanimous-requires : tie.Need-unanimous-requires
-unanimous-requires c κs =
+all-of-requires : tie.Need-all-of-requires
+all-of-requires c κs =
     let P = c .before .before .before .before .before .before .before .before .before .before .before .before .before .before .before .before .pre in
     let d = c .before .before .before .before .regain in
     let f = front-back (zeros 256) (d .last .1 .1 .1 .1 .0) _ (P .searching .bounded .size-high) (d .kept .1 .1 .1 .1 .0) ∙ d .ensures in
@@ -60,7 +60,7 @@ returns c =
     let P = c .before .before .before .before .before .before .before .before .before .before .before .before .before .before .before .before .before .before .pre in
     let d = c .before .before .before .before .before .before .regain in
     let f = front-back (zeros 256) (d .last .1 .1 .1 .1 .0) _ (P .searching .bounded .size-high) (d .kept .1 .1 .1 .1 .0) ∙ d .ensures in
-    disagreed _ _ _ _ _ _ P _ _ (c .before .before .before .before .before .before .before .before .before .before .before .before .before .before .before .hits .ensures) (c .before .before .before .before .before .before .before .before .before .before .before .before .before .before .holders .ensures) _ f _ _ (c .before .before .before .before .before .before .before .before .before .before .before .powers .ensures) (c .before .before .before .before .before .before .before .before .before .before .logs .ensures) _ (c .before .unanimous .ensures) _ (c .if1 .taken)
+    disagreed _ _ _ _ _ _ P _ _ (c .before .before .before .before .before .before .before .before .before .before .before .before .before .before .before .hits .ensures) (c .before .before .before .before .before .before .before .before .before .before .before .before .before .before .holders .ensures) _ f _ _ (c .before .before .before .before .before .before .before .before .before .before .before .powers .ensures) (c .before .before .before .before .before .before .before .before .before .before .logs .ensures) _ (c .before .all-of .ensures) _ (c .if1 .taken)
 
 array-share-prefix-value-2 : tie.Need-array-share-prefix-value-2
 array-share-prefix-value-2 c =
@@ -90,7 +90,7 @@ returns-2 c =
     let P = c .before .before .before .before .before .before .before .before .before .before .before .before .before .before .before .before .before .before .before .before .before .before .before .pre in
     let d = c .before .before .before .before .before .before .before .before .before .before .before .regain in
     let f = front-back (zeros 256) (d .last .1 .1 .1 .1 .0) _ (P .searching .bounded .size-high) (d .kept .1 .1 .1 .1 .0) ∙ d .ensures in
-    unanimous _ _ _ _ _ _ P _ _ (c .before .before .before .before .before .before .before .before .before .before .before .before .before .before .before .before .before .before .before .before .hits .ensures) (c .before .before .before .before .before .before .before .before .before .before .before .before .before .before .before .before .before .before .before .holders .ensures) _ f _ _ (c .before .before .before .before .before .before .before .before .before .before .before .before .before .before .before .before .powers .ensures) (c .before .before .before .before .before .before .before .before .before .before .before .before .before .before .before .logs .ensures) _ (c .before .before .before .before .before .before .unanimous .ensures) _ _ (c .before .before .before .before .before .if1 .left) (c .before .before .put .ensures)
+    unanimous _ _ _ _ _ _ P _ _ (c .before .before .before .before .before .before .before .before .before .before .before .before .before .before .before .before .before .before .before .before .hits .ensures) (c .before .before .before .before .before .before .before .before .before .before .before .before .before .before .before .before .before .before .before .holders .ensures) _ f _ _ (c .before .before .before .before .before .before .before .before .before .before .before .before .before .before .before .before .powers .ensures) (c .before .before .before .before .before .before .before .before .before .before .before .before .before .before .before .logs .ensures) _ (c .before .before .before .before .before .before .all-of .ensures) _ _ (c .before .before .before .before .before .if1 .left) (c .before .before .put .ensures)
 
 pub regain-value-spec : {M : Type 1} → statement M
 regain-value-spec =
@@ -104,8 +104,8 @@ regain-value-spec =
     slice-aggregate-regain
     regain-requires
     array-share-prefix-value
-    slice-aggregate-unanimous
-    unanimous-requires
+    slice-aggregate-all-of
+    all-of-requires
     returns
     array-share-prefix-value-2
     slice-aggregate-put

@@ -1,11 +1,8 @@
 use mathlib.Core.Path.{ap, sym}
 use Rattle.frame.specs.Refusals.{numberOf}
-use native.Mathlib.Omega.{arith}
 use borrow.Author.Needs.{needs}
 use Rattle.frame.proofs.refusals.number_of.Statement.{statement}
 use Rattle.frame.proofs.refusals.number_of.Tie as tie
-use Rattle.frame.proofs.refusals.number_of.Reads as reads
-use Rattle.frame.proofs.refusals.number_of.Lts as lts
 
 enum-told : tie.Need-enum-told
 enum-told c = search needs
@@ -65,79 +62,60 @@ enum-told-19 : tie.Need-enum-told-19
 enum-told-19 c = search needs
 
 returns : tie.Need-returns
-unfolding numberOf
 returns c = ap numberOf (sym (c .enum-told .given .1))
 
 returns-2 : tie.Need-returns-2
-unfolding numberOf
 returns-2 c = ap numberOf (sym (c .enum-told2 .given .1))
 
 returns-3 : tie.Need-returns-3
-unfolding numberOf
 returns-3 c = ap numberOf (sym (c .enum-told3 .given .1))
 
 returns-4 : tie.Need-returns-4
-unfolding numberOf
 returns-4 c = ap numberOf (sym (c .enum-told4 .given .1))
 
 returns-5 : tie.Need-returns-5
-unfolding numberOf
 returns-5 c = ap numberOf (sym (c .enum-told5 .given .1))
 
 returns-6 : tie.Need-returns-6
-unfolding numberOf
 returns-6 c = ap numberOf (sym (c .enum-told6 .given .1))
 
 returns-7 : tie.Need-returns-7
-unfolding numberOf
 returns-7 c = ap numberOf (sym (c .enum-told7 .given .1))
 
 returns-8 : tie.Need-returns-8
-unfolding numberOf
 returns-8 c = ap numberOf (sym (c .enum-told8 .given .1))
 
 returns-9 : tie.Need-returns-9
-unfolding numberOf
 returns-9 c = ap numberOf (sym (c .enum-told9 .given .1))
 
 returns-10 : tie.Need-returns-10
-unfolding numberOf
 returns-10 c = ap numberOf (sym (c .enum-told10 .given .1))
 
 returns-11 : tie.Need-returns-11
-unfolding numberOf
 returns-11 c = ap numberOf (sym (c .enum-told11 .given .1))
 
 returns-12 : tie.Need-returns-12
-unfolding numberOf
 returns-12 c = ap numberOf (sym (c .enum-told12 .given .1))
 
 returns-13 : tie.Need-returns-13
-unfolding numberOf
 returns-13 c = ap numberOf (sym (c .enum-told13 .given .1))
 
 returns-14 : tie.Need-returns-14
-unfolding numberOf
 returns-14 c = ap numberOf (sym (c .enum-told14 .given .1))
 
 returns-15 : tie.Need-returns-15
-unfolding numberOf
 returns-15 c = ap numberOf (sym (c .enum-told15 .given .1))
 
 returns-16 : tie.Need-returns-16
-unfolding numberOf
 returns-16 c = ap numberOf (sym (c .enum-told16 .given .1))
 
 returns-17 : tie.Need-returns-17
-unfolding numberOf
 returns-17 c = ap numberOf (sym (c .enum-told17 .given .1))
 
 returns-18 : tie.Need-returns-18
-unfolding numberOf
 returns-18 c = ap numberOf (sym (c .enum-told18 .given .1))
 
 returns-19 : tie.Need-returns-19
-unfolding numberOf
 returns-19 c = ap numberOf (sym (c .enum-told19 .given .1))
 
 pub number-of-spec : {M : Type 1} → statement M

@@ -23,18 +23,18 @@ loop-holds : tie.Need-loop-holds Inv-loop μ-loop
 unfolding table tableFrom
 loop-holds c = (refl, omega arith)
 
-array-read-has-list : tie.Need-array-read-has-list Inv-loop μ-loop
-array-read-has-list c = search needs
+array-read-sent-list : tie.Need-array-read-sent-list Inv-loop μ-loop
+array-read-sent-list c = search needs
 
-mul-has-list : tie.Need-mul-has-list Inv-loop μ-loop
-mul-has-list c = search needs
+mul-sent-list : tie.Need-mul-sent-list Inv-loop μ-loop
+mul-sent-list c = search needs
 
-array-read-has-list-2 : tie.Need-array-read-has-list-2 Inv-loop μ-loop
-array-read-has-list-2 c = search needs
+array-read-sent-list-2 : tie.Need-array-read-sent-list-2 Inv-loop μ-loop
+array-read-sent-list-2 c = search needs
 
-has-list-requires : tie.Need-has-list-requires Inv-loop μ-loop
+sent-list-requires : tie.Need-sent-list-requires Inv-loop μ-loop
 unfolding Within
-has-list-requires c κs =
+sent-list-requires c κs =
     let p = c .before .before .before .before .pre in
     (p .bounded, p .within (c .before .loop .j))
 
@@ -48,7 +48,7 @@ loop-less : tie.Need-loop-less Inv-loop μ-loop
 loop-less c = search needs
 
 loop-again : tie.Need-loop-again Inv-loop μ-loop
-loop-again c = (table-turn _ _ _ _ _ (c .before .before .loop .inv .0) (flag-law _ _ _ _ _ _ _ (c .has-list .ensures)), omega arith)
+loop-again c = (table-turn _ _ _ _ _ (c .before .before .loop .inv .0) (flag-law _ _ _ _ _ _ _ (c .sent-list .ensures)), omega arith)
 
 returns : tie.Need-returns Inv-loop μ-loop
 unfolding flags
@@ -61,10 +61,10 @@ matching-spec =
     Inv-loop
     μ-loop
     loop-holds
-    array-read-has-list
-    mul-has-list
-    array-read-has-list-2
-    has-list-requires
+    array-read-sent-list
+    mul-sent-list
+    array-read-sent-list-2
+    sent-list-requires
     array-write-r
     add-j
     loop-less

@@ -3,6 +3,7 @@ use mathlib.Core.Path.{_≡_}
 use lib.ListN.{length}
 use native.Mathlib.Omega.{arith}
 use borrow.Author.Needs.{needs}
+use Rattle.hall.specs.Areas.{Servers}
 use Rattle.hall.proofs.parties.fresh_servers.Statement.{statement}
 use Rattle.hall.proofs.parties.fresh_servers.Tie as tie
 use Rattle.hall.proofs.parties.fresh_servers.Reads as reads
@@ -10,7 +11,7 @@ use Rattle.hall.proofs.parties.fresh_servers.Lts as lts
 use Rattle.server.proofs.setup.construct.Reads as construct-reads
 
 abbrev Inv-loop : tie.InvT-loop
-Inv-loop g value areas₀ initials₀ j₀ areas initials j = (j ≤ 11) × (length areas ≡ 1070784) × (length initials ≡ 2816)
+Inv-loop g value areas₀ initials₀ j₀ areas initials j = (j ≤ 11) × Servers areas initials
 
 abbrev μ-loop : tie.MeasureT-loop
 μ-loop g value areas₀ initials₀ j₀ areas initials j = 11 - j

@@ -8,7 +8,7 @@ use borrow.Author.Needs.{needs}
 use Rattle.area.specs.Area.{joined}
 use Rattle.frame.proofs.RoundTrip.{length-stamp}
 use Rattle.frame.specs.Frames.{stampBytes}
-use Rattle.client_rules.specs.State.{noStamp}
+use Rattle.frame.specs.Stamps.{zeroStamp}
 use Rattle.layout.proofs.Places.{put-turn, put-end}
 use Rattle.layout.specs.Clients.{stampsBytes}
 use Rattle.layout.specs.Fields.{rowBytes}
@@ -16,7 +16,7 @@ use Rattle.layout.proofs.clients.put_stamps.Statement.{statement}
 use Rattle.layout.proofs.clients.put_stamps.Tie as tie
 
 abbrev Inv-loop : tie.InvT-loop
-Inv-loop out₀ at x j₀ out j = (out ≡ sets out₀ at (joined (λ (k : ℕ). stampBytes (getD x k noStamp)) 0 j)) × (j ≤ 4) × (length out ≡ length out₀)
+Inv-loop out₀ at x j₀ out j = (out ≡ sets out₀ at (joined (λ (k : ℕ). stampBytes (getD x k zeroStamp)) 0 j)) × (j ≤ 4) × (length out ≡ length out₀)
 
 abbrev μ-loop : tie.MeasureT-loop
 μ-loop out₀ at x j₀ out j = 4 - j
@@ -51,7 +51,7 @@ loop-again c =
     let l = c .before .before .before .before .before .before .loop in
     let a = c .before .before .before .before .before .before .before .before .args in
     let h : a .at + l .j * 13 ≡ a .at + l .j * 13 = refl in
-    let p = put-turn (λ (k : ℕ). stampBytes (getD (a .t1) k noStamp)) 13 (a .out .now) (l .out) _ (a .at) (l .j) _ (λ k. length-stamp (getD (a .t1) k noStamp)) h (l .inv .0) (c .before .before .put-stamp .ensures) in
+    let p = put-turn (λ (k : ℕ). stampBytes (getD (a .t1) k zeroStamp)) 13 (a .out .now) (l .out) _ (a .at) (l .j) _ (λ k. length-stamp (getD (a .t1) k zeroStamp)) h (l .inv .0) (c .before .before .put-stamp .ensures) in
     (p, omega arith, search needs)
 
 same-length : tie.Need-same-length Inv-loop μ-loop
@@ -63,7 +63,7 @@ returns c =
     let l = c .before .loop in
     let a = c .before .before .before .args in
     let e : l .j ≡ 4 = omega arith in
-    put-end (λ (k : ℕ). stampBytes (getD (a .t1) k noStamp)) (a .out .now) (l .out) (a .at) (l .j) 4 e (l .inv .0)
+    put-end (λ (k : ℕ). stampBytes (getD (a .t1) k zeroStamp)) (a .out .now) (l .out) (a .at) (l .j) 4 e (l .inv .0)
 
 pub put-stamps-spec : {M : Type 1} → statement M
 put-stamps-spec =

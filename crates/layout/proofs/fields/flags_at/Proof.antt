@@ -9,7 +9,7 @@ use lib.ListN.{length, getD}
 use borrow.Author.Needs.{needs}
 use Rattle.area.specs.Area.{tableFrom, table}
 use Rattle.layout.specs.Fields.{flagIn, flagAt, flagsAt, rowAt}
-use Rattle.layout.proofs.Places.{get-turn, get-end}
+use Rattle.layout.proofs.Places.{table-turn, get-end}
 use Rattle.layout.proofs.fields.flags_at.Statement.{statement}
 use Rattle.layout.proofs.fields.flags_at.Tie as tie
 
@@ -51,7 +51,7 @@ loop-again : tie.Need-loop-again Inv-loop μ-loop
 loop-again c =
     let l = c .before .before .before .loop in
     let a = c .before .before .before .before .before .args in
-    (get-turn (λ (k : ℕ). flagAt (a .bytes .now) (a .at + k * 1)) _ (l .f) (l .j) _ (l .inv .0) (flag-turn (a .bytes .now) (a .at) (l .j) _ (c .flag-in .ensures)), omega arith, l .inv .2)
+    (table-turn (λ (k : ℕ). flagAt (a .bytes .now) (a .at + k * 1)) _ (l .f) (l .j) _ (l .inv .0) (flag-turn (a .bytes .now) (a .at) (l .j) _ (c .flag-in .ensures)), omega arith, l .inv .2)
 
 returns : tie.Need-returns Inv-loop μ-loop
 unfolding flagsAt rowAt

@@ -2,7 +2,8 @@
 use mathlib.Core.Path.{_∙_}
 use Prim.Native.Nat.{ℕ, _+_, _≤_}
 use lib.ListN.{length, length-set}
-use Rattle.playback.specs.Stages.{replyCount, sentIn}
+use Rattle.server_rules.specs.Delivery.{replyCount}
+use Rattle.playback.specs.Stages.{sentIn}
 use Rattle.playback.proofs.Copies.{report-room, sent-asks, report-put}
 use native.Mathlib.Omega.{arith}
 use borrow.Author.Needs.{needs}

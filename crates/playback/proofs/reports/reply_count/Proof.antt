@@ -1,5 +1,5 @@
 -- By the reply. Assumes nothing.
-use Rattle.playback.specs.Stages.{replyCount}
+use Rattle.server_rules.specs.Delivery.{replyCount}
 use borrow.Author.Needs.{needs}
 use Rattle.playback.proofs.reports.reply_count.Statement.{statement}
 use Rattle.playback.proofs.reports.reply_count.Tie as tie

@@ -1,6 +1,6 @@
 -- By the reply. Assumes nothing.
 use Rattle.playback.proofs.Outcomes.{refused-number}
-use Rattle.playback.specs.Reports.{replyNumber}
+use Rattle.server_rules.specs.Delivery.{replyNumber}
 use borrow.Author.Needs.{needs}
 use Rattle.playback.proofs.reports.reply_number.Statement.{statement}
 use Rattle.playback.proofs.reports.reply_number.Tie as tie

@@ -1,5 +1,7 @@
 -- The tests of the owner's frame, one after the other. Assumes nothing.
 use Rattle.frame.specs.Messages.{entry}
+use Rattle.frame.proofs.Sizes.{small}
+use native.Mathlib.Omega.{arith}
 use Rattle.server_blocks.proofs.BlockSteps.{send-bad, send-fine}
 use borrow.Author.Needs.{needs}
 use Rattle.server_blocks.proofs.storing.send_test.Statement.{statement}
@@ -17,8 +19,14 @@ returns c = let a = c .before .before .before .before .before .before .before .b
 enum-told : tie.Need-enum-told
 enum-told c = search needs
 
+cast-fit-test : tie.Need-cast-fit-test
+cast-fit-test c = search needs
+
 fit-test-requires : tie.Need-fit-test-requires
-fit-test-requires c κs = let P = c .before .before .before .before .before .before .before .before .pre in (P .0 .bounded, P .1, P .0 .own-low, P .0 .own-high)
+fit-test-requires c κs =
+    let P = c .before .before .before .before .before .before .before .before .pre in
+    let M = small (c .before .before .before .before .before .before .before .before .args .k .params) (P .0 .bounded) in
+    (P .0 .own-low, omega (arith, P .0 .own-high, P .1 .list-is), omega (arith, M .block-room, P .1 .block-is))
 
 returns-2 : tie.Need-returns-2
 returns-2 c = let a = c .before .before .before .before .before .before .before .before .before .args in send-fine (a .k) (a .x) _ (entry (a .list .now) (a .block .now)) (c .before .before .before .before .owner-test .ensures) _ (c .before .before .enum-told .given .1) (c .fit-test .ensures)
@@ -26,4 +34,4 @@ returns-2 c = let a = c .before .before .before .before .before .before .before 
 pub send-test-spec : {M : Type 1} → statement M
 send-test-spec =
     tie.close
-    (tie.spec owner-test-requires enum-known-v returns enum-told fit-test-requires returns-2)
+    (tie.spec owner-test-requires enum-known-v returns enum-told cast-fit-test fit-test-requires returns-2)

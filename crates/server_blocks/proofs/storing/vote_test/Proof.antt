@@ -1,5 +1,6 @@
 -- The tests of a server's echo or ready, one after the other. Assumes nothing.
 use Rattle.frame.specs.Messages.{entry}
+use Rattle.frame.proofs.Sizes.{small}
 use Rattle.server.proofs.Answers.{voted}
 use Rattle.server_blocks.proofs.BlockSteps.{vote-bad, vote-fine}
 use borrow.Author.Needs.{needs}
@@ -27,11 +28,16 @@ enum-told c = search needs
 number-in-requires : tie.Need-number-in-requires
 number-in-requires c κs = search needs
 
+cast-j : tie.Need-cast-j
+cast-j c = search needs
+
 fit-test-requires : tie.Need-fit-test-requires
 fit-test-requires c κs =
     let k = c .before .before .before .before .before .before .before .before .before .before .before .before .before .args .k in
     let W = voted (k .params) (k .from) (c .before .before .before .before .before .before .before .before .before .before .before .before .before .args .x) (k .header .sequence) _ _ (c .before .before .before .server-test .ensures) (c .before .enum-told .given .1) in
-    (c .before .before .before .before .before .before .before .before .before .before .before .before .before .pre .0, c .before .before .before .before .before .before .before .before .before .before .before .before .before .pre .1, omega (arith, W .low, c .number-in .ensures), omega (arith, W .high, c .number-in .ensures))
+    let P = c .before .before .before .before .before .before .before .before .before .before .before .before .before .pre in
+    let M = small (k .params) (P .0) in
+    (omega (arith, W .low, c .number-in .ensures), omega (arith, W .high, c .number-in .ensures, P .1 .list-is), omega (arith, M .block-room, P .1 .block-is))
 
 returns-2 : tie.Need-returns-2
 returns-2 c =
@@ -48,5 +54,6 @@ vote-test-spec =
     returns
     enum-told
     number-in-requires
+    cast-j
     fit-test-requires
     returns-2)

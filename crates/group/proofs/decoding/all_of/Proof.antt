@@ -5,8 +5,8 @@ use Rattle.group.specs.Choice.{allOf}
 use Rattle.group.proofs.Unanimous.{within-at, left, in-order, left-start, own-long, left-turn, left-out, left-end}
 use native.Mathlib.Omega.{arith}
 use borrow.Author.Needs.{needs}
-use Rattle.group.proofs.decoding.unanimous.Statement.{statement}
-use Rattle.group.proofs.decoding.unanimous.Tie as tie
+use Rattle.group.proofs.decoding.all_of.Statement.{statement}
+use Rattle.group.proofs.decoding.all_of.Tie as tie
 
 abbrev Inv-loop : tie.InvT-loop
 Inv-loop value area g ps ls on at n k j₀ j = (allOf g on at area value ≡ left g at area on value j) × (j ≤ g .n)
@@ -76,8 +76,8 @@ returns-2 c =
     let p = c .before .before .before .before .pre in
     sym (c .before .loop .inv .0 ∙ left-end _ _ _ (p .0 .bounded) (p .1) _ _ (p .0 .whole) _ (c .loop-test .left))
 
-pub unanimous-spec : {M : Type 1} → statement M
-unanimous-spec =
+pub all-of-spec : {M : Type 1} → statement M
+all-of-spec =
     tie.close
     (tie.spec
     Inv-loop

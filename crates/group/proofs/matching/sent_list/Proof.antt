@@ -2,8 +2,8 @@
 use borrow.Author.Tests.{le-leb, lt-leb}
 use Rattle.group.proofs.Lists.{compared-with}
 use borrow.Author.Needs.{needs}
-use Rattle.group.proofs.matching.has_list.Statement.{statement}
-use Rattle.group.proofs.matching.has_list.Tie as tie
+use Rattle.group.proofs.matching.sent_list.Statement.{statement}
+use Rattle.group.proofs.matching.sent_list.Tie as tie
 
 returns : tie.Need-returns
 returns c = rw (lt-leb _ _ (c .if1 .taken))
@@ -25,5 +25,5 @@ returns-3 c =
 returns-4 : tie.Need-returns-4
 returns-4 c = rw (le-leb _ _ (c .before .before .if1 .left), le-leb _ _ (c .before .if2 .left), c .if3 .left)
 
-pub has-list-spec : {M : Type 1} → statement M
-has-list-spec = tie.close (tie.spec returns returns-2 digests-at-requires equal-requires returns-3 returns-4)
+pub sent-list-spec : {M : Type 1} → statement M
+sent-list-spec = tie.close (tie.spec returns returns-2 digests-at-requires equal-requires returns-3 returns-4)

@@ -9,6 +9,7 @@ use Rattle.frame.specs.declared.Verdict.{Verdict}
 use Rattle.frame.specs.declared.Verdict.the-variants as J
 use Rattle.frame.specs.Params.{Bounded, largestFrame}
 use Rattle.frame.specs.Stamps.{lastSequence}
+use Rattle.frame.specs.Frames.{bodyAt}
 use Rattle.frame.specs.Outbox.{frames, receivers, Room, firstPlace}
 use Rattle.frame.specs.Chunks.{rowsBytes}
 use Rattle.client_rules.specs.declared.Client.{Client}
@@ -27,7 +28,7 @@ spotOf (some i) = At i
 pub record Opening (g : Params) (last out to : ℕ) : Type 0 where
   pub bounded : Bounded g
   pub left : last < lastSequence
-  pub room : Room firstPlace (g .n) 9 out to
+  pub room : Room firstPlace (g .n) bodyAt out to
 
 -- ---- a frame that opened, the lent areas being long enough
 

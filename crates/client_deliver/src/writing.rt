@@ -28,7 +28,7 @@ ghost use Rattle.area.specs.Numbers.{be8};
 ghost use Rattle.sha256.specs.Hash.{digestOf};
 ghost use Rattle.frame.specs.Params.{Bounded, largestFrame};
 ghost use Rattle.frame.specs.Messages.{message, stampIs, ack, numberIn};
-ghost use Rattle.frame.specs.Frames.{offerAt};
+ghost use Rattle.frame.specs.Frames.{bodyAt, offerAt};
 ghost use Rattle.frame.specs.Outbox.{firstPlace, Room};
 ghost use Rattle.client_rules.specs.Tests.{messageTest};
 ghost use Rattle.client_rules.specs.Steps.{gatherBy, onStamp, onAck};
@@ -78,8 +78,8 @@ pub fn on_stamp(
     requires { ⌜ Stamping (k .params) s (length (now value)) (length (now out)) (length (now to)) × (offerAt ≤ length (now f)) ⌝ }
     ensures { λ r. ⌜ ((a l : List ℕ) → outcome r a l (now (out .exit)) (now (to .exit))
         ≡ answered (messageTest digestOf (k .params) (k .me) s (k .from) (message (k .header .client) (k .header .sequence)
-        (stampIs (be8 (now (f .entry)) 9)))) s a
-        (onStamp digestOf (k .params) (k .me) s a (now (value .entry)) (numberIn (k .from)) (be8 (now (f .entry)) 9)) l
+        (stampIs (be8 (now (f .entry)) bodyAt)))) s a
+        (onStamp digestOf (k .params) (k .me) s a (now (value .entry)) (numberIn (k .from)) (be8 (now (f .entry)) bodyAt)) l
         (now (out .entry)) (now (to .entry))) ⌝ }
 {
     let from = k.from;

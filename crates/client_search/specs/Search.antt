@@ -10,6 +10,7 @@ use Rattle.blocks.specs.declared.Params.{Params}
 use Rattle.frame.specs.declared.Stamp.{Stamp}
 use Rattle.frame.specs.Params.{Bounded}
 use Rattle.frame.specs.Chunks.{entryAt, placeAt, rowsBytes}
+use Rattle.frame.specs.Frames.{bodyAt}
 use Rattle.frame.specs.Outbox.{Room, firstPlace}
 use Rattle.frame.specs.Stamps.{zeroStamp}
 use Rattle.group.specs.Entries.{sentList, flags}
@@ -62,4 +63,4 @@ pub record Finishing (g : Params) (rows : List Row) (a : List ℕ) (j i result o
   pub place : i < 4
   pub held : agreed g (view g rows a) (keptAt g rows a j i) ≡ true
   pub value-room : g .size ≤ result
-  pub room : Room firstPlace (g .n) 9 out to
+  pub room : Room firstPlace (g .n) bodyAt out to

@@ -12,14 +12,14 @@ use group::matching::tally;
 ghost use mathlib.Core.Path.{_≡_};
 ghost use Prim.Native.Nat.{_+_, _≤_};
 ghost use lib.ListN.{length};
-ghost use Rattle.frame.specs.Chunks.{chunkAt, entryAt};
+ghost use Rattle.frame.specs.Chunks.{chunkAt, entryAt, chunkBytes};
 ghost use Rattle.group.specs.Needs.{Comparing};
 ghost use Rattle.client_rules.specs.Rows.{rowsFrom, agreed, firstAgreed};
 ghost use Rattle.client_search.specs.Search.{view, holdersOf, Searching, standing, Inside};
 
 // Of what the rows have at a stamp, that with the digest list in chunk p.
 pub fn holders(h: Hits, p: usize, area: &[u8], g: Params) -> Hits
-    requires { ⌜ Comparing g (h .at) (now area) × (chunkAt p + 576 ≤ length (now area)) ⌝ }
+    requires { ⌜ Comparing g (h .at) (now area) × (chunkAt p + chunkBytes ≤ length (now area)) ⌝ }
     ensures { λ r. ⌜ r ≡ holdersOf g (now (area .entry)) h p ⌝ }
 {
     let on = h.on;

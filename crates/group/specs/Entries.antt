@@ -1,15 +1,15 @@
 -- The entries that servers sent, kept in the chunks of a lent area: for server j of 1 to 10 a flag at place j of one array and a chunk's number at
 -- place j of another, both of 11 places. Assumes nothing: these are definitions.
 use Prim.Native.Nat.{ℕ, _+_, _≤_}
-use mathlib.Core.Bool.{Bool, true, false, _&&_}
-use mathlib.Core.Option.{Option, none, some}
+use mathlib.Core.Bool.{Bool, false, _&&_}
+use mathlib.Core.Option.{Option}
 use mathlib.Core.List.{List}
 use lib.ListN.{length, getD}
 use lib.Dec.{leb, eqb}
 use Rattle.area.specs.Area.{table, kept}
 use Rattle.blocks.specs.declared.Params.{Params}
 use Rattle.frame.specs.Messages.{Entry}
-use Rattle.frame.specs.Chunks.{chunkAt, entryAt}
+use Rattle.frame.specs.Chunks.{chunkAt, entryAt, chunkBytes}
 use Rattle.group_rules.specs.Coded.{hasList}
 
 -- whether server j is flagged
@@ -42,4 +42,4 @@ placesFrom p = table 11 (λ j. p + j)
 
 -- every chunk lies within the area
 unfoldable pub Within : List ℕ → List ℕ → Type 0
-Within at a = (j : ℕ) → chunkAt (getD at j 0) + 576 ≤ length a
+Within at a = (j : ℕ) → chunkAt (getD at j 0) + chunkBytes ≤ length a

@@ -14,7 +14,7 @@ ghost use Rattle.area.specs.Area.{pick, same};
 ghost use Rattle.field.specs.Field.{Tables};
 ghost use Rattle.blocks.specs.Code.{blockLength, blockOf};
 ghost use Rattle.frame.specs.Params.{width, Bounded};
-ghost use Rattle.frame.specs.Chunks.{chunkAt, entryAt};
+ghost use Rattle.frame.specs.Chunks.{chunkAt, entryAt, chunkBytes};
 ghost use Rattle.group.specs.Entries.{marked, Within};
 ghost use Rattle.group.specs.Choice.{lowest, blocksIn, valueFrom, allOf};
 ghost use Rattle.group.specs.Needs.{Collecting, Decoding, Valued};
@@ -49,7 +49,7 @@ fn choose(on: [bool; 11], n: usize, k: usize, numbers: &mut [u8; 8])
 
 // The block in chunk p of the area, into out from index at on.
 fn put_block(area: &[u8], p: usize, g: Params, out: &mut [u8], at: usize)
-    requires { ⌜ Bounded g × (chunkAt p + 576 ≤ length (now area)) × (at + width g ≤ length (now out)) ⌝ }
+    requires { ⌜ Bounded g × (chunkAt p + chunkBytes ≤ length (now area)) × (at + width g ≤ length (now out)) ⌝ }
     ensures { λ _. ⌜ now (out .exit) ≡ sets (now (out .entry)) at (entryAt g (now (area .entry)) p .block) ⌝ }
 {
     let block = block_at(area, p, g);

@@ -9,7 +9,7 @@ ghost use lib.Dec.{leb, eqb};
 ghost use Rattle.area.specs.Area.{same};
 ghost use Rattle.quorum.specs.Quorum.{bit, count};
 ghost use Rattle.frame.specs.Params.{Bounded};
-ghost use Rattle.frame.specs.Chunks.{chunkAt, entryAt};
+ghost use Rattle.frame.specs.Chunks.{chunkAt, entryAt, chunkBytes};
 ghost use Rattle.group.specs.Entries.{marked, timed, sentList, flags, placesFrom};
 ghost use Rattle.group.specs.Needs.{Comparing};
 
@@ -76,7 +76,7 @@ pub fn places(first: usize) -> [usize; 11]
 
 // Whether server j is one of 1 to n, is flagged, and the digest list in chunk p of the area is the list.
 fn sent_list(j: usize, mark: bool, p: usize, area: &[u8], list: &[u8], g: Params) -> bool
-    requires { ⌜ Bounded g × (chunkAt p + 576 ≤ length (now area)) ⌝ }
+    requires { ⌜ Bounded g × (chunkAt p + chunkBytes ≤ length (now area)) ⌝ }
     ensures { λ r. ⌜ r ≡ leb 1 j && (leb j (g .n) && (mark && same (entryAt g (now (area .entry)) p .digests) (now (list .entry)))) ⌝ }
 {
     let n = g.n;

@@ -26,7 +26,8 @@ ghost use Rattle.frame.specs.Params.{Bounded};
 ghost use Rattle.frame.specs.Stamps.{lastTime};
 ghost use Rattle.frame.specs.Messages.{entry};
 ghost use Rattle.frame.specs.Outbox.{outbox, sent, Room};
-ghost use Rattle.frame.specs.Chunks.{entryAt, presentAt, storeIf};
+ghost use Rattle.frame.specs.Chunks.{entryAt, presentAt, storeIf, chunkBytes, chunkAt};
+ghost use Rattle.frame.specs.Frames.{valueAt};
 ghost use Rattle.server_rules.specs.Steps.{accept, tellFrom};
 ghost use Rattle.server.specs.Stages.{Lent};
 ghost use Rattle.server_accept.specs.Telling.{toldTo, opensIn, ripeIn, writeIn, Freeing};
@@ -48,7 +49,7 @@ fn tell_one(
     to: &mut [u8],
     p: Place,
 ) -> Place
-    requires { ⌜ Room p 1 (22 + (length (now digests) + length (now block))) (length (now out)) (length (now to)) ⌝ }
+    requires { ⌜ Room p 1 (valueAt + (length (now digests) + length (now block))) (length (now out)) (length (now to)) ⌝ }
     ensures { λ q. ⌜ outbox (now (out .exit)) (now (to .exit)) q
         ≡ sent (outbox (now (out .entry)) (now (to .entry)) p) (toldTo r c x (entry (now (digests .entry)) (now (block .entry)))) ⌝ }
 {
@@ -71,7 +72,7 @@ fn tell(
     to: &mut [u8],
     p: Place,
 ) -> Place
-    requires { ⌜ Room p 8 (22 + (length (now digests) + length (now block))) (length (now out)) (length (now to)) ⌝ }
+    requires { ⌜ Room p 8 (valueAt + (length (now digests) + length (now block))) (length (now out)) (length (now to)) ⌝ }
     ensures { λ q. ⌜ outbox (now (out .exit)) (now (to .exit)) q
         ≡ sent (outbox (now (out .entry)) (now (to .entry)) p) (tellFrom readers x (entry (now (digests .entry)) (now (block .entry))) 1 8) ⌝ }
 {
@@ -99,7 +100,7 @@ fn copy_down(area: &mut [u8], at: usize, from: usize, n: usize)
 
 // The entry of chunk p becomes the present one, if its stamp is newer.
 fn replace(newer: bool, area: &mut [u8], g: Params, p: usize)
-    requires { ⌜ Bounded g × (1 ≤ p) × (576 * p + 576 ≤ length (now area)) ⌝ }
+    requires { ⌜ Bounded g × (1 ≤ p) × (chunkAt p + chunkBytes ≤ length (now area)) ⌝ }
     ensures { λ _. ⌜ now (area .exit) ≡ storeIf newer (now (area .entry)) presentAt (entryAt g (now (area .entry)) p) ⌝ }
 {
     if newer {

@@ -1,5 +1,5 @@
 -- The value that client c's kept entries give, by the votes v for a time and a digest list. These are definitions.
-use Prim.Native.Nat.{ℕ, _*_, _-_, _≤_, _<_}
+use Prim.Native.Nat.{ℕ, _-_, _≤_, _<_}
 use mathlib.Core.Path.{_≡_}
 use mathlib.Core.Bool.{Bool, _&&_}
 use mathlib.Core.List.{List}
@@ -8,7 +8,7 @@ use Rattle.area.specs.Area.{pick, same}
 use Rattle.blocks.specs.declared.Params.{Params}
 use Rattle.quorum.specs.Quorum.{count}
 use Rattle.frame.specs.Params.{Bounded, quota}
-use Rattle.frame.specs.Chunks.{areaBytes}
+use Rattle.frame.specs.Chunks.{areaBytes, echoesFrom, readiesFrom}
 use Rattle.group_rules.specs.Coded.{digestsOf}
 use Rattle.group.specs.Entries.{marked, placesFrom}
 use Rattle.group.specs.Choice.{valueFrom, allOf}
@@ -18,7 +18,7 @@ use Rattle.server_blocks.specs.declared.Group.{Group}
 -- "readies if there are q, else echoes"
 unfoldable pub groupOf : Params → Voters → ℕ → Group
 groupOf g v c =
-    pick (leb (quota g) (v .readied)) (record { on = v .readies; at = placesFrom (21 * c - 10) }) (record { on = v .echoes; at = placesFrom (21 * c - 20) })
+    pick (leb (quota g) (v .readied)) (record { on = v .readies; at = placesFrom (readiesFrom c) }) (record { on = v .echoes; at = placesFrom (echoesFrom c) })
 
 -- the value that the k lowest of them give
 unfoldable pub groupValue : Params → Voters → ℕ → List ℕ → List ℕ

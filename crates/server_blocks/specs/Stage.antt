@@ -1,5 +1,5 @@
 -- How the code handles a frame of a write, stage by stage: what each stage asks, and what it leaves. These are definitions.
-use Prim.Native.Nat.{ℕ, _+_, _*_, _-_, _≤_}
+use Prim.Native.Nat.{ℕ, _+_, _-_, _≤_}
 use mathlib.Core.Path.{_≡_}
 use mathlib.Core.Bool.{Bool, false, not, _&&_}
 use mathlib.Core.List.{List, []}
@@ -13,7 +13,7 @@ use Rattle.frame.specs.Refusals.{andThen, refused}
 use Rattle.frame.specs.Params.{Bounded, width, listed, largestFrame}
 use Rattle.frame.specs.Messages.{Entry, entry, Offer, offer, Stage, echo, ready, message, Sending, toAll, blockIs, numberIn, fromServer}
 use Rattle.frame.specs.Outbox.{outbox, firstPlace, Room}
-use Rattle.frame.specs.Chunks.{storeIf, completeAt}
+use Rattle.frame.specs.Chunks.{storeIf, completeAt, echoesFrom, readiesFrom}
 use Rattle.server_rules.specs.declared.BlockPart.{BlockPart}
 use Rattle.server_rules.specs.declared.Slot.{Slot}
 use Rattle.server_rules.specs.State.{withBlocks, blockEcho, blockReady, blockMarks}
@@ -58,7 +58,7 @@ voteCounted echoes b j T = pick echoes (blockEcho b j T) (blockReady b j T)
 
 -- server j's, of client c, is kept in the chunk that lies by j behind this one
 unfoldable pub votesFrom : Bool → ℕ → ℕ
-votesFrom echoes c = pick echoes (21 * c - 20) (21 * c - 10)
+votesFrom echoes c = pick echoes (echoesFrom c) (readiesFrom c)
 
 -- ---- 11 to 14
 

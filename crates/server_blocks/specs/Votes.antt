@@ -1,11 +1,12 @@
 -- What is due of a write by the numbers e of echoes and r of readies that have one time and digest list. These are definitions.
-use Prim.Native.Nat.{ℕ, _+_, _*_, _-_}
+use Prim.Native.Nat.{ℕ, _+_, _-_}
 use mathlib.Core.Bool.{Bool, not, _&&_, _||_}
 use mathlib.Core.List.{List}
 use lib.Dec.{leb}
 use Rattle.quorum.specs.Quorum.{count}
 use Rattle.blocks.specs.declared.Params.{Params}
 use Rattle.frame.specs.Params.{quota}
+use Rattle.frame.specs.Chunks.{echoesFrom, readiesFrom}
 use Rattle.group.specs.Entries.{marked, timed, sentList, flags, placesFrom}
 use Rattle.server_rules.specs.declared.BlockPart.{BlockPart}
 use Rattle.server_blocks.specs.declared.Voters.{Voters}
@@ -32,8 +33,8 @@ fullBy g supported r = leb (quota g + g .t) r && supported
 -- the votes for the time T and the list d, the entries of client c lying in the area a
 unfoldable pub votersOf : Params → List ℕ → ℕ → BlockPart → ℕ → List ℕ → Voters
 votersOf g a c b T d =
-    let es = flags (sentList g (timed (b .echoes) (b .echoed) T) (placesFrom (21 * c - 20)) a d) (g .n) in
-    let rs = flags (sentList g (timed (b .readies) (b .readied) T) (placesFrom (21 * c - 10)) a d) (g .n) in
+    let es = flags (sentList g (timed (b .echoes) (b .echoed) T) (placesFrom (echoesFrom c)) a d) (g .n) in
+    let rs = flags (sentList g (timed (b .readies) (b .readied) T) (placesFrom (readiesFrom c)) a d) (g .n) in
     record { echoes = es; readies = rs; echoed = count (marked es) (g .n); readied = count (marked rs) (g .n) }
 
 -- what the votes v for the time T bring forth; went says whether a ready went out before

@@ -20,7 +20,7 @@ ghost use Rattle.area.specs.Area.{pick};
 ghost use Rattle.frame.specs.Params.{Bounded};
 ghost use Rattle.frame.specs.Messages.{entry, offer};
 ghost use Rattle.frame.specs.Outbox.{outbox, sent, firstPlace};
-ghost use Rattle.frame.specs.Chunks.{areaBytes, storeIf, completeAt};
+ghost use Rattle.frame.specs.Chunks.{areaBytes, storeIf, completeAt, listBytes};
 ghost use Rattle.server_blocks.specs.Stage.{Carried, RoomFor, LentFor, readiesOf, Answered};
 
 // The first frames of a step: readies of the time and the list with the own block to all servers, if they are due.
@@ -45,7 +45,7 @@ fn ready_if(d: Due, k: Call, list: &[u8], block: &[u8], out: &mut [u8], to: &mut
 
 // The list with the own block becomes client c's completed entry, where the test holds.
 fn complete_if(test: bool, area: &mut [u8], c: u8, list: &[u8], block: &[u8])
-    requires { ⌜ (1 ≤ c) × (c ≤ 8) × (areaBytes ≤ length (now area)) × (length (now list) ≤ 320) × (length (now block) ≤ 256) ⌝ }
+    requires { ⌜ (1 ≤ c) × (c ≤ 8) × (areaBytes ≤ length (now area)) × (length (now list) ≤ listBytes) × (length (now block) ≤ 256) ⌝ }
     ensures { λ _. ⌜ now (area .exit) ≡ storeIf test (now (area .entry)) (completeAt c) (entry (now (list .entry)) (now (block .entry))) ⌝ }
 {
     if test {

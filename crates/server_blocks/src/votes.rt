@@ -16,7 +16,7 @@ ghost use mathlib.Core.Bool.{_&&_, _||_};
 ghost use Prim.Native.Nat.{_+_, _≤_};
 ghost use lib.ListN.{length};
 ghost use Rattle.frame.specs.Params.{Bounded};
-ghost use Rattle.frame.specs.Chunks.{chunkAt};
+ghost use Rattle.frame.specs.Chunks.{chunkAt, chunkBytes};
 ghost use Rattle.group.specs.Entries.{timed, sentList, flags, placesFrom};
 ghost use Rattle.server_blocks.specs.Votes.{enoughBy, mattersBy, dueBy, fullBy, votersOf, dueFor};
 ghost use Rattle.server_blocks.specs.Group.{Stored};
@@ -31,7 +31,7 @@ fn in_group(
     area: &[u8],
     list: &[u8],
 ) -> [bool; 11]
-    requires { ⌜ Bounded g × (first ≤ 1000) × (chunkAt (first + 10) + 576 ≤ length (now area)) ⌝ }
+    requires { ⌜ Bounded g × (first ≤ 1000) × (chunkAt (first + 10) + chunkBytes ≤ length (now area)) ⌝ }
     ensures { λ r. ⌜ r ≡ flags (sentList g (timed on times time) (placesFrom first) (now (area .entry)) (now (list .entry))) (g .n) ⌝ }
 {
     let at = places(first);

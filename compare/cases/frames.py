@@ -1,5 +1,5 @@
 # Blocks and frames as the specification has them, with a field arithmetic of its own: what the scripts of this folder and the cases of
-# crates/server_cases are worked out with. Nothing here is taken from the Rattle code.
+# crates/party_cases are worked out with. Nothing here is taken from the Rattle code.
 import hashlib
 
 

@@ -7,3 +7,4 @@ pub mod Laid
 pub mod Searched
 pub mod Theorem
 pub mod Example
+pub mod Responses

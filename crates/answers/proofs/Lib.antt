@@ -1,1 +1,4 @@
+pub mod Cases
+pub mod Left
+pub mod RefusalNumbers
 pub mod ShortLaws

@@ -7,10 +7,14 @@ use frame::Verdict;
 use frame::refusals::number_of;
 use server_rules::Reply;
 ghost use mathlib.Core.Path.{_≡_};
-ghost use Rattle.answers.specs.Answers.{codeAnswer, testAnswer, isRefusal, clientAnswer, openAnswer, isTurnedDown, serverAnswer};
+ghost use Rattle.area.specs.Responses.{isTurnedDown};
+ghost use Rattle.blocks.specs.Calls.{codeResponse};
+ghost use Rattle.server_rules.specs.Delivery.{replyResponse};
+ghost use Rattle.client_rules.specs.Answers.{answerResponse};
+ghost use Rattle.answers.specs.Answers.{codeAnswer, testAnswer, clientAnswer, openAnswer, serverAnswer};
 
 pub fn code_answer(c: Coded) -> u64
-    ensures { λ r. ⌜ r ≡ codeAnswer c ⌝ }
+    ensures { λ r. ⌜ r ≡ codeAnswer (codeResponse c) ⌝ }
 {
     match c {
         Coded::Done => 0,
@@ -31,7 +35,7 @@ pub fn test_answer(v: Verdict) -> u64
 
 // Whether a client's call was turned down.
 pub fn is_refusal(a: Answer) -> bool
-    ensures { λ r. ⌜ r ≡ isRefusal a ⌝ }
+    ensures { λ r. ⌜ r ≡ isTurnedDown (answerResponse a) ⌝ }
 {
     match a {
         Answer::Sent(m) => false,
@@ -45,7 +49,7 @@ pub fn is_refusal(a: Answer) -> bool
 
 // A client's answer, where there are n servers.
 pub fn client_answer(a: Answer, n: usize) -> u64
-    ensures { λ r. ⌜ r ≡ clientAnswer n a ⌝ }
+    ensures { λ r. ⌜ r ≡ clientAnswer n (answerResponse a) ⌝ }
 {
     match a {
         Answer::Sent(m) => 65536 * (m as u64 % 65536),
@@ -73,7 +77,7 @@ pub fn open_answer(p: Phase, writes: u32, reads: u32) -> u64
 
 // Whether a server's call was turned down.
 pub fn is_turned_down(a: Reply) -> bool
-    ensures { λ r. ⌜ r ≡ isTurnedDown a ⌝ }
+    ensures { λ r. ⌜ r ≡ isTurnedDown (replyResponse a) ⌝ }
 {
     match a {
         Reply::Step(m) => false,
@@ -82,7 +86,7 @@ pub fn is_turned_down(a: Reply) -> bool
 }
 
 pub fn server_answer(a: Reply) -> u64
-    ensures { λ r. ⌜ r ≡ serverAnswer a ⌝ }
+    ensures { λ r. ⌜ r ≡ serverAnswer (replyResponse a) ⌝ }
 {
     match a {
         Reply::Step(m) => 65536 * (m as u64 % 65536),

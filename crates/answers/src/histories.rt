@@ -2,11 +2,13 @@
 use history_sheet::Laid;
 use order::judge::Answer;
 ghost use mathlib.Core.Path.{_≡_};
+ghost use Rattle.order.specs.Histories.{judgeResponse};
+ghost use Rattle.history_sheet.specs.Laying.{laidResponse};
 ghost use Rattle.answers.specs.Answers.{lineCount, historyAnswer, sheetAnswer};
 
 // How many line numbers an answer gives.
 pub fn line_count(a: Answer) -> usize
-    ensures { λ r. ⌜ r ≡ lineCount a ⌝ }
+    ensures { λ r. ⌜ r ≡ lineCount (judgeResponse a) ⌝ }
 {
     match a {
         Answer::Ordered(m) => m,
@@ -16,7 +18,7 @@ pub fn line_count(a: Answer) -> usize
 }
 
 pub fn history_answer(a: Answer) -> u64
-    ensures { λ r. ⌜ r ≡ historyAnswer a ⌝ }
+    ensures { λ r. ⌜ r ≡ historyAnswer (judgeResponse a) ⌝ }
 {
     match a {
         Answer::Ordered(m) => 65536 * (m as u64 % 256),
@@ -26,7 +28,7 @@ pub fn history_answer(a: Answer) -> u64
 }
 
 pub fn sheet_answer(a: Laid) -> u64
-    ensures { λ r. ⌜ r ≡ sheetAnswer a ⌝ }
+    ensures { λ r. ⌜ r ≡ sheetAnswer (laidResponse a) ⌝ }
 {
     match a {
         Laid::Pages(pages) => 65536 * (pages as u64 % 256),

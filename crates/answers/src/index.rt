@@ -3,10 +3,11 @@ use accession_index::Found;
 use accession_index::Insertion;
 use accession_index::number_of;
 ghost use mathlib.Core.Path.{_≡_};
+ghost use Rattle.accession_index.specs.Index.{insertionResponse, foundPlace};
 ghost use Rattle.answers.specs.Answers.{insertionAnswer, searchAnswer};
 
 pub fn insertion_answer(a: Insertion) -> u64
-    ensures { λ r. ⌜ r ≡ insertionAnswer a ⌝ }
+    ensures { λ r. ⌜ r ≡ insertionAnswer (insertionResponse a) ⌝ }
 {
     match a {
         Insertion::Place(p) => 65536 * (p as u64),
@@ -15,7 +16,7 @@ pub fn insertion_answer(a: Insertion) -> u64
 }
 
 pub fn search_answer(f: Found) -> u64
-    ensures { λ r. ⌜ r ≡ searchAnswer f ⌝ }
+    ensures { λ r. ⌜ r ≡ searchAnswer (foundPlace f) ⌝ }
 {
     match f {
         Found::Place(p) => 65536 * (p as u64),

@@ -21,12 +21,12 @@ pub fn read_short(g: Params, me: u8) -> Verdict
     and_then(params, Verdict::Bad(Refusal::Room))
 }
 
-// 1 to 3 first, of party me of parties 1 to most; a value of this length is lent.
-pub fn value_short(g: Params, me: u8, most: usize, length: usize) -> Verdict
-    ensures { λ r. ⌜ r ≡ valueShort g me most length ⌝ }
+// 1 to 3 first, of party me of parties 1 to most; a value of len bytes is lent.
+pub fn value_short(g: Params, me: u8, most: usize, len: usize) -> Verdict
+    ensures { λ r. ⌜ r ≡ valueShort g me most len ⌝ }
 {
     let params = params_test(g, me as usize, most);
-    let whole = length_test(g, length);
+    let whole = length_test(g, len);
     let rest = and_then(whole, Verdict::Bad(Refusal::Room));
     and_then(params, rest)
 }
@@ -52,16 +52,16 @@ pub fn frame_short(g: Params, me: u8, most: usize, f: &[u8]) -> Verdict
     opened_short(opened)
 }
 
-// 1 to 9 first; the frame f is handed to client s, with a value of this length.
-pub fn stamp_short(g: Params, me: u8, s: Client, length: usize, f: &[u8]) -> Verdict
-    ensures { λ r. ⌜ r ≡ stampShort g me s length (now (f .entry)) ⌝ }
+// 1 to 9 first; the frame f is handed to client s, with a value of len bytes.
+pub fn stamp_short(g: Params, me: u8, s: Client, len: usize, f: &[u8]) -> Verdict
+    ensures { λ r. ⌜ r ≡ stampShort g me s len (now (f .entry)) ⌝ }
 {
     let p = s.phase;
     let params = params_test(g, me as usize, CLIENTS);
     if let Verdict::Bad(r) = params {
         return Verdict::Bad(r);
     }
-    let whole = value_test(g, p, length);
+    let whole = value_test(g, p, len);
     if let Verdict::Bad(r) = whole {
         return Verdict::Bad(r);
     }

@@ -37,15 +37,6 @@ unfolding pick
 pick-case true x e y q = inl (refl, q)
 pick-case false x e y q = inr (refl, q)
 
--- a test that is known
-pub pick-true : {A : Type 0} (b : Bool) (x y : A) → b ≡ true → pick b x y ≡ x
-unfolding pick
-pick-true b x y e = rw e
-
-pub pick-false : {A : Type 0} (b : Bool) (x y : A) → b ≡ false → pick b x y ≡ y
-unfolding pick
-pick-false b x y e = rw e
-
 -- a value that is there only where the test holds, three ways
 pub pick-some : {A : Type 0} (b : Bool) (x y : A) → pick b (some x) none ≡ some y → (b ≡ true) × (x ≡ y)
 unfolding pick

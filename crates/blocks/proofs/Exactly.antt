@@ -13,12 +13,13 @@ use Rattle.area.proofs.Tests.{impossible, pick-some}
 use Rattle.area.proofs.Same.{same-true, same-refl}
 use Rattle.area.proofs.Numbers.{Bytes-take}
 use Rattle.blocks.specs.declared.Params.{Params}
+use Rattle.area.specs.Responses.{turnedDown, gives}
 use Rattle.blocks.specs.declared.Coded.{Coded}
-use Rattle.blocks.specs.declared.Coded.the-variants.{Done, Refused}
+use Rattle.blocks.specs.declared.Coded.the-variants.{Done}
 use Rattle.blocks.specs.Params.{fault, demand, andThen}
 use Rattle.blocks.specs.Poly.{All, Distinct}
 use Rattle.blocks.specs.Code.{blockLength, blockOf, valueOf, blocksOf, candidate, agree, decodedAll}
-use Rattle.blocks.specs.Calls.{Outcome, outcome, written, decodeTest, agreeTest, decoding}
+use Rattle.blocks.specs.Calls.{Outcome, told, written, decodeTest, agreeTest, decoding}
 use Rattle.blocks.specs.Exact.{BlocksOf, Given, Called, Exact}
 use Rattle.blocks.proofs.Numbers.{numbers-facts}
 use Rattle.blocks.proofs.CallLaws.{Decodes, decodes}
@@ -133,32 +134,32 @@ module _ (g : Params) (js w out : List ℕ) (e : decodeTest g js (length w) (len
   outcome-by : Coded → Bool → Outcome
   outcome-by t b = written (andThen t (demand b (fault 21) Done)) out value
 
-  valued : agree (g .k) (g .size) js w ≡ true → decoding g js w out ≡ outcome Done (sets out 0 value)
+  valued : agree (g .k) (g .size) js w ≡ true → decoding g js w out ≡ told (gives tt) (sets out 0 value)
   unfolding decoding agreeTest written andThen demand value outcome-by
   valued a = ap₂ outcome-by e a
 
-  turned : agree (g .k) (g .size) js w ≡ false → decoding g js w out ≡ outcome (Refused (fault 21)) out
+  turned : agree (g .k) (g .size) js w ≡ false → decoding g js w out ≡ told (turnedDown 21) out
   unfolding decoding agreeTest written andThen demand value outcome-by
   turned a = ap₂ outcome-by e a
 
-  answers : (v : List ℕ) → BlocksOf (g .k) (g .size) js w v → decoding g js w out ≡ outcome Done (sets out 0 v)
+  answers : (v : List ℕ) → BlocksOf (g .k) (g .size) js w v → decoding g js w out ≡ told (gives tt) (sets out 0 v)
   unfolding value
   answers v x =
       valued (agrees (g .k) (g .size) js w v given x)
-      ∙ ap (λ (l : List ℕ). outcome Done (sets out 0 l)) (candidate-is (g .k) (g .size) js w v given x)
+      ∙ ap (λ (l : List ℕ). told (gives tt) (sets out 0 l)) (candidate-is (g .k) (g .size) js w v given x)
 
-  answered : (b : Bool) → agree (g .k) (g .size) js w ≡ b → decoding g js w out .answer ≡ Done
-      → (v : List ℕ) × BlocksOf (g .k) (g .size) js w v × (decoding g js w out ≡ outcome Done (sets out 0 v))
+  answered : (b : Bool) → agree (g .k) (g .size) js w ≡ b → decoding g js w out .answer ≡ gives tt
+      → (v : List ℕ) × BlocksOf (g .k) (g .size) js w v × (decoding g js w out ≡ told (gives tt) (sets out 0 v))
   unfolding value
   answered true a h = (value, stand (g .k) (g .size) js w given a, valued a)
   answered false a h = impossible (cc (sym (ap (λ o. o .answer) (turned a)) ∙ h))
 
   disagrees : (b : Bool) → agree (g .k) (g .size) js w ≡ b → ((v : List ℕ) → BlocksOf (g .k) (g .size) js w v → ⊥)
-      → decoding g js w out ≡ outcome (Refused (fault 21)) out
+      → decoding g js w out ≡ told (turnedDown 21) out
   disagrees true a f = absurd (f (candidate (g .k) (g .size) js w) (stand (g .k) (g .size) js w given a))
   disagrees false a f = turned a
 
-  disagreed : decoding g js w out .answer ≡ Refused (fault 21) → (v : List ℕ) → BlocksOf (g .k) (g .size) js w v → ⊥
+  disagreed : decoding g js w out .answer ≡ turnedDown 21 → (v : List ℕ) → BlocksOf (g .k) (g .size) js w v → ⊥
   disagreed h v x = impossible (cc (sym h ∙ ap (λ o. o .answer) (answers v x)))
 
   called : Called g js w out

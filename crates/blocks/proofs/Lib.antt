@@ -1,6 +1,7 @@
 pub mod Parameters
 pub mod Numbers
 pub mod CallLaws
+pub mod Responses
 pub mod Polynomials
 pub mod Interpolation
 pub mod Linear

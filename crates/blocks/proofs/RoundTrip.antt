@@ -11,10 +11,10 @@ use Rattle.area.specs.Area.{Bytes, part, tableFrom, table, joined}
 use Rattle.area.proofs.Numbers.{Bytes-append, Bytes-take, Bytes-drop}
 use Rattle.blocks.specs.Poly.{eval, through, All, Distinct}
 use Rattle.blocks.specs.Code.{blockLength, padded, stripe, blockByte, blockOf, encoded, row, valueOf, blocksOf}
-use Rattle.blocks.proofs.Polynomials.{eval-byte, through-bytes}
+use Rattle.blocks.proofs.Polynomials.{through-bytes}
 use Rattle.blocks.proofs.Interpolation.{recovers}
 use Rattle.blocks.proofs.Stripes.{length-blockOf, block-at, fits}
-use Rattle.blocks.proofs.ByteLists.{Bytes-zeros, Bytes-table, Bytes-joined, take-joined, part-joined}
+use Rattle.blocks.proofs.ByteLists.{Bytes-zeros, Bytes-joined, take-joined, part-joined}
 
 -- ---- the bytes r of the blocks
 
@@ -122,17 +122,6 @@ decoded-all js v h hj d hv =
 pub decoded : (js v : List ℕ) (k L : ℕ) → length js ≡ k → length v ≡ L → 0 < k → Bytes js → Distinct js → Bytes v → valueOf js L (blocksOf k v js) ≡ v
 decoded js v k L e l h hj d hv =
     ap₂ (λ x y. valueOf js y (blocksOf x v js)) (sym e) (sym l) ∙ decoded-all js v (omega arith) hj d hv
-
--- blocks and values are bytes, of these lengths (for the others see Stripes and Values)
-pub Bytes-blockOf : (k : ℕ) (v : List ℕ) (j : ℕ) → Bytes v → Bytes (blockOf k v j)
-unfolding blockOf blockByte
-Bytes-blockOf k v j h =
-    Bytes-table (blockLength (length v) k) (blockByte k v j)
-    (λ r. eval-byte (stripe k (padded (k * blockLength (length v) k) v) r) j (stripe-bytes k (k * blockLength (length v) k) r v h))
-
-pub Bytes-encoded : (n k : ℕ) (v : List ℕ) → Bytes v → Bytes (encoded n k v)
-unfolding encoded
-Bytes-encoded n k v h = Bytes-joined (blockOf k v) 1 n (λ j l. Bytes-blockOf k v j h)
 
 pub Bytes-valueOf : (js : List ℕ) (L : ℕ) (w : List ℕ) → Bytes (valueOf js L w)
 unfolding valueOf

@@ -14,7 +14,7 @@ use Rattle.field.specs.Field.{_⊕_, _⊗_}
 use Rattle.field.proofs.Sum as X
 use Rattle.field.proofs.Ring as R
 use Rattle.blocks.specs.Poly.{eval}
-use Rattle.blocks.specs.Code.{blockLength, padded, stripe, blockByte, blockOf, encoded}
+use Rattle.blocks.specs.Code.{blockLength, padded, stripe, blockByte, blockOf}
 
 -- ---- lengths
 
@@ -41,10 +41,6 @@ block-small L k h = go (blockLength L k) refl
 pub length-blockOf : (k : ℕ) (v : List ℕ) (j : ℕ) → length (blockOf k v j) ≡ blockLength (length v) k
 unfolding blockOf
 length-blockOf k v j = length-table (blockLength (length v) k) _
-
-pub length-encoded : (n k : ℕ) (v : List ℕ) → length (encoded n k v) ≡ n * blockLength (length v) k
-unfolding encoded
-length-encoded n k v = length-joined (blockOf k v) (blockLength (length v) k) 1 n (length-blockOf k v)
 
 -- ---- zeros behind the coefficients do not count
 

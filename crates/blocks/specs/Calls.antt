@@ -1,28 +1,37 @@
 -- The whole outcome of the calls encode and decode: the answer and every byte of the lent area. Assumes nothing: these are definitions.
 use Prim.Native.Nat.{ℕ, _*_}
-use mathlib.Core.Bool.{Bool, true, false, _&&_, not}
+use mathlib.Core.Bool.{Bool, true, _&&_, not}
 use mathlib.Core.List.{List, [], _∷_}
 use lib.Dec.{eqb, leb}
 use lib.ListN.{length}
 use lib.Seq.{sets}
+use Rattle.area.specs.Responses.{Response, turnedDown, gives}
 use Rattle.blocks.specs.declared.Params.{Params}
 use Rattle.blocks.specs.declared.Coded.{Coded}
 use Rattle.blocks.specs.declared.Coded.the-variants.{Done, Refused}
-use Rattle.blocks.specs.Params.{paramsTest, fault, demand, andThen}
+use Rattle.blocks.specs.Params.{paramsTest, numberOf, fault, demand, andThen}
 use Rattle.blocks.specs.Code.{blockLength, encoded, candidate, agree}
+
+-- what an answer says: the number, or that the result is in the lent area, and no value beside that
+abbrev pub codeResponse : Coded → Response (Unit {0})
+codeResponse Done = gives tt
+codeResponse (Refused f) = turnedDown (numberOf f)
 
 -- a call's answer and the lent area after it
 pub record Outcome : Type 0 where
-  pub answer : Coded
+  pub answer : Response (Unit {0})
   pub out : List ℕ
 
+abbrev pub told : Response (Unit {0}) → List ℕ → Outcome
+told a l = record { answer = a; out = l }
+
 abbrev pub outcome : Coded → List ℕ → Outcome
-outcome c l = record { answer = c; out = l }
+outcome c l = told (codeResponse c) l
 
 -- the result stands in front of the area, whose further bytes stay as they were; a refusal leaves them all
 unfoldable pub written : Coded → List ℕ → List ℕ → Outcome
-written Done out bytes = outcome Done (sets out 0 bytes)
-written (Refused f) out bytes = outcome (Refused f) out
+written Done out bytes = told (gives tt) (sets out 0 bytes)
+written (Refused f) out bytes = told (turnedDown (numberOf f)) out
 
 -- ---- encode
 

@@ -3,18 +3,17 @@
 -- definitions and statements.
 use Prim.Native.Nat.{ℕ, _*_, _<_, _≤_}
 use mathlib.Core.Path.{_≡_}
-use mathlib.Core.Option.{Option, none, some}
+use mathlib.Core.Option.{none, some}
 use mathlib.Core.List.{List}
 use lib.ListN.{length}
 use lib.Seq.{sets}
 use Rattle.area.specs.Area.{Bytes}
+use Rattle.area.specs.Responses.{turnedDown, gives}
 use Rattle.blocks.specs.declared.Params.{Params}
-use Rattle.blocks.specs.declared.Coded.{Coded}
-use Rattle.blocks.specs.declared.Coded.the-variants.{Done, Refused}
-use Rattle.blocks.specs.Params.{fault}
+use Rattle.blocks.specs.declared.Coded.the-variants.{Done}
 use Rattle.blocks.specs.Poly.{Distinct}
 use Rattle.blocks.specs.Code.{blockLength, blocksOf, valueOf, decodedAll}
-use Rattle.blocks.specs.Calls.{outcome, decodeTest, decoding}
+use Rattle.blocks.specs.Calls.{told, decodeTest, decoding}
 
 -- v is a value of L bytes, and w its blocks with the numbers js
 pub record BlocksOf (k L : ℕ) (js w v : List ℕ) : Type 0 where
@@ -33,12 +32,12 @@ pub record Given (k L : ℕ) (js w : List ℕ) : Type 0 where
 -- the outcome of the call `decode`, no test having turned it down
 pub record Called (g : Params) (js w out : List ℕ) : Type 0 where
   -- it answers v exactly if the blocks are v's
-  pub answers : (v : List ℕ) → BlocksOf (g .k) (g .size) js w v → decoding g js w out ≡ outcome Done (sets out 0 v)
-  pub answered : decoding g js w out .answer ≡ Done
-      → (v : List ℕ) × BlocksOf (g .k) (g .size) js w v × (decoding g js w out ≡ outcome Done (sets out 0 v))
+  pub answers : (v : List ℕ) → BlocksOf (g .k) (g .size) js w v → decoding g js w out ≡ told (gives tt) (sets out 0 v)
+  pub answered : decoding g js w out .answer ≡ gives tt
+      → (v : List ℕ) × BlocksOf (g .k) (g .size) js w v × (decoding g js w out ≡ told (gives tt) (sets out 0 v))
   -- 21, exactly if they are no value's
-  pub disagrees : ((v : List ℕ) → BlocksOf (g .k) (g .size) js w v → ⊥) → decoding g js w out ≡ outcome (Refused (fault 21)) out
-  pub disagreed : decoding g js w out .answer ≡ Refused (fault 21) → (v : List ℕ) → BlocksOf (g .k) (g .size) js w v → ⊥
+  pub disagrees : ((v : List ℕ) → BlocksOf (g .k) (g .size) js w v → ⊥) → decoding g js w out ≡ told (turnedDown 21) out
+  pub disagreed : decoding g js w out .answer ≡ turnedDown 21 → (v : List ℕ) → BlocksOf (g .k) (g .size) js w v → ⊥
 
 pub record Exact : Type 0 where
   -- any k blocks of one value give that value

@@ -85,9 +85,9 @@ pub fn block_length(size: usize, k: usize) -> usize
     (size + (k - 1)) / k
 }
 
-// The tests of `encode`, for a value of length bytes and an area of room bytes.
-pub fn encode_test(g: Params, length: usize, room: usize) -> Coded
-    ensures { λ r. ⌜ r ≡ encodeTest g length room ⌝ }
+// The tests of `encode`, for a value of len bytes and an area of room bytes.
+pub fn encode_test(g: Params, len: usize, room: usize) -> Coded
+    ensures { λ r. ⌜ r ≡ encodeTest g len room ⌝ }
 {
     let tested = params_test(g);
     let Coded::Done = tested else {
@@ -96,7 +96,7 @@ pub fn encode_test(g: Params, length: usize, room: usize) -> Coded
     let n = g.n;
     let k = g.k;
     let size = g.size;
-    if length != size {
+    if len != size {
         return Coded::Refused(Fault::Length);
     }
     if room < n * block_length(size, k) {
@@ -150,9 +150,9 @@ pub fn numbers_fit(n: usize, js: &[u8]) -> bool
     true
 }
 
-// The tests of `decode`, for blocks of length bytes in all and an area of room bytes.
-pub fn decode_test(g: Params, numbers: &[u8], length: usize, room: usize) -> Coded
-    ensures { λ r. ⌜ r ≡ decodeTest g (now (numbers .entry)) length room ⌝ }
+// The tests of `decode`, for blocks of len bytes in all and an area of room bytes.
+pub fn decode_test(g: Params, numbers: &[u8], len: usize, room: usize) -> Coded
+    ensures { λ r. ⌜ r ≡ decodeTest g (now (numbers .entry)) len room ⌝ }
 {
     let tested = params_test(g);
     let Coded::Done = tested else {
@@ -168,7 +168,7 @@ pub fn decode_test(g: Params, numbers: &[u8], length: usize, room: usize) -> Cod
     if n < m {
         return Coded::Refused(Fault::Blocks);
     }
-    if length != m * block_length(size, k) {
+    if len != m * block_length(size, k) {
         return Coded::Refused(Fault::Blocks);
     }
     if !numbers_fit(n, numbers) {

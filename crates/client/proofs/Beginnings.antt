@@ -8,13 +8,14 @@ use lib.ListN.{length, replicate}
 use lib.Seq.{sets}
 use lib.Dec.{leb}
 use borrow.Author.Tests.{leb-false}
+use Rattle.area.specs.Responses.{turnedDown, gives}
 use Rattle.blocks.specs.declared.Params.{Params}
 use Rattle.frame.specs.declared.Place.{Place}
 use Rattle.frame.specs.declared.Refusal.{Refusal}
 use Rattle.frame.specs.declared.Verdict.{Verdict}
 use Rattle.frame.specs.declared.Refusal.the-variants as R
 use Rattle.frame.specs.declared.Verdict.the-variants as J
-use Rattle.frame.specs.Refusals.{andThen}
+use Rattle.frame.specs.Refusals.{numberOf, andThen}
 use Rattle.frame.specs.Params.{Bounded, largestFrame, paramsTest}
 use Rattle.frame.specs.Stamps.{lastSequence, lastClient}
 use Rattle.frame.specs.Messages.{getStamp, askRead, message, toAll}
@@ -23,13 +24,13 @@ use Rattle.frame.proofs.Verdicts.{fine-not, fine-both}
 use Rattle.frame.proofs.Within.{admitted-of}
 use Rattle.client_rules.specs.declared.Row.{Row}
 use Rattle.client_rules.specs.declared.Client.{Client}
-use Rattle.client_rules.specs.declared.Answer.the-variants as Y
 use Rattle.client_rules.specs.declared.Phase.{Phase}
 use Rattle.client_rules.specs.declared.Phase.the-variants as F
 use Rattle.client_rules.specs.State.{freshRow, idle}
 use Rattle.client_rules.specs.Tests.{sendRoom}
 use Rattle.client_rules.specs.Steps.{Effect}
-use Rattle.client_rules.specs.Beginning.{Begun, idleTest, closedTest, lengthTest, openRead, openWrite, beginBy, beginAnswer, begunOf}
+use Rattle.client_rules.specs.Answers.{goesOn}
+use Rattle.client_rules.specs.Beginning.{Begun, idleTest, closedTest, lengthTest, openRead, openWrite, beginBy, begunOf}
 use Rattle.client.specs.Stages.{Opening}
 use Rattle.frame.proofs.Rooms.{room-within}
 use Rattle.client.proofs.SendRooms.{room-of-send}
@@ -74,21 +75,21 @@ module _ (g : Params) (me : ℕ) where
   -- frames sent, and the client
   pub begun-law : (x : Effect) (y : Client) (out to o t : List ℕ) (q : Place)
       → y ≡ x .client → outbox o t q ≡ sent (outbox out to firstPlace) (x .sends)
-      → _≡_ {A = Begun} (record { answer = Y.Sent (q .count); client = y; out = o; to = t }) (begunOf g me J.Fine x out to)
-  unfolding begunOf beginAnswer sent
+      → _≡_ {A = Begun} (record { answer = gives (goesOn (q .count)); client = y; out = o; to = t }) (begunOf g me J.Fine x out to)
+  unfolding begunOf sent
   begun-law x y out to o t q p e =
       let z : 0 + length (x .sends) ≡ length (x .sends) = omega arith in
       let n : q .count ≡ length (x .sends) = ap (λ (b : Outbox). b .place .count) e ∙ z in
       let u : o ≡ sets out 0 (frames (x .sends)) = ap (λ (b : Outbox). b .out) e in
       let w : t ≡ sets to 0 (receivers (x .sends)) = ap (λ (b : Outbox). b .to) e in
-      λ i. record { answer = Y.Sent (n i); client = p i; out = u i; to = w i }
+      λ i. record { answer = gives (goesOn (n i)); client = p i; out = u i; to = w i }
 
   module _ (s : Client) (out to o t : List ℕ) (q : Place) where
     pub read-law : (rows : List Row) → rows ≡ replicate 11 freshRow
         → outbox o t q ≡ sent (outbox out to firstPlace) (toAll g (λ j. message me (s .reads + 1) askRead))
         → _≡_ {A = Begun}
         (record {
-          answer = Y.Sent (q .count);
+          answer = gives (goesOn (q .count));
           client = record { writes = s .writes; reads = s .reads + 1; closed = s .closed; phase = F.Reading; heard = s .heard; times = s .times; rows = rows };
           out = o;
           to = t;
@@ -103,7 +104,7 @@ module _ (g : Params) (me : ℕ) where
     pub write-law : outbox o t q ≡ sent (outbox out to firstPlace) (toAll g (λ j. message me (s .writes + 1) getStamp))
         → _≡_ {A = Begun}
         (record {
-          answer = Y.Sent (q .count);
+          answer = gives (goesOn (q .count));
           client = record {
             writes = s .writes + 1;
             reads = s .reads;
@@ -122,8 +123,8 @@ module _ (g : Params) (me : ℕ) where
 
   module _ (s : Client) (t : Verdict) (x : Effect) (out to : List ℕ) (v : Verdict) (p : v ≡ t) where
     pub begin-refused : (r : Refusal) → v ≡ J.Bad r
-        → _≡_ {A = Begun} (record { answer = Y.Refused r; client = s; out = out; to = to }) (begunOf g me t (beginBy g me t s x) out to)
-    unfolding begunOf beginAnswer beginBy frames receivers
+        → _≡_ {A = Begun} (record { answer = turnedDown (numberOf r); client = s; out = out; to = to }) (begunOf g me t (beginBy g me t s x) out to)
+    unfolding begunOf beginBy frames receivers
     begin-refused r q =
         let d : t ≡ J.Bad r = sym p ∙ q in
         sym (ap (λ w. begunOf g me w (beginBy g me w s x) out to) d)

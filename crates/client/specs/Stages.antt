@@ -4,9 +4,11 @@ use mathlib.Core.Option.{Option, none, some}
 use mathlib.Core.List.{List}
 use lib.ListN.{length}
 use lib.Seq.{sets}
+use Rattle.area.specs.Responses.{turnedDown, gives}
 use Rattle.blocks.specs.declared.Params.{Params}
 use Rattle.frame.specs.declared.Verdict.{Verdict}
 use Rattle.frame.specs.declared.Verdict.the-variants as J
+use Rattle.frame.specs.Refusals.{numberOf}
 use Rattle.frame.specs.Params.{Bounded, largestFrame}
 use Rattle.frame.specs.Stamps.{lastSequence}
 use Rattle.frame.specs.Frames.{bodyAt}
@@ -15,9 +17,8 @@ use Rattle.frame.specs.Chunks.{rowsBytes}
 use Rattle.client_rules.specs.declared.Client.{Client}
 use Rattle.client.specs.declared.Spot.{Spot}
 use Rattle.client.specs.declared.Spot.the-variants.{At, Nowhere}
-use Rattle.client_rules.specs.declared.Answer.the-variants as Y
 use Rattle.client_rules.specs.Steps.{Effect}
-use Rattle.client_rules.specs.Delivery.{Outcome, eventAnswer, resultOf}
+use Rattle.client_rules.specs.Delivery.{Outcome, progressBy, resultOf}
 
 -- the code's name of a place in a row, or of none
 abbrev pub spotOf : Option ℕ → Spot
@@ -42,7 +43,7 @@ pub record Lent (g : Params) (area result out to : ℕ) : Type 0 where
 -- the outcome of a step
 unfoldable pub stepped : Effect → List ℕ → List ℕ → List ℕ → Outcome
 stepped x result out to = record {
-  answer = eventAnswer (x .event) (length (x .sends));
+  answer = gives (progressBy (x .event) (length (x .sends)));
   client = x .client;
   area = x .area;
   result = resultOf (x .event) result;
@@ -52,5 +53,5 @@ stepped x result out to = record {
 
 -- turned down by one of the tests 11 to 14, or a step
 unfoldable pub answered : Verdict → Client → List ℕ → Effect → List ℕ → List ℕ → List ℕ → Outcome
-answered (J.Bad r) s a x result out to = record { answer = Y.Refused r; client = s; area = a; result = result; out = out; to = to }
+answered (J.Bad r) s a x result out to = record { answer = turnedDown (numberOf r); client = s; area = a; result = result; out = out; to = to }
 answered J.Fine s a x result out to = stepped x result out to

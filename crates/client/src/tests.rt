@@ -44,24 +44,24 @@ pub fn room_test(g: Params, area: usize, result: usize, out: usize, to: usize) -
     send_room(g, out, to)
 }
 
-// 3: whether a value of this length is L long.
-pub fn length_test(g: Params, length: usize) -> Verdict
-    ensures { λ r. ⌜ r ≡ lengthTest g length ⌝ }
+// 3: whether a value of len bytes is L long.
+pub fn length_test(g: Params, len: usize) -> Verdict
+    ensures { λ r. ⌜ r ≡ lengthTest g len ⌝ }
 {
-    if length != g.size {
+    if len != g.size {
         return Verdict::Bad(Refusal::Length);
     }
     Verdict::Fine
 }
 
 // 3: whether the lent value of an open write is.
-pub fn value_test(g: Params, p: Phase, length: usize) -> Verdict
-    ensures { λ r. ⌜ r ≡ valueTest g p length ⌝ }
+pub fn value_test(g: Params, p: Phase, len: usize) -> Verdict
+    ensures { λ r. ⌜ r ≡ valueTest g p len ⌝ }
 {
     if !is_writing(p) {
         return Verdict::Fine;
     }
-    if length != g.size {
+    if len != g.size {
         return Verdict::Bad(Refusal::Length);
     }
     Verdict::Fine

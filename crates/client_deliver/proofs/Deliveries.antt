@@ -8,7 +8,7 @@ use lib.ListN.{length}
 use lib.Dec.{eqb, ltb}
 use borrow.Author.Tests.{ltb-false, ne-eqb}
 use Rattle.area.specs.Area.{pick}
-use Rattle.area.proofs.Tests.{pick-false}
+use Rattle.area.proofs.Tests.{pick-no}
 use Rattle.sha256.specs.Hash.{digestOf}
 use Rattle.blocks.specs.declared.Params.{Params}
 use Rattle.frame.specs.declared.Party.{Party}
@@ -188,7 +188,7 @@ module _ (g : Params) (me : ℕ) (s : Client) (a v : List ℕ) (from : Party) (f
       let d = and-false (fromServer g from) (answers (bodyIn g (h .kind) f)) (eqb (h .client) me) (not-answers i j k) in
       let o = orderTest digestOf g me s (numberIn from) (h .sequence) (bodyIn g (h .kind) f) in
       let e : pick (fromServer g from && (answers (bodyIn g (h .kind) f) && eqb (h .client) me)) o (J.Bad R.Sender) ≡ J.Bad R.Sender =
-      pick-false _ o (J.Bad R.Sender) d in
+      sym (pick-no _ o (J.Bad R.Sender) refl d refl) in
       ap (λ (z : Verdict). answered z s a (effect digestOf g me s a v from (messageIn g h f)) l out to) (sym e)
 
 -- ---- how long the frame is

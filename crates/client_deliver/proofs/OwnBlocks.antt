@@ -19,8 +19,9 @@ use Rattle.frame.specs.declared.WriteTime.{WriteTime}
 use Rattle.frame.specs.declared.Party.the-variants as P
 use Rattle.frame.specs.Params.{Bounded, width, entryLength, largestFrame}
 use Rattle.frame.specs.Messages.{entry, offer, Message, message, sending, toFrom, toAll, blockIs, send}
-use Rattle.frame.specs.Frames.{kindOf, entryBytes, offerBytes, bodyBytes, build}
+use Rattle.frame.specs.Frames.{offerAt, kindOf, entryBytes, offerBytes, bodyBytes, build}
 use Rattle.group_rules.specs.Coded.{digestsOf, entryOf}
+use Rattle.frame.specs.Chunks.{listBytes}
 use Rattle.frame.specs.Outbox.{Outbox, outbox, sent, Room}
 use Rattle.group.proofs.DigestLaws.{block-front}
 use Rattle.frame.proofs.Outbox.{sent-none, sent-append, toFrom-more}
@@ -39,7 +40,7 @@ module _ (g : Params) (v : List ℕ) (whole : length v ≡ g .size) where
   unfolding width
   length-own-block j = length-blockOf (g .k) v j ∙ ap (λ l. blockLength l (g .k)) whole
 
-  pub length-own : (w : WriteTime) (j : ℕ) → length (build (own g v w j)) ≡ 17 + entryLength g
+  pub length-own : (w : WriteTime) (j : ℕ) → length (build (own g v w j)) ≡ offerAt + entryLength g
   unfolding build kindOf bodyBytes offerBytes entryBytes entryOf
   length-own w j =
       omega (
@@ -91,25 +92,25 @@ turn-last g f j x y a b e = let c : j ≡ g .n = omega arith in e ∙ ap (λ k. 
 -- ---- rooms
 
 pub turn-room : (g : Params) (v : List ℕ) → length v ≡ g .size → (w : WriteTime) (j : ℕ) (p r : Place) (o t o₀ t₀ : List ℕ) → j < g .n
-    → outbox o t r ≡ sent (outbox o₀ t₀ p) (toFrom (own g v w) 1 j) → Room p (g .n) (17 + entryLength g) (length o₀) (length t₀)
-    → Room r 1 (17 + entryLength g) (length o) (length t)
+    → outbox o t r ≡ sent (outbox o₀ t₀ p) (toFrom (own g v w) 1 j) → Room p (g .n) (offerAt + entryLength g) (length o₀) (length t₀)
+    → Room r 1 (offerAt + entryLength g) (length o) (length t)
 turn-room g v e w j p r o t o₀ t₀ h s R =
-    let l : (i : ℕ) → length (build (own g v w i)) ≤ 17 + entryLength g = λ i. omega (arith, length-own g v e w i) in
-    let E = each-small (own g v w) (17 + entryLength g) l 1 j in
+    let l : (i : ℕ) → length (build (own g v w i)) ≤ offerAt + entryLength g = λ i. omega (arith, length-own g v e w i) in
+    let E = each-small (own g v w) (offerAt + entryLength g) l 1 j in
     let n : j + 1 ≤ g .n = omega arith in
-    let k : 17 + entryLength g ≤ 17 + entryLength g = omega arith in
-    room-left p r o t o₀ t₀ (toFrom (own g v w) 1 j) j 1 (g .n) (17 + entryLength g) (17 + entryLength g) s (E .0) (E .1) n k R
+    let k : offerAt + entryLength g ≤ offerAt + entryLength g = omega arith in
+    room-left p r o t o₀ t₀ (toFrom (own g v w) 1 j) j 1 (g .n) (offerAt + entryLength g) (offerAt + entryLength g) s (E .0) (E .1) n k R
 
-pub block-room : (g : Params) (p : Place) (out to : ℕ) → Room p (g .n) (largestFrame g) out to → Room p (g .n) (17 + entryLength g) out to
+pub block-room : (g : Params) (p : Place) (out to : ℕ) → Room p (g .n) (largestFrame g) out to → Room p (g .n) (offerAt + entryLength g) out to
 unfolding largestFrame
 block-room g p out to R =
-    let l : 17 + entryLength g ≤ largestFrame g = omega arith in
-    room-within p (g .n) (g .n) (largestFrame g) (17 + entryLength g) out to (omega arith) l R
+    let l : offerAt + entryLength g ≤ largestFrame g = omega arith in
+    room-within p (g .n) (g .n) (largestFrame g) (offerAt + entryLength g) out to (omega arith) l R
 
 -- ---- all of it
 
 -- the front of an area in which the digest list was stored
-pub list-front : (g : Params) (v z a : List ℕ) → Bounded g → 320 ≤ length z → a ≡ sets z 0 (digestsOf digestOf g v)
+pub list-front : (g : Params) (v z a : List ℕ) → Bounded g → listBytes ≤ length z → a ≡ sets z 0 (digestsOf digestOf g v)
     → take (32 * g .n) a ≡ digestsOf digestOf g v
 list-front g v z a B h s =
     let l = length-digests g v in

@@ -1,5 +1,5 @@
 -- The steps of a write: one law for each return of the code. Assumes nothing.
-use Prim.Native.Nat.{ℕ, _+_, _≤_, _<_}
+use Prim.Native.Nat.{ℕ, _≤_, _<_}
 use native.Mathlib.Nat.{zero-add}
 use mathlib.Core.Path.{_≡_, refl, ap, sym, _∙_}
 use mathlib.Core.Bool.{Bool, true, false, not}
@@ -9,6 +9,7 @@ use lib.Seq.{sets}
 use lib.Dec.{ltb}
 use borrow.Author.Tests.{lt-ltb, le-ltb, not-true, not-false}
 use Rattle.sha256.specs.Hash.{digestOf}
+use Rattle.area.specs.Responses.{gives}
 use Rattle.blocks.specs.declared.Params.{Params}
 use Rattle.frame.specs.declared.Place.{Place}
 use Rattle.frame.specs.Stamps.{lastTime}
@@ -20,7 +21,8 @@ use Rattle.client_rules.specs.declared.Phase.the-variants as F
 use Rattle.client_rules.specs.declared.Answer.the-variants as Y
 use Rattle.client_rules.specs.State.{asking, writing, largest, inPhase, shut}
 use Rattle.client_rules.specs.Steps.{quorate, sendBelow, gatherBy, onStamp, endBy, onAck}
-use Rattle.client_rules.specs.Delivery.{Outcome, outcome, eventAnswer, resultOf}
+use Rattle.client_rules.specs.Answers.{goesOn, writeEnds, writeCloses}
+use Rattle.client_rules.specs.Delivery.{Outcome, outcome, progressBy, resultOf}
 use Rattle.client.specs.Stages.{stepped}
 use Rattle.client_deliver.proofs.OwnBlocks.{own}
 
@@ -39,17 +41,17 @@ module _ (g : Params) (me : ℕ) (s : Client) (v a l out to : List ℕ) where
 
   pub out-of-stamps : (T : ℕ) (y : Client) → T ≡ top → lastTime ≤ T → y ≡ shut s
       → outcome (record { answer = Y.OutOfStamps; client = y }) a l out to ≡ stepped (gatherBy digestOf g me true s a v) l out to
-  unfolding stepped gatherBy sendBelow eventAnswer resultOf frames receivers
+  unfolding stepped gatherBy sendBelow progressBy resultOf frames receivers
   out-of-stamps T y e h p =
       let d : ltb top lastTime ≡ false = ap (λ z. ltb z lastTime) (sym e) ∙ le-ltb T lastTime h in
       let c : outcome (record { answer = Y.OutOfStamps; client = y }) a l out to ≡ stepped (sendBelow digestOf g me false s a v top) l out to =
-      λ i. record { answer = Y.OutOfStamps; client = p i; area = a; result = l; out = out; to = to } in
+      λ i. record { answer = gives writeCloses; client = p i; area = a; result = l; out = out; to = to } in
       c ∙ ap (λ b. stepped (sendBelow digestOf g me b s a v top) l out to) (sym d)
 
   pub write-sent : (T : ℕ) (y : Client) (q : Place) (o t : List ℕ) → T ≡ top → T < lastTime → y ≡ inPhase s F.Acking (replicate 11 false) (s .times)
       → outbox o t q ≡ sent (outbox out to firstPlace) (toAll g (own g v (record { client = me; sequence = s .writes; time = T })))
       → outcome (record { answer = Y.Sent (q .count); client = y }) a l o t ≡ stepped (gatherBy digestOf g me true s a v) l out to
-  unfolding stepped gatherBy sendBelow eventAnswer resultOf sent
+  unfolding stepped gatherBy sendBelow progressBy resultOf sent
   write-sent T y q o t e h p w =
       let d : ltb T lastTime ≡ true = lt-ltb T lastTime h in
       let xs = toAll g (own g v (record { client = me; sequence = s .writes; time = T })) in
@@ -57,7 +59,7 @@ module _ (g : Params) (me : ℕ) (s : Client) (v a l out to : List ℕ) where
       let u : o ≡ sets out 0 (frames xs) = ap (λ (z : Outbox). z .out) w in
       let r : t ≡ sets to 0 (receivers xs) = ap (λ (z : Outbox). z .to) w in
       let c : outcome (record { answer = Y.Sent (q .count); client = y }) a l o t ≡ stepped (sendBelow digestOf g me true s a v T) l out to =
-      λ i. record { answer = Y.Sent (n i); client = p i; area = a; result = l; out = u i; to = r i } in
+      λ i. record { answer = gives (goesOn (n i)); client = p i; area = a; result = l; out = u i; to = r i } in
       c ∙ ap (λ b. stepped (sendBelow digestOf g me b s a v T) l out to) (sym d)
       ∙ ap (λ z. stepped (sendBelow digestOf g me (ltb z lastTime) s a v z) l out to) e
 
@@ -72,13 +74,13 @@ module _ (g : Params) (me : ℕ) (s : Client) (v a l out to : List ℕ) where
     tested-is = q ∙ ap (λ z. quorate g (set (s .heard) z true)) at
 
     pub stamp-waits : not b ≡ true → outcome (record { answer = Y.Sent 0; client = y }) a l out to ≡ stepped (onStamp digestOf g me s a v j T) l out to
-    unfolding stepped onStamp gatherBy eventAnswer resultOf frames receivers
+    unfolding stepped onStamp gatherBy progressBy resultOf frames receivers
     stamp-waits h =
         let x = inPhase s F.Asking (set (s .heard) j true) (set (s .times) j T) in
         let d : quorate g (set (s .heard) j true) ≡ false = sym tested-is ∙ not-true b h in
         let m = marked-is in
         let c : outcome (record { answer = Y.Sent 0; client = y }) a l out to ≡ stepped (gatherBy digestOf g me false x a v) l out to =
-        λ z. record { answer = Y.Sent 0; client = m z; area = a; result = l; out = out; to = to } in
+        λ z. record { answer = gives (goesOn 0); client = m z; area = a; result = l; out = out; to = to } in
         c ∙ ap (λ z. stepped (gatherBy digestOf g me z x a v) l out to) (sym d)
 
     pub stamp-gathers : (r : Outcome) → not b ≡ false → r ≡ stepped (gatherBy digestOf g me true y a v) l out to
@@ -95,20 +97,20 @@ module _ (g : Params) (me : ℕ) (s : Client) (a l out to : List ℕ) (i j : ℕ
     (q : b ≡ quorate g (set (s .heard) i true)) where
   pub ack-waits : y ≡ inPhase s F.Acking (set (s .heard) i true) (s .times) → not b ≡ true
       → outcome (record { answer = Y.Sent 0; client = y }) a l out to ≡ stepped (onAck digestOf g me s a j) l out to
-  unfolding stepped onAck endBy eventAnswer resultOf frames receivers
+  unfolding stepped onAck endBy progressBy resultOf frames receivers
   ack-waits p h =
       let d : quorate g (set (s .heard) j true) ≡ false = ap (λ z. quorate g (set (s .heard) z true)) (sym at) ∙ sym q ∙ not-true b h in
       let m = p ∙ ap (λ z. inPhase s F.Acking (set (s .heard) z true) (s .times)) at in
       let c : outcome (record { answer = Y.Sent 0; client = y }) a l out to ≡ stepped (endBy digestOf g me false s a (set (s .heard) j true)) l out to =
-      λ z. record { answer = Y.Sent 0; client = m z; area = a; result = l; out = out; to = to } in
+      λ z. record { answer = gives (goesOn 0); client = m z; area = a; result = l; out = out; to = to } in
       c ∙ ap (λ z. stepped (endBy digestOf g me z s a (set (s .heard) j true)) l out to) (sym d)
 
   pub ack-ends : y ≡ inPhase s F.Idle (set (s .heard) i true) (s .times) → not b ≡ false
       → outcome (record { answer = Y.Written; client = y }) a l out to ≡ stepped (onAck digestOf g me s a j) l out to
-  unfolding stepped onAck endBy eventAnswer resultOf frames receivers
+  unfolding stepped onAck endBy progressBy resultOf frames receivers
   ack-ends p h =
       let d : quorate g (set (s .heard) j true) ≡ true = ap (λ z. quorate g (set (s .heard) z true)) (sym at) ∙ sym q ∙ not-false b h in
       let m = p ∙ ap (λ z. inPhase s F.Idle (set (s .heard) z true) (s .times)) at in
       let c : outcome (record { answer = Y.Written; client = y }) a l out to ≡ stepped (endBy digestOf g me true s a (set (s .heard) j true)) l out to =
-      λ z. record { answer = Y.Written; client = m z; area = a; result = l; out = out; to = to } in
+      λ z. record { answer = gives writeEnds; client = m z; area = a; result = l; out = out; to = to } in
       c ∙ ap (λ z. stepped (endBy digestOf g me z s a (set (s .heard) j true)) l out to) (sym d)

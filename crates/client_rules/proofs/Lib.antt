@@ -5,3 +5,4 @@ pub mod Enough
 pub mod Within
 pub mod Agreed
 pub mod CallFacts
+pub mod Responses

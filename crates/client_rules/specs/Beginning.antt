@@ -7,33 +7,33 @@ use lib.ListN.{length, replicate}
 use lib.Seq.{sets}
 use lib.Dec.{leb, eqb}
 use Rattle.area.specs.Area.{pick}
+use Rattle.area.specs.Responses.{Response}
 use Rattle.blocks.specs.declared.Params.{Params}
 use Rattle.frame.specs.declared.Verdict.{Verdict}
 use Rattle.frame.specs.declared.Verdict.the-variants as J
-use Rattle.frame.specs.Refusals.{andThen, refused}
+use Rattle.frame.specs.Refusals.{refused, answeredBy, andThen}
 use Rattle.frame.specs.Params.{paramsTest}
 use Rattle.frame.specs.Stamps.{lastSequence, lastClient}
 use Rattle.frame.specs.Messages.{getStamp, askRead, message, toAll}
 use Rattle.frame.specs.Outbox.{frames, receivers}
 use Rattle.client_rules.specs.declared.Client.{Client}
-use Rattle.client_rules.specs.declared.Answer.{Answer}
 use Rattle.client_rules.specs.declared.Answered.{Answered}
 use Rattle.client_rules.specs.declared.Phase.{Phase}
 use Rattle.client_rules.specs.declared.Phase.the-variants as F
-use Rattle.client_rules.specs.declared.Answer.the-variants as Y
+use Rattle.client_rules.specs.Answers.{Progress, goesOn, answerResponse}
 use Rattle.client_rules.specs.State.{freshRow, idle}
 use Rattle.client_rules.specs.Tests.{sendRoom}
 use Rattle.client_rules.specs.Steps.{nothing, Effect, quiet}
 
 -- the whole outcome of a beginning; the rows area is not lent
 pub record Begun : Type 0 where
-  pub answer : Answer
+  pub answer : Response Progress
   pub client : Client
   pub out : List ℕ
   pub to : List ℕ
 
 abbrev pub begun : Answered → List ℕ → List ℕ → Begun
-begun r out to = record { answer = r .answer; client = r .client; out = out; to = to }
+begun r out to = record { answer = answerResponse (r .answer); client = r .client; out = out; to = to }
 
 -- ---- the tests
 
@@ -112,13 +112,9 @@ module _ (g : Params) (me : ℕ) where
 
   -- ---- the whole outcome
 
-  unfoldable pub beginAnswer : Verdict → Effect → Answer
-  beginAnswer J.Fine x = Y.Sent (length (x .sends))
-  beginAnswer (J.Bad r) x = Y.Refused r
-
   unfoldable pub begunOf : Verdict → Effect → List ℕ → List ℕ → Begun
   begunOf b x out to = record {
-    answer = beginAnswer b x;
+    answer = answeredBy b (goesOn (length (x .sends)));
     client = x .client;
     out = sets out 0 (frames (x .sends));
     to = sets to 0 (receivers (x .sends));

@@ -4,21 +4,22 @@ use mathlib.Core.Option.{Option, none, some}
 use mathlib.Core.List.{List}
 use lib.ListN.{length}
 use lib.Seq.{sets}
+use Rattle.area.specs.Responses.{Response, turnedDown, gives}
 use Rattle.blocks.specs.declared.Params.{Params}
 use Rattle.frame.specs.declared.Stamp.{Stamp}
 use Rattle.frame.specs.declared.Party.{Party}
+use Rattle.frame.specs.Refusals.{numberOf}
 use Rattle.frame.specs.Messages.{Judged, bad, good}
 use Rattle.frame.specs.Outbox.{frames, receivers}
 use Rattle.client_rules.specs.declared.Client.{Client}
-use Rattle.client_rules.specs.declared.Answer.{Answer}
 use Rattle.client_rules.specs.declared.Answered.{Answered}
-use Rattle.client_rules.specs.declared.Answer.the-variants as Y
+use Rattle.client_rules.specs.Answers.{Progress, goesOn, writeEnds, writeCloses, readGives, readDisagrees, answerResponse}
 use Rattle.client_rules.specs.Tests.{judge}
 use Rattle.client_rules.specs.Steps.{Event, nothing, written, outOfStamps, stopped, Effect, quiet, effect}
 
 -- the whole outcome: the answer, the client, and every byte of the lent areas
 pub record Outcome : Type 0 where
-  pub answer : Answer
+  pub answer : Response Progress
   pub client : Client
   pub area : List ℕ
   pub result : List ℕ
@@ -26,22 +27,23 @@ pub record Outcome : Type 0 where
   pub to : List ℕ
 
 abbrev pub outcome : Answered → List ℕ → List ℕ → List ℕ → List ℕ → Outcome
-outcome r area result out to = record { answer = r .answer; client = r .client; area = area; result = result; out = out; to = to }
+outcome r area result out to = record { answer = answerResponse (r .answer); client = r .client; area = area; result = result; out = out; to = to }
 
 -- the end of a read at a stamp: its value, or the disagreement of its blocks, which is a result and no refusal (request F-7)
-abbrev pub readAnswer : Stamp → Option (List ℕ) → Answer
-readAnswer x none = Y.Disagreement
-readAnswer x (some v) = Y.Value x
+abbrev pub readProgress : Stamp → Option (List ℕ) → Progress
+readProgress x none = readDisagrees
+readProgress x (some v) = readGives x
 
-unfoldable pub eventAnswer : Event → ℕ → Answer
-eventAnswer nothing c = Y.Sent c
-eventAnswer written c = Y.Written
-eventAnswer outOfStamps c = Y.OutOfStamps
-eventAnswer (stopped x) c = readAnswer (x .stamp) (x .bytes)
+-- of a step with an event and so many frames
+unfoldable pub progressBy : Event → ℕ → Progress
+progressBy nothing c = goesOn c
+progressBy written c = writeEnds
+progressBy outOfStamps c = writeCloses
+progressBy (stopped x) c = readProgress (x .stamp) (x .bytes)
 
-unfoldable pub answerOf : Judged → Effect → Answer
-answerOf (bad r) x = Y.Refused r
-answerOf (good m) x = eventAnswer (x .event) (length (x .sends))
+unfoldable pub answerOf : Judged → Effect → Response Progress
+answerOf (bad r) x = turnedDown (numberOf r)
+answerOf (good m) x = gives (progressBy (x .event) (length (x .sends)))
 
 -- a completed read writes its value at the start of the result area; otherwise it stays as lent
 abbrev pub readResult : Option (List ℕ) → List ℕ → List ℕ

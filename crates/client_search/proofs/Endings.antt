@@ -11,6 +11,7 @@ use borrow.Author.Tests.{leb-true, not-true, not-false}
 use Rattle.area.specs.Area.{pick}
 use Rattle.quorum.specs.Quorum.{count}
 use Rattle.field.specs.Field.{Powers, Logs}
+use Rattle.area.specs.Responses.{gives}
 use Rattle.blocks.specs.declared.Params.{Params}
 use Rattle.sha256.specs.Hash.{digestOf}
 use Rattle.frame.specs.declared.Stamp.{Stamp}
@@ -31,12 +32,13 @@ use Rattle.client_rules.specs.declared.Answer.{Answer}
 use Rattle.client_rules.specs.declared.Answer.the-variants as Y
 use Rattle.client_rules.specs.declared.Phase.the-variants as F
 use Rattle.client_rules.specs.State.{inPhase}
-use Rattle.client_rules.specs.Rows.{Kept, atStamp, rowView, rowsFrom, agreed, firstAgreed, foundOf, foundBy, search}
+use Rattle.client_rules.specs.Rows.{atStamp, rowView, rowsFrom, agreed, firstAgreed, foundOf, foundBy, search}
 use Rattle.client_rules.specs.Steps.{completeBy, settle}
 use Rattle.client_rules.proofs.Agreed.{first-agreed}
 use Rattle.client.specs.Stages.{Lent, stepped}
 use Rattle.frame.proofs.Rooms.{room-within}
-use Rattle.client_rules.specs.Delivery.{Outcome, readAnswer, readResult, eventAnswer, resultOf}
+use Rattle.client_rules.specs.Answers.{goesOn, answerResponse}
+use Rattle.client_rules.specs.Delivery.{Outcome, readProgress, readResult, progressBy, resultOf}
 use Rattle.client_search.specs.declared.Hits.{Hits}
 use Rattle.client_search.specs.declared.Stop.{Stop}
 use Rattle.client_search.specs.declared.Stop.the-variants.{At, Nowhere}
@@ -142,15 +144,7 @@ module _ (g : Params) (rows : List Row) (a : List ℕ) (result out to : ℕ) (le
 
 -- ---- the outcome
 
-pub read-yes : (b : Bool) (x : Stamp) → b ≡ true → Y.Value x ≡ pick b (Y.Value x) Y.Disagreement
-unfolding pick
-read-yes b x e = sym (ap (λ (t : Bool). pick t (Y.Value x) Y.Disagreement) e)
-
-pub read-no : (b : Bool) (x : Stamp) → b ≡ false → Y.Disagreement ≡ pick b (Y.Value x) Y.Disagreement
-unfolding pick
-read-no b x e = sym (ap (λ (t : Bool). pick t (Y.Value x) Y.Disagreement) e)
-
-answer-by : (b : Bool) (x : Stamp) (v : List ℕ) → pick b (Y.Value x) Y.Disagreement ≡ readAnswer x (pick b (some v) none)
+answer-by : (b : Bool) (x : Stamp) (v : List ℕ) → answerResponse (pick b (Y.Value x) Y.Disagreement) ≡ gives (readProgress x (pick b (some v) none))
 unfolding pick
 answer-by true x v = refl
 answer-by false x v = refl
@@ -164,7 +158,7 @@ module _ (g : Params) (me : ℕ) (s : Client) (a result out to : List ℕ) where
       → s′ ≡ inPhase s F.Idle (s .heard) (s .times)
       → _≡_ {A = Outcome}
       (record {
-        answer = y;
+        answer = answerResponse y;
         client = s′;
         area = a;
         result = r;
@@ -172,12 +166,12 @@ module _ (g : Params) (me : ℕ) (s : Client) (a result out to : List ℕ) where
         to = t;
       })
       (stepped (completeBy digestOf g me (some (foundOf g (view g (s .rows) a) (keptAt g (s .rows) a j i))) s a) result out to)
-  unfolding stepped completeBy foundOf eventAnswer resultOf sent
+  unfolding stepped completeBy foundOf progressBy resultOf sent
   finish-law j i r o t q b y s′ p d n e c =
       let f : ℕ → Option Entry = λ m. atStamp (view g (s .rows) a m) (keptAt g (s .rows) a j i .stamp) in
-      let h = n ∙ ap (λ (c : Bool). pick c (Y.Value (keptAt g (s .rows) a j i .stamp)) Y.Disagreement) p
+      let h = ap answerResponse (n ∙ ap (λ (c : Bool). pick c (Y.Value (keptAt g (s .rows) a j i .stamp)) Y.Disagreement) p)
       ∙ answer-by (agreeing g f (entryAt g a (placeAt j i) .digests)) (keptAt g (s .rows) a j i .stamp) (lowestValue g f (entryAt g a (placeAt j i) .digests))
-      ∙ sym (ap (readAnswer (keptAt g (s .rows) a j i .stamp)) (decoded-by g f (entryAt g a (placeAt j i) .digests))) in
+      ∙ sym (ap (λ o. gives (readProgress (keptAt g (s .rows) a j i .stamp) o)) (decoded-by g f (entryAt g a (placeAt j i) .digests))) in
       let u : o ≡ sets out 0 (frames (toAll g (λ m. message me (s .reads) readComplete))) = ap (λ (b : Outbox). b .out) e in
       let w : t ≡ sets to 0 (receivers (toAll g (λ m. message me (s .reads) readComplete))) = ap (λ (b : Outbox). b .to) e in
       λ z. record {
@@ -199,9 +193,9 @@ module _ (g : Params) (me : ℕ) (s : Client) (a result out to : List ℕ) where
     -- nothing is found
     pub settle-none : p ≡ Nowhere
         → _≡_ {A = Outcome}
-        (record { answer = Y.Sent 0; client = s; area = a; result = result; out = out; to = to })
+        (record { answer = gives (goesOn 0); client = s; area = a; result = result; out = out; to = to })
         (stepped (settle digestOf g me s a) result out to)
-    unfolding stepped completeBy foundBy eventAnswer resultOf frames receivers
+    unfolding stepped completeBy foundBy progressBy resultOf frames receivers
     settle-none e = sym (ap (λ x. stepped x result out to) (stopped Nowhere e))
 
     -- the read ends

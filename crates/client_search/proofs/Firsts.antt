@@ -17,7 +17,7 @@ use Rattle.area.proofs.Fills.{getD-table, length-table}
 use Rattle.blocks.specs.declared.Params.{Params}
 use Rattle.frame.specs.declared.Stamp.{Stamp}
 use Rattle.frame.specs.Stamps.{sameStamp, zeroStamp}
-use Rattle.frame.specs.Chunks.{entryAt, placeAt, chunkAt, rowsBytes}
+use Rattle.frame.specs.Chunks.{chunkBytes, entryAt, placeAt, chunkAt, rowsBytes}
 use Rattle.group.specs.Entries.{marked, entries, Within}
 use Rattle.client_rules.specs.declared.Row.{Row}
 use Rattle.client_rules.specs.State.{noRow}
@@ -150,7 +150,7 @@ module _ (rows : List Row) (x : Stamp) where
   unfolding Within
   hits-within a h j = go (decLe j 10)
     where
-      go : Dec (j ≤ 10) → chunkAt (getD (hitsOf rows x .at) j 0) + 576 ≤ length a
+      go : Dec (j ≤ 10) → chunkAt (getD (hitsOf rows x .at) j 0) + chunkBytes ≤ length a
       go (yes k) = rw (chunk-law j k) (omega (arith, hit-chunk j (getD rows j noRow) x k))
       go (no k) = let m : 11 ≤ j = omega (arith, k) in rw (no-chunk j m) (omega arith)
 

@@ -1,9 +1,9 @@
 -- The search of the rows: what a candidate's count says, one turn of each loop, and the ends. Assumes nothing.
-use Prim.Native.Nat.{ℕ, zero, suc, _+_, _-_, _≤_, _<_}
+use Prim.Native.Nat.{ℕ, suc, _+_, _-_, _≤_, _<_}
 use native.Mathlib.Omega.{arith}
 use native.Mathlib.Numerals.{add-one}
 use mathlib.Core.Bool.{Bool, true, false}
-use mathlib.Core.Path.{_≡_, refl, ap, sym, _∙_}
+use mathlib.Core.Path.{_≡_, ap, sym, _∙_}
 use mathlib.Core.Option.{Option, none, some}
 use mathlib.Core.List.{List, _++_}
 use lib.ListN.{length, getD}
@@ -14,7 +14,7 @@ use Rattle.quorum.proofs.Counting.{count-mono}
 use Rattle.blocks.specs.declared.Params.{Params}
 use Rattle.frame.specs.declared.Stamp.{Stamp}
 use Rattle.frame.specs.Messages.{Entry}
-use Rattle.frame.specs.Chunks.{chunkAt, entryAt, rowsBytes}
+use Rattle.frame.specs.Chunks.{chunkBytes, chunkAt, entryAt, rowsBytes}
 use Rattle.group_rules.specs.Coded.{hasList, lowestValue, agreeing}
 use Rattle.group.specs.Entries.{marked, entries, sentList, flags}
 use Rattle.group.specs.Choice.{valueFrom, allOf}
@@ -36,7 +36,7 @@ pub comparing : (g : Params) (rows : List Row) (a : List ℕ) (x : Stamp) → Se
     → Comparing g (h .at) a
 comparing g rows a x q h e = record { bounded = q .bounded; within = rw e (hits-within rows x a (q .whole)) }
 
-pub chunk-room : (p l : ℕ) → p ≤ 39 → rowsBytes ≤ l → chunkAt p + 576 ≤ l
+pub chunk-room : (p l : ℕ) → p ≤ 39 → rowsBytes ≤ l → chunkAt p + chunkBytes ≤ l
 chunk-room p l h w = omega arith
 
 pub holders-law : (g : Params) (a : List ℕ) (h : Hits) (p : ℕ) (list : List ℕ) (on : List Bool) → list ≡ entryAt g a p .digests

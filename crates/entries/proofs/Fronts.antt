@@ -4,20 +4,21 @@ use native.Mathlib.Omega.{arith}
 use mathlib.Core.Path.{_≡_, refl, sym, ap₂, _∙_}
 use mathlib.Core.Bool.{Bool, true, false, not, _&&_, _||_}
 use mathlib.Core.Logic.{_⊎_, inl, inr}
+use mathlib.Core.Option.{Option, none, some}
 use mathlib.Core.List.{List}
 use lib.ListN.{length, getD}
 use lib.Dec.{eqb, ltb, leb}
 use borrow.Author.Tests.{ltb-true, ltb-false, leb-true, eqb-true, eqb-false, not-true, not-false, lt-ltb, le-ltb, le-leb, lt-leb, eq-eqb, ne-eqb}
 use Rattle.area.specs.Area.{pick}
+use Rattle.area.specs.Responses.{Response, turnedDown, gives}
 use Rattle.area.specs.Numbers.{be2}
 use Rattle.area.proofs.Tests.{impossible, and-left, and-right, or-split, or-false}
 use Rattle.frame.specs.declared.Party.{Party}
 use Rattle.entries.specs.declared.Closing.the-variants as C
 use Rattle.entries.specs.declared.Found.{Found}
-use Rattle.entries.specs.declared.Reading.{Reading}
 use Rattle.entries.specs.declared.Reading.the-variants as R
 use Rattle.frame.specs.Outbox.{partyIn}
-use Rattle.entries.specs.Entries.{malformed, cut, readingOf}
+use Rattle.entries.specs.Entries.{malformed, cut, readingResponse, readingOf}
 
 -- ---- tests
 
@@ -77,11 +78,11 @@ unsound-of l e = unsound-first l (or-split _ _ e)
 
 -- ---- the cases
 
-pub data Front (l : List ℕ) : Reading → Type 0 where
-  none : length l ≡ 0 → Front l (R.Closed C.Whole)
-  bad : Unsound l → Front l (R.Closed C.Malformed)
-  short : 0 < length l → Sound l → length l < 2 + be2 l 0 ⊎ length l < 2 → Front l (R.Closed C.Cut)
-  one : Begins l → Front l (R.Entry (foundAt l))
+pub data Front (l : List ℕ) : Response (Option Found) → Type 0 where
+  empty : length l ≡ 0 → Front l (gives none)
+  bad : Unsound l → Front l (turnedDown 22)
+  short : 0 < length l → Sound l → length l < 2 + be2 l 0 ⊎ length l < 2 → Front l (turnedDown 23)
+  one : Begins l → Front l (gives (some (foundAt l)))
 
 pub begins-of : (l : List ℕ) → Sound l → cut l ≡ false → Begins l
 unfolding cut
@@ -104,31 +105,31 @@ pub front : (l : List ℕ) → Front l (readingOf l)
 unfolding readingOf pick
 front l = first (eqb (length l) 0) refl
   where
-    third : 0 < length l → Sound l → (b : Bool) → cut l ≡ b → Front l (pick b (R.Closed C.Cut) (R.Entry (foundAt l)))
+    third : 0 < length l → Sound l → (b : Bool) → cut l ≡ b → Front l (pick b (turnedDown 23) (gives (some (foundAt l))))
     third h S true e = short h S (cut-of l e)
     third h S false e = one (begins-of l S e)
 
     second : 0 < length l → (b : Bool) → malformed l ≡ b
-        → Front l (pick b (R.Closed C.Malformed) (pick (cut l) (R.Closed C.Cut) (R.Entry (foundAt l))))
+        → Front l (pick b (turnedDown 22) (pick (cut l) (turnedDown 23) (gives (some (foundAt l)))))
     second h true e = bad (unsound-of l e)
     second h false e = third h (sound-of l e) (cut l) refl
 
     first : (b : Bool) → eqb (length l) 0 ≡ b
-        → Front l (pick b (R.Closed C.Whole) (pick (malformed l) (R.Closed C.Malformed) (pick (cut l) (R.Closed C.Cut) (R.Entry (foundAt l)))))
-    first true e = none (eqb-true _ _ e)
+        → Front l (pick b (gives none) (pick (malformed l) (turnedDown 22) (pick (cut l) (turnedDown 23) (gives (some (foundAt l))))))
+    first true e = empty (eqb-true _ _ e)
     first false e = let n : length l ≡ 0 → ⊥ = eqb-false (length l) 0 e in second (omega arith) (malformed l) refl
 
 -- the reading of a list that an entry begins
-pub reading-begins : (l : List ℕ) → Begins l → readingOf l ≡ R.Entry (foundAt l)
+pub reading-begins : (l : List ℕ) → Begins l → readingOf l ≡ gives (some (foundAt l))
 unfolding readingOf malformed cut pick
 reading-begins l B =
     let w = B .whole in
     let g = B .long in
-    let some : length l ≡ 0 → ⊥ = λ z. omega arith in
+    let h₀ : length l ≡ 0 → ⊥ = λ z. omega arith in
     let h₂ : 2 ≤ length l = omega arith in
     let h₃ : 3 ≤ length l = omega arith in
     let h₄ : 4 ≤ length l = omega arith in
-    rw (ne-eqb _ _ some, le-leb 2 _ h₂, le-leb 3 _ h₃, le-leb 4 _ h₄, le-ltb _ 3 g, eq-eqb _ 1 (B .version), le-ltb 1 _ (B .class), le-ltb _ 2 h₂, le-ltb _ _ w)
+    rw (ne-eqb _ _ h₀, le-leb 2 _ h₂, le-leb 3 _ h₃, le-leb 4 _ h₄, le-ltb _ 3 g, eq-eqb _ 1 (B .version), le-ltb 1 _ (B .class), le-ltb _ 2 h₂, le-ltb _ _ w)
 
 -- ---- the code's tests; x is the length that is read
 
@@ -178,19 +179,19 @@ module _ (l : List ℕ) where
 -- ---- and its readings
 
 module _ (l : List ℕ) where
-  pub whole-read : length l ≡ 0 → R.Closed C.Whole ≡ readingOf l
+  pub whole-read : length l ≡ 0 → readingResponse (R.Closed C.Whole) ≡ readingOf l
   unfolding readingOf pick
   whole-read h = rw (eq-eqb _ 0 h)
 
-  module _ (some : length l ≡ 0 → ⊥) where
-    pub malformed-read : malformed l ≡ true → R.Closed C.Malformed ≡ readingOf l
+  module _ (filled : length l ≡ 0 → ⊥) where
+    pub malformed-read : malformed l ≡ true → readingResponse (R.Closed C.Malformed) ≡ readingOf l
     unfolding readingOf pick
-    malformed-read e = rw (ne-eqb _ 0 some, e)
+    malformed-read e = rw (ne-eqb _ 0 filled, e)
 
-    pub cut-read : malformed l ≡ false → cut l ≡ true → R.Closed C.Cut ≡ readingOf l
+    pub cut-read : malformed l ≡ false → cut l ≡ true → readingResponse (R.Closed C.Cut) ≡ readingOf l
     unfolding readingOf pick
-    cut-read e f = rw (ne-eqb _ 0 some, e, f)
+    cut-read e f = rw (ne-eqb _ 0 filled, e, f)
 
   pub entry-read : (p : Party) (x : ℕ) → Begins l → p ≡ partyIn (getD l 3 0) (getD l 4 0) → x ≡ be2 l 0
-      → R.Entry (record { sender = p; end = 2 + x }) ≡ readingOf l
-  entry-read p x B e f = ap₂ (λ q y. R.Entry (record { sender = q; end = 2 + y })) e f ∙ sym (reading-begins l B)
+      → readingResponse (R.Entry (record { sender = p; end = 2 + x })) ≡ readingOf l
+  entry-read p x B e f = ap₂ (λ q y. gives (some (record { sender = q; end = 2 + y }))) e f ∙ sym (reading-begins l B)

@@ -1,3 +1,4 @@
+pub mod Responses
 pub mod Fronts
 pub mod Traces
 pub mod Writings

@@ -3,24 +3,24 @@ use Prim.Native.Nat.{ℕ, zero, suc, _+_, _*_, _-_, _/_, _%_, _≤_, _<_}
 use native.Mathlib.Omega.{arith}
 use mathlib.Core.Path.{_≡_, refl, sym, ap, ap₂, subst, _∙_}
 use mathlib.Core.Logic.{_⊎_, ⊎-elim}
+use mathlib.Core.Option.{Option}
 use mathlib.Core.List.{List, [], _∷_, _++_, append-assoc}
 use lib.ListN.{length, getD, take, drop, replicate, length-append, length-replicate, List·getD-append, take-append-drop}
 use lib.Seq.{length-take-le, take-at, drop-at}
 use Rattle.area.specs.Area.{pick, part, Bytes}
+use Rattle.area.specs.Responses.{Response}
 use Rattle.area.specs.Numbers.{be2, bytes2}
 use Rattle.area.proofs.Numbers.{Bytes-drop}
 use Rattle.frame.specs.declared.Party.{Party}
 use Rattle.frame.specs.declared.Party.the-variants as P
 use Rattle.frame.specs.Messages.{numberIn}
 use Rattle.frame.specs.Outbox.{partyBytes, partyIn}
-use Rattle.entries.specs.declared.Closing.{Closing}
-use Rattle.entries.specs.declared.Closing.the-variants as C
-use Rattle.entries.specs.declared.Reading.{Reading}
+use Rattle.entries.specs.declared.Found.{Found}
 use Rattle.entries.specs.Entries.{TraceEntry, traceEntry, leadBytes, entryBytes, traceBytes, malformed}
 use Rattle.entries.specs.Entries.{cut, readingOf, Trace, closed, before, foundIn, thenTrace, traceFrom, traceOf}
-use Rattle.entries.specs.Forms.{Writable, AllWritable, Closes, Read, Theorem}
+use Rattle.entries.specs.Forms.{Writable, AllWritable, Closes, closesWhole, closesMalformed, closesCut, Read, Theorem}
 use Rattle.entries.proofs.Fronts.{Begins, foundAt, Sound, Unsound, length-low, version-other}
-use Rattle.entries.proofs.Fronts.{class-high, Front, none, bad, short, one, front, reading-begins}
+use Rattle.entries.proofs.Fronts.{class-high, Front, empty, bad, short, one, front, reading-begins}
 use Rattle.entries.proofs.Traces.{trace-entry, fewer}
 
 -- ---- entries written are read back
@@ -152,9 +152,9 @@ never-begins l more (length-low h u) B = omega (arith, B .long, front-same l mor
 never-begins l more (version-other h u) B = u (sym (front-same l more 2 (omega arith)) ∙ B .version)
 never-begins l more (class-high h u) B = omega (arith, B .class, front-same l more 3 (omega arith))
 
-bad-closes : (l : List ℕ) → Unsound l → Closes C.Malformed l
-bad-closes l u e W more rest q =
-    never-begins l more u (subst Begins (sym q) (written-back (e .sender) (e .frame) rest (W .short) .begins))
+bad-closes : (l : List ℕ) → Unsound l → Closes l 22
+bad-closes l u =
+    closesMalformed (λ e W more rest q. never-begins l more u (subst Begins (sym q) (written-back (e .sender) (e .frame) rest (W .short) .begins)))
 
 -- 23: what is missing of an entry
 record Missing (l : List ℕ) : Type 0 where
@@ -209,8 +209,14 @@ find-missing (a ∷ b ∷ v ∷ c ∷ j ∷ r) p h S d =
 nothing-long : (l : List ℕ) → 0 < length l → l ≡ [] → ⊥
 nothing-long l h e = omega (arith, ap length e)
 
-cut-closes : (l : List ℕ) → 0 < length l → Missing l → Closes C.Cut l
-cut-closes l h M = (nothing-long l h, M .entry, M .writable, M .more, nothing-long (M .more) (M .some), M .whole)
+cut-closes : (l : List ℕ) → 0 < length l → Missing l → Closes l 23
+cut-closes l h M = closesCut (nothing-long l h) (M .entry) (M .writable) (M .more) (nothing-long (M .more) (M .some)) (M .whole)
+
+-- 0: nothing is left
+pub whole-closes : {l : List ℕ} {n : ℕ} → Closes l n → n ≡ 0 → l ≡ []
+whole-closes (closesWhole h) e = h
+whole-closes (closesMalformed h) e = absurd (omega arith)
+whole-closes (closesCut h x W more s q) e = absurd (omega arith)
 
 -- ---- only written forms are read
 
@@ -218,9 +224,9 @@ nothing-left : (l : List ℕ) → length l ≡ 0 → l ≡ []
 nothing-left [] h = refl
 nothing-left (x ∷ l) h = absurd (omega arith)
 
-close-at : (l : List ℕ) (c : Closing) → Closes c l → Read l (closed c)
+close-at : (l : List ℕ) (n : ℕ) → Closes l n → Read l (closed n)
 unfolding traceBytes
-close-at l c k = record { rest = l; writable = tt; is = refl; closes = k }
+close-at l n k = record { rest = l; writable = tt; is = refl; closes = k }
 
 read-next : (l : List ℕ) (t : Trace) → Again l → Read (drop (2 + be2 l 0) l) t → Read l (before (foundIn l (foundAt l) ∷ []) t)
 unfolding before traceBytes
@@ -234,13 +240,14 @@ read-next l t g r = record {
 
 reads : (m : ℕ) (l : List ℕ) → length l ≤ m → Bytes l → Read l (traceFrom m l)
 unfolding traceFrom thenTrace
-reads zero l h p = close-at l C.Whole (nothing-left l (omega arith))
+reads zero l h p = close-at l 0 (closesWhole (nothing-left l (omega arith)))
 reads (suc m) l h p = go (λ B. reads m (drop (2 + be2 l 0) l) (fewer l B m h) (Bytes-drop (2 + be2 l 0) l p)) (front l)
   where
-    go : (Begins l → Read (drop (2 + be2 l 0) l) (traceFrom m (drop (2 + be2 l 0) l))) → {r : Reading} → Front l r → Read l (thenTrace r l (traceFrom m))
-    go f (none e) = close-at l C.Whole (nothing-left l e)
-    go f (bad u) = close-at l C.Malformed (bad-closes l u)
-    go f (short k S c) = close-at l C.Cut (cut-closes l k (find-missing l p k S c))
+    go : (Begins l → Read (drop (2 + be2 l 0) l) (traceFrom m (drop (2 + be2 l 0) l)))
+        → {r : Response (Option Found)} → Front l r → Read l (thenTrace r l (traceFrom m))
+    go f (empty e) = close-at l 0 (closesWhole (nothing-left l e))
+    go f (bad u) = close-at l 22 (bad-closes l u)
+    go f (short k S c) = close-at l 23 (cut-closes l k (find-missing l p k S c))
     go f (one B) = read-next l _ (only-one l p B) (f B)
 
 pub only : (l : List ℕ) → Bytes l → Read l (traceOf l)

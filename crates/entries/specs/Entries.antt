@@ -3,10 +3,12 @@
 -- bytes go), at that entry ..; 23, trace ends inside an entry, likewise." Assumes nothing: these are definitions.
 use Prim.Native.Nat.{ℕ, zero, suc, _+_, _-_}
 use mathlib.Core.Bool.{Bool, not, _&&_, _||_}
+use mathlib.Core.Option.{Option, none, some}
 use mathlib.Core.List.{List, [], _∷_, _++_}
 use lib.ListN.{length, getD, drop}
 use lib.Dec.{eqb, ltb, leb}
-use Rattle.area.specs.Area.{pick, part, numbered}
+use Rattle.area.specs.Area.{pick, part}
+use Rattle.area.specs.Responses.{Response, turnedDown, gives}
 use Rattle.area.specs.Numbers.{be2, bytes2}
 use Rattle.frame.specs.declared.Party.{Party}
 use Rattle.frame.specs.Outbox.{partyBytes, partyIn}
@@ -65,25 +67,28 @@ closingNumber C.Whole = 0
 closingNumber C.Malformed = 22
 closingNumber C.Cut = 23
 
--- the closing with the number n (0 where none has it)
-abbrev pub closingWith : ℕ → Closing
-closingWith n = numbered closingNumber C.Whole (C.Whole ∷ C.Malformed ∷ C.Cut ∷ []) n
+-- what a reading says, by its cases: an entry; nothing, since no bytes are left; or the number with which the trace closes there
+abbrev pub readingResponse : Reading → Response (Option Found)
+readingResponse (R.Entry x) = gives (some x)
+readingResponse (R.Closed C.Whole) = gives none
+readingResponse (R.Closed C.Malformed) = turnedDown (closingNumber C.Malformed)
+readingResponse (R.Closed C.Cut) = turnedDown (closingNumber C.Cut)
 
--- what stands at the front of the bytes that are left: no bytes, so that the trace is whole; 22; 23; or an entry
-unfoldable pub readingOf : List ℕ → Reading
+-- what stands at the front of the bytes that are left: nothing, so that the trace is whole; 22; 23; or an entry
+unfoldable pub readingOf : List ℕ → Response (Option Found)
 readingOf l =
-    pick (eqb (length l) 0) (R.Closed (closingWith 0))
-    (pick (malformed l) (R.Closed (closingWith 22))
-    (pick (cut l) (R.Closed (closingWith 23))
-    (R.Entry (record { sender = partyIn (getD l 3 0) (getD l 4 0); end = 2 + be2 l 0 }))))
+    pick (eqb (length l) 0) (gives none)
+    (pick (malformed l) (turnedDown 22)
+    (pick (cut l) (turnedDown 23)
+    (gives (some (record { sender = partyIn (getD l 3 0) (getD l 4 0); end = 2 + be2 l 0 })))))
 
--- the entries of a trace up to where it closes, and how it closes
+-- the entries of a trace up to where it closes, and the number with which it closes there: 22 or 23, or 0 where the trace is whole
 pub record Trace : Type 0 where
   pub entries : List TraceEntry
-  pub closing : Closing
+  pub closing : ℕ
 
-abbrev pub closed : Closing → Trace
-closed c = record { entries = []; closing = c }
+abbrev pub closed : ℕ → Trace
+closed n = record { entries = []; closing = n }
 
 -- entries before those of a trace
 unfoldable pub before : List TraceEntry → Trace → Trace
@@ -94,19 +99,28 @@ abbrev pub foundIn : List ℕ → Found → TraceEntry
 foundIn l x = traceEntry (x .sender) (part l frameAt (x .end - frameAt))
 
 -- an entry, and what the bytes behind it say
-unfoldable pub thenTrace : Reading → List ℕ → (List ℕ → Trace) → Trace
-thenTrace (R.Closed c) l rest = closed c
-thenTrace (R.Entry x) l rest = before (foundIn l x ∷ []) (rest (drop (x .end) l))
+unfoldable pub thenTrace : Response (Option Found) → List ℕ → (List ℕ → Trace) → Trace
+thenTrace (turnedDown n) l rest = closed n
+thenTrace (gives none) l rest = closed 0
+thenTrace (gives (some x)) l rest = before (foundIn l x ∷ []) (rest (drop (x .end) l))
 
 -- at most m entries; every entry takes a byte, so that the length is enough for m
 unfoldable pub traceFrom : ℕ → List ℕ → Trace
-traceFrom zero l = closed C.Whole
+traceFrom zero l = closed 0
 traceFrom (suc m) l = thenTrace (readingOf l) l (traceFrom m)
 
 unfoldable pub traceOf : List ℕ → Trace
 traceOf l = traceFrom (length l) l
 
--- ---- what the code says of it
+-- ---- counted
 
-unfoldable pub surveyOf : Trace → Survey
+-- how many entries a trace has before it closes, and the number with which it closes
+pub record Surveyed : Type 0 where
+  pub count : ℕ
+  pub closing : ℕ
+
+abbrev pub surveyed : Survey → Surveyed
+surveyed x = record { count = x .count; closing = closingNumber (x .closing) }
+
+unfoldable pub surveyOf : Trace → Surveyed
 surveyOf t = record { count = length (t .entries); closing = t .closing }

@@ -5,7 +5,7 @@ use crate::Reading;
 use crate::Survey;
 use frame::parties::party_in;
 ghost use mathlib.Core.Path.{_≡_};
-ghost use Rattle.entries.specs.Entries.{malformed, cut, readingOf, traceOf, surveyOf};
+ghost use Rattle.entries.specs.Entries.{malformed, cut, readingResponse, readingOf, traceOf, surveyed, surveyOf};
 
 // 22: length under 3, version not 1 or class above 1, as far as the bytes go.
 fn is_malformed(l: &[u8]) -> bool
@@ -41,7 +41,7 @@ fn is_cut(l: &[u8]) -> bool
 
 // What stands at the front of l: an entry, or how the trace closes there.
 pub fn read_entry(l: &[u8]) -> Reading
-    ensures { λ r. ⌜ r ≡ readingOf (now (l .entry)) ⌝ }
+    ensures { λ r. ⌜ readingResponse r ≡ readingOf (now (l .entry)) ⌝ }
 {
     if l.len() == 0 {
         return Reading::Closed(Closing::Whole);
@@ -59,7 +59,7 @@ pub fn read_entry(l: &[u8]) -> Reading
 
 // Counts the entries of a trace.
 pub fn survey(trace: &[u8]) -> Survey
-    ensures { λ r. ⌜ r ≡ surveyOf (traceOf (now (trace .entry))) ⌝ }
+    ensures { λ r. ⌜ surveyed r ≡ surveyOf (traceOf (now (trace .entry))) ⌝ }
 {
     let mut count: usize = 0;
     let mut at: usize = 0;

@@ -14,10 +14,10 @@ use Rattle.frame.specs.declared.Verdict.{Verdict}
 use Rattle.frame.specs.declared.Verdict.the-variants as J
 use Rattle.frame.specs.declared.Opened.{Opened}
 use Rattle.frame.specs.declared.Opened.the-variants as O
-use Rattle.frame.specs.Refusals.{andThen}
+use Rattle.frame.specs.Refusals.{answeredBy}
 use Rattle.frame.specs.Params.{boundsTest, entryLength}
 use Rattle.frame.specs.Frames.{versionAt, kindAt, bodyAt, valueAt, lengthOf, bodyLength, headerIn, stampIn, framingTest}
-use Rattle.frame.specs.Frames.{headerTest, bodyTest, stampTest, contentTest, frameTest, opened, openedBy, openedUnder}
+use Rattle.frame.specs.Frames.{headerTest, bodyTest, stampTest, contentTest, frameTest, opened, openedBy, openingResponse, openedUnder}
 use Rattle.frame.proofs.Opening.{framing-facts, body-facts}
 
 -- the stamp is looked at in a value alone
@@ -79,10 +79,17 @@ module _ (g : Params) (f : List ℕ) where
         opens-at-last y u z = rest J.Fine (sym z ∙ u)
 
 -- any parameters
-pub stop-bounds : (g : Params) (f : List ℕ) (v : Verdict) (r : Refusal) → v ≡ boundsTest g → v ≡ J.Bad r → O.Refused r ≡ openedUnder g f
+pub stop-bounds : (g : Params) (f : List ℕ) (v : Verdict) (r : Refusal) → v ≡ boundsTest g → v ≡ J.Bad r → openingResponse (O.Refused r) ≡ openedUnder g f
 unfolding openedUnder
 stop-bounds g f v r p q = let e : boundsTest g ≡ J.Bad r = sym p ∙ q in rw e
 
-pub within-bounds : (g : Params) (f : List ℕ) (v : Verdict) (o : Opened) → v ≡ boundsTest g → v ≡ J.Fine → o ≡ opened g f → o ≡ openedUnder g f
+response-by : (v : Verdict) (h : Header) → openingResponse (openedBy v h) ≡ answeredBy v h
+response-by J.Fine h = refl
+response-by (J.Bad r) h = refl
+
+pub within-bounds : (g : Params) (f : List ℕ) (v : Verdict) (o : Opened) → v ≡ boundsTest g → v ≡ J.Fine → o ≡ opened g f
+    → openingResponse o ≡ openedUnder g f
 unfolding openedUnder opened
-within-bounds g f v o p q e = let d : boundsTest g ≡ J.Fine = sym p ∙ q in rw d e
+within-bounds g f v o p q e =
+    let d : boundsTest g ≡ J.Fine = sym p ∙ q in
+    rw d (ap openingResponse e ∙ response-by (frameTest g f) (headerIn f))

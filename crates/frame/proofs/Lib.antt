@@ -12,4 +12,5 @@ pub mod Within
 pub mod Writing
 pub mod Cases
 pub mod Rooms
+pub mod Responses
 pub mod Theorem

@@ -6,6 +6,7 @@ use mathlib.Core.List.{List, [], _∷_, _++_}
 use lib.ListN.{length, getD}
 use lib.Dec.{eqb, ltb, leb}
 use Rattle.area.specs.Area.{pick, part}
+use Rattle.area.specs.Responses.{Response, turnedDown, gives}
 use Rattle.area.specs.Numbers.{be2, be4, be8, bytes2, bytes4, bytes8}
 use Rattle.blocks.specs.declared.Params.{Params}
 use Rattle.frame.specs.declared.Stamp.{Stamp}
@@ -14,7 +15,7 @@ use Rattle.frame.specs.declared.Verdict.{Verdict}
 use Rattle.frame.specs.declared.Verdict.the-variants as J
 use Rattle.frame.specs.declared.Opened.{Opened}
 use Rattle.frame.specs.declared.Opened.the-variants as O
-use Rattle.frame.specs.Refusals.{andThen, refused}
+use Rattle.frame.specs.Refusals.{numberOf, refused, answeredBy, andThen}
 use Rattle.frame.specs.Params.{width, listed, entryLength, boundsTest}
 use Rattle.frame.specs.Stamps.{partsAgree, lastClient}
 use Rattle.frame.specs.Messages.{Entry, entry, Offer, offer, send, echo, ready, Body, getStamp, ack}
@@ -170,9 +171,14 @@ openedBy (J.Bad r) h = O.Refused r
 unfoldable pub opened : Params → List ℕ → Opened
 opened g f = openedBy (frameTest g f) (headerIn f)
 
+-- what an opening says: the number, or the header
+abbrev pub openingResponse : Opened → Response Header
+openingResponse (O.Frame h) = gives h
+openingResponse (O.Refused r) = turnedDown (numberOf r)
+
 -- the same for any parameters: 1 to 3 come first
-unfoldable pub openedUnder : Params → List ℕ → Opened
-openedUnder g f = openedBy (andThen (boundsTest g) (frameTest g f)) (headerIn f)
+unfoldable pub openedUnder : Params → List ℕ → Response Header
+openedUnder g f = answeredBy (andThen (boundsTest g) (frameTest g f)) (headerIn f)
 
 -- ---- what an opened frame says; f is the whole frame
 

@@ -3,6 +3,7 @@
 use Prim.Native.Nat.{ℕ}
 use mathlib.Core.List.{List, [], _∷_}
 use Rattle.area.specs.Area.{numbered}
+use Rattle.area.specs.Responses.{Response, turnedDown, gives}
 use Rattle.frame.specs.declared.Refusal.{Refusal}
 use Rattle.frame.specs.declared.Refusal.the-variants.{Parties, Threshold, Length, Framing, Version, Kind, Owner, Body, Content, Room}
 use Rattle.frame.specs.declared.Refusal.the-variants.{Sender, Stale, Ahead, Digest, Busy, Exhausted, Closed, Record, Unlisted}
@@ -63,6 +64,11 @@ refusal n = numbered numberOf Parties refusals n
 -- turned down with number n
 abbrev pub refused : ℕ → Verdict
 refused n = Bad (refusal n)
+
+-- what a call answers by its tests: the number, or x
+abbrev pub answeredBy : {A : Type 0} → Verdict → A → Response A
+answeredBy Fine x = gives x
+answeredBy (Bad r) x = turnedDown (numberOf r)
 
 -- two tests, of which the first to speak against it counts
 abbrev pub andThen : Verdict → Verdict → Verdict

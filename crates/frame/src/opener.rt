@@ -23,7 +23,7 @@ ghost use Prim.Native.Nat.{_+_, _≤_, _<_};
 ghost use lib.ListN.{length};
 ghost use Rattle.frame.specs.Params.{Bounded};
 ghost use Rattle.frame.specs.Frames.{retired, lengthOf, bodyLength, framingTest, headerIn, headerTest};
-ghost use Rattle.frame.specs.Frames.{bodyTest, stampIn, stampTest, contentTest, opened, openedUnder};
+ghost use Rattle.frame.specs.Frames.{bodyTest, stampIn, stampTest, contentTest, opened, openingResponse, openedUnder};
 
 // 4: under 9 bytes, or length field wrong.
 pub fn framing_test(f: &[u8]) -> Verdict
@@ -121,11 +121,11 @@ pub fn body_length(g: Params, kind: u8) -> usize
 }
 
 // 8: body length wrong for kind.
-pub fn body_test(g: Params, kind: u8, length: usize) -> Verdict
+pub fn body_test(g: Params, kind: u8, len: usize) -> Verdict
     requires { ⌜ Bounded g ⌝ }
-    ensures { λ r. ⌜ r ≡ bodyTest g kind length ⌝ }
+    ensures { λ r. ⌜ r ≡ bodyTest g kind len ⌝ }
 {
-    if length != BODY_AT + body_length(g, kind) {
+    if len != BODY_AT + body_length(g, kind) {
         return Verdict::Bad(Refusal::Body);
     }
     Verdict::Fine
@@ -196,7 +196,7 @@ pub fn open_frame(g: Params, f: &[u8]) -> Opened
 
 // What opening a frame finds, for any parameters: 1 to 9 in the order of the numbers.
 pub fn opened_under(g: Params, f: &[u8]) -> Opened
-    ensures { λ r. ⌜ r ≡ openedUnder g (now (f .entry)) ⌝ }
+    ensures { λ r. ⌜ openingResponse r ≡ openedUnder g (now (f .entry)) ⌝ }
 {
     let bounds = bounds_test(g);
     if let Verdict::Bad(r) = bounds {

@@ -10,8 +10,7 @@ use lib.Seq.{sets, take-suc, length-take-le}
 use Rattle.area.proofs.Sets.{length-part, sets-next}
 use Rattle.blocks.specs.declared.Params.{Params}
 use Rattle.frame.specs.Params.{width, Bounded}
-use Rattle.frame.specs.Messages.{Entry}
-use Rattle.frame.specs.Chunks.{chunkAt, blockPlace, entryAt}
+use Rattle.frame.specs.Chunks.{chunkBytes, chunkAt, blockPlace, entryAt}
 use Rattle.frame.proofs.Sizes.{small}
 use Rattle.group.specs.Entries.{Within}
 use Rattle.group.specs.Choice.{blockIn, blocksIn}
@@ -23,7 +22,7 @@ blocksIn-snoc g at a (i ∷ js) j =
     ap (λ t. blockIn g at a i ++ t) (blocksIn-snoc g at a js j) ∙ sym (append-assoc (blockIn g at a i) (blocksIn g at a js) (blockIn g at a j))
 
 -- the block of a chunk within the area
-pub length-block : (g : Params) (a : List ℕ) (p : ℕ) → Bounded g → chunkAt p + 576 ≤ length a → length (entryAt g a p .block) ≡ width g
+pub length-block : (g : Params) (a : List ℕ) (p : ℕ) → Bounded g → chunkAt p + chunkBytes ≤ length a → length (entryAt g a p .block) ≡ width g
 unfolding entryAt
 length-block g a p B h = length-part a (blockPlace p) (width g) (omega (arith, small g B .block-room))
 

@@ -1,16 +1,14 @@
 -- What the code of digest lists does, one law a step. Assumes nothing.
-use Prim.Native.Nat.{ℕ, _+_, _*_, _-_, _≤_, _<_}
+use Prim.Native.Nat.{ℕ, _+_, _*_, _-_, _≤_}
 use native.Mathlib.Omega.{arith}
-use native.Mathlib.Nat.{mul-comm, div-le-of-le-mul}
 use mathlib.Core.Bool.{Bool, true, false, not}
 use mathlib.Core.Path.{_≡_, refl, ap, sym, _∙_}
-use mathlib.Core.List.{List, _++_}
+use mathlib.Core.List.{List}
 use lib.ListN.{length, take, drop}
 use lib.Seq.{sets}
 use borrow.Author.Tests.{not-true, not-false}
-use Rattle.area.specs.Area.{pick, part, same, joined}
-use Rattle.area.proofs.Sets.{sets-next, part-sets-same}
-use Rattle.area.proofs.Fills.{joined-snoc, length-joined}
+use Rattle.area.specs.Area.{pick, part, same}
+use Rattle.area.proofs.Sets.{part-sets-same}
 use Rattle.blocks.specs.Code.{blockLength, blockOf}
 use Rattle.blocks.proofs.Stripes.{length-blockOf}
 use Rattle.frame.specs.declared.Verdict.the-variants as J
@@ -32,10 +30,6 @@ pub fit-fine : (H : List ℕ → List ℕ) (e : Entry) (j : ℕ) (b : Bool) → 
 unfolding fitTest pick
 fit-fine H e j b p q = let d : fits H e j ≡ true = sym p ∙ not-false b q in rw d
 
-pub block-high : (L k : ℕ) → 0 < k → L ≤ 256 → blockLength L k ≤ 256
-unfolding blockLength
-block-high L k h l = div-le-of-le-mul k (omega (arith, h, l))
-
 -- the front of an area in which a block was stored
 pub block-front : (z a : List ℕ) (k j b : ℕ) (v : List ℕ) → b ≡ blockLength (length v) k → b ≤ length z → a ≡ sets z 0 (blockOf k v j)
     → take b a ≡ blockOf k v j
@@ -44,18 +38,3 @@ block-front z a k j b v e h q =
     let f : 0 + length (blockOf k v j) ≤ length z = omega (arith, l, h) in
     let p : part (sets z 0 (blockOf k v j)) 0 (length (blockOf k v j)) ≡ blockOf k v j = part-sets-same z 0 (blockOf k v j) f in
     ap (take b) q ∙ (rw l at p)
-
--- the digests of the first i blocks, and one more
-digests-long : (H : List ℕ → List ℕ) → ((m : List ℕ) → length (H m) ≡ 32) → (k i : ℕ) (v : List ℕ) → length (joined (λ j. H (blockOf k v j)) 1 i) ≡ 32 * i
-digests-long H s k i v = length-joined (λ j. H (blockOf k v j)) 32 1 i (λ j. s (blockOf k v j)) ∙ mul-comm i 32
-
-pub digest-more : (H : List ℕ → List ℕ) → ((m : List ℕ) → length (H m) ≡ 32) → (k i at : ℕ) (v out o o′ d : List ℕ)
-    → o ≡ sets out at (joined (λ j. H (blockOf k v j)) 1 i) → d ≡ H (blockOf k v (i + 1)) → o′ ≡ sets o (at + 32 * i) d
-    → o′ ≡ sets out at (joined (λ j. H (blockOf k v j)) 1 (i + 1))
-digest-more H s k i at v out o o′ d p q r =
-    let c : i + 1 ≡ 1 + i = omega arith in
-    let e : d ≡ H (blockOf k v (1 + i)) = q ∙ ap (λ x. H (blockOf k v x)) c in
-    r ∙ ap (λ x. sets x (at + 32 * i) d) p
-    ∙ sets-next out at (joined (λ j. H (blockOf k v j)) 1 i) d (32 * i) (digests-long H s k i v)
-    ∙ ap (λ x. sets out at (joined (λ j. H (blockOf k v j)) 1 i ++ x)) e
-    ∙ ap (sets out at) (sym (joined-snoc (λ j. H (blockOf k v j)) 1 i))

@@ -3,7 +3,7 @@
 use mathlib.Core.Path.{_≡_, refl, sym, ap, ap₂, _∙_}
 use mathlib.Core.Bool.{Bool, true, false, _&&_}
 use mathlib.Core.Option.{Option, none, some}
-use mathlib.Core.List.{List, [], _∷_, _++_}
+use mathlib.Core.List.{List, _∷_, _++_}
 use Prim.Native.Nat.{ℕ, zero, suc, _+_, _*_, _≤_, _<_}
 use native.Mathlib.Omega.{arith}
 use native.Mathlib.Decide.{decLe}
@@ -20,7 +20,7 @@ use Rattle.blocks.specs.Code as Code
 use Rattle.blocks.specs.Code.{valueOf, blocksOf, candidate, decodedAll}
 use Rattle.frame.specs.Params.{width, Bounded}
 use Rattle.frame.specs.Messages.{Entry}
-use Rattle.frame.specs.Chunks.{chunkAt, entryAt}
+use Rattle.frame.specs.Chunks.{chunkBytes, chunkAt, entryAt}
 use Rattle.group_rules.specs.Coded.{Piece, hasList, pieceOf, pieces, numbers, joinedBytes, lowestValue, agreeing, decoded}
 use Rattle.group.specs.Entries.{marked, timed, entries, sentList, passing, flags, placesFrom, Within}
 use Rattle.group.specs.Choice.{chosen, lowest, blockIn, blocksIn, valueFrom, allOf}
@@ -104,11 +104,11 @@ no-place p j h =
     let k : length (table 11 (λ i. p + i)) ≤ j = omega arith in
     List·getD-eq-default (table 11 (λ i. p + i)) 0 k
 
-pub within-places : (p : ℕ) (a : List ℕ) → chunkAt (p + 10) + 576 ≤ length a → Within (placesFrom p) a
+pub within-places : (p : ℕ) (a : List ℕ) → chunkAt (p + 10) + chunkBytes ≤ length a → Within (placesFrom p) a
 unfolding Within
 within-places p a h j = go (decLe j 10)
   where
-    go : Dec (j ≤ 10) → chunkAt (getD (placesFrom p) j 0) + 576 ≤ length a
+    go : Dec (j ≤ 10) → chunkAt (getD (placesFrom p) j 0) + chunkBytes ≤ length a
     go (yes k) = rw (place-law p j k) (omega arith)
     go (no k) = let m : 11 ≤ j = omega (arith, k) in rw (no-place p j m) (omega arith)
 

@@ -5,15 +5,15 @@ use native.Mathlib.Omega.{arith}
 use mathlib.Core.Path.{_≡_, refl, sym, ap, ap₂, _∙_}
 use mathlib.Core.Bool.{Bool, true, false, _&&_, not}
 use mathlib.Core.List.{List, [], _∷_, _++_}
-use lib.ListN.{length, getD, take, drop, length-append}
-use lib.Seq.{take-all, take-at, drop-at, take-nil, take-append-add, length-take-le}
+use lib.ListN.{length, getD, take, length-append}
+use lib.Seq.{take-all, take-at, drop-at, take-nil, take-append-add}
 use borrow.Author.Tests.{not-true, not-false}
 use Rattle.area.specs.Area.{pick, part, same}
 use Rattle.blocks.specs.declared.Params.{Params}
 use Rattle.blocks.specs.Code.{blockLength, blockOf, blocksOf}
 use Rattle.blocks.proofs.Stripes.{length-blockOf}
 use Rattle.frame.specs.Params.{width, Bounded}
-use Rattle.frame.specs.Chunks.{chunkAt, entryAt}
+use Rattle.frame.specs.Chunks.{chunkBytes, chunkAt}
 use Rattle.group.specs.Entries.{marked, Within}
 use Rattle.group.specs.Choice.{chosen, blockIn, blocksIn, allOf}
 use Rattle.group.proofs.Lists.{same-comm, same-split}
@@ -32,7 +32,7 @@ pub flagged : (m x r : Bool) → not m ≡ false → r ≡ x → r ≡ pick m x 
 unfolding pick
 flagged m x r t q = q ∙ sym (ap (λ (b : Bool). pick b x true) (not-false m t))
 
-pub within-at : (at a : List ℕ) → Within at a → (j : ℕ) → chunkAt (getD at j 0) + 576 ≤ length a
+pub within-at : (at a : List ℕ) → Within at a → (j : ℕ) → chunkAt (getD at j 0) + chunkBytes ≤ length a
 unfolding Within
 within-at at a W j = W j
 

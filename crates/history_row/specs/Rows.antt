@@ -1,13 +1,11 @@
 -- Operations added one after the other to a history by value. Assumes nothing: these are definitions.
-use Prim.Native.Nat.{ℕ, _+_}
-use mathlib.Core.Bool.{Bool, true, false}
+use Prim.Native.Nat.{_+_}
 use mathlib.Core.List.{List, [], _∷_}
 use lib.Dec.{leb, ltb}
 use lib.ListN.{set, take, replicate}
 use Rattle.area.specs.Area.{pick}
-use Rattle.order.specs.Histories.{noOperation, refused, judged}
+use Rattle.order.specs.Histories.{noOperation, Judgement, refused, judged}
 use Rattle.order.specs.declared.operation.Operation.{Operation}
-use Rattle.order.specs.declared.judge.Verdict.{Verdict}
 use Rattle.history_row.specs.declared.History.{History}
 
 -- the history without operations
@@ -23,5 +21,5 @@ addedAll h [] = h
 addedAll h (a ∷ ops) = addedAll (added h a) ops
 
 -- the answer for a history by value
-unfoldable pub verdictOf : History → Verdict
+unfoldable pub verdictOf : History → Judgement
 verdictOf h = pick (ltb 64 (h .count)) (refused 18) (judged (take (h .count) (h .rows)))

@@ -12,12 +12,13 @@ use order::judge::Answer;
 use order::judge::Verdict;
 use order::judge::refuse;
 ghost use mathlib.Core.Path.{_≡_};
+ghost use Rattle.order.specs.Histories.{judgement};
 ghost use Rattle.history_text.specs.Lines.{answerTo};
 
 // The answer to what was read into a buffer of 65536 bytes. A line of a record has at most 60 bytes, so that what fills the buffer has more than 64 lines or
 // a malformed one, whatever follows.
 fn judge(history: &[u8]) -> Verdict
-    ensures { λ r. ⌜ r ≡ answerTo (now (history .entry)) ⌝ }
+    ensures { λ r. ⌜ judgement r ≡ answerTo (now (history .entry)) ⌝ }
 {
     if 65535 < history.len() {
         return refuse(Refusal::Record);

@@ -1,23 +1,23 @@
--- What `lay` answers, by the answer to the history: the operations that the line numbers name are those in the order found. Assumes nothing.
+-- What `lay` answers, by the answer to the history: the operations that the line numbers name are those in the order found. And no two answers of the code
+-- have one response (`laid-injective`). Assumes nothing.
 use mathlib.Core.Path.{_≡_, refl, sym, ap, ap₂, subst, _∙_}
-use mathlib.Core.Bool.{Bool, true, false}
 use mathlib.Core.List.{List, [], _∷_, _++_, append-assoc, append-nil}
 use Prim.Native.Nat.{ℕ, zero, suc, _+_, _-_, _*_, _<_, _≤_}
 use native.Mathlib.Nat.{add-zero}
 use native.Mathlib.Numerals.{add-one}
 use native.Mathlib.Omega.{arith}
-use lib.Dec.{ltb}
 use lib.ListN.{length, getD, take, set, length-set, length-map, List·getD-map}
 use lib.Seq.{sets, take-suc-set, getD-take, ext-getD}
 use borrow.Author.Tests.{lt-ltb, le-ltb, ltb-false}
-use Rattle.area.specs.Area.{pick, joined}
+use Rattle.area.specs.Area.{joined}
+use Rattle.area.specs.Responses.{Response, turnedDown, gives, isTurnedDown}
 use Rattle.area.proofs.Tests.{pick-not}
 use Rattle.area.proofs.Sets.{part-sets-same}
-use Rattle.order.specs.Histories.{rowOf, lineNumbers, blank, refused, offending, ordered, judged, noOperation}
-use Rattle.order.specs.Orders.{Line, inLine, inPlace}
+use Rattle.order.specs.Histories.{rowOf, lineNumbers, blank, noOperation}
+use Rattle.order.specs.Histories.{hasOrder, noOrder, judgeResponse, Judgement, judgement, refused, offending, ordered, judged}
+use Rattle.order.specs.Orders.{Line, inPlace}
 use Rattle.order.specs.declared.operation.Operation.{Operation}
 use Rattle.order.specs.declared.operation.Entry.{Entry}
-use Rattle.order.specs.declared.judge.Answer.{Answer}
 use Rattle.order.specs.declared.judge.Answer.the-variants as O
 use Rattle.order.specs.declared.judge.Verdict.{Verdict}
 use Rattle.order.proofs.Picks.{pick-yes, pick-no}
@@ -25,6 +25,7 @@ use Rattle.order.proofs.Less.{true-false}
 use Rattle.order.proofs.Inserts.{noEntry}
 use Rattle.order.proofs.Rows.{row-length}
 use Rattle.order.proofs.Arranged.{theRow, size, stands, row-is-row}
+use Rattle.order.proofs.Answers.{isOrder, first}
 use Rattle.history_row.specs.Rows.{none, added, addedAll}
 use Rattle.history_row.specs.declared.History.{History}
 use Rattle.history_row.proofs.Laws.{added-fits}
@@ -35,29 +36,47 @@ use Rattle.history_text.specs.Printed.{InWidth, AllInWidth}
 use Rattle.history_text.proofs.Readings.{answer-reading}
 use Rattle.history_text.proofs.Texts.{only-printed}
 use Rattle.history_sheet.specs.Sheet.{pageSize, pagesOf, pageOf, sheetOf}
-use Rattle.history_sheet.specs.Laying.{Outcome, outcome, inOrder, laidOut, layingBy, layingOf, laying}
+use Rattle.history_sheet.specs.Laying.{SheetResult, pagesLaid, unordered, laidResponse, outcome, inOrder, laidOut, layingBy, layingOf, laying}
 use Rattle.history_sheet.specs.Stages.{named, namedAll, Named}
 use Rattle.history_sheet.specs.Board.{Fits}
 use Rattle.history_sheet.specs.declared.Laid.{Laid}
 use Rattle.history_sheet.specs.declared.Laid.the-variants as L
 use Rattle.history_sheet.proofs.Pages.{named-count, named-at}
 
+-- ---- responses
+
+-- the answer of the code that has a response
+unfoldable laidWith : Response SheetResult → Laid
+laidWith (turnedDown x) = L.Refused x
+laidWith (gives (pagesLaid n)) = L.Pages n
+laidWith (gives (unordered a b)) = L.Offending a b
+
+laid-back : (x : Laid) → laidWith (laidResponse x) ≡ x
+unfolding laidWith
+laid-back (L.Pages n) = refl
+laid-back (L.Offending a b) = refl
+laid-back (L.Refused x) = refl
+
+-- no two answers of the code have one response
+pub laid-injective : (x y : Laid) → laidResponse x ≡ laidResponse y → x ≡ y
+laid-injective x y e = sym (laid-back x) ∙ ap laidWith e ∙ laid-back y
+
 -- ---- room for a sheet
 
 pub sheet-short : (row : List Operation) (out : List ℕ) (m pages : ℕ) → length row ≡ m → pages ≡ pagesOf m → length out < pages * pageSize
-    → outcome (L.Refused 10) out ≡ laidOut row out
+    → outcome (turnedDown 10) out ≡ laidOut row out
 unfolding laidOut
 sheet-short row out m pages n e h =
     let p : pages ≡ pagesOf (length row) = e ∙ ap pagesOf (sym n) in
     pick-yes _ _ _ refl (lt-ltb _ _ (subst (λ k. length out < k * pageSize) p h)) refl
 
 pub sheet-laid : (row : List Operation) (out o : List ℕ) (m pages : ℕ) → length row ≡ m → pages ≡ pagesOf m → pages * pageSize ≤ length out
-    → o ≡ sets out 0 (joined (pageOf row) 0 pages) → outcome (L.Pages pages) o ≡ laidOut row out
+    → o ≡ sets out 0 (joined (pageOf row) 0 pages) → outcome (gives (pagesLaid pages)) o ≡ laidOut row out
 unfolding laidOut sheetOf
 sheet-laid row out o m pages n e h q =
     let p : pages ≡ pagesOf (length row) = e ∙ ap pagesOf (sym n) in
     pick-no _ _ _ refl (le-ltb _ _ (subst (λ k. k * pageSize ≤ length out) p h))
-    (ap₂ outcome (ap L.Pages p) (q ∙ ap (λ k. sets out 0 (joined (pageOf row) 0 k)) p))
+    (ap₂ outcome (ap (λ k. gives (pagesLaid k)) p) (q ∙ ap (λ k. sets out 0 (joined (pageOf row) 0 k)) p))
 
 -- ---- operations added to a history
 
@@ -85,25 +104,10 @@ history-rows ops h =
 
 -- ---- the answer to a history that has an order
 
-unfoldable isOrder : Answer → Bool
-isOrder (O.Ordered m) = true
-isOrder (O.Offending a b) = false
-isOrder (O.Refused x) = false
+answer-of : {v w : Judgement} → v ≡ w → v .answer ≡ w .answer
+answer-of e = ap (λ (v : Judgement). v .answer) e
 
-unfoldable number : Answer → ℕ
-number (O.Ordered m) = m
-number (O.Offending a b) = a
-number (O.Refused x) = x
-
-unfoldable isRefusal : Answer → Bool
-isRefusal (O.Ordered m) = false
-isRefusal (O.Offending a b) = false
-isRefusal (O.Refused x) = true
-
-answer-of : {v w : Verdict} → v ≡ w → v .answer ≡ w .answer
-answer-of e = ap (λ (v : Verdict). v .answer) e
-
-module _ (ops : List Operation) (m : ℕ) (e : judged ops .answer ≡ O.Ordered m) where
+module _ (ops : List Operation) (m : ℕ) (e : judged ops .answer ≡ gives (hasOrder m)) where
   not-refused : (x : ℕ) → refused x ≡ judged ops → ⊥
   unfolding refused isOrder
   not-refused x q = true-false refl (sym (ap isOrder (answer-of q ∙ e)))
@@ -122,8 +126,8 @@ module _ (ops : List Operation) (m : ℕ) (e : judged ops .answer ≡ O.Ordered 
       (ltb-false 64 (length ops) (p .0), s .1)
 
   ordered-all : m ≡ length ops
-  unfolding number ordered
-  ordered-all = ap number (sym e ∙ answer-of (sym (ordered-only .1)))
+  unfolding first ordered
+  ordered-all = ap first (sym e ∙ answer-of (sym (ordered-only .1)))
 
 -- ---- the operations in the order found
 
@@ -206,28 +210,28 @@ module _ (ops rows : List Operation) (lines : List ℕ) (m : ℕ) (w : AllInWidt
 -- ---- the outcome
 
 -- what `lay` has to know where the history has an order
-pub record Ready (x : Reading) (v : Verdict) (m : ℕ) (l : Lines) : Type 0 where
+pub record Ready (x : Reading) (v : Judgement) (m : ℕ) (l : Lines) : Type 0 where
   pub there : Named (x .history .rows) (v .lines) m
   pub lays : (out : List ℕ) → laidOut (namedAll (x .history .rows) (v .lines) m) out ≡ layingOf l out
 
-module _ (x : Reading) (v : Verdict) where
+module _ (x : Reading) (v : Judgement) where
   answered : (l : Lines) → x ≡ readingOf l → v ≡ answerBy x → v ≡ answerOf l
   answered l e q = q ∙ ap answerBy e ∙ answer-reading l
 
-  malformed-answer : v ≡ answerOf Malformed → v .answer ≡ O.Refused 18
+  malformed-answer : v ≡ answerOf Malformed → v .answer ≡ turnedDown 18
   unfolding answerOf refused
   malformed-answer e = answer-of e
 
   ready : (l : Lines) → ((ops : List Operation) → l ≡ Records ops → AllInWidth ops) → (m : ℕ)
-      → x ≡ readingOf l → v ≡ answerBy x → v .answer ≡ O.Ordered m → Ready x v m l
+      → x ≡ readingOf l → v ≡ answerBy x → v .answer ≡ gives (hasOrder m) → Ready x v m l
   unfolding readingOf answerOf layingOf layingBy ordered isOrder
   ready (Records ops) w m e q a =
       let j : v ≡ judged ops = answered (Records ops) e q in
-      let b : judged ops .answer ≡ O.Ordered m = answer-of (sym j) ∙ a in
+      let b : judged ops .answer ≡ gives (hasOrder m) = answer-of (sym j) ∙ a in
       let o = ordered-only ops m b in
       let n = ordered-all ops m b in
       let r : take m (x .history .rows) ≡ ops = ap₂ (λ k (y : Reading). take k (y .history .rows)) n e ∙ history-rows ops (o .0) in
-      let s : v .lines ≡ sets blank 0 (lineNumbers (rowOf ops)) = ap (λ (y : Verdict). y .lines) (j ∙ sym (o .1)) in
+      let s : v .lines ≡ sets blank 0 (lineNumbers (rowOf ops)) = ap (λ (y : Judgement). y .lines) (j ∙ sym (o .1)) in
       record {
         there = named-there ops (x .history .rows) (v .lines) m (w ops refl) (o .0) n r s;
         lays = λ out.
@@ -236,32 +240,32 @@ module _ (x : Reading) (v : Verdict) where
       }
   ready Malformed w m e q a = absurd (true-false refl (sym (ap isOrder (sym (malformed-answer (answered Malformed e q)) ∙ a))))
 
-  pair-laid : (l : Lines) (a b : ℕ) (out : List ℕ) → x ≡ readingOf l → v ≡ answerBy x → v .answer ≡ O.Offending a b
-      → outcome (L.Offending a b) out ≡ layingOf l out
-  unfolding answerOf layingOf layingBy isRefusal
+  pair-laid : (l : Lines) (a b : ℕ) (out : List ℕ) → x ≡ readingOf l → v ≡ answerBy x → v .answer ≡ gives (noOrder a b)
+      → outcome (gives (unordered a b)) out ≡ layingOf l out
+  unfolding answerOf layingOf layingBy isTurnedDown
   pair-laid (Records ops) a b out e q t = sym (ap (λ y. layingBy y ops out) (answer-of (sym (answered (Records ops) e q)) ∙ t))
-  pair-laid Malformed a b out e q t = absurd (true-false refl (ap isRefusal (sym (malformed-answer (answered Malformed e q)) ∙ t)))
+  pair-laid Malformed a b out e q t = absurd (true-false refl (ap isTurnedDown (sym (malformed-answer (answered Malformed e q)) ∙ t)))
 
-  refusal-laid : (l : Lines) (n : ℕ) (out : List ℕ) → x ≡ readingOf l → v ≡ answerBy x → v .answer ≡ O.Refused n
-      → outcome (L.Refused n) out ≡ layingOf l out
-  unfolding answerOf layingOf layingBy number
+  refusal-laid : (l : Lines) (n : ℕ) (out : List ℕ) → x ≡ readingOf l → v ≡ answerBy x → v .answer ≡ turnedDown n
+      → outcome (turnedDown n) out ≡ layingOf l out
+  unfolding answerOf layingOf layingBy
   refusal-laid (Records ops) n out e q t = sym (ap (λ y. layingBy y ops out) (answer-of (sym (answered (Records ops) e q)) ∙ t))
-  refusal-laid Malformed n out e q t =
-      ap (λ k. outcome (L.Refused k) out) (ap number (sym t ∙ malformed-answer (answered Malformed e q)))
+  refusal-laid Malformed n out e q t = ap (λ y. layingBy y [] out) (sym t ∙ malformed-answer (answered Malformed e q))
 
-  module _ (text : List ℕ) (e : x ≡ readingOf (linesOf text)) (q : v ≡ answerBy x) where
-    pub text-pair : (a b : ℕ) (out : List ℕ) → v .answer ≡ O.Offending a b → outcome (L.Offending a b) out ≡ laying text out
-    unfolding laying
-    text-pair a b out t = pair-laid (linesOf text) a b out e q t
+-- by the answer of the code
+module _ (x : Reading) (v : Verdict) (text : List ℕ) (e : x ≡ readingOf (linesOf text)) (q : judgement v ≡ answerBy x) where
+  pub text-pair : (a b : ℕ) (out : List ℕ) → v .answer ≡ O.Offending a b → outcome (laidResponse (L.Offending a b)) out ≡ laying text out
+  unfolding laying
+  text-pair a b out t = pair-laid x (judgement v) (linesOf text) a b out e q (ap judgeResponse t)
 
-    pub text-refused : (n : ℕ) (out : List ℕ) → v .answer ≡ O.Refused n → outcome (L.Refused n) out ≡ laying text out
-    unfolding laying
-    text-refused n out t = refusal-laid (linesOf text) n out e q t
+  pub text-refused : (n : ℕ) (out : List ℕ) → v .answer ≡ O.Refused n → outcome (laidResponse (L.Refused n)) out ≡ laying text out
+  unfolding laying
+  text-refused n out t = refusal-laid x (judgement v) (linesOf text) n out e q (ap judgeResponse t)
 
-    pub text-ready : (m : ℕ) → v .answer ≡ O.Ordered m → Ready x v m (linesOf text)
-    text-ready m a = ready (linesOf text) (λ ops s. only-printed text ops s .0) m e q a
+  pub text-ready : (m : ℕ) → v .answer ≡ O.Ordered m → Ready x (judgement v) m (linesOf text)
+  text-ready m a = ready x (judgement v) (linesOf text) (λ ops s. only-printed text ops s .0) m e q (ap judgeResponse a)
 
-    pub text-laid : (m : ℕ) → v .answer ≡ O.Ordered m → (r : Laid) (out o : List ℕ)
-        → outcome r o ≡ laidOut (namedAll (x .history .rows) (v .lines) m) out → outcome r o ≡ laying text out
-    unfolding laying
-    text-laid m a r out o p = p ∙ text-ready m a .lays out
+  pub text-laid : (m : ℕ) → v .answer ≡ O.Ordered m → (r : Response SheetResult) (out o : List ℕ)
+      → outcome r o ≡ laidOut (namedAll (x .history .rows) (v .lines) m) out → outcome r o ≡ laying text out
+  unfolding laying
+  text-laid m a r out o p = p ∙ text-ready m a .lays out

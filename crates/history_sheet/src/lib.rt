@@ -13,7 +13,7 @@ use order::operation::Operation;
 ghost use mathlib.Core.Path.{_≡_};
 ghost use Prim.Native.Nat.{_≤_};
 ghost use Rattle.history_sheet.specs.Sheet.{pagesOf};
-ghost use Rattle.history_sheet.specs.Laying.{outcome, laidOut, laying};
+ghost use Rattle.history_sheet.specs.Laying.{laidResponse, outcome, laidOut, laying};
 ghost use Rattle.history_sheet.specs.Stages.{namedAll, Named};
 
 // Pages: how many were laid. Offending: the line numbers of the earlier and of the later operation. Refused: the number.
@@ -37,7 +37,7 @@ fn page_count(m: usize) -> usize
 // Lays the sheet of the first m of the operations that lines names, where there is room for it.
 fn put_sheet(out: &mut [u8], rows: [Operation; 64], lines: [u8; 64], m: usize) -> Laid
     requires { ⌜ Named rows lines m ⌝ }
-    ensures { λ r. ⌜ outcome r (now (out .exit)) ≡ laidOut (namedAll rows lines m) (now (out .entry)) ⌝ }
+    ensures { λ r. ⌜ outcome (laidResponse r) (now (out .exit)) ≡ laidOut (namedAll rows lines m) (now (out .entry)) ⌝ }
 {
     let pages = page_count(m);
     if out.len() < pages * PAGE_SIZE {
@@ -49,7 +49,7 @@ fn put_sheet(out: &mut [u8], rows: [Operation; 64], lines: [u8; 64], m: usize) -
 
 // Lays the sheet of a history at the front of out.
 pub fn lay(text: &[u8], out: &mut [u8]) -> Laid
-    ensures { λ r. ⌜ outcome r (now (out .exit)) ≡ laying (now (text .entry)) (now (out .entry)) ⌝ }
+    ensures { λ r. ⌜ outcome (laidResponse r) (now (out .exit)) ≡ laying (now (text .entry)) (now (out .entry)) ⌝ }
 {
     let reading = read_text(text);
     let verdict = judge_reading(reading);

@@ -7,11 +7,10 @@ use native.Mathlib.Omega.{arith}
 use lib.ListN.{length, drop, take, drop-of-length-le}
 use lib.Seq.{drop-drop}
 use Rattle.area.specs.Area.{pick}
-use Rattle.order.specs.Histories.{refused, judged}
+use Rattle.order.specs.Histories.{Judgement, refused, judged}
 use Rattle.order.specs.declared.operation.Operation.{Operation}
-use Rattle.order.specs.declared.judge.Verdict.{Verdict}
 use Rattle.order.proofs.Picks.{pick-yes, pick-no}
-use Rattle.history_row.specs.Rows.{none, added, addedAll, verdictOf}
+use Rattle.history_row.specs.Rows.{none, added, addedAll}
 use Rattle.history_row.specs.declared.History.{History}
 use Rattle.history_row.proofs.Laws.{verdict-row, verdict-large, verdict-small}
 use Rattle.history_text.specs.Lines.{Lines, Records, Malformed, recordThen, linesOf, answerOf, answerTo}
@@ -78,15 +77,15 @@ final-end h n at s l = ap (λ t. final h (linesRead n t)) (drop-of-length-le s l
 -- ---- the answer
 
 -- a malformed line; more than 64 operations; at most 64
-pub answer-bad : (x : Reading) {v : Verdict} → x .malformed ≡ true → v ≡ refused 18 → v ≡ answerBy x
+pub answer-bad : (x : Reading) {v : Judgement} → x .malformed ≡ true → v ≡ refused 18 → v ≡ answerBy x
 unfolding answerBy
 answer-bad x f q = pick-yes _ _ _ refl f q
 
-pub answer-large : (x : Reading) {v : Verdict} → x .malformed ≡ false → 64 < x .history .count → v ≡ refused 18 → v ≡ answerBy x
+pub answer-large : (x : Reading) {v : Judgement} → x .malformed ≡ false → 64 < x .history .count → v ≡ refused 18 → v ≡ answerBy x
 unfolding answerBy
 answer-large x f l q = pick-no _ _ _ refl f (q ∙ sym (verdict-large (x .history) l))
 
-pub answer-small : (x : Reading) {v : Verdict} → x .malformed ≡ false → x .history .count ≤ 64
+pub answer-small : (x : Reading) {v : Judgement} → x .malformed ≡ false → x .history .count ≤ 64
     → v ≡ judged (take (x .history .count) (x .history .rows)) → v ≡ answerBy x
 unfolding answerBy
 answer-small x f l q = pick-no _ _ _ refl f (q ∙ sym (verdict-small (x .history) l))
@@ -97,6 +96,6 @@ unfolding answerBy readingOf answerOf pick
 answer-reading (Records ops) = verdict-row ops
 answer-reading Malformed = refl
 
-pub answer-text : (s : List ℕ) (x : Reading) (v : Verdict) → x ≡ readingOf (linesOf s) → v ≡ answerBy x → v ≡ answerTo s
+pub answer-text : (s : List ℕ) (x : Reading) (v : Judgement) → x ≡ readingOf (linesOf s) → v ≡ answerBy x → v ≡ answerTo s
 unfolding answerTo
 answer-text s x v e q = q ∙ ap answerBy e ∙ answer-reading (linesOf s)

@@ -8,9 +8,8 @@ use mathlib.Core.List.{List, [], _∷_, map}
 use lib.Dec.{eqb}
 use lib.ListN.{getD}
 use Rattle.area.specs.Area.{pick, same}
-use Rattle.order.specs.Histories.{refused, judged, noOperation}
+use Rattle.order.specs.Histories.{Judgement, refused, judged, noOperation}
 use Rattle.order.specs.declared.operation.Operation.{Operation}
-use Rattle.order.specs.declared.judge.Verdict.{Verdict}
 use Rattle.history_text.specs.Decimals.{valueOf, isNumber}
 
 -- ---- a text in pieces
@@ -81,9 +80,9 @@ unfoldable pub linesOf : List ℕ → Lines
 linesOf text = recordsOf (split 10 text)
 
 -- the answer to a text: 18 where a line is malformed, else what is judged of its records
-unfoldable pub answerOf : Lines → Verdict
+unfoldable pub answerOf : Lines → Judgement
 answerOf (Records ops) = judged ops
 answerOf Malformed = refused 18
 
-unfoldable pub answerTo : List ℕ → Verdict
+unfoldable pub answerTo : List ℕ → Judgement
 answerTo text = answerOf (linesOf text)

@@ -2,8 +2,7 @@
 -- Assumes nothing: these are definitions.
 use mathlib.Core.Bool.{true, false}
 use Rattle.area.specs.Area.{pick}
-use Rattle.order.specs.Histories.{refused}
-use Rattle.order.specs.declared.judge.Verdict.{Verdict}
+use Rattle.order.specs.Histories.{Judgement, refused}
 use Rattle.history_row.specs.Rows.{none, addedAll, verdictOf}
 use Rattle.history_text.specs.Lines.{Lines, Records, Malformed}
 use Rattle.history_text.specs.declared.text.Reading.{Reading}
@@ -13,5 +12,5 @@ unfoldable pub readingOf : Lines → Reading
 readingOf (Records ops) = record { malformed = false; history = addedAll none ops }
 readingOf Malformed = record { malformed = true; history = none }
 
-unfoldable pub answerBy : Reading → Verdict
+unfoldable pub answerBy : Reading → Judgement
 answerBy x = pick (x .malformed) (refused 18) (verdictOf (x .history))

@@ -9,6 +9,7 @@ use history_row::judge_first;
 use order::judge::Verdict;
 use order::judge::refuse;
 ghost use mathlib.Core.Path.{_≡_};
+ghost use Rattle.order.specs.Histories.{judgement};
 ghost use Rattle.history_text.specs.Lines.{linesOf, answerTo};
 ghost use Rattle.history_text.specs.Readings.{readingOf, answerBy};
 
@@ -43,7 +44,7 @@ pub fn read_text(s: &[u8]) -> Reading
 
 // The answer to what was read; the operations are lent as a slice.
 pub fn judge_reading(reading: Reading) -> Verdict
-    ensures { λ r. ⌜ r ≡ answerBy reading ⌝ }
+    ensures { λ r. ⌜ judgement r ≡ answerBy reading ⌝ }
 {
     if reading.malformed {
         return refuse(Refusal::Record);
@@ -59,7 +60,7 @@ pub fn judge_reading(reading: Reading) -> Verdict
 
 // The answer to a history as text.
 pub fn judge_text(s: &[u8]) -> Verdict
-    ensures { λ r. ⌜ r ≡ answerTo (now (s .entry)) ⌝ }
+    ensures { λ r. ⌜ judgement r ≡ answerTo (now (s .entry)) ⌝ }
 {
     judge_reading(read_text(s))
 }

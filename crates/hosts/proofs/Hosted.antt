@@ -9,18 +9,19 @@ use mathlib.Core.Logic.{⊎-elim}
 use lib.ListN.{length, getD}
 use lib.Seq.{sets, length-sets}
 use lib.Dec.{ltb, eqb}
-use borrow.Author.Tests.{ltb-true, ltb-false}
+use borrow.Author.Tests.{ltb-true, ltb-false, ne-eqb}
 use Rattle.quorum.specs.Quorum.{Among}
 use Rattle.quorum.proofs.Logic.{impossible}
 use Rattle.area.specs.Area.{pick, Bytes}
+use Rattle.area.specs.Responses.{Response, isTurnedDown}
 use Rattle.sha256.specs.Hash.{digestOf}
 use Rattle.blocks.specs.declared.Params.{Params}
 use Rattle.frame.specs.declared.Party.{Party}
 use Rattle.frame.specs.declared.Party.the-variants as P
+use Rattle.frame.specs.declared.Verdict.{Verdict}
 use Rattle.frame.specs.declared.Verdict.the-variants as J
 use Rattle.frame.specs.declared.Refusal.{Refusal}
-use Rattle.frame.specs.declared.Refusal.the-variants as R
-use Rattle.frame.specs.Refusals.{numberOf}
+use Rattle.frame.specs.Refusals.{numberOf, answeredBy}
 use Rattle.frame.specs.declared.Stamp.{Stamp}
 use Rattle.frame.specs.Frames.{clientAt, stampBytes}
 use Rattle.frame.specs.Messages.{numberIn}
@@ -29,8 +30,7 @@ use Rattle.server_rules.specs.declared.Reader.{Reader}
 use Rattle.server_rules.specs.Delivery as SD
 use Rattle.server_rules.proofs.Within.{either}
 use Rattle.server_rules.proofs.Parts.{put-same, put-cases}
-use Rattle.client_rules.specs.declared.Answer.{Answer}
-use Rattle.client_rules.specs.declared.Answer.the-variants as Y
+use Rattle.client_rules.specs.Answers.{Progress, goesOn}
 use Rattle.client_rules.specs.declared.Client.{Client}
 use Rattle.client_rules.specs.declared.Phase.{Phase}
 use Rattle.client_rules.specs.declared.Phase.the-variants as F
@@ -49,7 +49,8 @@ use Rattle.runs.proofs.Theorem.{theorem-sha256, sha256-size}
 use Rattle.layout.specs.Fields.{stampSize}
 use Rattle.layout.specs.Clients.{clientSize, clientBytes, clientIn}
 use Rattle.layout.specs.Servers.{serverSize, serverBytes, serverIn, slotBytes, readerBytes, scopeSets}
-use Rattle.answers.specs.Answers.{isRefusal, clientAnswer, openAnswer, isTurnedDown, serverAnswer}
+use Rattle.answers.specs.Answers.{leftBy, clientAnswer, openAnswer, serverAnswer}
+use Rattle.answers.proofs.RefusalNumbers.{number-bounds}
 use Rattle.semduoli.specs.Calls.{Wrote, wrote, freshCall, Began, began, beganOf, stateAfter, readCall, writeCall}
 use Rattle.semduoli.specs.Handed.{senderOf, stampAfter, ClientGot, clientGotOf, clientCall}
 use Rattle.semduoli.specs.ServerCalls.{Made, made, madeOf, freshAfter, scopeAfter, makeCall, ServerGot, serverGot, serverGotOf, serverCall}
@@ -77,7 +78,7 @@ scope-long l c x y z h = long-sets serverSize _ _ (readerBytes z) (long-sets ser
 
 module _ (g : Params) (me : ℕ) (from : Party) (f area initial state out to : List ℕ) where
   server-long : serverSize ≤ length state → serverSize ≤ length (serverCall g me from f area initial state out to .state)
-  unfolding serverCall serverGotOf scopeAfter
+  unfolding serverCall serverGotOf scopeAfter leftBy
   server-long h =
       either (λ (z : ServerGot). LongState serverSize (z .state)) (ltb (length state) serverSize) (serverGot _ area state out to) _ h
       (either (LongState serverSize) _ state _ h (scope-long state _ _ _ _ h))
@@ -89,9 +90,9 @@ module _ (g : Params) (me : ℕ) (from : Party) (f area initial state out to : L
   unfolding serverCall
   server-whole h = sym (enough (length state) serverSize _ _ h)
 
-after-long : (a : Answer) (s : Client) (state : List ℕ) → clientSize ≤ length state → clientSize ≤ length (stateAfter a s state)
-unfolding stateAfter
-after-long a s state h = either (LongState clientSize) (isRefusal a) state _ h (long-sets clientSize state 0 (clientBytes s) h)
+after-long : (a : Response Progress) (s : Client) (state : List ℕ) → clientSize ≤ length state → clientSize ≤ length (stateAfter a s state)
+unfolding stateAfter leftBy
+after-long a s state h = either (LongState clientSize) (isTurnedDown a) state _ h (long-sets clientSize state 0 (clientBytes s) h)
 
 module _ (g : Params) (me : ℕ) (state out to : List ℕ) (h : clientSize ≤ length state) where
   read-long : clientSize ≤ length (readCall g me state out to .state)
@@ -129,7 +130,7 @@ module _ (g : Params) (i : ℕ) (v a b state : List ℕ) (h : serverSize ≤ len
   make-whole = sym (enough (length state) serverSize _ _ h)
 
   make-long : serverSize ≤ length (makeCall g i v a b state .state)
-  unfolding makeCall madeOf freshAfter
+  unfolding makeCall madeOf freshAfter leftBy
   make-long =
       either (λ (z : Made). LongState serverSize (z .state)) (ltb (length state) serverSize) (made _ a b state) _ h
       (either (LongState serverSize) _ state _ h (long-sets serverSize state 0 (serverBytes (SD.construction digestOf g i v a b .server)) h))
@@ -156,35 +157,19 @@ open-is state h =
     ∙ open-read (clientIn state .writes) (clientIn state .reads) (clientIn state .phase)
 
 refused-low : (r : Refusal) → eqb (numberOf r % 65536) 0 ≡ false
-refused-low R.Parties = refl
-refused-low R.Threshold = refl
-refused-low R.Length = refl
-refused-low R.Framing = refl
-refused-low R.Version = refl
-refused-low R.Kind = refl
-refused-low R.Owner = refl
-refused-low R.Body = refl
-refused-low R.Content = refl
-refused-low R.Room = refl
-refused-low R.Sender = refl
-refused-low R.Stale = refl
-refused-low R.Ahead = refl
-refused-low R.Digest = refl
-refused-low R.Busy = refl
-refused-low R.Exhausted = refl
-refused-low R.Closed = refl
-refused-low R.Record = refl
-refused-low R.Unlisted = refl
+refused-low r = let h = number-bounds r in ne-eqb (numberOf r % 65536) 0 (λ e. omega (arith, h .0, h .1, e))
 
 -- what the beginning of a write answers tells whether it was begun
-kept-is : (Z : Setup) (w : World) (n : ℕ) (a : Answer) (v old : List ℕ) → keptBy (clientAnswer n a) v old ≡ valueBy Z w a v old
+kept-by : (Z : Setup) (w : World) (n m : ℕ) (b : Verdict) (v old : List ℕ)
+    → keptBy (clientAnswer n (answeredBy b (goesOn m))) v old ≡ valueBy Z w (answeredBy b (goesOn m)) v old
 unfolding clientAnswer pick
-kept-is Z w n (Y.Sent m) v old = let h : 65536 * (m % 65536) % 65536 ≡ 0 = omega arith in ap (λ x. pick (eqb x 0) v old) h
-kept-is Z w n Y.Written v old = refl
-kept-is Z w n Y.OutOfStamps v old = refl
-kept-is Z w n (Y.Value x) v old = ap (λ x. pick (eqb x 0) v old) (low 768 (n % 65536) (omega arith))
-kept-is Z w n Y.Disagreement v old = ap (λ x. pick (eqb x 0) v old) (low 1024 (n % 65536) (omega arith))
-kept-is Z w n (Y.Refused r) v old = ap (λ b. pick b v old) (refused-low r)
+kept-by Z w n m J.Fine v old = let h : 65536 * (m % 65536) % 65536 ≡ 0 = omega arith in ap (λ x. pick (eqb x 0) v old) h
+kept-by Z w n m (J.Bad r) v old = ap (λ b. pick b v old) (refused-low r)
+
+kept-is : (Z : Setup) (w : World) (c : ℕ) (s : Client) (v out to old : List ℕ)
+    → let a = CB.writeBeginning (Z .g) c s v out to .answer in keptBy (clientAnswer (Z .g .n) a) v old ≡ valueBy Z w a v old
+unfolding CB.writeBeginning CB.begunOf
+kept-is Z w c s v out to old = kept-by Z w (Z .g .n) _ (CB.writeTest (Z .g) c s v out to) v old
 
 -- ---- what is kept of a party
 
@@ -356,7 +341,7 @@ module _ (Z : Setup) where
                   let a = CB.writeBeginning g c (w .clients c .client) v out to .answer in
                   ap (λ y. keptBy (y .answer) v (x .value)) write-told
                   ∙ ap (keptBy (clientAnswer (g .n) a) v) (K .says .value)
-                  ∙ kept-is Z w (g .n) a v (w .clients c .value);
+                  ∙ kept-is Z w c (w .clients c .client) v out to (w .clients c .value);
             };
             long = write-long g c (x .state) out to (K .long) v;
             bytes = write-bytes g c (x .state) out to (K .bytes) v;

@@ -1,4 +1,5 @@
--- The answer to a history that is not refused is right (`judged-right`). Assumes nothing.
+-- The answer to a history that is not refused is right (`judged-right`), and no two answers of the code have one response (`response-injective`).
+-- Assumes nothing.
 use mathlib.Core.Path.{_≡_, refl, sym, ap, subst, _∙_}
 use mathlib.Core.Bool.{Bool, true, false}
 use mathlib.Core.List.{List}
@@ -8,12 +9,12 @@ use lib.ListN.{length, take}
 use lib.Seq.{sets}
 use borrow.Author.Tests.{le-ltb}
 use Rattle.area.proofs.Sets.{part-sets-same}
-use Rattle.order.specs.Histories.{any, offended, later, earlier, blank, offending, ordered, judged}
+use Rattle.area.specs.Responses.{Response, turnedDown, gives}
+use Rattle.order.specs.Histories.{any, offended, later, earlier, blank, Finding, hasOrder, noOrder, judgeResponse, Judgement, offending, ordered, judged}
 use Rattle.order.specs.Orders.{Order, HasOrder, Accepted, Earliest, Right}
 use Rattle.order.specs.declared.operation.Operation.{Operation}
 use Rattle.order.specs.declared.judge.Answer.{Answer}
 use Rattle.order.specs.declared.judge.Answer.the-variants.{Ordered, Offending, Refused}
-use Rattle.order.specs.declared.judge.Verdict.{Verdict}
 use Rattle.order.proofs.Picks.{pick-yes, pick-no}
 use Rattle.order.proofs.Less.{true-false}
 use Rattle.order.proofs.Lists.{by-test}
@@ -21,46 +22,61 @@ use Rattle.order.proofs.Accepts.{order-no-pair}
 use Rattle.order.proofs.Arranged.{theRow, size, row-is-order}
 use Rattle.order.proofs.Theorems.{none-offended, pair-offends, pair-earliest}
 
--- ---- the parts of an answer
+-- ---- the parts of a response
 
-unfoldable isOrder : Answer → Bool
-isOrder (Ordered n) = true
-isOrder (Offending a b) = false
-isOrder (Refused x) = false
+unfoldable pub isOrder : Response Finding → Bool
+isOrder (turnedDown x) = false
+isOrder (gives (hasOrder n)) = true
+isOrder (gives (noOrder a b)) = false
 
-unfoldable first : Answer → ℕ
-first (Ordered n) = n
-first (Offending a b) = a
-first (Refused x) = x
+unfoldable pub first : Response Finding → ℕ
+first (turnedDown x) = x
+first (gives (hasOrder n)) = n
+first (gives (noOrder a b)) = a
 
-unfoldable second : Answer → ℕ
-second (Ordered n) = 0
-second (Offending a b) = b
-second (Refused x) = 0
+unfoldable second : Response Finding → ℕ
+second (turnedDown x) = 0
+second (gives (hasOrder n)) = 0
+second (gives (noOrder a b)) = b
 
 module _ (n a b : ℕ) where
-  not-both : Ordered n ≡ Offending a b → ⊥
+  not-both : gives (hasOrder n) ≡ gives (noOrder a b) → ⊥
   unfolding isOrder
   not-both e = true-false refl (ap isOrder e)
 
 module _ (m n : ℕ) where
-  same-count : Ordered m ≡ Ordered n → m ≡ n
+  same-count : gives (hasOrder m) ≡ gives (hasOrder n) → m ≡ n
   unfolding first
   same-count e = ap first e
 
 module _ (a b c d : ℕ) where
-  same-first : Offending a b ≡ Offending c d → a ≡ c
+  same-first : gives (noOrder a b) ≡ gives (noOrder c d) → a ≡ c
   unfolding first
   same-first e = ap first e
 
-  same-second : Offending a b ≡ Offending c d → b ≡ d
+  same-second : gives (noOrder a b) ≡ gives (noOrder c d) → b ≡ d
   unfolding second
   same-second e = ap second e
+
+-- the answer of the code that has a response
+unfoldable answerWith : Response Finding → Answer
+answerWith (turnedDown x) = Refused x
+answerWith (gives (hasOrder n)) = Ordered n
+answerWith (gives (noOrder a b)) = Offending a b
+
+answer-back : (x : Answer) → answerWith (judgeResponse x) ≡ x
+unfolding answerWith
+answer-back (Ordered n) = refl
+answer-back (Offending a b) = refl
+answer-back (Refused x) = refl
+
+pub response-injective : (x y : Answer) → judgeResponse x ≡ judgeResponse y → x ≡ y
+response-injective x y e = sym (answer-back x) ∙ ap answerWith e ∙ answer-back y
 
 -- ---- the answer
 
 module _ (ops : List Operation) (A : Accepted ops) where
-  accepted : (v : Verdict) → (any (offended ops) ops ≡ true → v ≡ offending (earlier ops) (later ops)) → (any (offended ops) ops ≡ false → v ≡ ordered ops)
+  accepted : (v : Judgement) → (any (offended ops) ops ≡ true → v ≡ offending (earlier ops) (later ops)) → (any (offended ops) ops ≡ false → v ≡ ordered ops)
       → v ≡ judged ops
   unfolding judged
   accepted v f g =

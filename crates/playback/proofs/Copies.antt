@@ -7,10 +7,10 @@ use mathlib.Core.Path.{_≡_, refl, sym, ap, ap₂, subst, _∙_}
 use mathlib.Core.List.{List, [], _++_, append-assoc}
 use lib.ListN.{length, getD, set, take, drop, length-append, length-drop}
 use lib.Seq.{sets, length-sets, drop-drop, getD-drop}
+use Rattle.area.specs.Responses.{Response}
 use Rattle.area.specs.Area.{part}
 use Rattle.area.specs.Numbers.{be2, bytes2}
 use Rattle.area.proofs.Numbers.{length-bytes2}
-use Rattle.server_rules.specs.declared.Reply.{Reply}
 use Rattle.server_rules.specs.Delivery.{replyNumber, replyCount}
 use Rattle.area.proofs.Sets.{sets-next, length-part}
 use Rattle.playback.specs.Stages.{sentIn, Lie, reportIn}
@@ -164,18 +164,18 @@ copying-end m at frames to out₀ i from end out K h =
 
 -- ---- a report
 
-pub report-room : (a : Reply) (frames to out : List ℕ) (at : ℕ) → at + length (reportIn a frames to) ≤ length out
+pub report-room : (a : Response ℕ) (frames to out : List ℕ) (at : ℕ) → at + length (reportIn a frames to) ≤ length out
     → at + 3 + length (sentIn (replyCount a) frames to) ≤ length out
 unfolding reportIn
 report-room a frames to out at h =
     omega (arith, length-append (bytes2 (replyCount a)) (sentIn (replyCount a) frames to), length-bytes2 (replyCount a))
 
-pub sent-asks : (a : Reply) (frames to : List ℕ) (at long m : ℕ) → m ≡ replyCount a → Lie (replyCount a) frames → 2 * replyCount a ≤ length to
+pub sent-asks : (a : Response ℕ) (frames to : List ℕ) (at long m : ℕ) → m ≡ replyCount a → Lie (replyCount a) frames → 2 * replyCount a ≤ length to
     → at + length (sentIn (replyCount a) frames to) ≤ long
     → Lie m frames × (2 * m ≤ length to) × (at + length (sentIn m frames to) ≤ long)
 sent-asks a frames to at long m e l h r = subst (λ (k : ℕ). Lie k frames × (2 * k ≤ length to) × (at + length (sentIn k frames to) ≤ long)) (sym e) (l, h, r)
 
-pub report-put : (a : Reply) (frames to out : List ℕ) (at n m : ℕ) (out₁ out₂ : List ℕ) (r : ℕ) → n ≡ replyNumber a → m ≡ replyCount a
+pub report-put : (a : Response ℕ) (frames to out : List ℕ) (at n m : ℕ) (out₁ out₂ : List ℕ) (r : ℕ) → n ≡ replyNumber a → m ≡ replyCount a
     → out₁ ≡ sets (set out at n) (at + 1) (bytes2 m) → out₂ ≡ sets out₁ (at + 3) (sentIn m frames to) → r ≡ at + 3 + length (sentIn m frames to)
     → (out₂ ≡ sets out at (reportIn a frames to)) × (r ≡ at + length (reportIn a frames to))
 unfolding reportIn

@@ -1,9 +1,10 @@
 -- The outcome of a playback, from its stages. Assumes nothing.
-use Prim.Native.Nat.{ℕ, _+_, _≤_}
+use Prim.Native.Nat.{ℕ, _≤_}
 use native.Mathlib.Omega.{arith}
 use mathlib.Core.Path.{_≡_, sym, ap, ap₂, _∙_}
 use mathlib.Core.List.{List}
 use lib.ListN.{length}
+use Rattle.area.specs.Responses.{gives}
 use Rattle.blocks.specs.declared.Params.{Params}
 use Rattle.frame.specs.declared.Refusal.{Refusal}
 use Rattle.frame.specs.declared.Verdict.{Verdict}
@@ -15,37 +16,30 @@ use Rattle.server_rules.specs.declared.Server.{Server}
 use Rattle.server_rules.specs.declared.Reply.{Reply}
 use Rattle.server_rules.specs.declared.Reply.the-variants as Y
 use Rattle.server_rules.specs.State.{freshServer}
-use Rattle.server_rules.specs.Delivery.{replyNumber, constructTest}
+use Rattle.server_rules.specs.Delivery.{replyResponse, replyNumber, constructTest}
 use Rattle.server.proofs.Constructing.{sound-of}
 use Rattle.entries.specs.declared.Closing.{Closing}
-use Rattle.entries.specs.declared.Closing.the-variants as C
 use Rattle.entries.specs.declared.Survey.{Survey}
-use Rattle.entries.specs.Entries.{Trace, traceOf, surveyOf}
+use Rattle.entries.specs.Entries.{closingNumber, Trace, traceOf, Surveyed, surveyed, surveyOf}
 use Rattle.entries.proofs.Traces.{few-entries}
 use Rattle.playback.specs.declared.Ending.{Ending}
-use Rattle.playback.specs.declared.Ending.the-variants as E
 use Rattle.playback.specs.declared.player.Done.{Done}
 use Rattle.playback.specs.declared.Answer.the-variants as A
 use Rattle.playback.specs.declared.Playback.{Playback}
-use Rattle.playback.specs.Playback.{refused, endingOf, outcome, outTest, playTest, playbackBy, playback}
-use Rattle.playback.specs.Stages.{done, playedAll}
+use Rattle.playback.specs.Playback.{End, endIn, endingOf, outcome, outTest, playTest, playbackBy, playback}
+use Rattle.playback.specs.Stages.{refusing, done, playedAll}
 
-pub refused-number : (a : Reply) (r : Refusal) (x : ℕ) → a ≡ Y.Refused r → x ≡ numberOf r → x ≡ replyNumber a
+pub refused-number : (a : Reply) (r : Refusal) (x : ℕ) → a ≡ Y.Refused r → x ≡ numberOf r → x ≡ replyNumber (replyResponse a)
 unfolding replyNumber
-refused-number a r x e f = f ∙ sym (ap replyNumber e)
+refused-number a r x e f = f ∙ sym (ap (λ z. replyNumber (replyResponse z)) e)
 
-pub malformed-ending : (c : Closing) (n : ℕ) → c ≡ C.Malformed → E.Malformed (n + 1) ≡ endingOf c n
-unfolding endingOf
-malformed-ending c n e = sym (ap (λ (k : Closing). endingOf k n) e)
-
-pub cut-ending : (c : Closing) (n : ℕ) → c ≡ C.Cut → E.Cut (n + 1) ≡ endingOf c n
-unfolding endingOf
-cut-ending c n e = sym (ap (λ (k : Closing). endingOf k n) e)
+pub ending-case : (c d : Closing) (n : ℕ) (x : End) → c ≡ d → x ≡ endingOf (closingNumber d) n → x ≡ endingOf (closingNumber c) n
+ending-case c d n x e p = p ∙ sym (ap (λ (k : Closing). endingOf (closingNumber k) n) e)
 
 abbrev with-server : Refusal → Server → Playback
 with-server r s = record { answer = A.Refused r; server = s }
 
-pub refused-with : (r : Refusal) (s : Server) → s ≡ freshServer → with-server r s ≡ refused r
+pub refused-with : (r : Refusal) (s : Server) → s ≡ freshServer → with-server r s ≡ refusing r
 refused-with r s e = ap (with-server r) e
 
 -- ---- the whole
@@ -59,24 +53,24 @@ module _ (H : List ℕ → List ℕ) (g : Params) (me : ℕ) (v trace a initial 
   unfolding playback
   by-verdict w e = ap (λ (y : Verdict). playbackBy H g me y v t a initial out) e
 
-  refused-by : (r : Refusal) (x : Playback) → x ≡ refused r → outcome x a initial out ≡ playbackBy H g me (J.Bad r) v t a initial out
+  refused-by : (r : Refusal) (x : Playback) → x ≡ refusing r → outcome x a initial out ≡ playbackBy H g me (J.Bad r) v t a initial out
   unfolding playbackBy
   refused-by r x e = ap (λ (y : Playback). outcome y a initial out) e
 
   module _ (u : Verdict) (e : u ≡ constructTest H g me v (length a) (length initial)) where
     -- 1, 2, 3, and 10 of the state area and the initial block's
-    pub play-refused : (r : Refusal) (x : Playback) → u ≡ J.Bad r → x ≡ refused r → outcome x a initial out ≡ playback H g me v trace a initial out
+    pub play-refused : (r : Refusal) (x : Playback) → u ≡ J.Bad r → x ≡ refusing r → outcome x a initial out ≡ playback H g me v trace a initial out
     unfolding playTest
     play-refused r x f i = refused-by r x i ∙ by-verdict (J.Bad r) (stop-first _ _ u r e f)
 
-    module _ (f : u ≡ J.Fine) (k : Survey) (s : k ≡ surveyOf t) where
+    module _ (f : u ≡ J.Fine) (k : Survey) (s : surveyed k ≡ surveyOf t) where
       counted : k .count ≡ length (t .entries)
       unfolding surveyOf
-      counted = ap (λ (y : Survey). y .count) s
+      counted = ap (λ (y : Surveyed). y .count) s
 
-      closes : k .closing ≡ t .closing
+      closes : closingNumber (k .closing) ≡ t .closing
       unfolding surveyOf
-      closes = ap (λ (y : Survey). y .closing) s
+      closes = ap (λ (y : Surveyed). y .closing) s
 
       pub few-counted : k .count ≤ length trace
       few-counted = omega (arith, counted, few-entries trace)
@@ -90,7 +84,7 @@ module _ (H : List ℕ → List ℕ) (g : Params) (me : ℕ) (v trace a initial 
         tested = go-second _ _ u w e f (i ∙ ap (λ (n : ℕ). outTest g n (length out)) counted)
 
         -- 10 of the out area
-        pub out-refused : (r : Refusal) (x : Playback) → w ≡ J.Bad r → x ≡ refused r → outcome x a initial out ≡ playback H g me v trace a initial out
+        pub out-refused : (r : Refusal) (x : Playback) → w ≡ J.Bad r → x ≡ refusing r → outcome x a initial out ≡ playback H g me v trace a initial out
         out-refused r x h j = refused-by r x j ∙ by-verdict (J.Bad r) (sym h ∙ tested)
 
         module _ (h : w ≡ J.Fine) where
@@ -98,14 +92,14 @@ module _ (H : List ℕ → List ℕ) (g : Params) (me : ℕ) (v trace a initial 
           test-fine = sym tested ∙ h
 
           pub play-done : (d : Done) (a′ i′ o′ : List ℕ) (x : Ending) → done d a′ i′ o′ ≡ playedAll H g me v t a initial out
-              → x ≡ endingOf (k .closing) (k .count)
+              → endIn x ≡ endingOf (closingNumber (k .closing)) (k .count)
               → outcome (record { answer = A.Played (record { entries = k .count; bytes = d .used; ending = x }); server = d .server }) a′ i′ o′
               ≡ playback H g me v trace a initial out
           unfolding playbackBy playedAll
           play-done d a′ i′ o′ x q j =
-              let y : x ≡ endingOf (t .closing) (length (t .entries)) = j ∙ ap₂ endingOf closes counted in
+              let y : endIn x ≡ endingOf (t .closing) (length (t .entries)) = j ∙ ap₂ endingOf closes counted in
               (λ l. record {
-                answer = A.Played (record { entries = counted l; bytes = q l .used; ending = y l });
+                answer = gives (record { entries = counted l; bytes = q l .used; ending = y l });
                 server = q l .server;
                 area = q l .area;
                 initial = q l .initial;

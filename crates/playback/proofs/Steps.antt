@@ -3,12 +3,11 @@ use Prim.Native.Nat.{ℕ}
 use mathlib.Core.Path.{_≡_, refl, sym, ap, ap₂, subst, _∙_}
 use mathlib.Core.List.{List, [], _∷_, _++_, append-assoc}
 use lib.ListN.{length}
+use Rattle.area.specs.Responses.{Response, turnedDown}
 use Rattle.blocks.specs.declared.Params.{Params}
 use Rattle.frame.specs.declared.Refusal.{Refusal}
 use Rattle.frame.specs.Messages.{Judged, bad, good}
 use Rattle.server_rules.specs.declared.Server.{Server}
-use Rattle.server_rules.specs.declared.Reply.{Reply}
-use Rattle.server_rules.specs.declared.Reply.the-variants as Y
 use Rattle.server_rules.specs.Tests as ST
 use Rattle.server_rules.specs.Delivery as SD
 use Rattle.quorum.proofs.Logic.{impossible}
@@ -53,40 +52,40 @@ module _ (H : List ℕ → List ℕ) (g : Params) (me : ℕ) (initial : List ℕ
 
   -- ---- a frame that is turned down
 
-  pub record Stays (s : Server) (a : List ℕ) (e : TraceEntry) (r : Refusal) : Type 0 where
-    pub report : reportOf H g me initial s a e ≡ record { reply = Y.Refused r; sends = [] }
+  pub record Stays (s : Server) (a : List ℕ) (e : TraceEntry) (n : ℕ) : Type 0 where
+    pub report : reportOf H g me initial s a e ≡ record { reply = turnedDown n; sends = [] }
     pub server : serverAfter H g me initial s a e ≡ s
     pub area : areaAfter H g me initial s a e ≡ a
 
   -- what a judgement leaves
-  abbrev replyBy : Server → List ℕ → TraceEntry → Judged → Reply
+  abbrev replyBy : Server → List ℕ → TraceEntry → Judged → Response ℕ
   replyBy s a e j = SD.replyOf H g me j (length (SD.effectBy H g me j s a initial (e .sender) .sends))
 
-  turned : (s : Server) (a : List ℕ) (e : TraceEntry) (r : Refusal) (j : Judged) → replyBy s a e j ≡ Y.Refused r → j ≡ bad r
+  turned : (s : Server) (a : List ℕ) (e : TraceEntry) (n : ℕ) (j : Judged) → replyBy s a e j ≡ turnedDown n → (r : Refusal) × (j ≡ bad r)
   unfolding SD.replyOf
-  turned s a e r (bad x) f = let z : x ≡ r = cc in ap bad z
-  turned s a e r (good m) f = impossible (cc)
+  turned s a e n (bad x) f = (x, refl)
+  turned s a e n (good m) f = impossible (cc)
 
-  pub stays : (s : Server) (a : List ℕ) (e : TraceEntry) (r : Refusal) → reportOf H g me initial s a e .reply ≡ Y.Refused r → Stays s a e r
+  pub stays : (s : Server) (a : List ℕ) (e : TraceEntry) (n : ℕ) → reportOf H g me initial s a e .reply ≡ turnedDown n → Stays s a e n
   unfolding reportOf serverAfter areaAfter SD.delivery SD.outcomeOf SD.delivered SD.effectBy SD.replyOf
-  stays s a e r f =
-      let j = turned s a e r (ST.judge H g me s a initial (e .sender) (e .frame) (spareOut g) (spareTo g)) f in
+  stays s a e n f =
+      let j = turned s a e n (ST.judge H g me s a initial (e .sender) (e .frame) (spareOut g) (spareTo g)) f .1 in
       record {
         report = λ i. record { reply = f i; sends = SD.effectBy H g me (j i) s a initial (e .sender) .sends };
         server = ap (λ (k : Judged). SD.effectBy H g me k s a initial (e .sender) .server) j;
         area = ap (λ (k : Judged). SD.effectBy H g me k s a initial (e .sender) .area) j;
       }
 
-  pub turned-down : (s : Server) (a : List ℕ) (e : TraceEntry) (es : List TraceEntry) (r : Refusal) → reportOf H g me initial s a e .reply ≡ Y.Refused r
+  pub turned-down : (s : Server) (a : List ℕ) (e : TraceEntry) (es : List TraceEntry) (n : ℕ) → reportOf H g me initial s a e .reply ≡ turnedDown n
       → played H g me initial s a (e ∷ es)
       ≡ record {
         server = played H g me initial s a es .server;
         area = played H g me initial s a es .area;
-        reports = record { reply = Y.Refused r; sends = [] } ∷ played H g me initial s a es .reports;
+        reports = record { reply = turnedDown n; sends = [] } ∷ played H g me initial s a es .reports;
       }
   unfolding played
-  turned-down s a e es r f =
-      let S = stays s a e r f in
+  turned-down s a e es n f =
+      let S = stays s a e n f in
       let p : played H g me initial (serverAfter H g me initial s a e) (areaAfter H g me initial s a e) es ≡ played H g me initial s a es =
       ap₂ (λ x y. played H g me initial x y es) (S .server) (S .area) in
       λ i. record { server = p i .server; area = p i .area; reports = S .report i ∷ p i .reports }

@@ -10,31 +10,25 @@ use lib.Seq.{sets, sets-eq}
 use lib.Dec.{ltb}
 use borrow.Author.Tests.{ltb-false, le-ltb}
 use Rattle.area.specs.Area.{pick, Bytes}
+use Rattle.area.specs.Responses.{Response, turnedDown, gives}
 use Rattle.area.specs.Numbers.{bytes2}
 use Rattle.area.proofs.Sets.{sets-append, part-sets-same, part-sets-before}
 use Rattle.quorum.proofs.Logic.{impossible}
 use Rattle.blocks.specs.declared.Params.{Params}
-use Rattle.frame.specs.declared.Refusal.{Refusal}
 use Rattle.frame.specs.declared.Refusal.the-variants as Refusals
 use Rattle.frame.specs.declared.Verdict.{Verdict}
 use Rattle.frame.specs.declared.Verdict.the-variants as J
 use Rattle.frame.specs.Refusals.{andThen}
 use Rattle.frame.specs.Params.{Bounded}
 use Rattle.frame.proofs.Verdicts.{fine-both, fine-not}
-use Rattle.server_rules.specs.declared.Reply.the-variants as Y
 use Rattle.server_rules.specs.Delivery as SD
 use Rattle.server.proofs.Constructing.{sound-of}
-use Rattle.entries.specs.declared.Closing.{Closing}
-use Rattle.entries.specs.declared.Closing.the-variants as C
 use Rattle.entries.specs.Entries.{TraceEntry, Trace, traceBytes, before, traceOf, traceFrom}
-use Rattle.entries.specs.Forms.{AllWritable, Closes}
-use Rattle.entries.proofs.Theorem.{back, only, frames-of}
-use Rattle.playback.specs.declared.Ending.the-variants as E
-use Rattle.playback.specs.declared.Summary.{Summary}
-use Rattle.playback.specs.declared.Answer.the-variants as A
+use Rattle.entries.specs.Forms.{AllWritable}
+use Rattle.entries.proofs.Theorem.{back, only, whole-closes, frames-of}
 use Rattle.playback.specs.Reports.{addressed, reportBytes, reportsBytes}
 use Rattle.playback.specs.Playback.{entryNeed, outTest, Played, played, playTest, playedFrom}
-use Rattle.playback.specs.Playback.{endingOf, summaryOf, Outcome, outcomeOf, playbackBy, playback}
+use Rattle.playback.specs.Playback.{endingOf, Summed, summaryOf, Outcome, outcomeOf, playbackBy, playback}
 use Rattle.playback.specs.Theorem.{Handed, AllEnough, entriesOf, taken, takenFrom, AllAgree, toldIn, IsSteps, GoesOn, Restarts, Unchanged, Theorem}
 use Rattle.playback.proofs.Rooms.{same-initial}
 use Rattle.playback.proofs.Sound.{sound-fresh}
@@ -65,24 +59,24 @@ module _ (H : List ℕ → List ℕ) (g : Params) (me : ℕ) where
     abbrev test : Verdict
     test = playTest H g me v (traceOf trace) (length a) (length initial) (length out)
 
-    refused-by : (w : Verdict) (r : Refusal) → playbackBy H g me w v (traceOf trace) a initial out .answer ≡ A.Refused r
+    refused-by : (w : Verdict) (n : ℕ) → playbackBy H g me w v (traceOf trace) a initial out .answer ≡ turnedDown n
         → Unchanged (playbackBy H g me w v (traceOf trace) a initial out) a initial out
     unfolding playbackBy
-    refused-by (J.Bad q) r e = record { area-as-lent = refl; initial-as-lent = refl; out-as-lent = refl }
-    refused-by J.Fine r e = impossible (cc)
+    refused-by (J.Bad q) n e = record { area-as-lent = refl; initial-as-lent = refl; out-as-lent = refl }
+    refused-by J.Fine n e = impossible (cc)
 
-    refused : (r : Refusal) → playback H g me v trace a initial out .answer ≡ A.Refused r → Unchanged (playback H g me v trace a initial out) a initial out
+    refused : (n : ℕ) → playback H g me v trace a initial out .answer ≡ turnedDown n → Unchanged (playback H g me v trace a initial out) a initial out
     unfolding playback
-    refused r e = refused-by test r e
+    refused n e = refused-by test n e
 
     -- ---- a call that is not refused
 
-    fine-by : (w : Verdict) (y : Summary) → playbackBy H g me w v (traceOf trace) a initial out .answer ≡ A.Played y → w ≡ J.Fine
+    fine-by : (w : Verdict) (y : Summed) → playbackBy H g me w v (traceOf trace) a initial out .answer ≡ gives y → w ≡ J.Fine
     unfolding playbackBy
     fine-by (J.Bad q) y e = impossible (cc)
     fine-by J.Fine y e = refl
 
-    fine : (y : Summary) → playback H g me v trace a initial out .answer ≡ A.Played y → test ≡ J.Fine
+    fine : (y : Summed) → playback H g me v trace a initial out .answer ≡ gives y → test ≡ J.Fine
     unfolding playback
     fine y e = fine-by test y e
 
@@ -136,11 +130,11 @@ module _ (H : List ℕ → List ℕ) (g : Params) (me : ℕ) where
 
   -- ---- a trace that is cut
 
-  whole-trace : (u w : List ℕ) → Bytes u → traceOf u .closing ≡ C.Whole → traceOf (u ++ w) .entries ≡ traceOf u .entries ++ traceOf w .entries
+  whole-trace : (u w : List ℕ) → Bytes u → traceOf u .closing ≡ 0 → traceOf (u ++ w) .entries ≡ traceOf u .entries ++ traceOf w .entries
   unfolding before
   whole-trace u w b c =
       let r = only u b in
-      let n : r .rest ≡ [] = subst (λ (k : Closing). Closes k (r .rest)) c (r .closes) in
+      let n : r .rest ≡ [] = whole-closes (r .closes) c in
       let e : u ≡ traceBytes (traceOf u .entries) = r .is ∙ ap (λ l. traceBytes (traceOf u .entries) ++ l) n ∙ append-nil (traceBytes (traceOf u .entries)) in
       ap (λ l. traceOf (l ++ w) .entries) e ∙ ap (λ t. t .entries) (back (traceOf u .entries) (r .writable) w)
 
@@ -151,8 +145,8 @@ module _ (H : List ℕ → List ℕ) (g : Params) (me : ℕ) where
       ∙ part-sets-before (sets out 0 l) (0 + length l) m 0 (length l) (omega arith)
       ∙ part-sets-same out 0 l (omega arith)
 
-  module _ (v u w a initial out out′ : List ℕ) (b : Bytes u) (c : traceOf u .closing ≡ C.Whole) where
-    cut : (x y : Summary) → playback H g me v u a initial out .answer ≡ A.Played x → playback H g me v (u ++ w) a initial out′ .answer ≡ A.Played y
+  module _ (v u w a initial out out′ : List ℕ) (b : Bytes u) (c : traceOf u .closing ≡ 0) where
+    cut : (x y : Summed) → playback H g me v u a initial out .answer ≡ gives x → playback H g me v (u ++ w) a initial out′ .answer ≡ gives y
         → GoesOn H g me w (playback H g me v u a initial out) (playback H g me v (u ++ w) a initial out′) x
     unfolding playedFrom
     cut x y p q =
@@ -174,8 +168,9 @@ module _ (H : List ℕ → List ℕ) (g : Params) (me : ℕ) where
         ap (λ (o : Outcome). played H g me (o .initial) (o .server) (o .area) ws) P in
         let l = reportsBytes (one .reports) in
         let m = reportsBytes (two .reports) in
-        let n : x .bytes ≡ length l = let z : A.Played x ≡ A.Played (summaryOf (traceOf u) (one .reports)) = sym p ∙ ap (λ (o : Outcome). o .answer) P in
-        ap (λ (s : Summary). s .bytes) (let s : x ≡ summaryOf (traceOf u) (one .reports) = cc in s) in
+        let n : x .bytes ≡ length l =
+        let z : _≡_ {A = Response Summed} (gives x) (gives (summaryOf (traceOf u) (one .reports))) = sym p ∙ ap (λ (o : Outcome). o .answer) P in
+        ap (λ (s : Summed). s .bytes) (let s : x ≡ summaryOf (traceOf u) (one .reports) = cc in s) in
         let fit : length l ≤ length us * entryNeed g = reports-fit v u a initial out f b in
         let h : length l ≤ length out = omega (arith, fit, out-room v u a initial out f) in
         let more : length us * entryNeed g ≤ length (traceOf (u ++ w) .entries) * entryNeed g =
@@ -195,29 +190,29 @@ module _ (H : List ℕ → List ℕ) (g : Params) (me : ℕ) where
 
   -- ---- a restart
 
-  made-fine : (v a initial : List ℕ) → SD.construction H g me v a initial .reply ≡ Y.Step 0 → SD.constructTest H g me v (length a) (length initial) ≡ J.Fine
+  made-fine : (v a initial : List ℕ) → SD.construction H g me v a initial .reply ≡ gives 0 → SD.constructTest H g me v (length a) (length initial) ≡ J.Fine
   unfolding SD.construction SD.constructBy
   made-fine v a initial = go (SD.constructTest H g me v (length a) (length initial))
     where
-      go : (t : Verdict) → SD.constructBy H g me t v a initial .reply ≡ Y.Step 0 → t ≡ J.Fine
+      go : (t : Verdict) → SD.constructBy H g me t v a initial .reply ≡ gives 0 → t ≡ J.Fine
       go (J.Bad r) e = impossible (cc)
       go J.Fine e = refl
 
-  journal : (hs : List Handed) → AllWritable (entriesOf hs) → traceOf (traceBytes (entriesOf hs)) ≡ record { entries = entriesOf hs; closing = C.Whole }
+  journal : (hs : List Handed) → AllWritable (entriesOf hs) → traceOf (traceBytes (entriesOf hs)) ≡ record { entries = entriesOf hs; closing = 0 }
   unfolding before traceOf traceFrom
   journal hs W =
       ap traceOf (sym (append-nil (traceBytes (entriesOf hs))))
       ∙ back (entriesOf hs) W []
-      ∙ (λ i. record { entries = append-nil (entriesOf hs) i; closing = C.Whole })
+      ∙ (λ i. record { entries = append-nil (entriesOf hs) i; closing = 0 })
 
   length-entries : (hs : List Handed) → length (entriesOf hs) ≡ length hs
   unfolding entriesOf
   length-entries hs = length-map hs (λ h. h .entry)
 
-  restart : (v a initial out : List ℕ) (hs : List Handed) → SD.construction H g me v a initial .reply ≡ Y.Step 0 → AllEnough g hs
+  restart : (v a initial out : List ℕ) (hs : List Handed) → SD.construction H g me v a initial .reply ≡ gives 0 → AllEnough g hs
       → AllWritable (entriesOf hs) → length hs * entryNeed g ≤ length out
       → Restarts H g me (SD.construction H g me v a initial) hs (playback H g me v (traceBytes (entriesOf hs)) a initial out)
-  unfolding playTest playedFrom takenFrom endingOf
+  unfolding playTest playedFrom takenFrom endingOf pick
   restart v a initial out hs m E W h =
       let x = SD.construction H g me v a initial in
       let u = traceBytes (entriesOf hs) in
@@ -248,8 +243,8 @@ module _ (H : List ℕ → List ℕ) (g : Params) (me : ℕ) where
     room = room;
     no-room = room 0 0 .1 (omega arith);
     steps = λ v trace a initial out b y e hs i E. steps v trace a initial out (fine v trace a initial out y e) b hs i E;
-    turned-down = λ initial s a e es r f. S.turned-down H g me initial s a e es r f;
-    turned-down-bytes = λ r. refl;
+    turned-down = λ initial s a e es n f. S.turned-down H g me initial s a e es n f;
+    turned-down-bytes = λ n. refl;
     cut = cut;
     restart = restart;
   }

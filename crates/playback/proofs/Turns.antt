@@ -26,7 +26,7 @@ use Rattle.entries.specs.declared.Closing.{Closing}
 use Rattle.entries.specs.declared.Found.{Found}
 use Rattle.entries.specs.declared.Reading.{Reading}
 use Rattle.entries.specs.declared.Reading.the-variants as R
-use Rattle.entries.specs.Entries.{TraceEntry, before, foundIn, readingOf, traceOf}
+use Rattle.entries.specs.Entries.{TraceEntry, before, foundIn, readingResponse, readingOf, traceOf}
 use Rattle.entries.proofs.Traces.{lent-rest, rest-closed, rest-within, rest-entry}
 use Rattle.playback.specs.Reports.{addressed, Report, reportBytes, reportsBytes}
 use Rattle.playback.specs.Playback.{entryNeed, outTest, reportOf, serverAfter, areaAfter, Played, played, playTest, playedFrom}
@@ -66,7 +66,7 @@ module _ (H : List ℕ → List ℕ) (g : Params) (me : ℕ) (initial trace : Li
     pub room : used + length (left at) * entryNeed g ≤ length out
 
   module _ (s : Server) (a out : List ℕ) (at used : ℕ) (T : Turn s a out at used) (r : Reading)
-      (is : r ≡ readingOf (take (length trace - at) (drop at trace))) where
+      (is : readingResponse r ≡ readingOf (take (length trace - at) (drop at trace))) where
     abbrev B : Bounded g
     B = T .bounded
 
@@ -128,10 +128,10 @@ module _ (H : List ℕ → List ℕ) (g : Params) (me : ℕ) (initial trace : Li
 
       module _ (v : Served) (a′ frames₀ to₀ frames′ to′ : List ℕ) (E : Enough g frames₀ to₀)
           (q : SD.outcome v a′ frames′ to′ ≡ SD.delivery H g me s a initial (x .sender) (e .frame) frames₀ to₀) where
-        reply-is : v .reply ≡ report .reply
+        reply-is : SD.replyResponse (v .reply) ≡ report .reply
         reply-is = ap (λ y. y .reply) q ∙ step-reply H g me initial s a e frames₀ to₀ E
 
-        count : SD.replyCount (v .reply) ≡ length (report .sends)
+        count : SD.replyCount (SD.replyResponse (v .reply)) ≡ length (report .sends)
         count = ap SD.replyCount reply-is ∙ count-is H g me initial s a e
 
         frames-are : frames′ ≡ sets frames₀ 0 (frames (report .sends))
@@ -140,10 +140,10 @@ module _ (H : List ℕ → List ℕ) (g : Params) (me : ℕ) (initial trace : Li
         to-are : to′ ≡ sets to₀ 0 (receivers (report .sends))
         to-are = ap (λ y. y .to) q ∙ step-to H g me initial s a e frames₀ to₀ E
 
-        report-is : reportIn (v .reply) frames′ to′ ≡ reportBytes report
+        report-is : reportIn (SD.replyResponse (v .reply)) frames′ to′ ≡ reportBytes report
         unfolding reportIn reportBytes
         report-is =
-            let c : sentIn (SD.replyCount (v .reply)) frames′ to′ ≡ addressed (report .sends) =
+            let c : sentIn (SD.replyCount (SD.replyResponse (v .reply))) frames′ to′ ≡ addressed (report .sends) =
             ap (λ (k : ℕ). sentIn k frames′ to′) count
             ∙ ap₂ (sentIn (length (report .sends))) frames-are to-are
             ∙ sent-in g B (report .sends) (taken .formed) (taken .few) frames₀ to₀ (E .out-room) (E .to-room) in
@@ -151,10 +151,10 @@ module _ (H : List ℕ → List ℕ) (g : Params) (me : ℕ) (initial trace : Li
 
         -- what the report asks
         pub record Asks : Type 0 where
-          pub lie : Lie (SD.replyCount (v .reply)) frames′
-          pub receivers-in : 2 * SD.replyCount (v .reply) ≤ length to′
-          pub few : SD.replyCount (v .reply) < 65536
-          pub fits : used + length (reportIn (v .reply) frames′ to′) ≤ length out
+          pub lie : Lie (SD.replyCount (SD.replyResponse (v .reply))) frames′
+          pub receivers-in : 2 * SD.replyCount (SD.replyResponse (v .reply)) ≤ length to′
+          pub few : SD.replyCount (SD.replyResponse (v .reply)) < 65536
+          pub fits : used + length (reportIn (SD.replyResponse (v .reply)) frames′ to′) ≤ length out
 
         pub turn-asks : Asks
         turn-asks = record {
@@ -171,8 +171,8 @@ module _ (H : List ℕ → List ℕ) (g : Params) (me : ℕ) (initial trace : Li
           fits = omega (arith, used-room, ap length report-is);
         }
 
-        pub turn-next : (out′ : List ℕ) (used′ : ℕ) → out′ ≡ sets out used (reportIn (v .reply) frames′ to′)
-            → used′ ≡ used + length (reportIn (v .reply) frames′ to′) → Turn (v .server) a′ out′ (at + x .end) used′
+        pub turn-next : (out′ : List ℕ) (used′ : ℕ) → out′ ≡ sets out used (reportIn (SD.replyResponse (v .reply)) frames′ to′)
+            → used′ ≡ used + length (reportIn (SD.replyResponse (v .reply)) frames′ to′) → Turn (v .server) a′ out′ (at + x .end) used′
         unfolding played reportsBytes
         turn-next out′ used′ o u =
             let s′ : v .server ≡ serverAfter H g me initial s a e = ap (λ y. y .server) q ∙ step-server H g me initial s a e frames₀ to₀ E in

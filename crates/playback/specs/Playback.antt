@@ -4,20 +4,19 @@ use Prim.Native.Nat.{ℕ, _+_, _*_}
 use mathlib.Core.List.{List, [], _∷_}
 use lib.ListN.{length, replicate}
 use lib.Seq.{sets}
-use lib.Dec.{ltb}
+use lib.Dec.{ltb, eqb}
 use Rattle.area.specs.Area.{pick}
+use Rattle.area.specs.Responses.{Response, turnedDown, gives}
 use Rattle.blocks.specs.declared.Params.{Params}
-use Rattle.frame.specs.declared.Refusal.{Refusal}
 use Rattle.frame.specs.declared.Verdict.{Verdict}
 use Rattle.frame.specs.declared.Verdict.the-variants as J
-use Rattle.frame.specs.Refusals.{andThen, refusal}
+use Rattle.frame.specs.Refusals.{numberOf, refused, andThen}
 use Rattle.frame.specs.Params.{largestFrame, serverFrames, outRoom, toRoom}
 use Rattle.server_rules.specs.declared.Server.{Server}
 use Rattle.server_rules.specs.State.{freshServer}
 use Rattle.server_rules.specs.Delivery.{Constructed, constructTest, construction, delivered, delivery}
-use Rattle.entries.specs.declared.Closing.{Closing}
 use Rattle.entries.specs.declared.Closing.the-variants as C
-use Rattle.entries.specs.Entries.{TraceEntry, Trace, traceOf}
+use Rattle.entries.specs.Entries.{closingNumber, TraceEntry, Trace, traceOf}
 use Rattle.playback.specs.declared.Ending.{Ending}
 use Rattle.playback.specs.declared.Ending.the-variants as E
 use Rattle.playback.specs.declared.Summary.{Summary}
@@ -41,7 +40,7 @@ entryNeed g = 3 + serverFrames g * (largestFrame g + 2)
 
 -- 10: "summed over them it must hold" this; count entries are played, and the one at which the trace closes is not counted
 unfoldable pub outTest : Params → ℕ → ℕ → Verdict
-outTest g count out = pick (ltb out (count * entryNeed g)) (J.Bad (refusal 10)) J.Fine
+outTest g count out = pick (ltb out (count * entryNeed g)) (refused 10) J.Fine
 
 -- ---- the entries, one after the other
 
@@ -83,33 +82,51 @@ module _ (H : List ℕ → List ℕ) (g : Params) (me : ℕ) where
   unfoldable pub playedFrom : Constructed → List TraceEntry → Played
   playedFrom x es = played (x .initial) (x .server) (x .area) es
 
--- "Both close a result, name the entry counted from 1": behind count entries that were played
-unfoldable pub endingOf : Closing → ℕ → Ending
-endingOf C.Whole count = E.Whole
-endingOf C.Malformed count = E.Malformed (count + 1)
-endingOf C.Cut count = E.Cut (count + 1)
+-- where a playback ended: behind the last entry, or with a number at an entry: "Both close a result, name the entry counted from 1"
+pub data End : Type 0 where
+  whole : End
+  closedWith : ℕ → ℕ → End
+
+abbrev pub endIn : Ending → End
+endIn E.Whole = whole
+endIn (E.Malformed i) = closedWith (closingNumber C.Malformed) i
+endIn (E.Cut i) = closedWith (closingNumber C.Cut) i
+
+-- behind count entries that were played, where the trace closes with the number n, or 0
+unfoldable pub endingOf : ℕ → ℕ → End
+endingOf n count = pick (eqb n 0) whole (closedWith n (count + 1))
+
+-- what a playback gives: how many entries were played, how many bytes of the out area they took, and where it ended
+pub record Summed : Type 0 where
+  pub entries : ℕ
+  pub bytes : ℕ
+  pub ending : End
+
+abbrev pub summed : Summary → Summed
+summed x = record { entries = x .entries; bytes = x .bytes; ending = endIn (x .ending) }
+
+abbrev pub playbackResponse : Answer → Response Summed
+playbackResponse (A.Played x) = gives (summed x)
+playbackResponse (A.Refused r) = turnedDown (numberOf r)
 
 -- the answer, the server, and every byte of the lent areas
 pub record Outcome : Type 0 where
-  pub answer : Answer
+  pub answer : Response Summed
   pub server : Server
   pub area : List ℕ
   pub initial : List ℕ
   pub out : List ℕ
 
 abbrev pub outcome : Playback → List ℕ → List ℕ → List ℕ → Outcome
-outcome r area initial out = record { answer = r .answer; server = r .server; area = area; initial = initial; out = out }
+outcome r area initial out = record { answer = playbackResponse (r .answer); server = r .server; area = area; initial = initial; out = out }
 
-abbrev pub refused : Refusal → Playback
-refused r = record { answer = A.Refused r; server = freshServer }
-
-abbrev pub summaryOf : Trace → List Report → Summary
+abbrev pub summaryOf : Trace → List Report → Summed
 summaryOf t rs = record { entries = length (t .entries); bytes = length (reportsBytes rs); ending = endingOf (t .closing) (length (t .entries)) }
 
 -- reports lie end to end from the start of the out area; other bytes stay as lent
 abbrev pub outcomeOf : Trace → Played → List ℕ → List ℕ → Outcome
 outcomeOf t p initial out = record {
-  answer = A.Played (summaryOf t (p .reports));
+  answer = gives (summaryOf t (p .reports));
   server = p .server;
   area = p .area;
   initial = initial;
@@ -119,7 +136,7 @@ outcomeOf t p initial out = record {
 module _ (H : List ℕ → List ℕ) (g : Params) (me : ℕ) where
   -- a refusal changes nothing
   unfoldable pub playbackBy : Verdict → List ℕ → Trace → List ℕ → List ℕ → List ℕ → Outcome
-  playbackBy (J.Bad r) v t a initial out = outcome (refused r) a initial out
+  playbackBy (J.Bad r) v t a initial out = record { answer = turnedDown (numberOf r); server = freshServer; area = a; initial = initial; out = out }
   playbackBy J.Fine v t a initial out =
       let x = construction H g me v a initial in
       outcomeOf t (playedFrom H g me x (t .entries)) (x .initial) out

@@ -3,11 +3,11 @@
 use Prim.Native.Nat.{ℕ}
 use mathlib.Core.List.{List, [], _∷_, _++_}
 use lib.ListN.{length}
+use Rattle.area.specs.Responses.{Response}
 use Rattle.area.specs.Numbers.{bytes2}
 use Rattle.frame.specs.Messages.{Sending}
 use Rattle.frame.specs.Frames.{build}
 use Rattle.frame.specs.Outbox.{partyBytes}
-use Rattle.server_rules.specs.declared.Reply.{Reply}
 use Rattle.server_rules.specs.Delivery.{replyNumber}
 
 -- frames, each "after its receiver's class and number"
@@ -17,7 +17,7 @@ addressed (x ∷ xs) = partyBytes (x .receiver) ++ (build (x .says) ++ addressed
 
 -- the reply to an entry, and what was sent
 pub record Report : Type 0 where
-  pub reply : Reply
+  pub reply : Response ℕ
   pub sends : List Sending
 
 unfoldable pub reportBytes : Report → List ℕ

@@ -4,12 +4,16 @@ use Prim.Native.Nat.{ℕ, zero, suc, _+_, _≤_}
 use mathlib.Core.List.{List, [], _∷_, _++_}
 use lib.ListN.{length, take, drop}
 use lib.Seq.{sets}
+use Rattle.area.specs.Responses.{Response}
 use Rattle.area.specs.Numbers.{be2, bytes2}
 use Rattle.blocks.specs.declared.Params.{Params}
+use Rattle.frame.specs.declared.Refusal.{Refusal}
 use Rattle.server_rules.specs.declared.Server.{Server}
-use Rattle.server_rules.specs.declared.Reply.{Reply}
+use Rattle.server_rules.specs.State.{freshServer}
 use Rattle.server_rules.specs.Delivery.{replyNumber, replyCount, construction}
 use Rattle.entries.specs.Entries.{Trace}
+use Rattle.playback.specs.declared.Answer.the-variants as A
+use Rattle.playback.specs.declared.Playback.{Playback}
 use Rattle.playback.specs.declared.player.Done.{Done}
 use Rattle.playback.specs.Reports.{reportsBytes}
 use Rattle.playback.specs.Playback.{playedFrom}
@@ -26,8 +30,12 @@ abbrev pub Lie : ℕ → List ℕ → Type 0
 Lie zero l = Unit {0}
 Lie (suc m) l = (2 ≤ length l) × (2 + be2 l 0 ≤ length l) × Lie m (drop (2 + be2 l 0) l)
 
-unfoldable pub reportIn : Reply → List ℕ → List ℕ → List ℕ
+unfoldable pub reportIn : Response ℕ → List ℕ → List ℕ → List ℕ
 reportIn a out to = replyNumber a ∷ (bytes2 (replyCount a) ++ sentIn (replyCount a) out to)
+
+-- a call that is turned down
+abbrev pub refusing : Refusal → Playback
+refusing r = record { answer = A.Refused r; server = freshServer }
 
 -- ---- the loop
 

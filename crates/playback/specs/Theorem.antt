@@ -7,26 +7,20 @@ use mathlib.Core.List.{List, [], _∷_, _++_, map}
 use lib.ListN.{length, getD, take, drop}
 use lib.Seq.{sets}
 use Rattle.area.specs.Area.{part, Bytes}
+use Rattle.area.specs.Responses.{turnedDown, gives}
 use Rattle.area.specs.Numbers.{be2}
 use Rattle.blocks.specs.declared.Params.{Params}
 use Rattle.frame.specs.declared.Party.{Party}
-use Rattle.frame.specs.declared.Refusal.{Refusal}
 use Rattle.frame.specs.declared.Verdict.the-variants as J
-use Rattle.frame.specs.Refusals.{numberOf}
 use Rattle.frame.specs.Params.{serverFrames, outRoom, toRoom}
 use Rattle.frame.specs.Frames.{build}
 use Rattle.frame.specs.Outbox.{frames, receivers, partyIn}
 use Rattle.server_rules.specs.declared.Server.{Server}
-use Rattle.server_rules.specs.declared.Reply.the-variants as Y
 use Rattle.server_rules.specs.Delivery as SD
-use Rattle.entries.specs.declared.Closing.the-variants as C
 use Rattle.entries.specs.Entries.{TraceEntry, traceBytes, traceOf}
 use Rattle.entries.specs.Forms.{AllWritable}
-use Rattle.playback.specs.declared.Ending.the-variants as E
-use Rattle.playback.specs.declared.Summary.{Summary}
-use Rattle.playback.specs.declared.Answer.the-variants as A
 use Rattle.playback.specs.Reports.{Report, reportBytes}
-use Rattle.playback.specs.Playback.{entryNeed, outTest, reportOf, played, playedFrom, Outcome, playback}
+use Rattle.playback.specs.Playback.{entryNeed, outTest, reportOf, played, playedFrom, whole, Summed, Outcome, playback}
 
 -- ---- the steps, one after the other
 
@@ -134,17 +128,17 @@ module _ (H : List ℕ → List ℕ) (g : Params) (me : ℕ) where
       pub told : toldIn (length (traceOf trace .entries)) (p .out) ≡ map toldOf reports
 
   -- the trace u ++ w is cut behind the last entry of u: what u's entries gave is given again, and w's entries go on from there
-  pub record GoesOn (w : List ℕ) (p q : Outcome) (x : Summary) : Type 0 where
+  pub record GoesOn (w : List ℕ) (p q : Outcome) (x : Summed) : Type 0 where
     pub server : q .server ≡ played H g me (p .initial) (p .server) (p .area) (traceOf w .entries) .server
     pub area : q .area ≡ played H g me (p .initial) (p .server) (p .area) (traceOf w .entries) .area
     pub out : take (x .bytes) (q .out) ≡ take (x .bytes) (p .out)
 
   -- p plays a journal that has an entry for each of the steps hs, and gives the state that the server had behind the last of them
   pub record Restarts (x : SD.Constructed) (hs : List Handed) (p : Outcome) : Type 0 where
-    pub summary : Summary
-    pub answer : p .answer ≡ A.Played summary
+    pub summary : Summed
+    pub answer : p .answer ≡ gives summary
     pub entries : summary .entries ≡ length hs
-    pub ending : summary .ending ≡ E.Whole
+    pub ending : summary .ending ≡ whole
     pub server : p .server ≡ takenFrom H g me x hs .server
     pub area : p .area ≡ takenFrom H g me x hs .area
     pub initial : p .initial ≡ x .initial
@@ -157,30 +151,30 @@ pub record Unchanged (p : Outcome) (a initial out : List ℕ) : Type 0 where
 
 pub record Theorem (H : List ℕ → List ℕ) (g : Params) (me : ℕ) : Type 0 where
   -- 1, 2, 3 and 10 refuse the call, and a refusal changes nothing
-  pub refused : (v trace a initial out : List ℕ) (r : Refusal) → playback H g me v trace a initial out .answer ≡ A.Refused r
+  pub refused : (v trace a initial out : List ℕ) (n : ℕ) → playback H g me v trace a initial out .answer ≡ turnedDown n
       → Unchanged (playback H g me v trace a initial out) a initial out
   -- 10 of the out area exactly if it is shorter than the entries played ask; so a trace that closes at its first entry asks none
   pub room : (count out : ℕ) → (outTest g count out ≡ J.Fine → count * entryNeed g ≤ out) × (count * entryNeed g ≤ out → outTest g count out ≡ J.Fine)
   pub no-room : outTest g 0 0 ≡ J.Fine
   -- "They must equal the steps taken one after another, each with room enough"
-  pub steps : (v trace a initial out : List ℕ) → Bytes trace → (x : Summary) → playback H g me v trace a initial out .answer ≡ A.Played x
+  pub steps : (v trace a initial out : List ℕ) → Bytes trace → (x : Summed) → playback H g me v trace a initial out .answer ≡ gives x
       → (hs : List Handed) → entriesOf hs ≡ traceOf trace .entries → AllEnough g hs
       → IsSteps H g me v trace a initial out (playback H g me v trace a initial out) hs
   -- "A turned-down frame doesn't end the playback": it is reported by its number, and the next frame is handed to the same server
-  pub turned-down : (initial : List ℕ) (s : Server) (a : List ℕ) (e : TraceEntry) (es : List TraceEntry) (r : Refusal)
-      → reportOf H g me initial s a e .reply ≡ Y.Refused r
+  pub turned-down : (initial : List ℕ) (s : Server) (a : List ℕ) (e : TraceEntry) (es : List TraceEntry) (n : ℕ)
+      → reportOf H g me initial s a e .reply ≡ turnedDown n
       → played H g me initial s a (e ∷ es)
       ≡ record {
         server = played H g me initial s a es .server;
         area = played H g me initial s a es .area;
-        reports = record { reply = Y.Refused r; sends = [] } ∷ played H g me initial s a es .reports;
+        reports = record { reply = turnedDown n; sends = [] } ∷ played H g me initial s a es .reports;
       }
-  pub turned-down-bytes : (r : Refusal) → reportBytes (record { reply = Y.Refused r; sends = [] }) ≡ numberOf r ∷ 0 ∷ 0 ∷ []
+  pub turned-down-bytes : (n : ℕ) → reportBytes (record { reply = turnedDown n; sends = [] }) ≡ n ∷ 0 ∷ 0 ∷ []
   -- a trace cut behind an entry plays the same up to there
-  pub cut : (v u w a initial out out′ : List ℕ) → Bytes u → traceOf u .closing ≡ C.Whole → (x y : Summary)
-      → playback H g me v u a initial out .answer ≡ A.Played x → playback H g me v (u ++ w) a initial out′ .answer ≡ A.Played y
+  pub cut : (v u w a initial out out′ : List ℕ) → Bytes u → traceOf u .closing ≡ 0 → (x y : Summed)
+      → playback H g me v u a initial out .answer ≡ gives x → playback H g me v (u ++ w) a initial out′ .answer ≡ gives y
       → GoesOn H g me w (playback H g me v u a initial out) (playback H g me v (u ++ w) a initial out′) x
   -- so a journal that is played gives the state that the server had: what a restart needs. The areas of both are lent with the same bytes
-  pub restart : (v a initial out : List ℕ) (hs : List Handed) → SD.construction H g me v a initial .reply ≡ Y.Step 0 → AllEnough g hs
+  pub restart : (v a initial out : List ℕ) (hs : List Handed) → SD.construction H g me v a initial .reply ≡ gives 0 → AllEnough g hs
       → AllWritable (entriesOf hs) → length hs * entryNeed g ≤ length out
       → Restarts H g me (SD.construction H g me v a initial) hs (playback H g me v (traceBytes (entriesOf hs)) a initial out)

@@ -12,7 +12,9 @@ ghost use mathlib.Core.Path.{_≡_};
 ghost use Prim.Native.Nat.{_≤_, _<_};
 ghost use Rattle.frame.specs.Params.{Bounded};
 ghost use Rattle.sha256.specs.Hash.{digestOf};
-ghost use Rattle.playback.specs.Playback.{entryNeed, outTest, endingOf, outcome, refused, playback};
+ghost use Rattle.entries.specs.Entries.{closingNumber};
+ghost use Rattle.playback.specs.Playback.{entryNeed, outTest, endIn, endingOf, outcome, playback};
+ghost use Rattle.playback.specs.Stages.{refusing};
 
 pub mod player;
 pub mod reports;
@@ -65,7 +67,7 @@ fn out_test(g: Params, count: usize, out: usize) -> Verdict
 // The trace closes behind count entries.
 fn ending_of(c: Closing, count: usize) -> Ending
     requires { ⌜ count < 18446744073709551615 ⌝ }
-    ensures { λ r. ⌜ r ≡ endingOf c count ⌝ }
+    ensures { λ r. ⌜ endIn r ≡ endingOf (closingNumber c) count ⌝ }
 {
     match c {
         Closing::Whole => Ending::Whole,
@@ -75,7 +77,7 @@ fn ending_of(c: Closing, count: usize) -> Ending
 }
 
 fn refuse(r: Refusal) -> Playback
-    ensures { λ x. ⌜ x ≡ refused r ⌝ }
+    ensures { λ x. ⌜ x ≡ refusing r ⌝ }
 {
     Playback {
         answer: Answer::Refused(r),

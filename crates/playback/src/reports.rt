@@ -8,12 +8,12 @@ ghost use lib.ListN.{length};
 ghost use lib.Seq.{sets};
 ghost use Rattle.area.specs.Area.{part};
 ghost use Rattle.area.specs.Numbers.{be2};
-ghost use Rattle.server_rules.specs.Delivery.{replyNumber, replyCount};
+ghost use Rattle.server_rules.specs.Delivery.{replyResponse, replyNumber, replyCount};
 ghost use Rattle.playback.specs.Stages.{sentIn, Lie, reportIn};
 
 // 0 for a step, else the refusal's number.
 fn reply_number(a: Reply) -> u8
-    ensures { λ r. ⌜ r ≡ replyNumber a ⌝ }
+    ensures { λ r. ⌜ r ≡ replyNumber (replyResponse a) ⌝ }
 {
     match a {
         Reply::Step(_) => 0,
@@ -23,7 +23,7 @@ fn reply_number(a: Reply) -> u8
 
 // How many frames were sent.
 fn reply_count(a: Reply) -> usize
-    ensures { λ r. ⌜ r ≡ replyCount a ⌝ }
+    ensures { λ r. ⌜ r ≡ replyCount (replyResponse a) ⌝ }
 {
     match a {
         Reply::Step(m) => m,
@@ -66,10 +66,10 @@ fn put_sent(m: usize, frames: &[u8], to: &[u8], out: &mut [u8], at: usize) -> us
 
 // The report of a reply, whose frames and receivers lie in frames and to. The answer is where it ends.
 pub fn put_report(a: Reply, frames: &[u8], to: &[u8], out: &mut [u8], at: usize) -> usize
-    requires { ⌜ Lie (replyCount a) (now frames) × (2 * replyCount a ≤ length (now to)) × (replyCount a < 65536)
-        × (at + length (reportIn a (now frames) (now to)) ≤ length (now out)) ⌝ }
-    ensures { λ r. ⌜ (now (out .exit) ≡ sets (now (out .entry)) at (reportIn a (now (frames .entry)) (now (to .entry))))
-        × (r ≡ at + length (reportIn a (now (frames .entry)) (now (to .entry)))) ⌝ }
+    requires { ⌜ Lie (replyCount (replyResponse a)) (now frames) × (2 * replyCount (replyResponse a) ≤ length (now to))
+        × (replyCount (replyResponse a) < 65536) × (at + length (reportIn (replyResponse a) (now frames) (now to)) ≤ length (now out)) ⌝ }
+    ensures { λ r. ⌜ (now (out .exit) ≡ sets (now (out .entry)) at (reportIn (replyResponse a) (now (frames .entry)) (now (to .entry))))
+        × (r ≡ at + length (reportIn (replyResponse a) (now (frames .entry)) (now (to .entry)))) ⌝ }
 {
     let m = reply_count(a);
     out[at] = reply_number(a);

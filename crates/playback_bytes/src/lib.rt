@@ -14,7 +14,9 @@ ghost use mathlib.Core.Path.{_≡_};
 ghost use Prim.Native.Nat.{_≤_};
 ghost use lib.ListN.{length};
 ghost use Rattle.layout.specs.Servers.{serverSize};
-ghost use Rattle.playback_bytes.specs.Calls.{summaryAnswer, playbackAnswer, isUnplayed, playedAfter, playedBack, playbackCall};
+ghost use Rattle.area.specs.Responses.{isTurnedDown};
+ghost use Rattle.playback.specs.Playback.{summed, playbackResponse};
+ghost use Rattle.playback_bytes.specs.Calls.{summaryAnswer, playbackAnswer, playedAfter, playedBack, playbackCall};
 
 // ---- the answer
 
@@ -25,7 +27,7 @@ const CUT: u64 = 256 * 23;
 
 // How many entries were played, above how the trace closed.
 fn summary_answer(x: Summary) -> u64
-    ensures { λ r. ⌜ r ≡ summaryAnswer x ⌝ }
+    ensures { λ r. ⌜ r ≡ summaryAnswer (summed x) ⌝ }
 {
     let ending = x.ending;
     let entries = x.entries as u64 % 1099511627776;
@@ -37,7 +39,7 @@ fn summary_answer(x: Summary) -> u64
 }
 
 fn playback_answer(a: Answer) -> u64
-    ensures { λ r. ⌜ r ≡ playbackAnswer a ⌝ }
+    ensures { λ r. ⌜ r ≡ playbackAnswer (playbackResponse a) ⌝ }
 {
     match a {
         Answer::Played(x) => summary_answer(x),
@@ -47,7 +49,7 @@ fn playback_answer(a: Answer) -> u64
 
 // Whether the call was turned down.
 fn is_unplayed(a: Answer) -> bool
-    ensures { λ r. ⌜ r ≡ isUnplayed a ⌝ }
+    ensures { λ r. ⌜ r ≡ isTurnedDown (playbackResponse a) ⌝ }
 {
     match a {
         Answer::Played(_) => false,
@@ -60,7 +62,7 @@ fn is_unplayed(a: Answer) -> bool
 // Writes the record of the server behind the last entry, unless the call was turned down.
 fn keep_played(a: Answer, s: Server, state: &mut [u8])
     requires { ⌜ serverSize ≤ length (now state) ⌝ }
-    ensures { λ _. ⌜ now (state .exit) ≡ playedAfter a s (now (state .entry)) ⌝ }
+    ensures { λ _. ⌜ now (state .exit) ≡ playedAfter (playbackResponse a) s (now (state .entry)) ⌝ }
 {
     if is_unplayed(a) {
         return;

@@ -2,7 +2,6 @@
 use Prim.Native.Nat.{ℕ, zero, suc, _+_, _≤_, _<_, zero-le}
 use native.Mathlib.Omega.{arith}
 use native.Mathlib.Nat.{not-suc-le-zero}
-use native.Mathlib.Numerals.{add-one}
 use mathlib.Core.Bool.{Bool, true, false, not, _&&_}
 use mathlib.Core.Path.{_≡_, refl, ap}
 use Rattle.quorum.specs.Quorum.{bit, count, Among}
@@ -12,12 +11,6 @@ use Rattle.quorum.specs.Quorum.{bit, count, Among}
 pub count-suc : (p : ℕ → Bool) (k : ℕ) → count p (suc k) ≡ bit (p (suc k)) + count p k
 unfolding count
 count-suc p k = refl
-
-pub count-yes : (p : ℕ → Bool) (k : ℕ) → p (k + 1) ≡ true → count p (k + 1) ≡ count p k + 1
-count-yes p k e = rw add-one (omega (arith, count-suc p k, ap bit (rw add-one at e)))
-
-pub count-no : (p : ℕ → Bool) (k : ℕ) → p (k + 1) ≡ false → count p (k + 1) ≡ count p k
-count-no p k e = rw add-one (omega (arith, count-suc p k, ap bit (rw add-one at e)))
 
 -- ---- bounds
 

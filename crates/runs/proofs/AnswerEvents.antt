@@ -5,12 +5,13 @@ use mathlib.Core.Option.{Option, none, some}
 use mathlib.Core.List.{List}
 use lib.Seq.{sets}
 use Rattle.quorum.proofs.Logic.{impossible}
+use Rattle.area.specs.Responses.{Response, gives}
 use Rattle.blocks.specs.declared.Params.{Params}
 use Rattle.frame.specs.declared.Stamp.{Stamp}
 use Rattle.frame.specs.declared.Party.{Party}
 use Rattle.frame.specs.Messages.{Judged, bad, good}
 use Rattle.client_rules.specs.declared.Client.{Client}
-use Rattle.client_rules.specs.declared.Answer.the-variants as A
+use Rattle.client_rules.specs.Answers.{Progress, readGives}
 use Rattle.client_rules.specs.Rows.{Found}
 use Rattle.client_rules.specs.Steps as C
 use Rattle.client_rules.specs.Tests as CT
@@ -21,15 +22,15 @@ use Rattle.runs.specs.Answers.{Tells, AnswersTell}
 found-same : (x y : Found) → C.stopped x ≡ C.stopped y → x ≡ y
 found-same x y e = cc
 
-stamp-same : (s r : Stamp) → A.Value s ≡ A.Value r → s ≡ r
+stamp-same : (s r : Stamp) → _≡_ {A = Response Progress} (gives (readGives s)) (gives (readGives r)) → s ≡ r
 stamp-same s r e = cc
 
 -- a read that ends, with its value and without
-told-read : (y : Found) (o : Option (List ℕ)) → y .bytes ≡ o → (result : List ℕ) → Tells (C.stopped y) (CD.readAnswer (y .stamp) (y .bytes)) result
+told-read : (y : Found) (o : Option (List ℕ)) → y .bytes ≡ o → (result : List ℕ) → Tells (C.stopped y) (gives (CD.readProgress (y .stamp) (y .bytes))) result
     (CD.readResult (y .bytes) result)
-told-read y o b result = subst (λ o. Tells (C.stopped y) (CD.readAnswer (y .stamp) o) result (CD.readResult o result)) (sym b) (go o b)
+told-read y o b result = subst (λ o. Tells (C.stopped y) (gives (CD.readProgress (y .stamp) o)) result (CD.readResult o result)) (sym b) (go o b)
   where
-    go : (o : Option (List ℕ)) → y .bytes ≡ o → Tells (C.stopped y) (CD.readAnswer (y .stamp) o) result (CD.readResult o result)
+    go : (o : Option (List ℕ)) → y .bytes ≡ o → Tells (C.stopped y) (gives (CD.readProgress (y .stamp) o)) result (CD.readResult o result)
     go none b = record {
       completes = λ x v e c. let h = found-same y x e in impossible (cc);
       completed-only = λ s e. impossible (cc);
@@ -42,7 +43,7 @@ told-read y o b result = subst (λ o. Tells (C.stopped y) (CD.readAnswer (y .sta
       completes = λ x v e c.
           let h = found-same y x e in
           let w : u ≡ v = cc in
-          (ap (λ z. A.Value (z .stamp)) h, ap (sets result 0) w);
+          (ap (λ z. gives (readGives (z .stamp))) h, ap (sets result 0) w);
       completed-only = λ s e. (y, u, refl, stamp-same (y .stamp) s e, b);
       disagrees = λ x e c. let h = found-same y x e in impossible (cc);
       disagreed-only = λ e. impossible (cc);
@@ -50,8 +51,8 @@ told-read y o b result = subst (λ o. Tells (C.stopped y) (CD.readAnswer (y .sta
       ended-only = λ e. impossible (cc);
     }
 
-told : (ev : C.Event) (n : ℕ) (result : List ℕ) → Tells ev (CD.eventAnswer ev n) result (CD.resultOf ev result)
-unfolding CD.eventAnswer CD.resultOf
+told : (ev : C.Event) (n : ℕ) (result : List ℕ) → Tells ev (gives (CD.progressBy ev n)) result (CD.resultOf ev result)
+unfolding CD.progressBy CD.resultOf
 told C.nothing n result = record {
   completes = λ x v e b. impossible (cc);
   completed-only = λ s e. impossible (cc);

@@ -10,6 +10,7 @@ use lib.ListN.{length, getD, take, drop}
 use lib.Seq.{sets, sets-eq, take-at, drop-at}
 use borrow.Author.Tests.{ltb-false}
 use Rattle.quorum.proofs.Logic.{impossible}
+use Rattle.area.specs.Responses.{gives}
 use Rattle.area.specs.Numbers.{be2}
 use Rattle.blocks.specs.declared.Params.{Params}
 use Rattle.frame.specs.declared.Party.{Party}
@@ -17,6 +18,7 @@ use Rattle.frame.specs.declared.Opened.{Opened}
 use Rattle.frame.specs.declared.Verdict.{Verdict}
 use Rattle.frame.specs.declared.Opened.the-variants as O
 use Rattle.frame.specs.declared.Verdict.the-variants as J
+use Rattle.frame.specs.Refusals.{answeredBy}
 use Rattle.frame.specs.Params.{largestFrame, serverFrames, clientFrames, outRoom, toRoom, Bounded, paramsTest}
 use Rattle.frame.specs.Messages.{Message, Sending, Judged, bad, good}
 use Rattle.frame.specs.Frames.{build, opened, messageIn}
@@ -31,6 +33,7 @@ use Rattle.server_rules.specs.declared.Server.{Server}
 use Rattle.server_rules.specs.Tests as ST
 use Rattle.server_rules.specs.Delivery as SD
 use Rattle.client_rules.specs.declared.Client.{Client}
+use Rattle.client_rules.specs.Answers.{goesOn}
 use Rattle.client_rules.specs.Tests as CT
 use Rattle.client_rules.specs.Steps as C
 use Rattle.client_rules.specs.Delivery as CD
@@ -126,14 +129,14 @@ module _ (H : List ℕ → List ℕ) (g : Params) (me : ℕ) where
           (ltb-false _ _ (p₃ .0), ltb-false _ _ (p₄ .0))
 
   -- the count in a client's answer
-  count-is : (v : C.Event) (m : ℕ) → answerCount g (CD.eventAnswer v m) ≡ eventSends H g me v m
-  unfolding CD.eventAnswer
+  count-is : (v : C.Event) (m : ℕ) → answerCount g (gives (CD.progressBy v m)) ≡ eventSends H g me v m
+  unfolding CD.progressBy
   count-is C.nothing m = refl
   count-is C.written m = refl
   count-is C.outOfStamps m = refl
   count-is (C.stopped x) m = of-read (x .bytes)
     where
-      of-read : (o : Option (List ℕ)) → answerCount g (CD.readAnswer (x .stamp) o) ≡ g .n
+      of-read : (o : Option (List ℕ)) → answerCount g (gives (CD.readProgress (x .stamp) o)) ≡ g .n
       of-read none = refl
       of-read (some v) = refl
 
@@ -201,20 +204,21 @@ module _ (Z : Setup) (G : Assumed Z) where
           let r = took-room H g c s a v from f result out to m e in
           let S = client-sends H g c s a v from m in
           let x = C.effect H g c s a v from m in
-          let n : length (x .sends) ≡ answerCount g (CD.eventAnswer (x .event) (length (x .sends))) =
+          let n : length (x .sends) ≡ answerCount g (gives (CD.progressBy (x .event) (length (x .sends)))) =
           sym (count-is H g c (x .event) (length (x .sends)) ∙ S .event) in
           subst (λ y. Back y (x .sends) (sets out 0 (frames (x .sends))) (sets to 0 (receivers (x .sends)))) n
           (written-back g (G .bounded) (x .sends) F (clientFrames g) (S .few) out to (r .out-room) (r .to-room))
 
   read-back : (w : World) (c : ℕ) (out to : List ℕ) → Answer w (beginRead c out to)
-  unfolding said sends CB.readBeginning CB.begunOf CB.beginAnswer CB.readBegun CB.beginBy
+  unfolding said sends CB.readBeginning CB.begunOf CB.readBegun CB.beginBy
   read-back w c out to F = go (CB.readTest g c s out to) refl F
     where
       s : Client
       s = w .clients c .client
 
       go : (b : Verdict) → CB.readTest g c s out to ≡ b → AllFormed g (CB.beginBy g c b s (CB.openRead g c s) .sends)
-          → Back (answerCount g (CB.beginAnswer g c b (CB.beginBy g c b s (CB.openRead g c s)))) (CB.beginBy g c b s (CB.openRead g c s) .sends)
+          → Back (answerCount g (answeredBy b (goesOn (length (CB.beginBy g c b s (CB.openRead g c s) .sends)))))
+          (CB.beginBy g c b s (CB.openRead g c s) .sends)
           (sets out 0 (frames (CB.beginBy g c b s (CB.openRead g c s) .sends))) (sets to 0 (receivers (CB.beginBy g c b s (CB.openRead g c s) .sends)))
       go (J.Bad r) e F = nothing-back _ _
       go J.Fine e F =
@@ -222,14 +226,15 @@ module _ (Z : Setup) (G : Assumed Z) where
           written-back g (G .bounded) (CB.openRead g c s .sends) F (clientFrames g) (read-sends H g c s) out to (r .0) (r .1)
 
   write-back : (w : World) (c : ℕ) (v out to : List ℕ) → Answer w (beginWrite c v out to)
-  unfolding said sends CB.writeBeginning CB.begunOf CB.beginAnswer CB.writeBegun CB.beginBy
+  unfolding said sends CB.writeBeginning CB.begunOf CB.writeBegun CB.beginBy
   write-back w c v out to F = go (CB.writeTest g c s v out to) refl F
     where
       s : Client
       s = w .clients c .client
 
       go : (b : Verdict) → CB.writeTest g c s v out to ≡ b → AllFormed g (CB.beginBy g c b s (CB.openWrite g c s) .sends)
-          → Back (answerCount g (CB.beginAnswer g c b (CB.beginBy g c b s (CB.openWrite g c s)))) (CB.beginBy g c b s (CB.openWrite g c s) .sends)
+          → Back (answerCount g (answeredBy b (goesOn (length (CB.beginBy g c b s (CB.openWrite g c s) .sends)))))
+          (CB.beginBy g c b s (CB.openWrite g c s) .sends)
           (sets out 0 (frames (CB.beginBy g c b s (CB.openWrite g c s) .sends))) (sets to 0 (receivers (CB.beginBy g c b s (CB.openWrite g c s) .sends)))
       go (J.Bad r) e F = nothing-back _ _
       go J.Fine e F =

@@ -2,6 +2,7 @@
 use Prim.Native.Nat.{ℕ}
 use mathlib.Core.Path.{_≡_, refl, ap, sym, _∙_, subst}
 use mathlib.Core.Logic.{⊎-elim}
+use lib.ListN.{length}
 use mathlib.Core.List.{List, [], List·Memᴰ, List·Memᴰ·not-nil, List·Memᴰ·eq-of-singleton, List·Memᴰ·append-cases, Memᴰ·append-right}
 use Rattle.quorum.proofs.Logic.{impossible}
 use Rattle.blocks.specs.declared.Params.{Params}
@@ -9,6 +10,7 @@ use Rattle.frame.specs.declared.Party.{Party}
 use Rattle.frame.specs.declared.Party.the-variants as P
 use Rattle.frame.specs.declared.Verdict.{Verdict}
 use Rattle.frame.specs.declared.Verdict.the-variants as J
+use Rattle.frame.specs.Refusals.{answeredBy}
 use Rattle.frame.specs.Messages.{Body, ack, message, sending}
 use Rattle.server_rules.specs.declared.Server.{Server}
 use Rattle.server_rules.specs.Steps as S
@@ -20,7 +22,7 @@ use Rattle.server_rules.proofs.Shapes.{Shape, idle, answers, notes, ends, settl
 use Rattle.server_rules.proofs.Speaking.{counted-cast}
 use Rattle.server_rules.specs.Tests as ST
 use Rattle.client_rules.specs.declared.Client.{Client}
-use Rattle.client_rules.specs.Steps as C
+use Rattle.client_rules.specs.Answers.{goesOn}
 use Rattle.client_rules.specs.Delivery as CD
 use Rattle.client_rules.specs.Beginning as CB
 use Rattle.runs.specs.World.{Setup, Call, toServer, toClient, beginRead, beginWrite, caller, World, initialOf, lentBy, step, put}
@@ -33,8 +35,7 @@ other-put f i v j ne = ⊎-elim (λ w. absurd (ne (sym (w .0)))) (λ w. w) (put-
 
 -- the answer says whether the write was begun
 value-told : (Z : Setup) (w : World) (c : ℕ) (s : Client) (b : Verdict) (v old : List ℕ)
-    → lentBy Z b v old ≡ valueBy Z w (CB.beginAnswer (Z .g) c b (CB.beginBy (Z .g) c b s (CB.openWrite (Z .g) c s))) v old
-unfolding CB.beginAnswer
+    → lentBy Z b v old ≡ valueBy Z w (answeredBy b (goesOn (length (CB.beginBy (Z .g) c b s (CB.openWrite (Z .g) c s) .sends)))) v old
 value-told Z w c s J.Fine v old = refl
 value-told Z w c s (J.Bad r) v old = refl
 
@@ -111,14 +112,13 @@ accepted-where-acked Z w i from f out to = delivery-acks (Z .H) (Z .g) i (w .ser
 
 -- ---- where an operation begins
 
-begins : (g : Params) (c : ℕ) (b : Verdict) (x : C.Effect) → Begins b (CB.beginAnswer g c b x)
-unfolding CB.beginAnswer
-begins g c J.Fine x = record { sent = λ e. (_, refl); sent-only = λ m e. refl }
-begins g c (J.Bad r) x = record { sent = λ e. impossible (cc); sent-only = λ m e. impossible (cc) }
+begins : (b : Verdict) (m : ℕ) → Begins b (answeredBy b (goesOn m))
+begins J.Fine m = record { sent = λ e. (_, refl); sent-only = λ m e. refl }
+begins (J.Bad r) m = record { sent = λ e. impossible (cc); sent-only = λ m e. impossible (cc) }
 
 pub begun-where-answered : BegunWhereAnswered
 unfolding BegunWhereAnswered CB.readBeginning CB.writeBeginning CB.begunOf
 begun-where-answered Z w = record {
-  read = λ c out to. begins (Z .g) c (CB.readTest (Z .g) c (w .clients c .client) out to) _;
-  write = λ c v out to. begins (Z .g) c (CB.writeTest (Z .g) c (w .clients c .client) v out to) _;
+  read = λ c out to. begins (CB.readTest (Z .g) c (w .clients c .client) out to) _;
+  write = λ c v out to. begins (CB.writeTest (Z .g) c (w .clients c .client) v out to) _;
 }

@@ -12,7 +12,7 @@ use borrow.Author.Tests.{leb-true, le-leb}
 use Rattle.quorum.specs.Quorum.{Among}
 use Rattle.quorum.proofs.Logic.{and-split, and-true}
 use Rattle.precedence.specs.Laws as PL
-use Rattle.area.proofs.Tests.{pick-true, pick-false}
+use Rattle.area.proofs.Tests.{pick-yes, pick-no}
 use Rattle.frame.specs.declared.Stamp.{Stamp}
 use Rattle.frame.specs.declared.Party.{Party}
 use Rattle.frame.specs.declared.Party.the-variants as A
@@ -45,14 +45,14 @@ module _ (Z : Setup) (G : Assumed Z) (M : Small (Z .g)) where
   within j = leb 1 j && leb j (g .n)
 
   pub stamp-at : (ks : List Call) (j : ℕ) → Among (g .n) j → Vw .present ks j ≡ shown Z G M ks j
-  stamp-at ks j is = pick-true _ _ _ (and-true (leb 1 j) (leb j (g .n)) (le-leb 1 j (is .0)) (le-leb j (g .n) (is .1)))
+  stamp-at ks j is = sym (pick-yes _ _ _ refl (and-true (leb 1 j) (leb j (g .n)) (le-leb 1 j (is .0)) (le-leb j (g .n) (is .1))) refl)
 
   pub outside : (j : ℕ) → Among (g .n) j ⊎ ((ks : List Call) → Vw .present ks j ≡ Ks .initial)
   outside j = go (leb 1 j && leb j (g .n)) refl
     where
       go : (b : Bool) → (leb 1 j && leb j (g .n)) ≡ b → Among (g .n) j ⊎ ((ks : List Call) → Vw .present ks j ≡ Ks .initial)
       go true e = let w = and-split (leb 1 j) (leb j (g .n)) e in inl (leb-true 1 j (w .0), leb-true j (g .n) (w .1))
-      go false e = inr (λ ks. pick-false (leb 1 j && leb j (g .n)) _ _ e)
+      go false e = inr (λ ks. sym (pick-no (leb 1 j && leb j (g .n)) _ _ refl e refl))
 
   key-at : (ks : List Call) (j : ℕ) → Among (g .n) j → Ks .key (Vw .present ks j) ≡ key (serverAt Z G M ks j .server .stamp)
   key-at ks j is = ap (λ v. key (v .0)) (stamp-at ks j is)

@@ -6,6 +6,7 @@ use mathlib.Core.Option.{none, some}
 use mathlib.Core.List.{List, [], _∷_, map}
 use lib.ListN.{getD, take, drop}
 use lib.Seq.{sets}
+use Rattle.area.specs.Responses.{Response, turnedDown, gives}
 use Rattle.area.specs.Numbers.{be2}
 use Rattle.blocks.specs.declared.Params.{Params}
 use Rattle.frame.specs.declared.Stamp.{Stamp}
@@ -13,8 +14,7 @@ use Rattle.frame.specs.declared.Party.{Party}
 use Rattle.frame.specs.Frames.{build}
 use Rattle.frame.specs.Outbox.{partyIn}
 use Rattle.server_rules.specs.Delivery as SD
-use Rattle.client_rules.specs.declared.Answer.{Answer}
-use Rattle.client_rules.specs.declared.Answer.the-variants as A
+use Rattle.client_rules.specs.Answers.{Progress, goesOn, writeEnds, writeCloses, readGives, readDisagrees}
 use Rattle.client_rules.specs.Rows.{Found}
 use Rattle.client_rules.specs.Steps as C
 use Rattle.client_rules.specs.Delivery as CD
@@ -34,13 +34,13 @@ receiversIn zero l = []
 receiversIn (suc m) l = partyIn (getD l 0 0) (getD l 1 0) ∷ receiversIn m (drop 2 l)
 
 -- how many frames a client's answer says went out; a read that ends sends read-complete to all (of a server's reply: `replyCount` of server_rules)
-abbrev pub answerCount : Params → Answer → ℕ
-answerCount g (A.Sent m) = m
-answerCount g A.Written = 0
-answerCount g A.OutOfStamps = 0
-answerCount g (A.Value s) = g .n
-answerCount g A.Disagreement = g .n
-answerCount g (A.Refused r) = 0
+abbrev pub answerCount : Params → Response Progress → ℕ
+answerCount g (turnedDown n) = 0
+answerCount g (gives (goesOn m)) = m
+answerCount g (gives writeEnds) = 0
+answerCount g (gives writeCloses) = 0
+answerCount g (gives (readGives s)) = g .n
+answerCount g (gives readDisagrees) = g .n
 
 -- an answer: the count, and the out and to areas as the call leaves them
 pub record Said : Type 0 where
@@ -77,16 +77,16 @@ AnswersReadBack = (Z : Setup) → Sound Z → DigestSize (Z .H) → (k : Call) (
 -- ---- what a call ends, and what it answers
 
 -- "A read is completed by the call that answers its value": the event ev of a delivery to a client, its answer, and the result area before and after
-pub record Tells (ev : C.Event) (answer : Answer) (result left : List ℕ) : Type 0 where
+pub record Tells (ev : C.Event) (answer : Response Progress) (result left : List ℕ) : Type 0 where
   -- a completed read is answered with its stamp, and its bytes lie at the start of the result area
-  pub completes : (x : Found) (v : List ℕ) → ev ≡ C.stopped x → x .bytes ≡ some v → (answer ≡ A.Value (x .stamp)) × (left ≡ sets result 0 v)
-  pub completed-only : (s : Stamp) → answer ≡ A.Value s → (x : Found) × (v : List ℕ) × (ev ≡ C.stopped x) × (x .stamp ≡ s) × (x .bytes ≡ some v)
+  pub completes : (x : Found) (v : List ℕ) → ev ≡ C.stopped x → x .bytes ≡ some v → (answer ≡ gives (readGives (x .stamp))) × (left ≡ sets result 0 v)
+  pub completed-only : (s : Stamp) → answer ≡ gives (readGives s) → (x : Found) × (v : List ℕ) × (ev ≡ C.stopped x) × (x .stamp ≡ s) × (x .bytes ≡ some v)
   -- one whose blocks disagree is answered so, and the result area stays as lent (request F-7)
-  pub disagrees : (x : Found) → ev ≡ C.stopped x → x .bytes ≡ none → (answer ≡ A.Disagreement) × (left ≡ result)
-  pub disagreed-only : answer ≡ A.Disagreement → (x : Found) × (ev ≡ C.stopped x) × (x .bytes ≡ none)
+  pub disagrees : (x : Found) → ev ≡ C.stopped x → x .bytes ≡ none → (answer ≡ gives readDisagrees) × (left ≡ result)
+  pub disagreed-only : answer ≡ gives readDisagrees → (x : Found) × (ev ≡ C.stopped x) × (x .bytes ≡ none)
   -- a write that ends is answered so
-  pub ends : ev ≡ C.written → answer ≡ A.Written
-  pub ended-only : answer ≡ A.Written → ev ≡ C.written
+  pub ends : ev ≡ C.written → answer ≡ gives writeEnds
+  pub ended-only : answer ≡ gives writeEnds → ev ≡ C.written
 
 unfoldable pub AnswersTell : Type 0
 AnswersTell = (Z : Setup) (w : World) (c : ℕ) (from : Party) (f lent result out to : List ℕ)

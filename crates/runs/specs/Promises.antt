@@ -5,6 +5,7 @@
 use Prim.Native.Nat.{ℕ}
 use mathlib.Core.Path.{_≡_}
 use mathlib.Core.List.{List, List·Memᴰ}
+use Rattle.area.specs.Responses.{Response, turnedDown, gives}
 use Rattle.frame.specs.declared.Party.{Party}
 use Rattle.frame.specs.declared.Party.the-variants as P
 use Rattle.frame.specs.declared.Verdict.{Verdict}
@@ -12,8 +13,7 @@ use Rattle.frame.specs.declared.Verdict.the-variants as J
 use Rattle.frame.specs.Messages.{ack, message, sending}
 use Rattle.server_rules.specs.Steps as S
 use Rattle.server_rules.specs.Delivery as SD
-use Rattle.client_rules.specs.declared.Answer.{Answer}
-use Rattle.client_rules.specs.declared.Answer.the-variants as A
+use Rattle.client_rules.specs.Answers.{Progress, goesOn, writeEnds, writeCloses, readGives, readDisagrees}
 use Rattle.client_rules.specs.Delivery as CD
 use Rattle.client_rules.specs.Beginning as CB
 use Rattle.runs.specs.World.{Setup, Call, toServer, toClient, beginRead, beginWrite, caller}
@@ -42,13 +42,13 @@ module _ (Z : Setup) (w : World) where
       record { client = r .client; area = w .clients c .area; value = w .clients c .value }
 
   -- v is the value of the open write from then on if the answer is that frames were sent
-  abbrev pub valueBy : Answer → List ℕ → List ℕ → List ℕ
-  valueBy (A.Sent m) v old = v
-  valueBy A.Written v old = old
-  valueBy A.OutOfStamps v old = old
-  valueBy (A.Value s) v old = old
-  valueBy A.Disagreement v old = old
-  valueBy (A.Refused r) v old = old
+  abbrev pub valueBy : Response Progress → List ℕ → List ℕ → List ℕ
+  valueBy (turnedDown n) v old = old
+  valueBy (gives (goesOn m)) v old = v
+  valueBy (gives writeEnds) v old = old
+  valueBy (gives writeCloses) v old = old
+  valueBy (gives (readGives s)) v old = old
+  valueBy (gives readDisagrees) v old = old
 
   abbrev pub writePromised : ℕ → List ℕ → List ℕ → List ℕ → ClientSide
   writePromised c v out to =
@@ -84,9 +84,9 @@ AcceptedWhereAcked = (Z : Setup) (w : World) (i : ℕ) (from : Party) (f out to 
 -- ---- where an operation begins
 
 -- the tests of a beginning pass, and its answer is that frames were sent
-pub record Begins (b : Verdict) (answer : Answer) : Type 0 where
-  pub sent : b ≡ J.Fine → (m : ℕ) × (answer ≡ A.Sent m)
-  pub sent-only : (m : ℕ) → answer ≡ A.Sent m → b ≡ J.Fine
+pub record Begins (b : Verdict) (answer : Response Progress) : Type 0 where
+  pub sent : b ≡ J.Fine → (m : ℕ) × (answer ≡ gives (goesOn m))
+  pub sent-only : (m : ℕ) → answer ≡ gives (goesOn m) → b ≡ J.Fine
 
 pub record BeginningsTell (Z : Setup) (w : World) : Type 0 where
   pub read : (c : ℕ) (out to : List ℕ)

@@ -2,37 +2,37 @@
 use Prim.Native.Nat.{ℕ, _≤_, _<_}
 use mathlib.Core.Path.{_≡_, refl, sym, ap, _∙_}
 use mathlib.Core.Bool.{Bool, true, false}
-use mathlib.Core.Option.{Option, none, some}
 use mathlib.Core.List.{List}
 use lib.ListN.{length}
 use lib.Seq.{sets}
 use lib.Dec.{ltb}
 use Rattle.quorum.proofs.Logic.{impossible}
 use Rattle.area.specs.Area.{pick, Bytes}
+use Rattle.area.specs.Responses.{Response, gives, isTurnedDown}
 use Rattle.sha256.specs.Hash.{digestOf}
 use Rattle.blocks.specs.declared.Params.{Params}
 use Rattle.frame.specs.declared.Party.{Party}
 use Rattle.frame.specs.declared.Stamp.{Stamp}
 use Rattle.frame.specs.declared.Verdict.{Verdict}
 use Rattle.frame.specs.declared.Verdict.the-variants as J
+use Rattle.frame.specs.Refusals.{answeredBy}
 use Rattle.frame.specs.Stamps.{lastClient}
 use Rattle.frame.specs.Frames.{stampBytes}
 use Rattle.frame.specs.Messages.{Judged, bad, good}
-use Rattle.client_rules.specs.declared.Answer.{Answer}
-use Rattle.client_rules.specs.declared.Answer.the-variants as Y
+use Rattle.client_rules.specs.Answers.{Progress, readGives}
 use Rattle.client_rules.specs.declared.Client.{Client}
 use Rattle.client_rules.specs.State.{freshClient}
 use Rattle.client_rules.specs.Tests.{judge}
-use Rattle.client_rules.specs.Steps.{Event, nothing, written, outOfStamps, stopped, Effect}
+use Rattle.client_rules.specs.Steps.{Effect}
 use Rattle.client_rules.specs.Beginning.{Begun, readTest, writeTest, openRead, openWrite, beginBy, readBegun}
-use Rattle.client_rules.specs.Beginning.{writeBegun, beginAnswer, begunOf, readBeginning, writeBeginning}
-use Rattle.client_rules.specs.Delivery.{Outcome, readAnswer, eventAnswer, answerOf, effectBy, delivered, outcomeOf, delivery}
+use Rattle.client_rules.specs.Beginning.{writeBegun, begunOf, readBeginning, writeBeginning}
+use Rattle.client_rules.specs.Delivery.{Outcome, answerOf, effectBy, delivered, outcomeOf, delivery}
 use Rattle.layout.specs.Fields.{stampSize}
 use Rattle.layout.specs.Clients.{clientSize, clientBytes, clientIn}
 use Rattle.layout.specs.Typed.{TypedClient}
 use Rattle.layout.proofs.ClientBack.{client-stored}
 use Rattle.layout.proofs.TypedCalls.{typed-client-in, typed-client-fresh, typed-read, typed-write, typed-client-delivery}
-use Rattle.answers.specs.Answers.{testAnswer, isRefusal}
+use Rattle.answers.specs.Answers.{leftBy, testAnswer}
 use Rattle.answers.specs.Short.{readShort, valueShort, frameShort, stampShort}
 use Rattle.semduoli.specs.Calls.{wrote, freshCall, Began, began, stateAfter, beganOf, readCall, writeCall}
 use Rattle.semduoli.specs.Handed.{stampAfter, clientGot, clientGotOf, clientCall}
@@ -46,59 +46,48 @@ stored-back : (state : List ℕ) (s : Client) → TypedClient s → clientSize �
 unfolding clientIn
 stored-back state s t long = client-stored state 0 s t long
 
-module _ (a : Answer) (s : Client) (state : List ℕ) where
-  says : (b : Bool) → isRefusal a ≡ b → TypedClient s → clientSize ≤ length state → (isRefusal a ≡ true → s ≡ clientIn state)
+module _ (a : Response Progress) (s : Client) (state : List ℕ) where
+  says : (b : Bool) → isTurnedDown a ≡ b → TypedClient s → clientSize ≤ length state → (isTurnedDown a ≡ true → s ≡ clientIn state)
       → clientIn (pick b state (sets state 0 (clientBytes s))) ≡ s
   unfolding pick
   says true e t long h = sym (h e)
   says false e t long h = stored-back state s t long
 
   -- they say s, where a call that is turned down leaves the client as it was
-  pub after-back : TypedClient s → clientSize ≤ length state → (isRefusal a ≡ true → s ≡ clientIn state) → clientIn (stateAfter a s state) ≡ s
-  unfolding stateAfter
-  after-back t long h = says (isRefusal a) refl t long h
+  pub after-back : TypedClient s → clientSize ≤ length state → (isTurnedDown a ≡ true → s ≡ clientIn state) → clientIn (stateAfter a s state) ≡ s
+  unfolding stateAfter leftBy
+  after-back t long h = says (isTurnedDown a) refl t long h
 
   -- a call that is turned down leaves them as they were
-  pub after-kept : isRefusal a ≡ true → stateAfter a s state ≡ state
-  unfolding stateAfter pick
+  pub after-kept : isTurnedDown a ≡ true → stateAfter a s state ≡ state
+  unfolding stateAfter leftBy pick
   after-kept e = ap (λ b. pick b state (sets state 0 (clientBytes s))) e
 
 -- ---- what an answer says of the client
 
 module _ (g : Params) (me : ℕ) (s : Client) where
-  begun-stays : (v : Verdict) (x y : Effect) → isRefusal (beginAnswer g me v y) ≡ true → beginBy g me v s x .client ≡ s
-  unfolding isRefusal beginAnswer beginBy
+  begun-stays : (v : Verdict) (x : Effect) (y : Progress) → isTurnedDown (answeredBy v y) ≡ true → beginBy g me v s x .client ≡ s
+  unfolding isTurnedDown beginBy
   begun-stays J.Fine x y e = impossible (cc e)
   begun-stays (J.Bad r) x y e = refl
 
   -- a beginning that is turned down leaves the client as it was
-  read-stays : (out to : List ℕ) → isRefusal (readBeginning g me s out to .answer) ≡ true → readBeginning g me s out to .client ≡ s
+  read-stays : (out to : List ℕ) → isTurnedDown (readBeginning g me s out to .answer) ≡ true → readBeginning g me s out to .client ≡ s
   unfolding readBeginning begunOf readBegun
   read-stays out to e = begun-stays (readTest g me s out to) (openRead g me s) _ e
 
-  write-stays : (v out to : List ℕ) → isRefusal (writeBeginning g me s v out to .answer) ≡ true → writeBeginning g me s v out to .client ≡ s
+  write-stays : (v out to : List ℕ) → isTurnedDown (writeBeginning g me s v out to .answer) ≡ true → writeBeginning g me s v out to .client ≡ s
   unfolding writeBeginning begunOf writeBegun
   write-stays v out to e = begun-stays (writeTest g me s v out to) (openWrite g me s) _ e
 
-event-is : (x : Event) (m : ℕ) → isRefusal (eventAnswer x m) ≡ false
-unfolding isRefusal eventAnswer
-event-is nothing m = refl
-event-is written m = refl
-event-is outOfStamps m = refl
-event-is (stopped x) m = of-read (x .bytes)
-  where
-    of-read : (o : Option (List ℕ)) → isRefusal (readAnswer (x .stamp) o) ≡ false
-    of-read none = refl
-    of-read (some v) = refl
-
 module _ (H : List ℕ → List ℕ) (g : Params) (me : ℕ) (s : Client) (a value : List ℕ) (from : Party) where
-  stays-by : (j : Judged) (x : Effect) → isRefusal (answerOf j x) ≡ true → effectBy H g me j s a value from .client ≡ s
-  unfolding isRefusal answerOf effectBy
+  stays-by : (j : Judged) (x : Effect) → isTurnedDown (answerOf j x) ≡ true → effectBy H g me j s a value from .client ≡ s
+  unfolding isTurnedDown answerOf effectBy
   stays-by (bad r) x e = refl
-  stays-by (good m) x e = let h = event-is (x .event) (length (x .sends)) in impossible (cc (e, h))
+  stays-by (good m) x e = impossible (cc e)
 
   -- a frame that is turned down leaves the client as it was
-  client-stays : (f result out to : List ℕ) → isRefusal (delivery H g me s a value from f result out to .answer) ≡ true
+  client-stays : (f result out to : List ℕ) → isTurnedDown (delivery H g me s a value from f result out to .answer) ≡ true
       → delivery H g me s a value from f result out to .client ≡ s
   unfolding delivery outcomeOf delivered
   client-stays f result out to e = stays-by (judge H g me s a value from f result out to) _ e
@@ -124,14 +113,14 @@ module _ (g : Params) (state out to : List ℕ) (n : ℕ) (x : Begun) where
   abbrev begins : Began
   begins = pick (ltb (length state) clientSize) (began n state out to) (beganOf g x state)
 
-  begins-back : clientSize ≤ length state → TypedClient (x .client) → (isRefusal (x .answer) ≡ true → x .client ≡ clientIn state)
+  begins-back : clientSize ≤ length state → TypedClient (x .client) → (isTurnedDown (x .answer) ≡ true → x .client ≡ clientIn state)
       → clientIn (begins .state) ≡ x .client
   unfolding beganOf
   begins-back long t h =
       ap (λ z. clientIn (z .state)) (sym (enough (length state) clientSize (began n state out to) (beganOf g x state) long))
       ∙ after-back (x .answer) (x .client) state t long h
 
-  begins-kept : isRefusal (x .answer) ≡ true → begins .state ≡ state
+  begins-kept : isTurnedDown (x .answer) ≡ true → begins .state ≡ state
   unfolding beganOf
   begins-kept e =
       ends (λ z. z .state) (ltb (length state) clientSize) (began n state out to) (beganOf g x state) state refl (after-kept (x .answer) (x .client) state e)
@@ -151,7 +140,7 @@ module _ (g : Params) (me : ℕ) (state out to : List ℕ) where
       (read-stays g me (clientIn state) out to)
 
   -- one that is turned down leaves the bytes as they were
-  pub read-kept : isRefusal (readBeginning g me (clientIn state) out to .answer) ≡ true → readCall g me state out to .state ≡ state
+  pub read-kept : isTurnedDown (readBeginning g me (clientIn state) out to .answer) ≡ true → readCall g me state out to .state ≡ state
   unfolding readCall
   read-kept e = begins-kept g state out to (testAnswer (readShort g me)) reads e
 
@@ -176,7 +165,7 @@ module _ (g : Params) (me : ℕ) (value state out to : List ℕ) where
       (write-stays g me (clientIn state) value out to)
 
   -- one that is turned down leaves the bytes as they were
-  pub write-kept : isRefusal (writeBeginning g me (clientIn state) value out to .answer) ≡ true → writeCall g me value state out to .state ≡ state
+  pub write-kept : isTurnedDown (writeBeginning g me (clientIn state) value out to .answer) ≡ true → writeCall g me value state out to .state ≡ state
   unfolding writeCall
   write-kept e = begins-kept g state out to told writes e
 
@@ -215,7 +204,7 @@ module _ (g : Params) (me : ℕ) (from : Party) (value f rows result stamp state
       (client-stays digestOf g me (clientIn state) rows value from f result out to)
 
   -- a call that is turned down leaves the bytes as they were
-  pub client-record-kept : isRefusal (delivers .answer) ≡ true → keeps ≡ state
+  pub client-record-kept : isTurnedDown (delivers .answer) ≡ true → keeps ≡ state
   client-record-kept e = keeps-by state refl (after-kept (delivers .answer) (delivers .client) state e)
 
   -- and so does one whose area for the record is short
@@ -234,7 +223,7 @@ module _ (g : Params) (me : ℕ) (from : Party) (value f rows result stamp state
       (clientGotOf g delivers stamp state) h)))
 
   -- a call that ends a read leaves the read's stamp at the start of the stamp area
-  pub read-stamped : clientSize ≤ length state → stampSize ≤ length stamp → (x : Stamp) → delivers .answer ≡ Y.Value x
+  pub read-stamped : clientSize ≤ length state → stampSize ≤ length stamp → (x : Stamp) → delivers .answer ≡ gives (readGives x)
       → clientCall g me from value f rows result stamp state out to .stamp ≡ sets stamp 0 (stampBytes x)
   unfolding clientGotOf stampAfter
   read-stamped long wide x e =

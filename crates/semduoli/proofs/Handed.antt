@@ -4,6 +4,7 @@ use mathlib.Core.Path.{_≡_, sym, ap, ap₂, _∙_}
 use mathlib.Core.List.{List}
 use lib.ListN.{length}
 use lib.Dec.{ltb}
+use Rattle.area.specs.Responses.{Response}
 use Rattle.area.specs.Area.{pick}
 use Rattle.sha256.specs.Hash.{digestOf}
 use Rattle.blocks.specs.declared.Params.{Params}
@@ -11,6 +12,7 @@ use Rattle.frame.specs.declared.Party.{Party}
 use Rattle.frame.specs.declared.Verdict.{Verdict}
 use Rattle.frame.specs.Stamps.{lastClient}
 use Rattle.client_rules.specs.declared.Answer.{Answer}
+use Rattle.client_rules.specs.Answers.{Progress, answerResponse}
 use Rattle.client_rules.specs.declared.Client.{Client}
 use Rattle.client_rules.specs.Delivery.{Outcome, delivery}
 use Rattle.layout.specs.Fields.{stampSize}
@@ -24,8 +26,8 @@ use Rattle.semduoli.proofs.Laws.{enough, short}
 -- ---- a read's stamp
 
 -- the answer a is the case b
-pub stamp-case : (a b : Answer) (l o : List ℕ) → a ≡ b → o ≡ stampAfter b l → o ≡ stampAfter a l
-stamp-case a b l o e p = p ∙ sym (ap (λ x. stampAfter x l) e)
+pub stamp-case : (a b : Answer) (l o : List ℕ) → a ≡ b → o ≡ stampAfter (answerResponse b) l → o ≡ stampAfter (answerResponse a) l
+stamp-case a b l o e p = p ∙ sym (ap (λ x. stampAfter (answerResponse x) l) e)
 
 -- ---- a client
 
@@ -63,7 +65,7 @@ module _ (g : Params) (me : ℕ) (from : Party) (value f rows result stamp state
         enough (length stamp) stampSize without-stamp whole h
         ∙ enough (length state) clientSize without-record (pick (ltb (length stamp) stampSize) without-stamp whole) long
 
-    module _ (w : Party) (s r : Client) (a : Answer) (x : ℕ) (ro re sm st o u : List ℕ) where
+    module _ (w : Party) (s r : Client) (a : Response Progress) (x : ℕ) (ro re sm st o u : List ℕ) where
       pub client-done : stampSize ≤ length stamp → w ≡ from → s ≡ clientAt state 0
           → _≡_ {A = Outcome} (record { answer = a; client = r; area = ro; result = re; out = o; to = u })
           (delivery digestOf g me s rows value w f result out to)

@@ -9,26 +9,26 @@ use lib.Dec.{ltb}
 use native.Mathlib.Omega.{arith}
 use borrow.Author.Tests.{ltb-false, lt-ltb, le-ltb}
 use Rattle.area.specs.Area.{pick}
+use Rattle.area.specs.Responses.{Response, isTurnedDown}
 use Rattle.area.proofs.Tests.{by-pick}
 use Rattle.blocks.specs.declared.Params.{Params}
-use Rattle.blocks.specs.declared.Coded.{Coded}
-use Rattle.blocks.specs.Calls.{Outcome, outcome}
+use Rattle.blocks.specs.Calls.{Outcome, told as coded}
 use Rattle.sha256.specs.Hash.{digestOf}
 use Rattle.frame.specs.declared.Verdict.{Verdict}
 use Rattle.frame.specs.Stamps.{lastClient}
-use Rattle.client_rules.specs.declared.Answer.{Answer}
+use Rattle.client_rules.specs.Answers.{Progress}
 use Rattle.client_rules.specs.declared.Client.{Client}
 use Rattle.client_rules.specs.State.{freshClient}
 use Rattle.client_rules.specs.Beginning.{Begun, readBeginning, writeBeginning}
 use Rattle.history_text.specs.Lines.{Lines, Records, Malformed, linesOf, answerOf, answerTo}
 use Rattle.order.specs.declared.operation.Operation.{Operation}
-use Rattle.order.specs.Histories.{any, malformed, unlisted, offended, later, earlier, rowOf, lineNumbers, blank, refused, offending, ordered, judged}
-use Rattle.order.specs.declared.judge.Verdict.{Verdict as Judged}
-use Rattle.history_sheet.specs.Laying.{outcome as laidOutcome, laying}
-use Rattle.history_sheet.specs.declared.Laid.{Laid}
+use Rattle.order.specs.Histories.{any, malformed, unlisted, offended, later, earlier, rowOf, lineNumbers, blank, Judgement, refused}
+use Rattle.order.specs.Histories.{offending, ordered, judged}
+use Rattle.history_sheet.specs.Laying.{SheetResult, outcome as laidOutcome, laying}
 use Rattle.layout.specs.Clients.{clientSize, clientBytes, clientAt, clientIn}
-use Rattle.answers.specs.Answers.{codeAnswer, testAnswer, isRefusal, clientAnswer, lineCount, historyAnswer, sheetAnswer}
+use Rattle.answers.specs.Answers.{codeAnswer, leftBy, testAnswer, clientAnswer, lineCount, historyAnswer, sheetAnswer}
 use Rattle.answers.specs.Short.{readShort, valueShort}
+use Rattle.answers.proofs.Left.{left-old, left-new}
 use Rattle.semduoli.specs.Calls.{wrote, digestCall, codeCall, judgedCall, historyCall, freshCall, began, stateAfter, beganOf, readCall, writeCall}
 use Rattle.semduoli.specs.Sheets.{sheetWrote, sheetCall}
 
@@ -57,14 +57,14 @@ digest-done m out o d h k e p =
     ∙ enough (length out) 32 (wrote 10 out) (wrote 0 (sets out 0 (digestOf m))) k
     ∙ enough 256 (length m) (wrote 3 out) (pick (ltb (length out) 32) (wrote 10 out) (wrote 0 (sets out 0 (digestOf m)))) h
 
-pub code-done : (a : Coded) (o : List ℕ) (x : ℕ) (y : Outcome) → outcome a o ≡ y → x ≡ codeAnswer a → wrote x o ≡ codeCall y
+pub code-done : (a : Response (Unit {0})) (o : List ℕ) (x : ℕ) (y : Outcome) → coded a o ≡ y → x ≡ codeAnswer a → wrote x o ≡ codeCall y
 unfolding codeCall
 code-done a o x y e p = ap (λ z. wrote z o) p ∙ ap codeCall e
 
 -- ---- histories
 
 -- the line numbers of an answer are 64
-abbrev Whole : Judged → Type 0
+abbrev Whole : Judgement → Type 0
 Whole v = length (v .lines) ≡ 64
 
 whole-refused : (x : ℕ) → Whole (refused x)
@@ -93,12 +93,12 @@ unfolding answerOf
 whole-lines (Records ops) = whole-judged ops
 whole-lines Malformed = whole-refused 18
 
-pub whole-answer : (text : List ℕ) (v : Judged) → v ≡ answerTo text → length (v .lines) ≡ 64
+pub whole-answer : (text : List ℕ) (v : Judgement) → v ≡ answerTo text → length (v .lines) ≡ 64
 unfolding answerTo
 whole-answer text v e = ap (λ w. length (w .lines)) e ∙ whole-lines (linesOf text)
 
 -- an answer gives at most 64 line numbers
-abbrev Few : Judged → Type 0
+abbrev Few : Judgement → Type 0
 Few v = lineCount (v .answer) ≤ 64
 
 few-refused : (x : ℕ) → Few (refused x)
@@ -127,12 +127,13 @@ unfolding answerOf
 few-lines (Records ops) = few-judged ops
 few-lines Malformed = few-refused 18
 
-pub few-answer : (text : List ℕ) (v : Judged) (n : ℕ) → v ≡ answerTo text → n ≡ lineCount (v .answer) → n ≤ 64
+pub few-answer : (text : List ℕ) (v : Judgement) (n : ℕ) → v ≡ answerTo text → n ≡ lineCount (v .answer) → n ≤ 64
 unfolding answerTo
 few-answer text v n e q = subst (λ k. k ≤ 64) (sym (q ∙ ap (λ w. lineCount (w .answer)) e)) (few-lines (linesOf text))
 
-pub judged-done : (text lines : List ℕ) (v : Judged) → v ≡ answerTo text → 64 ≤ length lines → (x : ℕ) → x ≡ historyAnswer (v .answer) → (n : ℕ)
-    → n ≡ lineCount (v .answer) → (o : List ℕ) → o ≡ sets lines 0 (take n (v .lines)) → wrote x o ≡ historyCall text lines
+pub judged-done : (text lines : List ℕ) (v : Judgement) → v ≡ answerTo text → 64 ≤ length lines → (x : ℕ)
+    → x ≡ historyAnswer (v .answer) → (n : ℕ) → n ≡ lineCount (v .answer) → (o : List ℕ) → o ≡ sets lines 0 (take n (v .lines))
+    → wrote x o ≡ historyCall text lines
 unfolding historyCall judgedCall
 judged-done text lines v e h x p n q o r =
     ap₂ wrote p (r ∙ ap (λ k. sets lines 0 (take k (v .lines))) q)
@@ -141,7 +142,8 @@ judged-done text lines v e h x p n q o r =
 
 -- ---- sheets
 
-pub sheet-done : (text out o : List ℕ) (a : Laid) (x : ℕ) → laidOutcome a o ≡ laying text out → x ≡ sheetAnswer a → wrote x o ≡ sheetCall text out
+pub sheet-done : (text out o : List ℕ) (a : Response SheetResult) (x : ℕ) → laidOutcome a o ≡ laying text out → x ≡ sheetAnswer a
+    → wrote x o ≡ sheetCall text out
 unfolding sheetCall sheetWrote
 sheet-done text out o a x e p = ap (λ z. wrote z o) p ∙ ap sheetWrote e
 
@@ -153,15 +155,13 @@ fresh-done state o s h e p =
     ap (wrote 0) (p ∙ ap (λ z. sets state 0 (clientBytes z)) e)
     ∙ enough (length state) clientSize (wrote 10 state) (wrote 0 (sets state 0 (clientBytes freshClient))) h
 
--- the record is kept as it was, or written
-module _ (a : Answer) (s : Client) (state : List ℕ) (n x : ℕ) (b : Bool) (p : b ≡ isRefusal a) (e : x ≡ clientAnswer n a) where
-  pub keep-old : b ≡ true → wrote x state ≡ wrote (clientAnswer n a) (stateAfter a s state)
-  unfolding stateAfter pick
-  keep-old q = ap₂ (λ y z. wrote y (pick z state (sets state 0 (clientBytes s)))) e (sym q ∙ p)
+-- what is kept is left as it was, or written
+module _ {A : Type 0} (a : Response A) (old new : List ℕ) (x y : ℕ) (b : Bool) (p : b ≡ isTurnedDown a) (e : x ≡ y) where
+  pub keep-old : b ≡ true → wrote x old ≡ wrote y (leftBy a old new)
+  keep-old q = ap₂ wrote e (left-old a old new b p q)
 
-  pub keep-new : b ≡ false → (o : List ℕ) → o ≡ sets state 0 (clientBytes s) → wrote x o ≡ wrote (clientAnswer n a) (stateAfter a s state)
-  unfolding stateAfter pick
-  keep-new q o r = ap₂ wrote e (r ∙ ap (λ z. pick z state (sets state 0 (clientBytes s))) (sym q ∙ p))
+  pub keep-new : b ≡ false → (o : List ℕ) → o ≡ new → wrote x o ≡ wrote y (leftBy a old new)
+  keep-new q o r = ap₂ wrote e (left-new a old new b p q o r)
 
 module _ (g : Params) (me : ℕ) (state out to : List ℕ) where
   module _ (x : ℕ) (t : Verdict) (h : length state < clientSize) (e : x ≡ testAnswer t) where
@@ -178,7 +178,7 @@ module _ (g : Params) (me : ℕ) (state out to : List ℕ) where
         ∙ short (length state) clientSize (began (testAnswer (valueShort g me lastClient (length v))) state out to)
         (beganOf g (writeBeginning g me (clientIn state) v out to) state) h
 
-  module _ (s r : Client) (a : Answer) (x : ℕ) (st o u : List ℕ) (h : clientSize ≤ length state) (p : s ≡ clientAt state 0)
+  module _ (s r : Client) (a : Response Progress) (x : ℕ) (st o u : List ℕ) (h : clientSize ≤ length state) (p : s ≡ clientAt state 0)
       (k : wrote x st ≡ wrote (clientAnswer (g .n) a) (stateAfter a r state)) where
     -- the outcome of a beginning as f says it of the record that the bytes say
     begun-done : (f : Client → Begun) → _≡_ {A = Begun} (record { answer = a; client = r; out = o; to = u }) (f s)

@@ -7,6 +7,7 @@ use mathlib.Core.List.{List}
 use lib.ListN.{length, getD}
 use lib.Dec.{ltb}
 use borrow.Author.Tests.{lt-ltb, le-ltb}
+use Rattle.area.specs.Responses.{turnedDown, isTurnedDown}
 use Rattle.area.specs.Area.{pick}
 use Rattle.sha256.specs.Hash.{digestOf}
 use Rattle.blocks.specs.declared.Params.{Params}
@@ -21,7 +22,6 @@ use Rattle.frame.specs.Refusals.{andThen}
 use Rattle.frame.specs.Params.{ownTest, codeTest, paramsTest}
 use Rattle.frame.specs.Stamps.{lastClient}
 use Rattle.frame.specs.Frames.{clientAt, headerIn, openedBy}
-use Rattle.client_rules.specs.declared.Answer.the-variants as Y
 use Rattle.client_rules.specs.Tests.{valueTest}
 use Rattle.client_rules.specs.Beginning.{Begun, readTest, writeTest, openRead, openWrite, readBegun, writeBegun, readBeginning, writeBeginning}
 use Rattle.client_rules.specs.Delivery.{Outcome, delivery}
@@ -34,13 +34,13 @@ use Rattle.server_deliver.specs.Handed.{admitted}
 use Rattle.server_deliver.proofs.Openings.{refused-delivery}
 use Rattle.layout.specs.Clients.{clientSize, clientIn}
 use Rattle.layout.specs.Servers.{serverSize, serverIn}
-use Rattle.answers.specs.Answers.{testAnswer, isRefusal, clientAnswer, isTurnedDown, serverAnswer}
+use Rattle.answers.specs.Answers.{leftBy, testAnswer, clientAnswer, serverAnswer}
 use Rattle.answers.specs.Short.{readShort, valueShort, frameShort, stampShort}
 use Rattle.semduoli.specs.Calls.{began, stateAfter, beganOf, readCall, writeCall}
 use Rattle.semduoli.specs.Handed.{stampAfter, clientGot, clientGotOf, clientCall}
 use Rattle.entries.specs.Entries.{traceOf}
 use Rattle.playback.specs.Playback.{playTest, playbackBy, playback}
-use Rattle.playback_bytes.specs.Calls.{playbackAnswer, isUnplayed, playedAfter, playedBack, playedBackOf, playbackCall}
+use Rattle.playback_bytes.specs.Calls.{playbackAnswer, playedAfter, playedBack, playedBackOf, playbackCall}
 use Rattle.semduoli.specs.ServerCalls.{freshAfter, scopeAfter, made, madeOf, makeCall, serverGot, serverGotOf, serverCall}
 
 -- ---- 1 is answered
@@ -81,9 +81,9 @@ told p v e = sym (ap testAnswer (stops p v e))
 
 module _ (g : Params) (me : ℕ) (h : 255 < me) where
   module _ (state out to : List ℕ) where
-    begins-none : (x : Begun) → _≡_ {A = Begun} (record { answer = Y.Refused R.Parties; client = clientIn state; out = out; to = to }) x
+    begins-none : (x : Begun) → _≡_ {A = Begun} (record { answer = turnedDown 1; client = clientIn state; out = out; to = to }) x
         → began 1 state out to ≡ beganOf g x state
-    unfolding beganOf clientAnswer stateAfter isRefusal pick
+    unfolding beganOf clientAnswer stateAfter leftBy isTurnedDown pick
     begins-none x e = ap (λ z. beganOf g z state) e
 
     pub read-none : began 1 state out to ≡ readCall g me state out to
@@ -106,9 +106,9 @@ module _ (g : Params) (me : ℕ) (h : 255 < me) where
 
   module _ (from : Party) (value f rows result stamp state out to : List ℕ) where
     done-none : (x : Outcome)
-        → _≡_ {A = Outcome} (record { answer = Y.Refused R.Parties; client = clientIn state; area = rows; result = result; out = out; to = to }) x
+        → _≡_ {A = Outcome} (record { answer = turnedDown 1; client = clientIn state; area = rows; result = result; out = out; to = to }) x
         → clientGot 1 rows result stamp state out to ≡ clientGotOf g x stamp state
-    unfolding clientGotOf clientAnswer stampAfter stateAfter isRefusal pick
+    unfolding clientGotOf clientAnswer stampAfter stateAfter leftBy isTurnedDown pick
     done-none x e = ap (λ z. clientGotOf g z stamp state) e
 
     pub client-none : clientGot 1 rows result stamp state out to ≡ clientCall g me from value f rows result stamp state out to
@@ -127,14 +127,14 @@ module _ (g : Params) (me : ℕ) (h : 255 < me) where
 
 module _ (g : Params) (me : ℕ) (h : 255 < me) where
   pub make-none : (value area initial state : List ℕ) → made 1 area initial state ≡ makeCall g me value area initial state
-  unfolding makeCall valueShort madeOf construction constructTest constructBy serverAnswer freshAfter isTurnedDown pick
+  unfolding makeCall valueShort madeOf construction constructTest constructBy serverAnswer freshAfter leftBy isTurnedDown pick
   make-none value area initial state =
       let p = no-server g me h in
       either (λ z. made 1 area initial state ≡ z) (ltb (length state) serverSize) _ _ (ap (λ x. made x area initial state) (told (paramsTest g me (g .n)) _ p))
       (ap (λ v. madeOf (constructBy digestOf g me v value area initial) state) (sym (stops (paramsTest g me (g .n)) _ p)))
 
   pub playback-none : (value trace area initial state out : List ℕ) → playedBack 1 area initial state out ≡ playbackCall g me value trace area initial state out
-  unfolding playbackCall valueShort playedBackOf playback playTest playbackBy constructTest playbackAnswer playedAfter isUnplayed pick
+  unfolding playbackCall valueShort playedBackOf playback playTest playbackBy constructTest playbackAnswer playedAfter leftBy isTurnedDown pick
   playback-none value trace area initial state out =
       let p = no-server g me h in
       either (λ z. playedBack 1 area initial state out ≡ z) (ltb (length state) serverSize) _ _
@@ -144,7 +144,7 @@ module _ (g : Params) (me : ℕ) (h : 255 < me) where
 
   module _ (from : Party) (f area initial state out to : List ℕ) where
     pub server-none : serverGot 1 area state out to ≡ serverCall g me from f area initial state out to
-    unfolding serverCall frameShort serverGotOf serverAnswer scopeAfter isTurnedDown pick admitted
+    unfolding serverCall frameShort serverGotOf serverAnswer scopeAfter leftBy isTurnedDown pick admitted
     server-none =
         let p = no-server g me h in
         either (λ z. serverGot 1 area state out to ≡ z) (ltb (length state) serverSize) _ _

@@ -10,22 +10,20 @@ use lib.Seq.{sets}
 use lib.Dec.{ltb}
 use Rattle.quorum.proofs.Logic.{impossible}
 use Rattle.area.specs.Area.{pick, Bytes}
+use Rattle.area.specs.Responses.{isTurnedDown}
 use Rattle.sha256.specs.Hash.{digestOf}
 use Rattle.blocks.specs.declared.Params.{Params}
 use Rattle.frame.specs.declared.Party.{Party}
-use Rattle.frame.specs.declared.Refusal.{Refusal}
 use Rattle.frame.specs.declared.Refusal.the-variants as R
 use Rattle.frame.specs.declared.Verdict.{Verdict}
 use Rattle.frame.specs.declared.Verdict.the-variants as J
-use Rattle.frame.specs.Refusals.{andThen, numberOf}
+use Rattle.frame.specs.Refusals.{andThen}
 use Rattle.frame.specs.Params.{paramsTest}
 use Rattle.frame.specs.Stamps.{zeroStamp}
 use Rattle.frame.specs.Messages.{Judged, bad, good, after}
 use Rattle.frame.specs.Frames.{clientAt, headerIn, frameTest, openedBy, opened}
 use Rattle.frame.proofs.Opening.{opens-facts}
 use Rattle.client_rules.specs.Beginning.{lengthTest}
-use Rattle.server_rules.specs.declared.Reply.{Reply}
-use Rattle.server_rules.specs.declared.Reply.the-variants as S
 use Rattle.server_rules.specs.declared.Server.{Server}
 use Rattle.server_rules.specs.State.{slotOf, readerOf, freshReader, freshServer}
 use Rattle.server_rules.specs.Tests.{roomTest, judgeOpened, judge}
@@ -37,8 +35,9 @@ use Rattle.layout.proofs.ServerBack.{server-stored}
 use Rattle.layout.proofs.ScopeBack.{scope-back}
 use Rattle.layout.proofs.TypedSteps.{typed-in, typed-delivery}
 use Rattle.server_rules.proofs.Within.{server-within, slot-within, reader-within}
-use Rattle.answers.specs.Answers.{testAnswer, isTurnedDown, serverAnswer}
+use Rattle.answers.specs.Answers.{leftBy, testAnswer, serverAnswer}
 use Rattle.answers.specs.Short.{valueShort, frameShort}
+use Rattle.answers.proofs.RefusalNumbers.{number-bounds}
 use Rattle.semduoli.specs.ServerCalls.{freshAfter, scopeAfter, Made, made, madeOf, makeCall, serverGot, serverGotOf, serverCall}
 use Rattle.semduoli.proofs.Laws.{enough, short, ends}
 
@@ -86,7 +85,7 @@ module _ (g : Params) (me : ℕ) (from : Party) (f area initial state out to : L
   written = scopeSets state named (handed .server .stamp) (slotOf (handed .server) named) (readerOf (handed .server) named)
 
   left-is : left ≡ pick (isTurnedDown (handed .reply)) state written
-  unfolding serverCall serverGotOf scopeAfter
+  unfolding serverCall serverGotOf scopeAfter leftBy
   left-is =
       sym (ap (λ z. z .state)
       (enough (length state) serverSize (serverGot (testAnswer (frameShort g me (g .n) f)) area state out to) (serverGotOf handed named state) long))
@@ -139,7 +138,7 @@ module _ (g : Params) (me : ℕ) (value area initial : List ℕ) where
     -- after a call that is not turned down the bytes say a fresh server
     pub make-back : serverSize ≤ length state → isTurnedDown (constructs .reply) ≡ false
         → serverIn (makeCall g me value area initial state .state) ≡ freshServer
-    unfolding makeCall madeOf freshAfter serverIn pick
+    unfolding makeCall madeOf freshAfter leftBy serverIn pick
     make-back long e =
         ap (λ z. serverIn (z .state)) (sym (enough (length state) serverSize short-made (madeOf constructs state) long))
         ∙ ap (λ b. serverIn (pick b state (sets state 0 (serverBytes (constructs .server))))) e
@@ -148,7 +147,7 @@ module _ (g : Params) (me : ℕ) (value area initial : List ℕ) where
 
     -- one that is turned down leaves them as they were
     pub make-kept : isTurnedDown (constructs .reply) ≡ true → makeCall g me value area initial state .state ≡ state
-    unfolding makeCall madeOf freshAfter pick
+    unfolding makeCall madeOf freshAfter leftBy pick
     make-kept e =
         ends (λ z. z .state) (ltb (length state) serverSize) short-made (madeOf constructs state) state refl
         (ap (λ b. pick b state (sets state 0 (serverBytes (constructs .server)))) e)
@@ -160,46 +159,27 @@ module _ (g : Params) (me : ℕ) (value area initial : List ℕ) where
 
 -- ---- the same by the answer that a host gets
 
--- no refusal has the number 0
-number-left : (r : Refusal) → 1 ≤ numberOf r
-number-left R.Parties = omega arith
-number-left R.Threshold = omega arith
-number-left R.Length = omega arith
-number-left R.Framing = omega arith
-number-left R.Version = omega arith
-number-left R.Kind = omega arith
-number-left R.Owner = omega arith
-number-left R.Body = omega arith
-number-left R.Content = omega arith
-number-left R.Room = omega arith
-number-left R.Sender = omega arith
-number-left R.Stale = omega arith
-number-left R.Ahead = omega arith
-number-left R.Digest = omega arith
-number-left R.Busy = omega arith
-number-left R.Exhausted = omega arith
-number-left R.Closed = omega arith
-number-left R.Record = omega arith
-number-left R.Unlisted = omega arith
-
-step-of : (a : Reply) → serverAnswer a ≡ 0 → isTurnedDown a ≡ false
-unfolding serverAnswer isTurnedDown
-step-of (S.Step m) e = refl
-step-of (S.Refused r) e = let h = number-left r in absurd (omega (arith, h, e))
+step-by : (g : Params) (me : ℕ) (v : Verdict) (value area initial : List ℕ) → serverAnswer (constructBy digestOf g me v value area initial .reply) ≡ 0
+    → isTurnedDown (constructBy digestOf g me v value area initial .reply) ≡ false
+unfolding constructBy serverAnswer isTurnedDown
+step-by g me J.Fine value area initial e = refl
+step-by g me (J.Bad r) value area initial e = let h = number-bounds r .0 in absurd (omega (arith, h, e))
 
 short-told : (p q : Verdict) → testAnswer (andThen p (andThen q (J.Bad R.Room))) ≡ 0 → ⊥
 unfolding testAnswer
-short-told J.Fine J.Fine e = let h = number-left R.Room in omega (arith, h, e)
-short-told J.Fine (J.Bad r) e = let h = number-left r in omega (arith, h, e)
-short-told (J.Bad r) q e = let h = number-left r in omega (arith, h, e)
+short-told J.Fine J.Fine e = let h = number-bounds R.Room .0 in omega (arith, h, e)
+short-told J.Fine (J.Bad r) e = let h = number-bounds r .0 in omega (arith, h, e)
+short-told (J.Bad r) q e = let h = number-bounds r .0 in omega (arith, h, e)
 
 module _ (g : Params) (me : ℕ) (value area initial state : List ℕ) where
   made-by : (b : Bool) → ltb (length state) serverSize ≡ b
       → (pick b (made (testAnswer (valueShort g me (g .n) (length value))) area initial state) (madeOf (constructs g me value area initial) state)) .answer ≡ 0
       → serverIn (makeCall g me value area initial state .state) ≡ freshServer
-  unfolding pick madeOf valueShort
+  unfolding pick madeOf valueShort construction
   made-by true h e = absurd (short-told (paramsTest g me (g .n)) (lengthTest g (length value)) e)
-  made-by false h e = make-back g me value area initial state (ltb-false (length state) serverSize h) (step-of (constructs g me value area initial .reply) e)
+  made-by false h e =
+      make-back g me value area initial state (ltb-false (length state) serverSize h)
+      (step-by g me (constructTest digestOf g me value (length area) (length initial)) value area initial e)
 
   -- after a call that is answered 0 the bytes say a fresh server
   pub made-fresh : makeCall g me value area initial state .answer ≡ 0 → serverIn (makeCall g me value area initial state .state) ≡ freshServer

@@ -1,12 +1,12 @@
 -- The outcome of a host's calls of a server, from what the code's calls promise. Assumes nothing.
 use Prim.Native.Nat.{ℕ, _<_, _≤_}
 use mathlib.Core.Path.{_≡_, sym, ap, ap₂, _∙_}
-use mathlib.Core.Bool.{Bool, true, false}
 use mathlib.Core.List.{List}
 use lib.ListN.{length, getD}
 use lib.Seq.{getD-set-same}
 use native.Mathlib.Omega.{arith}
 use Rattle.area.specs.Area.{pick, table}
+use Rattle.area.specs.Responses.{Response, turnedDown, isTurnedDown}
 use Rattle.area.proofs.Fills.{length-tableFrom}
 use Rattle.sha256.specs.Hash.{digestOf}
 use Rattle.blocks.specs.declared.Params.{Params}
@@ -15,10 +15,9 @@ use Rattle.frame.specs.declared.Opened.{Opened}
 use Rattle.frame.specs.declared.Opened.the-variants as O
 use Rattle.frame.specs.declared.Party.{Party}
 use Rattle.frame.specs.declared.Refusal.{Refusal}
+use Rattle.frame.specs.Refusals.{numberOf}
 use Rattle.frame.specs.Frames.{clientAt}
 use Rattle.frame.specs.declared.Verdict.{Verdict}
-use Rattle.server_rules.specs.declared.Reply.{Reply}
-use Rattle.server_rules.specs.declared.Reply.the-variants as S
 use Rattle.server_rules.specs.declared.Reader.{Reader}
 use Rattle.server_rules.specs.declared.Scope.{Scope}
 use Rattle.server_rules.specs.declared.Slot.{Slot}
@@ -28,26 +27,16 @@ use Rattle.server_rules.specs.State.{noSlot, noReader}
 use Rattle.server_rules.specs.Scopes.{scopeOf, withScope}
 use Rattle.server.specs.Stages.{Holds}
 use Rattle.server.specs.declared.Call.{Call}
-use Rattle.server_rules.specs.Delivery.{Outcome, Constructed, delivery, construction}
+use Rattle.server_rules.specs.Delivery.{replyResponse, Outcome, Constructed, delivery, construction}
 use Rattle.layout.specs.Servers.{serverSize, readersPlace, slotsAt, readersAt, serverAt, serverIn}
 use Rattle.layout.specs.Fields.{rowAt}
 use Rattle.server_deliver.specs.Handed.{admitted, Stepping}
 use Rattle.server_deliver.proofs.Openings.{handed, client-named, refused-delivery, taken-delivery}
-use Rattle.answers.specs.Answers.{testAnswer, isTurnedDown, serverAnswer}
+use Rattle.answers.specs.Answers.{leftBy, testAnswer, serverAnswer}
 use Rattle.answers.specs.Short.{valueShort, frameShort}
 use Rattle.semduoli.specs.Calls.{Wrote, wrote}
 use Rattle.semduoli.specs.ServerCalls.{freshAfter, scopeAfter, made, madeOf, makeCall, serverGot, serverGotOf, serverCall}
 use Rattle.semduoli.proofs.Laws.{enough, short}
-
--- the record is kept as it was, or written
-module _ (a : Reply) (state new : List ℕ) (x : ℕ) (b : Bool) (p : b ≡ isTurnedDown a) (e : x ≡ serverAnswer a) where
-  pub keep-old : b ≡ true → wrote x state ≡ wrote (serverAnswer a) (pick (isTurnedDown a) state new)
-  unfolding pick
-  keep-old q = ap₂ (λ y z. wrote y (pick z state new)) e (sym q ∙ p)
-
-  pub keep-new : b ≡ false → (o : List ℕ) → o ≡ new → wrote x o ≡ wrote (serverAnswer a) (pick (isTurnedDown a) state new)
-  unfolding pick
-  keep-new q o r = ap₂ wrote e (r ∙ ap (λ z. pick z state new) (sym q ∙ p))
 
 -- ---- a fresh server
 
@@ -60,7 +49,7 @@ module _ (g : Params) (me : ℕ) (value area initial state : List ℕ) where
       ∙ short (length state) serverSize (made (testAnswer (valueShort g me (g .n) (length value))) area initial state)
       (madeOf (construction digestOf g me value area initial) state) h
 
-  module _ (r : Server) (a : Reply) (x : ℕ) (ar i st : List ℕ) where
+  module _ (r : Server) (a : Response ℕ) (x : ℕ) (ar i st : List ℕ) where
     pub make-done : serverSize ≤ length state
         → _≡_ {A = Constructed} (record { reply = a; server = r; area = ar; initial = i }) (construction digestOf g me value area initial)
         → wrote x st ≡ wrote (serverAnswer a) (freshAfter a r state)
@@ -111,9 +100,9 @@ module _ (g : Params) (me : ℕ) (from : Party) (f area initial state out to : L
   module _ (w : Party) (q : Opened) (h : serverSize ≤ length state) (i : w ≡ from)
       (e : q ≡ admitted g me f (length area) (length initial) (length out) (length to)) where
     -- 1 to 10
-    pub server-refused : (x : ℕ) (r : Refusal) → q ≡ O.Refused r → x ≡ serverAnswer (S.Refused r)
+    pub server-refused : (x : ℕ) (r : Refusal) → q ≡ O.Refused r → x ≡ serverAnswer (turnedDown (numberOf r))
         → serverGot x area state out to ≡ serverCall g me from f area initial state out to
-    unfolding serverGotOf scopeAfter isTurnedDown pick
+    unfolding serverGotOf scopeAfter leftBy isTurnedDown pick
     server-refused x r p n =
         ap (λ (z : ℕ). serverGot z area state out to) n
         ∙ ap (λ (z : Outcome). serverGotOf z (getD f clientAt 0) state)
@@ -125,7 +114,7 @@ module _ (g : Params) (me : ℕ) (from : Party) (f area initial state out to : L
         → s ≡ scopeOf (serverIn state) (d .client)
         → rs ≡ readersAt state readersPlace
         → Stepping s rs (record { params = g; me = me; from = w; header = d }) area initial f out to r ar o u
-        → wrote x st ≡ wrote (serverAnswer (r .reply)) (scopeAfter (r .reply) (r .scope) (d .client) state)
+        → wrote x st ≡ wrote (serverAnswer (replyResponse (r .reply))) (scopeAfter (replyResponse (r .reply)) (r .scope) (d .client) state)
         → serverGot x ar st o u ≡ serverCall g me from f area initial state out to
     unfolding serverGotOf serverIn serverAt
     server-done d s rs r x ar st o u p k m l n =
@@ -135,7 +124,7 @@ module _ (g : Params) (me : ℕ) (from : Party) (f area initial state out to : L
         let K : Holds (serverIn state) c s rs = record { many = nine-slots state; scope = k; readers = m } in
         let T = taken-delivery digestOf g me (serverIn state) area initial w f out to d q _ e p (l (serverIn state) K) in
         ap (λ (z : Wrote). serverGot (z .answer) ar (z .out) o u) n
-        ∙ ap (λ (z : Scope). serverGot (serverAnswer (r .reply)) ar (scopeAfter (r .reply) z c state) o u)
+        ∙ ap (λ (z : Scope). serverGot (serverAnswer (replyResponse (r .reply))) ar (scopeAfter (replyResponse (r .reply)) z c state) o u)
         (sym (scope-in state c (r .scope) (D .0 .lent .client-high)))
         ∙ ap (λ (z : Outcome). serverGotOf z c state) (T ∙ ap (λ (z : Party). delivery digestOf g me (serverIn state) area initial z f out to) i)
         ∙ ap (λ (z : ℕ). serverGotOf (delivery digestOf g me (serverIn state) area initial from f out to) z state)

@@ -6,12 +6,13 @@ use mathlib.Core.List.{List, [], _∷_}
 use lib.ListN.{length, getD, set}
 use lib.Seq.{sets}
 use lib.Dec.{ltb}
+use Rattle.area.specs.Responses.{Response, isTurnedDown}
 use Rattle.area.specs.Area.{pick, Bytes}
 use Rattle.sha256.specs.Hash.{digestOf}
 use Rattle.blocks.specs.declared.Params.{Params}
 use Rattle.frame.specs.declared.Party.{Party}
 use Rattle.frame.specs.Frames.{clientAt, stampBytes}
-use Rattle.client_rules.specs.declared.Answer.{Answer}
+use Rattle.client_rules.specs.Answers.{Progress}
 use Rattle.client_rules.specs.declared.Client.{Client}
 use Rattle.client_rules.specs.State.{freshClient}
 use Rattle.client_rules.specs.Beginning.{Begun}
@@ -25,7 +26,7 @@ use Rattle.layout.specs.Typed.{TypedClient, TypedServer}
 use Rattle.layout.proofs.TypedCalls.{typed-client-in, typed-client-fresh, typed-read, typed-write, typed-client-delivery}
 use Rattle.layout.proofs.TypedSteps.{typed-in, typed-delivery}
 use Rattle.layout.proofs.AreBytes.{stamp-bytes, client-bytes, slot-bytes, reader-bytes, server-bytes}
-use Rattle.answers.specs.Answers.{isRefusal, isTurnedDown}
+use Rattle.answers.specs.Answers.{leftBy}
 use Rattle.semduoli.specs.Calls.{Wrote, wrote, freshCall, Began, began, stateAfter, beganOf, readCall, writeCall}
 use Rattle.semduoli.specs.Handed.{ClientGot, clientGot, clientGotOf, clientCall}
 use Rattle.semduoli.specs.ServerCalls.{freshAfter, scopeAfter, Made, made, madeOf, makeCall, ServerGot, serverGot, serverGotOf, serverCall}
@@ -44,10 +45,10 @@ bytes-sets l i (v ∷ vs) p q = bytes-sets (set l i v) (suc i) vs (bytes-set l i
 
 -- ---- a client
 
-module _ (a : Answer) (s : Client) (state : List ℕ) where
+module _ (a : Response Progress) (s : Client) (state : List ℕ) where
   after-bytes : TypedClient s → Bytes state → Bytes (stateAfter a s state)
-  unfolding stateAfter
-  after-bytes t p = either Bytes (isRefusal a) state _ p (bytes-sets state 0 (clientBytes s) p (client-bytes s t))
+  unfolding stateAfter leftBy
+  after-bytes t p = either Bytes (isTurnedDown a) state _ p (bytes-sets state 0 (clientBytes s) p (client-bytes s t))
 
 pub fresh-bytes : (state : List ℕ) → Bytes state → Bytes (freshCall state .out)
 unfolding freshCall
@@ -80,7 +81,7 @@ module _ (g : Params) (me : ℕ) (from : Party) (value f rows result stamp state
 -- ---- a server
 
 pub make-bytes : (g : Params) (me : ℕ) (value area initial state : List ℕ) → Bytes state → Bytes (makeCall g me value area initial state .state)
-unfolding makeCall madeOf freshAfter
+unfolding makeCall madeOf freshAfter leftBy
 make-bytes g me value area initial state p =
     let s = S.construction digestOf g me value area initial .server in
     let t = fresh-server g me value area initial in
@@ -109,7 +110,7 @@ module _ (g : Params) (me : ℕ) (from : Party) (f area initial state out to : L
       (reader-bytes (readerOf (handed .server) named) r)
 
   pub server-call-bytes : Bytes (serverCall g me from f area initial state out to .state)
-  unfolding serverCall serverGotOf scopeAfter
+  unfolding serverCall serverGotOf scopeAfter leftBy
   server-call-bytes =
       either (λ (z : ServerGot). Bytes (z .state)) (ltb (length state) serverSize) (serverGot _ area state out to) _ p
       (scope-bytes (isTurnedDown (handed .reply)) refl)

@@ -6,18 +6,19 @@ use lib.ListN.{length, take}
 use lib.Seq.{sets}
 use lib.Dec.{ltb}
 use Rattle.area.specs.Area.{pick}
+use Rattle.area.specs.Responses.{Response}
 use Rattle.blocks.specs.declared.Params.{Params}
 use Rattle.blocks.specs.Calls.{Outcome, encoding, decoding}
 use Rattle.sha256.specs.Hash.{digestOf}
 use Rattle.frame.specs.Stamps.{lastClient}
-use Rattle.client_rules.specs.declared.Answer.{Answer}
 use Rattle.client_rules.specs.declared.Client.{Client}
 use Rattle.client_rules.specs.State.{freshClient}
+use Rattle.client_rules.specs.Answers.{Progress}
 use Rattle.client_rules.specs.Beginning.{Begun, readBeginning, writeBeginning}
 use Rattle.history_text.specs.Lines.{answerTo}
-use Rattle.order.specs.declared.judge.Verdict.{Verdict as Judged}
+use Rattle.order.specs.Histories.{Judgement}
 use Rattle.layout.specs.Clients.{clientSize, clientBytes, clientIn}
-use Rattle.answers.specs.Answers.{codeAnswer, testAnswer, isRefusal, clientAnswer, lineCount, historyAnswer}
+use Rattle.answers.specs.Answers.{codeAnswer, leftBy, testAnswer, clientAnswer, lineCount, historyAnswer}
 use Rattle.answers.specs.Short.{readShort, valueShort}
 
 abbrev pub params : ℕ → ℕ → ℕ → ℕ → Params
@@ -46,7 +47,7 @@ unfoldable pub decodeCall : Params → List ℕ → List ℕ → List ℕ → Wr
 decodeCall g numbers blocks out = codeCall (decoding g numbers blocks out)
 
 -- the line numbers of an order go to the front of the lent area; what is behind them stays as lent
-unfoldable pub judgedCall : Judged → List ℕ → Wrote
+unfoldable pub judgedCall : Judgement → List ℕ → Wrote
 judgedCall v lines = wrote (historyAnswer (v .answer)) (sets lines 0 (take (lineCount (v .answer)) (v .lines)))
 
 unfoldable pub historyCall : List ℕ → List ℕ → Wrote
@@ -68,8 +69,8 @@ abbrev pub began : ℕ → List ℕ → List ℕ → List ℕ → Began
 began x state out to = record { answer = x; state = state; out = out; to = to }
 
 -- the record's bytes after a call: "state and all lent bytes remain unchanged" where it was turned down
-unfoldable pub stateAfter : Answer → Client → List ℕ → List ℕ
-stateAfter a s state = pick (isRefusal a) state (sets state 0 (clientBytes s))
+unfoldable pub stateAfter : Response Progress → Client → List ℕ → List ℕ
+stateAfter a s state = leftBy a state (sets state 0 (clientBytes s))
 
 unfoldable pub beganOf : Params → Begun → List ℕ → Began
 beganOf g x state = began (clientAnswer (g .n) (x .answer)) (stateAfter (x .answer) (x .client) state) (x .out) (x .to)

@@ -5,6 +5,7 @@ use lib.ListN.{length}
 use lib.Seq.{sets}
 use lib.Dec.{ltb}
 use Rattle.area.specs.Area.{pick}
+use Rattle.area.specs.Responses.{Response, turnedDown, gives}
 use Rattle.sha256.specs.Hash.{digestOf}
 use Rattle.blocks.specs.declared.Params.{Params}
 use Rattle.frame.specs.declared.Party.{Party}
@@ -12,8 +13,7 @@ use Rattle.frame.specs.declared.Party.the-variants as P
 use Rattle.frame.specs.Stamps.{lastClient}
 use Rattle.frame.specs.Frames.{stampBytes}
 use Rattle.frame.specs.Outbox.{partyIn}
-use Rattle.client_rules.specs.declared.Answer.{Answer}
-use Rattle.client_rules.specs.declared.Answer.the-variants as Y
+use Rattle.client_rules.specs.Answers.{Progress, goesOn, writeEnds, writeCloses, readGives, readDisagrees}
 use Rattle.client_rules.specs.Delivery.{Outcome, delivery}
 use Rattle.layout.specs.Fields.{stampSize}
 use Rattle.layout.specs.Clients.{clientSize, clientIn}
@@ -29,13 +29,13 @@ unfoldable pub senderOf : ℕ → ℕ → Party
 senderOf class j = pick (ltb 255 j) nobody (pick (ltb 1 class) nobody (partyIn class j))
 
 -- the stamp area after a call: a completed read's stamp, "where its search stopped", goes to its start
-unfoldable pub stampAfter : Answer → List ℕ → List ℕ
-stampAfter (Y.Sent m) l = l
-stampAfter Y.Written l = l
-stampAfter Y.OutOfStamps l = l
-stampAfter (Y.Value x) l = sets l 0 (stampBytes x)
-stampAfter Y.Disagreement l = l
-stampAfter (Y.Refused r) l = l
+unfoldable pub stampAfter : Response Progress → List ℕ → List ℕ
+stampAfter (gives (goesOn m)) l = l
+stampAfter (gives writeEnds) l = l
+stampAfter (gives writeCloses) l = l
+stampAfter (gives (readGives x)) l = sets l 0 (stampBytes x)
+stampAfter (gives readDisagrees) l = l
+stampAfter (turnedDown n) l = l
 
 pub record ClientGot : Type 0 where
   pub answer : ℕ

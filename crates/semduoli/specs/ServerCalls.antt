@@ -5,26 +5,26 @@ use lib.ListN.{length, getD}
 use lib.Seq.{sets}
 use lib.Dec.{ltb}
 use Rattle.area.specs.Area.{pick}
+use Rattle.area.specs.Responses.{Response}
 use Rattle.sha256.specs.Hash.{digestOf}
 use Rattle.blocks.specs.declared.Params.{Params}
 use Rattle.frame.specs.declared.Party.{Party}
 use Rattle.frame.specs.Frames.{clientAt}
-use Rattle.server_rules.specs.declared.Reply.{Reply}
 use Rattle.server_rules.specs.declared.Scope.{Scope}
 use Rattle.server_rules.specs.declared.Server.{Server}
 use Rattle.server_rules.specs.Scopes.{scopeOf}
 use Rattle.server_rules.specs.Delivery.{Outcome, Constructed, delivery, construction}
 use Rattle.layout.specs.Servers.{serverSize, serverBytes, serverIn, scopeSets}
-use Rattle.answers.specs.Answers.{testAnswer, isTurnedDown, serverAnswer}
+use Rattle.answers.specs.Answers.{leftBy, testAnswer, serverAnswer}
 use Rattle.answers.specs.Short.{valueShort, frameShort}
 
 -- a fresh record's bytes; "state and all lent bytes remain unchanged" where the call was turned down
-unfoldable pub freshAfter : Reply → Server → List ℕ → List ℕ
-freshAfter a s state = pick (isTurnedDown a) state (sets state 0 (serverBytes s))
+unfoldable pub freshAfter : Response ℕ → Server → List ℕ → List ℕ
+freshAfter a s state = leftBy a state (sets state 0 (serverBytes s))
 
 -- the record's bytes after a step for client c that leaves the scope x: the stamp, and that client's slot and reader; the others' stay as lent
-unfoldable pub scopeAfter : Reply → Scope → ℕ → List ℕ → List ℕ
-scopeAfter a x c state = pick (isTurnedDown a) state (scopeSets state c (x .stamp) (x .slot) (x .reader))
+unfoldable pub scopeAfter : Response ℕ → Scope → ℕ → List ℕ → List ℕ
+scopeAfter a x c state = leftBy a state (scopeSets state c (x .stamp) (x .slot) (x .reader))
 
 -- ---- a fresh server
 

@@ -22,6 +22,7 @@ ghost use Prim.Native.Nat.{_≤_};
 ghost use lib.ListN.{length};
 ghost use Rattle.layout.specs.Fields.{stampSize};
 ghost use Rattle.layout.specs.Clients.{clientSize};
+ghost use Rattle.client_rules.specs.Answers.{answerResponse};
 ghost use Rattle.answers.specs.Answers.{clientAnswer};
 ghost use Rattle.semduoli.specs.Calls.{params, wrote, freshCall, began, stateAfter, readCall, writeCall};
 ghost use Rattle.semduoli.specs.Handed.{senderOf, stampAfter, clientGot, clientCall};
@@ -44,7 +45,7 @@ pub extern "C" fn semduoli_client_fresh(state: &mut [u8]) -> u64
 // Writes the record, unless the call was turned down.
 fn keep(a: Answer, s: Client, state: &mut [u8], n: usize) -> u64
     requires { ⌜ clientSize ≤ length (now state) ⌝ }
-    ensures { λ r. ⌜ wrote r (now (state .exit)) ≡ wrote (clientAnswer n a) (stateAfter a s (now (state .entry))) ⌝ }
+    ensures { λ r. ⌜ wrote r (now (state .exit)) ≡ wrote (clientAnswer n (answerResponse a)) (stateAfter (answerResponse a) s (now (state .entry))) ⌝ }
 {
     if is_refusal(a) {
         return client_answer(a, n);
@@ -123,7 +124,7 @@ pub extern "C" fn semduoli_begin_write(
 // Writes a completed read's stamp.
 fn put_read(a: Answer, stamp: &mut [u8])
     requires { ⌜ stampSize ≤ length (now stamp) ⌝ }
-    ensures { λ _. ⌜ now (stamp .exit) ≡ stampAfter a (now (stamp .entry)) ⌝ }
+    ensures { λ _. ⌜ now (stamp .exit) ≡ stampAfter (answerResponse a) (now (stamp .entry)) ⌝ }
 {
     match a {
         Answer::Sent(m) => {}

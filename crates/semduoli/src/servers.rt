@@ -24,6 +24,7 @@ ghost use mathlib.Core.Path.{_≡_};
 ghost use Prim.Native.Nat.{_≤_};
 ghost use lib.ListN.{length};
 ghost use Rattle.layout.specs.Servers.{serverSize};
+ghost use Rattle.server_rules.specs.Delivery.{replyResponse};
 ghost use Rattle.answers.specs.Answers.{serverAnswer};
 ghost use Rattle.semduoli.specs.Calls.{params, wrote};
 ghost use Rattle.semduoli.specs.Handed.{senderOf};
@@ -34,7 +35,7 @@ ghost use Rattle.semduoli.specs.ServerCalls.{freshAfter, scopeAfter, mad
 // Writes a fresh record, unless the call was turned down.
 fn keep_fresh(a: Reply, s: Server, state: &mut [u8]) -> u64
     requires { ⌜ serverSize ≤ length (now state) ⌝ }
-    ensures { λ r. ⌜ wrote r (now (state .exit)) ≡ wrote (serverAnswer a) (freshAfter a s (now (state .entry))) ⌝ }
+    ensures { λ r. ⌜ wrote r (now (state .exit)) ≡ wrote (serverAnswer (replyResponse a)) (freshAfter (replyResponse a) s (now (state .entry))) ⌝ }
 {
     if is_turned_down(a) {
         return server_answer(a);
@@ -46,7 +47,7 @@ fn keep_fresh(a: Reply, s: Server, state: &mut [u8]) -> u64
 // Writes what a step for client c left, unless the frame was turned down.
 fn keep(a: Reply, x: Scope, c: usize, state: &mut [u8]) -> u64
     requires { ⌜ (serverSize ≤ length (now state)) × (c ≤ 8) ⌝ }
-    ensures { λ r. ⌜ wrote r (now (state .exit)) ≡ wrote (serverAnswer a) (scopeAfter a x c (now (state .entry))) ⌝ }
+    ensures { λ r. ⌜ wrote r (now (state .exit)) ≡ wrote (serverAnswer (replyResponse a)) (scopeAfter (replyResponse a) x c (now (state .entry))) ⌝ }
 {
     if is_turned_down(a) {
         return server_answer(a);

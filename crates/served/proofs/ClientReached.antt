@@ -5,7 +5,6 @@ use native.Mathlib.Omega.{arith}
 use mathlib.Core.Bool.{Bool, true, false, not, _&&_}
 use mathlib.Core.Path.{_≡_, refl, ap, sym, _∙_, subst}
 use mathlib.Core.Logic.{_⊎_, inl, inr, ⊎-elim}
-use mathlib.Core.Option.{Option, none, some}
 use mathlib.Core.List.{List, [], _∷_}
 use lib.ListN.{length, replicate, length-replicate}
 use lib.Dec.{ltb, eqb}
@@ -14,6 +13,7 @@ use Rattle.quorum.specs.Quorum.{Among}
 use Rattle.quorum.proofs.Logic.{impossible}
 use Rattle.precedence.proofs.Precedence as PP
 use Rattle.area.specs.Area.{pick}
+use Rattle.area.specs.Responses.{refusalNumber}
 use Rattle.blocks.specs.declared.Params.{Params}
 use Rattle.group_rules.specs.Coded.{fits, fitTest}
 use Rattle.frame.specs.declared.Verdict.{Verdict}
@@ -23,7 +23,6 @@ use Rattle.frame.specs.declared.Refusal.the-variants as X
 use Rattle.frame.specs.declared.Verdict.the-variants as J
 use Rattle.frame.specs.Chunks.{rowsBytes}
 use Rattle.frame.specs.Frames.{build, opened, messageIn, headerFor}
-use Rattle.frame.specs.declared.Stamp.{Stamp}
 use Rattle.frame.specs.Messages.{send, echo, ready, Body, getStamp, ack, askRead, readComplete, stampIs}
 use Rattle.frame.specs.Messages.{blockIs, valueIs, Message, message, good, judgedBy, Formed}
 use Rattle.frame.specs.Params.{clientFrames, outRoom, toRoom}
@@ -49,7 +48,7 @@ use Rattle.runs.proofs.ReadOnce.{written-sized}
 use Rattle.runs.proofs.StampViews.{views, stamps}
 use Rattle.runs.proofs.Written.{lent-own}
 use Rattle.taking.proofs.Readers.{Right}
-use Rattle.served.specs.Finished.{Final, answerRefusal, clientAnswer, Answered, NoStep, Finished}
+use Rattle.served.specs.Finished.{Final, clientAnswer, Answered, NoStep, Finished}
 use Rattle.served.proofs.Clients.{home, takes-of}
 use Rattle.served.proofs.ClientState.{SentBy, Doing, stands}
 use Rattle.served.proofs.ClientPast.{AnswerPast, past-onward, client-onward, taken-past, Begun, stale-past}
@@ -68,18 +67,6 @@ room-fine : (g : Params) (area result out to : ℕ) → rowsBytes ≤ area → g
 unfolding CT.roomTest CT.sendRoom pick
 room-fine g area result out to a b c d =
     rw (le-ltb area rowsBytes a, le-ltb result (g .size) b, le-ltb out (outRoom g (clientFrames g)) c, le-ltb to (toRoom (clientFrames g)) d)
-
--- no event turns a frame down
-read-good : (s : Stamp) (o : Option (List ℕ)) → answerRefusal (CD.readAnswer s o) ≡ none
-read-good s none = refl
-read-good s (some v) = refl
-
-pub event-good : (x : C.Event) (c : ℕ) → answerRefusal (CD.eventAnswer x c) ≡ none
-unfolding CD.eventAnswer
-event-good C.nothing c = refl
-event-good C.written c = refl
-event-good C.outOfStamps c = refl
-event-good (C.stopped x) c = read-good (x .stamp) (x .bytes)
 
 module _ (Z : Setup) (G : Assumed Z) where
   open Setup Z using (H, g, faultyServer, faultyClient)
@@ -210,16 +197,16 @@ module _ (Z : Setup) (G : Assumed Z) where
           eq-eqb (m .client) c d,
         ) refl
 
-    answer-by : (v : Verdict) (x : C.Effect) → answerRefusal (CD.answerOf (judgedBy v m) x) ≡ refusalIn v
+    answer-by : (v : Verdict) (x : C.Effect) → refusalNumber (CD.answerOf (judgedBy v m) x) ≡ refusalIn v
     unfolding CD.answerOf
-    answer-by J.Fine x = event-good (x .event) (length (x .sends))
+    answer-by J.Fine x = refl
     answer-by (J.Bad r) x = refl
 
     answer-is : (rows lent result out to : List ℕ) (v : Verdict) → andThen (room rows result out to) ordered ≡ v
         → clientAnswer Z (run Z ks) c rows (A.Server j) (build m) lent result out to ≡ refusalIn v
     unfolding CD.delivery CD.outcomeOf
     answer-is rows lent result out to v e =
-        ap (λ y. answerRefusal (CD.answerOf y (CD.delivered H g c s rows (lentTo Z (run Z ks) c lent) (A.Server j) (build m) result out to)))
+        ap (λ y. refusalNumber (CD.answerOf y (CD.delivered H g c s rows (lentTo Z (run Z ks) c lent) (A.Server j) (build m) result out to)))
         (judge-is rows lent result out to ∙ ap (λ v. judgedBy v m) e)
         ∙ answer-by v _
 

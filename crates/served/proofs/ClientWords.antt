@@ -7,11 +7,10 @@ use mathlib.Core.List.{List, [], _∷_, List·Memᴰ, List·Memᴰ·not-nil}
 use Rattle.quorum.specs.Quorum.{Among}
 use Rattle.quorum.proofs.Logic.{impossible, and-split}
 use Rattle.group_rules.specs.Coded.{entryOf}
-use Rattle.frame.specs.declared.Stamp.{Stamp}
 use Rattle.frame.specs.declared.Party.{Party}
 use Rattle.frame.specs.declared.Party.the-variants as A
 use Rattle.frame.specs.declared.Verdict.the-variants as J
-use Rattle.frame.specs.Messages.{Entry, Offer, offer, send, echo, ready, Body, getStamp, ack, askRead, readComplete}
+use Rattle.frame.specs.Messages.{Offer, offer, send, echo, ready, Body, getStamp, ack, askRead, readComplete}
 use Rattle.frame.specs.Messages.{stampIs, blockIs, valueIs, Message, message, Sending, sending, toAll}
 use Rattle.server_rules.proofs.Thresholds.{agreed}
 use Rattle.client_rules.specs.declared.Client.{Client}
@@ -19,7 +18,7 @@ use Rattle.client_rules.specs.State.{asking}
 use Rattle.client_rules.specs.Beginning as CB
 use Rattle.client_rules.specs.Steps as C
 use Rattle.client_rules.specs.Tests as CT
-use Rattle.client_rules.proofs.Shapes.{largestNow, Keeps, drops, keeps, Shape, hears, shuts, counts, ends, waits, completes, sends as disperses, idle as idles}
+use Rattle.client_rules.proofs.Shapes.{largestNow, Shape, hears, shuts, counts, ends, waits, completes, sends as disperses, idle as idles}
 use Rattle.client_rules.proofs.CallFacts.{awaited-true}
 use Rattle.runs.specs.Admissible.{Admissible}
 use Rattle.runs.specs.World.{Setup, Call, caller, run, sends}
@@ -103,10 +102,6 @@ module _ (Z : Setup) (G : Assumed Z) where
 
     abbrev a : List ℕ
     a = home Z ks c .area
-
-    kept-reads : {x : Stamp} {e : Entry} {s′ : Client} {a′ : List ℕ} → Keeps H g c s a (t .v) (t .j) x e s′ a′ → s′ .reads ≡ s .reads
-    kept-reads (drops z) = refl
-    kept-reads (keeps i z) = refl
 
     shape-word : {x : Body} {r : C.Effect} → Shape H g c s a (t .v) (t .j) x r → (b : Party) (m : Message) → List·Memᴰ (sending b m) (r .sends)
         → Word (r .client) c b (m .client) (m .sequence) (m .body)

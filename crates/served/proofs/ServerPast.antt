@@ -13,10 +13,10 @@ use borrow.Author.Tests.{ltb-true, ltb-false, leb-true, le-leb, le-ltb, eq-eqb}
 use Rattle.quorum.specs.Quorum.{Among}
 use Rattle.quorum.proofs.Logic.{impossible, and-true}
 use Rattle.area.specs.Area.{pick}
+use Rattle.area.specs.Responses.{refusalNumber}
 use Rattle.blocks.specs.declared.Params.{Params}
 use Rattle.group_rules.specs.Coded.{entryOf, fits, fitTest}
 use Rattle.frame.specs.declared.Party.{Party}
-use Rattle.frame.specs.declared.Refusal.{Refusal}
 use Rattle.frame.specs.declared.Verdict.{Verdict}
 use Rattle.frame.specs.declared.Party.the-variants as A
 use Rattle.frame.specs.declared.Refusal.the-variants as X
@@ -27,7 +27,7 @@ use Rattle.frame.specs.Messages.{Offer, Stage, send, echo, ready, Body}
 use Rattle.frame.specs.Messages.{getStamp, ack, askRead, readComplete, stampIs, blockIs, valueIs}
 use Rattle.frame.specs.Messages.{Message, message, sending, numberIn, Judged, good, judgedBy, Formed}
 use Rattle.frame.specs.Params.{width, serverFrames, outRoom, toRoom}
-use Rattle.frame.specs.Refusals.{andThen}
+use Rattle.frame.specs.Refusals.{numberOf, andThen}
 use Rattle.frame.proofs.RoundTrip.{opened-build}
 use Rattle.frame.proofs.Sizes.{Small}
 use Rattle.server_rules.specs.declared.Slot.{Slot}
@@ -47,7 +47,7 @@ use Rattle.runs.proofs.OrderLaws.{params-fine}
 use Rattle.taking.proofs.Does as D
 use Rattle.taking.proofs.Does.{Got, counted-got}
 use Rattle.taking.proofs.Readers.{Note, same, noted, ended, note, stamp-told, Right}
-use Rattle.served.specs.Finished.{Final, replyRefusal, serverAnswer, Answered, NoStep, Finished}
+use Rattle.served.specs.Finished.{Final, serverAnswer, Answered, NoStep, Finished}
 use Rattle.served.proofs.ClientState.{SentBy}
 use Rattle.served.proofs.ClientWords.{Word, words}
 use Rattle.served.proofs.ReaderState.{reader, reader-up}
@@ -55,9 +55,9 @@ use Rattle.served.proofs.ServerState.{seq, part, sent-now, seq-up, rise
 use Rattle.served.proofs.ServerWords.{entry-fits, Fitting, server-word}
 
 -- with what number a verdict turns down
-abbrev pub refusalIn : Verdict → Option Refusal
+abbrev pub refusalIn : Verdict → Option ℕ
 refusalIn J.Fine = none
-refusalIn (J.Bad r) = some r
+refusalIn (J.Bad r) = some (numberOf r)
 
 -- four areas that may be too short: the test says nothing or 10
 abbrev pub rooms : Bool → Bool → Bool → Bool → Verdict
@@ -277,7 +277,7 @@ module _ (Z : Setup) (G : Assumed Z) where
         let b = opened-build g (G .bounded) m (W .said) in
         rw (params-fine g (G .bounded) j (g .n) is, b .opens, b .says, W .right) refl
 
-    reply-by : (v : Verdict) (n : ℕ) → replyRefusal (SD.replyOf H g j (judgedBy v m) n) ≡ refusalIn v
+    reply-by : (v : Verdict) (n : ℕ) → refusalNumber (SD.replyOf H g j (judgedBy v m) n) ≡ refusalIn v
     unfolding SD.replyOf
     reply-by J.Fine n = refl
     reply-by (J.Bad r) n = refl
@@ -285,7 +285,7 @@ module _ (Z : Setup) (G : Assumed Z) where
     answer-is : (out to : List ℕ) (v : Verdict) → andThen (room out to) ordered ≡ v → serverAnswer Z (run Z ks) j a (build m) out to ≡ refusalIn v
     unfolding SD.delivery SD.outcomeOf
     answer-is out to v e =
-        ap (λ y. replyRefusal (SD.replyOf H g j y (length (SD.delivered H g j (sv .server) (sv .area) (initialOf Z j) a (build m) out to .sends))))
+        ap (λ y. refusalNumber (SD.replyOf H g j y (length (SD.delivered H g j (sv .server) (sv .area) (initialOf Z j) a (build m) out to .sends))))
         (judge-is out to ∙ ap (λ v. judgedBy v m) e)
         ∙ reply-by v _
 

@@ -8,10 +8,8 @@ use mathlib.Core.List.{List, [], _∷_}
 use lib.ListN.{length}
 use Rattle.quorum.proofs.Logic.{impossible}
 use Rattle.frame.specs.declared.Party.{Party}
-use Rattle.frame.specs.declared.Refusal.{Refusal}
 use Rattle.frame.specs.declared.Party.the-variants as A
 use Rattle.frame.specs.Chunks.{entryAt}
-use Rattle.frame.specs.Refusals.{numberOf}
 use Rattle.server_rules.specs.State.{presentEntry}
 use Rattle.client_rules.specs.declared.Phase.{Phase}
 use Rattle.client_rules.specs.declared.Phase.the-variants as F
@@ -72,14 +70,14 @@ party-equal? (A.Client i) (A.Client j) = go (ℕ-discrete i j)
 party-equal? (A.Server i) (A.Client j) = inr (λ e. impossible (cc e))
 party-equal? (A.Client i) (A.Server j) = inr (λ e. impossible (cc e))
 
-final? : (o : Option Refusal) → Final o ⊎ (Final o → ⊥)
+final? : (o : Option ℕ) → Final o ⊎ (Final o → ⊥)
 final? none = inl tt
-final? (some r) = go (ℕ-discrete (numberOf r) 10) (ℕ-discrete (numberOf r) 13)
+final? (some n) = go (ℕ-discrete n 10) (ℕ-discrete n 13)
   where
-    go : Dec (numberOf r ≡ 10) → Dec (numberOf r ≡ 13) → Final (some r) ⊎ (Final (some r) → ⊥)
+    go : Dec (n ≡ 10) → Dec (n ≡ 13) → Final (some n) ⊎ (Final (some n) → ⊥)
     go (yes e) d = inr (λ f. f .0 e)
-    go (no n) (yes e) = inr (λ f. f .1 e)
-    go (no n) (no m) = inl (n, m)
+    go (no x) (yes e) = inr (λ f. f .1 e)
+    go (no x) (no y) = inl (x, y)
 
 all? : {P Q R S : Type 0} → P ⊎ (P → ⊥) → Q ⊎ (Q → ⊥) → R ⊎ (R → ⊥) → S ⊎ (S → ⊥) → (P × Q × R × S) ⊎ (P × Q × R × S → ⊥)
 all? (inl p) (inl q) (inl r) (inl s) = inl (p, q, r, s)

@@ -7,17 +7,12 @@ use mathlib.Core.Logic.{_⊎_}
 use mathlib.Core.Option.{Option, none, some}
 use mathlib.Core.List.{List}
 use lib.ListN.{length}
+use Rattle.area.specs.Responses.{refusalNumber}
 use Rattle.frame.specs.declared.Party.{Party}
-use Rattle.frame.specs.declared.Refusal.{Refusal}
 use Rattle.frame.specs.declared.Party.the-variants as P
 use Rattle.frame.specs.Chunks.{rowsBytes}
 use Rattle.frame.specs.Params.{serverFrames, clientFrames, outRoom, toRoom}
-use Rattle.frame.specs.Refusals.{numberOf}
-use Rattle.server_rules.specs.declared.Reply.{Reply}
-use Rattle.server_rules.specs.declared.Reply.the-variants as Y
 use Rattle.server_rules.specs.Delivery as SD
-use Rattle.client_rules.specs.declared.Answer.{Answer}
-use Rattle.client_rules.specs.declared.Answer.the-variants as W
 use Rattle.client_rules.specs.declared.Phase.the-variants as F
 use Rattle.client_rules.specs.Delivery as CD
 use Rattle.runs.specs.World.{Setup, Sound, DigestSize, Call, toServer, toClient, beginRead, beginWrite, World, initialOf, lentTo, run}
@@ -27,33 +22,20 @@ use Rattle.runs.specs.Blocks.{Collision}
 
 -- ---- answers
 
--- the number with which a frame is turned down, if it is
-abbrev pub replyRefusal : Reply → Option Refusal
-replyRefusal (Y.Step m) = none
-replyRefusal (Y.Refused r) = some r
-
-abbrev pub answerRefusal : Answer → Option Refusal
-answerRefusal (W.Sent m) = none
-answerRefusal W.Written = none
-answerRefusal W.OutOfStamps = none
-answerRefusal (W.Value s) = none
-answerRefusal W.Disagreement = none
-answerRefusal (W.Refused r) = some r
-
 -- a step, or a number "other than 10 and 13"
-abbrev pub Final : Option Refusal → Type 0
+abbrev pub Final : Option ℕ → Type 0
 Final none = Unit {0}
-Final (some r) = (numberOf r ≡ 10 → ⊥) × (numberOf r ≡ 13 → ⊥)
+Final (some n) = (n ≡ 10 → ⊥) × (n ≡ 13 → ⊥)
 
 module _ (Z : Setup) where
   open Setup Z using (H, g)
 
-  -- what servers and clients answer to a frame f, named as a's, and what is lent with it, by the outcomes that the entry points promise
-  abbrev pub serverAnswer : World → ℕ → Party → List ℕ → List ℕ → List ℕ → Option Refusal
-  serverAnswer w i a f out to = replyRefusal (SD.delivery H g i (w .servers i .server) (w .servers i .area) (initialOf Z i) a f out to .reply)
+  -- the number with which a server or a client turns a frame f down, named as a's, if it does: by the outcomes that the entry points promise
+  abbrev pub serverAnswer : World → ℕ → Party → List ℕ → List ℕ → List ℕ → Option ℕ
+  serverAnswer w i a f out to = refusalNumber (SD.delivery H g i (w .servers i .server) (w .servers i .area) (initialOf Z i) a f out to .reply)
 
-  abbrev pub clientAnswer : World → ℕ → List ℕ → Party → List ℕ → List ℕ → List ℕ → List ℕ → List ℕ → Option Refusal
-  clientAnswer w c rows a f lent result out to = answerRefusal (CD.delivery H g c (w .clients c .client) rows (lentTo Z w c lent) a f result out to .answer)
+  abbrev pub clientAnswer : World → ℕ → List ℕ → Party → List ℕ → List ℕ → List ℕ → List ℕ → List ℕ → Option ℕ
+  clientAnswer w c rows a f lent result out to = refusalNumber (CD.delivery H g c (w .clients c .client) rows (lentTo Z w c lent) a f result out to .answer)
 
   -- ---- a finished run
 
@@ -76,10 +58,10 @@ module _ (Z : Setup) where
   -- is too short the frame is offered with another one; which does not matter, since the tests ask of it only its length.
   abbrev pub NoStep : World → Party → Party → List ℕ → Type 0
   NoStep w a (P.Server i) f = (out to : List ℕ) → outRoom g (serverFrames g) ≤ length out → toRoom (serverFrames g) ≤ length to
-      → (r : Refusal) × (serverAnswer w i a f out to ≡ some r)
+      → (n : ℕ) × (serverAnswer w i a f out to ≡ some n)
   NoStep w a (P.Client c) f = (rows lent result out to : List ℕ) → rowsBytes ≤ length rows → g .size ≤ length result
       → outRoom g (clientFrames g) ≤ length out → toRoom (clientFrames g) ≤ length to
-      → (r : Refusal) × (clientAnswer w c rows a f lent result out to ≡ some r)
+      → (n : ℕ) × (clientAnswer w c rows a f lent result out to ≡ some n)
 
   -- Each frame that an honest party sent to an honest one was answered with something other than 10 and 13, or would give no step. Frames that a server sends
   -- to itself are among them: "To all" names it, too.

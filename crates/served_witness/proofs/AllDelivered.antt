@@ -10,7 +10,6 @@ use lib.ListN.{length, length-replicate}
 use native.Mathlib.Omega.{arith}
 use Rattle.quorum.proofs.Logic.{and-split}
 use Rattle.frame.specs.declared.Party.the-variants as P
-use Rattle.frame.specs.Refusals.{refusal}
 use Rattle.frame.specs.declared.Verdict.the-variants as J
 use Rattle.frame.specs.Params.{serverFrames, clientFrames, outRoom, toRoom, Bounded}
 use Rattle.frame.specs.Messages.{echo, ready}
@@ -102,7 +101,7 @@ record Computed : Type 0 where
   pub read-opens : (image Z asking .clients 2 .client .reads + 1 ≡ 1)
       × (CB.readTest g 2 (image Z asking .clients 2 .client) (Toy.zeros (outRoom g (clientFrames g))) (Toy.zeros (toRoom (clientFrames g))) ≡ J.Fine)
   -- one frame finds no room
-  pub no-room : refusedIn Z (image Z (block echo 2 1 ∷ block echo 1 1 ∷ blockTo 3 ∷ blockTo 2 ∷ blockTo 1 ∷ opening)) noRoom ≡ some (refusal 10)
+  pub no-room : refusedIn Z (image Z (block echo 2 1 ∷ block echo 1 1 ∷ blockTo 3 ∷ blockTo 2 ∷ blockTo 1 ∷ opening)) noRoom ≡ some 10
   -- they end
   pub ended : (image Z accepted .clients 1 .client .writes ≡ 1) × (endIn Z (image Z accepted) (ackFrom 3) ≡ written)
   pub completed-is : (image Z told .clients 2 .client .reads ≡ 1) × (endIn Z (image Z told) (valueFrom 3) ≡ stopped found)
@@ -130,7 +129,7 @@ unfolding FrChunks.entryAt RuWorld.start SeDelivery.constructBy SeDelivery.const
     SeSteps.accept SeSteps.ripeBy SeSteps.ripe SeSteps.freeBy SeSteps.free SeSteps.freed SeSteps.settle SeSteps.onRead SeSteps.onReadComplete SeSteps.onBody
     SeSteps.effect SeTests.roomTest SeTests.senderRight SeTests.counted SeTests.openTest SeTests.readTest SeTests.doneTest FrCoded.fitTest SeTests.orderTest
     SeTests.messageTest SeTests.judgeOpened SeTests.judge CB.lengthTest CB.readTest CB.writeTest CB.openRead CB.openWrite CB.beginBy
-    CB.readBegun CB.writeBegun CB.beginAnswer CB.begunOf CB.readBeginning CB.writeBeginning ClRows.placesFrom ClRows.rowView ClRows.hasStamp ClRows.smallest
+    CB.readBegun CB.writeBegun CB.begunOf CB.readBeginning CB.writeBeginning ClRows.placesFrom ClRows.rowView ClRows.hasStamp ClRows.smallest
     ClRows.placeFor ClRows.atStamp ClRows.rowsFrom ClRows.agreed ClRows.firstBy ClRows.firstAgreed ClRows.foundOf ClRows.foundBy ClRows.search ClState.freshRow
     ClState.freshClient ClState.largest ClSteps.quorate ClSteps.sendBelow ClSteps.gatherBy ClSteps.onStamp ClSteps.endBy ClSteps.onAck ClSteps.completeBy
     ClSteps.settle ClSteps.keepBy ClSteps.onValue ClSteps.onBody ClSteps.effect ClTests.sendRoom ClTests.roomTest ClTests.valueTest ClTests.answers
@@ -164,7 +163,7 @@ unfolding FrChunks.entryAt RuWorld.start SeDelivery.constructBy SeDelivery.const
     SeSteps.accept SeSteps.ripeBy SeSteps.ripe SeSteps.freeBy SeSteps.free SeSteps.freed SeSteps.settle SeSteps.onRead SeSteps.onReadComplete SeSteps.onBody
     SeSteps.effect SeTests.roomTest SeTests.senderRight SeTests.counted SeTests.openTest SeTests.readTest SeTests.doneTest FrCoded.fitTest SeTests.orderTest
     SeTests.messageTest SeTests.judgeOpened SeTests.judge CB.lengthTest CB.readTest CB.writeTest CB.openRead CB.openWrite CB.beginBy
-    CB.readBegun CB.writeBegun CB.beginAnswer CB.begunOf CB.readBeginning CB.writeBeginning ClRows.placesFrom ClRows.rowView ClRows.hasStamp ClRows.smallest
+    CB.readBegun CB.writeBegun CB.begunOf CB.readBeginning CB.writeBeginning ClRows.placesFrom ClRows.rowView ClRows.hasStamp ClRows.smallest
     ClRows.placeFor ClRows.atStamp ClRows.rowsFrom ClRows.agreed ClRows.firstBy ClRows.firstAgreed ClRows.foundOf ClRows.foundBy ClRows.search ClState.freshRow
     ClState.freshClient ClState.largest ClSteps.quorate ClSteps.sendBelow ClSteps.gatherBy ClSteps.onStamp ClSteps.endBy ClSteps.onAck ClSteps.completeBy
     ClSteps.settle ClSteps.keepBy ClSteps.onValue ClSteps.onBody ClSteps.effect ClTests.sendRoom ClTests.roomTest ClTests.valueTest ClTests.answers

@@ -11,13 +11,12 @@ use lib.ListN.{length}
 use lib.Dec.{eqb}
 use borrow.Author.Tests.{eq-eqb, eqb-true, eqb-false, not-true}
 use Rattle.quorum.proofs.Logic.{impossible, and-split, or-split, or-false, and-true}
-use Rattle.area.specs.Area.{pick, same}
+use Rattle.area.specs.Area.{same}
+use Rattle.area.specs.Responses.{refusalNumber}
 use Rattle.area.proofs.Same.{same-true, same-refl}
 use Rattle.frame.specs.declared.Party.{Party}
-use Rattle.frame.specs.declared.Refusal.{Refusal}
 use Rattle.frame.specs.declared.Party.the-variants as P
 use Rattle.frame.specs.Params.{serverFrames, outRoom, toRoom}
-use Rattle.frame.specs.Refusals.{numberOf}
 use Rattle.frame.specs.Messages.{Sending, Judged, bad, good}
 use Rattle.frame.specs.Frames.{build}
 use Rattle.server_rules.specs.Delivery as SD
@@ -25,11 +24,10 @@ use Rattle.client_rules.specs.declared.Phase.{Phase}
 use Rattle.client_rules.specs.declared.Phase.the-variants as F
 use Rattle.client_rules.specs.Steps as C
 use Rattle.client_rules.specs.Delivery as CD
-use Rattle.runs.specs.World.{Setup, Call, toServer, toClient, beginRead, beginWrite, run, sends, serverEffect, clientEffect}
+use Rattle.runs.specs.World.{Setup, Call, toServer, toClient, beginRead, beginWrite, run, sends}
 use Rattle.runs.specs.Events.{At}
 use Rattle.runs.specs.Admissible.{Sent, Honest}
-use Rattle.served.proofs.ClientReached.{event-good}
-use Rattle.served.specs.Finished.{replyRefusal, answerRefusal, Final, serverAnswer, clientAnswer, HandedIn, Answered, NoStep, Finished, Delivered, Served}
+use Rattle.served.specs.Finished.{Final, serverAnswer, clientAnswer, HandedIn, Answered, Finished, Delivered, Served}
 use Rattle.witness.proofs.Images.{Answer, Image, sameParty, judgedBad, honest, image, advance, refusedIn}
 use Rattle.witness.proofs.Depicted.{Exact, party-same, depicts, Logged, logged, is-honest, server-judged, client-judged}
 
@@ -73,9 +71,9 @@ speaks [] a = false
 speaks (k ∷ ks) a = isFrom (handOf k) a || speaks ks a
 
 -- whether an answer is a step or a number other than 10 and 13
-unfoldable pub isFinal : Option Refusal → Bool
+unfoldable pub isFinal : Option ℕ → Bool
 isFinal none = true
-isFinal (some r) = not (eqb (numberOf r) 10) && not (eqb (numberOf r) 13)
+isFinal (some n) = not (eqb n 10) && not (eqb n 13)
 
 unfoldable pub idle : Phase → Bool
 idle F.Idle = true
@@ -134,12 +132,12 @@ unfolding isHand
 is-hand x a b f p q r =
     (λ i. isHand x (q i) (p i) (r i)) ∙ and-true _ _ (party-refl (x .from)) (and-true _ _ (party-refl (x .to)) (same-refl (x .frame)))
 
-final-is : (o : Option Refusal) → isFinal o ≡ true → Final o
+final-is : (o : Option ℕ) → isFinal o ≡ true → Final o
 unfolding isFinal
 final-is none e = tt
-final-is (some r) e =
-    let w = and-split (not (eqb (numberOf r) 10)) _ e in
-    (eqb-false (numberOf r) 10 (not-true _ (w .0)), eqb-false (numberOf r) 13 (not-true _ (w .1)))
+final-is (some n) e =
+    let w = and-split (not (eqb n 10)) _ e in
+    (eqb-false n 10 (not-true _ (w .0)), eqb-false n 13 (not-true _ (w .1)))
 
 idle-is : (p : Phase) → idle p ≡ true → p ≡ F.Idle
 unfolding idle
@@ -158,15 +156,15 @@ module _ (Z : Setup) (G : Exact Z) where
 
   -- ---- answers
 
-  reply-bad : (i : ℕ) (j : Judged) (c : ℕ) → replyRefusal (SD.replyOf H g i j c) ≡ judgedBad j
+  reply-bad : (i : ℕ) (j : Judged) (c : ℕ) → refusalNumber (SD.replyOf H g i j c) ≡ judgedBad j
   unfolding SD.replyOf judgedBad
   reply-bad i (bad r) c = refl
   reply-bad i (good m) c = refl
 
-  answer-bad : (j : Judged) (x : C.Effect) → answerRefusal (CD.answerOf j x) ≡ judgedBad j
+  answer-bad : (j : Judged) (x : C.Effect) → refusalNumber (CD.answerOf j x) ≡ judgedBad j
   unfolding CD.answerOf judgedBad
   answer-bad (bad r) x = refl
-  answer-bad (good m) x = event-good (x .event) (length (x .sends))
+  answer-bad (good m) x = refl
 
   pub server-answers : (ks : List Call) (i : ℕ) (from : Party) (f out to : List ℕ)
       → serverAnswer Z (run Z ks) i from f out to ≡ refusedIn Z (image Z ks) (toServer i from f out to)

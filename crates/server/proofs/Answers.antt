@@ -4,11 +4,12 @@ use native.Mathlib.Omega.{arith}
 use native.Mathlib.Nat.{zero-add}
 use borrow.Author.Tests.{ltb-false}
 use mathlib.Core.Path.{_≡_, ap, sym, _∙_}
-use mathlib.Core.Bool.{Bool, false}
+use mathlib.Core.Bool.{Bool}
 use mathlib.Core.List.{List, []}
 use lib.ListN.{length}
 use lib.Dec.{ltb}
 use Rattle.area.specs.Area.{pick}
+use Rattle.area.specs.Responses.{gives}
 use Rattle.blocks.specs.declared.Params.{Params}
 use Rattle.frame.specs.declared.Party.{Party}
 use Rattle.frame.specs.declared.Refusal.{Refusal}
@@ -28,6 +29,7 @@ use Rattle.server_rules.specs.declared.Reply.the-variants as Y
 use Rattle.server_rules.specs.Scopes.{scopeOf, withScope}
 use Rattle.server_rules.specs.Tests.{fromOwner, openTest}
 use Rattle.server_rules.specs.Steps.{Effect, sendOnly}
+use Rattle.server_rules.specs.Delivery.{replyResponse}
 use Rattle.server.specs.Stages.{Progress, progress, moved, outcomeIn, stepped, answered}
 use Rattle.frame.proofs.PartyLaws.{server-number}
 use Rattle.server.proofs.Scopes.{as-it-was}
@@ -47,7 +49,7 @@ pub step-is : (v u : Verdict) (s : Server) (a a′ : List ℕ) (x : Effect) (out
 unfolding answered stepped moved sent
 step-is v u s a a′ x out to out′ to′ c y p r e f h i j =
     let k : p .count ≡ length (x .sends) = ap (λ (w : Progress). w .box .place .count) h ∙ zero-add (length (x .sends)) in
-    let b₀ : r .reply ≡ Y.Step (length (x .sends)) = i ∙ ap Y.Step k in
+    let b₀ : replyResponse (r .reply) ≡ gives (length (x .sends)) = ap replyResponse i ∙ ap gives k in
     let q : withScope s c (r .scope) ≡ x .server = ap (withScope s c) j ∙ ap (λ (w : Progress). w .server) h in
     let b = ap (λ (w : Progress). w .area) h in
     let o = ap (λ (w : Progress). w .box .out) h in

@@ -8,6 +8,7 @@ use lib.Dec.{ltb, eqb}
 use lib.Seq.{sets}
 use borrow.Author.Tests.{ltb-false, eqb-true, not-false, lt-ltb, le-ltb, eq-eqb, ne-eqb}
 use Rattle.area.specs.Area.{pick}
+use Rattle.area.specs.Responses.{gives}
 use Rattle.blocks.specs.declared.Params.{Params}
 use Rattle.frame.specs.declared.Refusal.{Refusal}
 use Rattle.frame.specs.declared.Refusal.the-variants as R
@@ -84,5 +85,5 @@ module _ (H : List ℕ → List ℕ) (g : Params) (me : ℕ) (v a initial : List
   unfolding construction constructBy
   construct-fine a′ initial′ f p q =
       let z : constructed (record { reply = Y.Step 0; server = s }) a′ initial′ ≡ constructBy H g me J.Fine v a initial =
-      λ i. record { reply = Y.Step 0; server = k i; area = p i; initial = q i } in
+      λ i. record { reply = gives 0; server = k i; area = p i; initial = q i } in
       z ∙ ap (λ (w : Verdict). constructBy H g me w v a initial) (sym f ∙ e)

@@ -3,18 +3,18 @@ use Prim.Native.Nat.{ℕ, _+_, _-_, _≤_}
 use native.Mathlib.Omega.{arith}
 use native.Mathlib.Nat.{add-sub-cancel-left}
 use borrow.Author.Tests.{eq-eqb, ne-eqb}
-use mathlib.Core.Path.{_≡_, refl, ap, sym, _∙_}
+use mathlib.Core.Path.{_≡_, ap, sym, _∙_}
 use mathlib.Core.Bool.{Bool}
 use mathlib.Core.List.{List, [], _∷_}
 use lib.ListN.{length, take, drop}
 use lib.Seq.{length-take-le}
-use lib.Dec.{eqb}
 use Rattle.area.specs.Area.{pick, part}
 use Rattle.area.proofs.Sets.{length-part}
 use Rattle.blocks.specs.declared.Params.{Params}
 use Rattle.frame.specs.Params.{width, listed, largestFrame, Bounded}
 use Rattle.frame.specs.declared.Party.the-variants as P
 use Rattle.frame.specs.Messages.{Entry, entry, message, sending, valueIs}
+use Rattle.frame.specs.Frames.{valueAt}
 use Rattle.frame.specs.Outbox.{Outbox, sent}
 use Rattle.frame.specs.Chunks.{entryAt, listBytes, chunkBytes}
 use Rattle.frame.proofs.Sizes.{small}
@@ -45,7 +45,7 @@ unfolding presentEntry entryAt
 present-parts g s a i d b e f = λ k. entry (e k) (f k)
 
 pub present-size : (g : Params) (a d b : List ℕ) → Bounded g → chunkBytes ≤ length a → d ≡ entryAt g a 0 .digests → length b ≡ width g
-    → 22 + (length d + length b) ≡ largestFrame g
+    → valueAt + (length d + length b) ≡ largestFrame g
 unfolding largestFrame entryAt
 present-size g a d b B h e f =
     let M = small g B in

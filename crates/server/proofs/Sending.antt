@@ -15,14 +15,14 @@ use Rattle.frame.proofs.Sizes.{small}
 use Rattle.frame.specs.declared.Stamp.{Stamp}
 use Rattle.frame.specs.declared.Place.{Place}
 use Rattle.frame.specs.Messages.{Entry, message, Message, Sending, valueIs, toFrom, toAll}
-use Rattle.frame.specs.Frames.{kindOf, entryBytes, stampBytes, bodyBytes, build}
+use Rattle.frame.specs.Frames.{offerAt, valueAt, kindOf, entryBytes, stampBytes, bodyBytes, build}
 use Rattle.frame.specs.Outbox.{frames, outbox, sent, Room}
 use Rattle.frame.proofs.RoundTrip.{length-frame, length-stamp}
 use Rattle.frame.proofs.Rooms.{room-within, room-left}
 
 -- ---- values
 
-pub length-value : (c q : ℕ) (x : Stamp) (e : Entry) → length (build (message c q (valueIs x e))) ≡ 22 + (length (e .digests) + length (e .block))
+pub length-value : (c q : ℕ) (x : Stamp) (e : Entry) → length (build (message c q (valueIs x e))) ≡ valueAt + (length (e .digests) + length (e .block))
 unfolding build kindOf bodyBytes entryBytes
 length-value c q x e =
     omega (
@@ -60,7 +60,7 @@ few-more false y l m size e F = record { bytes = omega (arith, F .bytes, suc-mul
 
 -- the size of a value, of which the entry lies in chunk f
 pub value-size : (g : Params) (a : List ℕ) (f : ℕ) (d b : List ℕ) → Bounded g → chunkAt f + chunkBytes ≤ length a → d ≡ entryAt g a f .digests
-    → b ≡ entryAt g a f .block → 22 + (length d + length b) ≡ largestFrame g
+    → b ≡ entryAt g a f .block → valueAt + (length d + length b) ≡ largestFrame g
 unfolding largestFrame entryAt
 value-size g a f d b B h i j =
     let M = small g B in
@@ -93,7 +93,7 @@ all-room g d m p r o t o₀ t₀ k size h f R =
     let F = due-few d (toFrom (λ j. m) 1 (g .n)) (g .n) size (from-few m 1 (g .n) size h) in
     room-left p r o t o₀ t₀ (pick d (toFrom (λ j. m) 1 (g .n)) []) (g .n) k (g .n + k) size size f (F .bytes) (F .number) (omega arith) (omega arith) R
 
-pub stamp-room : (g : Params) (p : Place) (k out to : ℕ) → 1 ≤ k → Room p (g .n + k) (largestFrame g) out to → Room p 1 17 out to
+pub stamp-room : (g : Params) (p : Place) (k out to : ℕ) → 1 ≤ k → Room p (g .n + k) (largestFrame g) out to → Room p 1 offerAt out to
 unfolding largestFrame
 stamp-room g p k out to l R =
-    room-within p (g .n + k) 1 (largestFrame g) 17 out to (omega arith) (omega arith) R
+    room-within p (g .n + k) 1 (largestFrame g) offerAt out to (omega arith) (omega arith) R

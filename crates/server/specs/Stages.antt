@@ -1,16 +1,17 @@
 -- How the code takes a step: stage by stage, each with what it leaves and its outbox. The entry points' promises (Delivery.antt of server_rules) do not speak
 -- of stages. These are definitions.
-use Prim.Native.Nat.{ℕ, _≤_, _<_}
+use Prim.Native.Nat.{ℕ, _≤_}
 use mathlib.Core.Path.{_≡_}
 use mathlib.Core.List.{List}
 use lib.ListN.{length}
 use lib.Seq.{sets}
 use Rattle.area.specs.Area.{pick}
+use Rattle.area.specs.Responses.{turnedDown, gives}
 use Rattle.blocks.specs.declared.Params.{Params}
 use Rattle.frame.specs.declared.Place.{Place}
 use Rattle.frame.specs.declared.Verdict.{Verdict}
 use Rattle.frame.specs.declared.Verdict.the-variants as J
-use Rattle.frame.specs.Refusals.{refused}
+use Rattle.frame.specs.Refusals.{numberOf, refused}
 use Rattle.frame.specs.Params.{Bounded, largestFrame}
 use Rattle.frame.specs.Messages.{Offer, Stage, Body, blockIs, numberIn}
 use Rattle.frame.specs.Outbox.{frames, receivers, Outbox, outbox, sent, Room}
@@ -22,11 +23,10 @@ use Rattle.server_rules.specs.declared.Scope.{Scope}
 use Rattle.server.specs.declared.Call.{Call}
 use Rattle.server.specs.declared.Counted.{Counted}
 use Rattle.server.specs.declared.Taken.{Taken}
-use Rattle.server_rules.specs.declared.Reply.the-variants as Y
 use Rattle.server_rules.specs.Scopes.{scopeOf, withScope}
 use Rattle.server_rules.specs.Tests.{senderRight, blockTest}
 use Rattle.server_rules.specs.Steps.{Effect, Counting, onBlock}
-use Rattle.server_rules.specs.Delivery.{Outcome}
+use Rattle.server_rules.specs.Delivery.{Outcome, replyResponse}
 
 -- ---- of a scope
 
@@ -108,12 +108,12 @@ pub record Lent (g : Params) (c area : ℕ) (p : Place) (m out to : ℕ) : Type 
 
 -- the outcome for server s of a step that left r of client c's scope
 abbrev pub outcomeIn : Server → ℕ → Taken → List ℕ → List ℕ → List ℕ → Outcome
-outcomeIn s c r area out to = record { reply = r .reply; server = withScope s c (r .scope); area = area; out = out; to = to }
+outcomeIn s c r area out to = record { reply = replyResponse (r .reply); server = withScope s c (r .scope); area = area; out = out; to = to }
 
 -- the outcome of a step
 unfoldable pub stepped : Effect → List ℕ → List ℕ → Outcome
 stepped x out to = record {
-  reply = Y.Step (length (x .sends));
+  reply = gives (length (x .sends));
   server = x .server;
   area = x .area;
   out = sets out 0 (frames (x .sends));
@@ -122,5 +122,5 @@ stepped x out to = record {
 
 -- turned down by one of the tests 11 to 14, or a step
 unfoldable pub answered : Verdict → Server → List ℕ → Effect → List ℕ → List ℕ → Outcome
-answered (J.Bad r) s a x out to = record { reply = Y.Refused r; server = s; area = a; out = out; to = to }
+answered (J.Bad r) s a x out to = record { reply = turnedDown (numberOf r); server = s; area = a; out = out; to = to }
 answered J.Fine s a x out to = stepped x out to

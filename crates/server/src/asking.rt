@@ -24,7 +24,7 @@ ghost use lib.ListN.{length};
 ghost use Rattle.area.specs.Area.{pick};
 ghost use Rattle.frame.specs.Refusals.{refused};
 ghost use Rattle.frame.specs.declared.Party.the-variants as P;
-ghost use Rattle.frame.specs.Params.{width, largestFrame, Bounded};
+ghost use Rattle.frame.specs.Params.{width, largestFrame, serverFrames, Bounded};
 ghost use Rattle.frame.specs.Messages.{message, sending, stampIs, getStamp, askRead, readComplete};
 ghost use Rattle.frame.specs.Chunks.{areaBytes};
 ghost use Rattle.frame.specs.Outbox.{firstPlace, Room};
@@ -63,7 +63,7 @@ pub fn on_get_stamp(
     out: &mut [u8],
     to: &mut [u8],
 ) -> Taken
-    requires { ⌜ Bounded g × Room firstPlace (g .n + 9) (largestFrame g) (length (now out)) (length (now to)) ⌝ }
+    requires { ⌜ Bounded g × Room firstPlace (serverFrames g) (largestFrame g) (length (now out)) (length (now to)) ⌝ }
     ensures { λ r. ⌜ ((w : Server) → s ≡ scopeOf w (h .client) → (a : List ℕ)
         → outcomeIn w (h .client) r a (now (out .exit)) (now (to .exit))
         ≡ answered (messageTest digestOf g 0 w from (message (h .client) (h .sequence) getStamp)) w a
@@ -94,7 +94,7 @@ pub fn on_read<'a>(
     to: &mut [u8],
 ) -> Taken
     requires { ⌜ Bounded g × (areaBytes ≤ length (now area)) × (width g ≤ length (now initial))
-        × Room firstPlace (g .n + 9) (largestFrame g) (length (now out)) (length (now to)) ⌝ }
+        × Room firstPlace (serverFrames g) (largestFrame g) (length (now out)) (length (now to)) ⌝ }
     ensures { λ r. ⌜ ((w : Server) → s ≡ scopeOf w (h .client)
         → outcomeIn w (h .client) r (now (area .entry)) (now (out .exit)) (now (to .exit))
         ≡ answered (messageTest digestOf g 0 w from (message (h .client) (h .sequence) askRead)) w (now (area .entry))

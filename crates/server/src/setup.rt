@@ -5,6 +5,7 @@ use frame::Refusal;
 use frame::Verdict;
 use frame::bounds::params_test;
 use frame::bounds::width;
+use frame::layout::AREA_BYTES;
 use group::digesting::digests;
 use server_rules::Reply;
 use server_rules::Served;
@@ -30,7 +31,7 @@ pub fn construct_test(g: Params, me: u8, value: &[u8], area: usize, initial: usi
     if value.len() != g.size {
         return Verdict::Bad(Refusal::Length);
     }
-    if area < 97344 {
+    if area < AREA_BYTES {
         return Verdict::Bad(Refusal::Room);
     }
     if initial < width(g) {

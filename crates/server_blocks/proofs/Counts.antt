@@ -1,7 +1,7 @@
 -- What the specification of a server says of a write, by flags and counts. Assumes nothing.
-use Prim.Native.Nat.{ℕ, _+_, _*_, _-_, _≤_, _<_}
+use Prim.Native.Nat.{ℕ, _+_, _-_, _≤_, _<_}
 use native.Mathlib.Omega.{arith}
-use mathlib.Core.Path.{_≡_, refl, ap, ap₂, sym, _∙_, subst}
+use mathlib.Core.Path.{_≡_, ap, ap₂, sym, _∙_, subst}
 use mathlib.Core.Bool.{Bool, true, false, not, _&&_, _||_}
 use mathlib.Core.Logic.{_⊎_, inl, inr}
 use mathlib.Core.Option.{Option}
@@ -17,7 +17,7 @@ use Rattle.blocks.specs.declared.Params.{Params}
 use Rattle.frame.specs.declared.Place.{Place}
 use Rattle.frame.specs.Params.{Bounded, quota}
 use Rattle.frame.specs.Messages.{Entry, entry, Offer, offer}
-use Rattle.frame.specs.Chunks.{chunkAt, entryAt, echoesFrom, readiesFrom}
+use Rattle.frame.specs.Chunks.{chunkBytes, chunkAt, entryAt, echoesFrom, readiesFrom}
 use Rattle.group_rules.specs.Coded.{hasList, digestsOf, lowestValue, agreeing}
 use Rattle.group.specs.Entries.{marked, timed, entries, sentList, flags, placesFrom}
 use Rattle.group.specs.Choice.{valueFrom, allOf}
@@ -234,7 +234,7 @@ due-for g went v equal T m f h k = λ i. record { ready = h i; complete = k i; t
 
 -- ---- flags of the entries in chunks from p on
 
-pub comparing : (g : Params) (at a : List ℕ) (p : ℕ) → Bounded g → at ≡ placesFrom p → chunkAt (p + 10) + 576 ≤ length a → Comparing g at a
+pub comparing : (g : Params) (at a : List ℕ) (p : ℕ) → Bounded g → at ≡ placesFrom p → chunkAt (p + 10) + chunkBytes ≤ length a → Comparing g at a
 comparing g at a p B e h = record { bounded = B; within = rw e (within-places p a h) }
 
 pub flags-at : (g : Params) (on ts : List Bool) (at a d : List ℕ) (p : ℕ) (r : List Bool) → on ≡ ts → at ≡ placesFrom p

@@ -11,8 +11,8 @@ use Rattle.frame.specs.declared.Place.{Place}
 use Rattle.frame.specs.Params.{Bounded, largestFrame}
 use Rattle.frame.specs.Messages.{Entry, entry, offer, Stage, Message, message, toAll, blockIs}
 use Rattle.frame.specs.Outbox.{outbox, sent, firstPlace, Room}
-use Rattle.frame.specs.Chunks.{areaBytes, storeEntry}
-use Rattle.frame.specs.Frames.{kindOf, offerBytes, bodyBytes, build}
+use Rattle.frame.specs.Chunks.{listBytes, areaBytes, storeEntry}
+use Rattle.frame.specs.Frames.{offerAt, kindOf, offerBytes, bodyBytes, build}
 use Rattle.frame.proofs.RoundTrip.{length-frame, length-offer}
 use Rattle.frame.proofs.Chunks.{length-store}
 use Rattle.frame.proofs.Sizes.{small}
@@ -21,14 +21,15 @@ use Rattle.server.proofs.Sending.{all-room}
 use Rattle.server_blocks.specs.Stage.{Carried}
 
 -- room for an offer to all servers
-pub offer-room : (g : Params) (p : Place) (k d b out to : ℕ) → Carried g d b → Room p (g .n + k) (largestFrame g) out to → Room p (g .n) (17 + (d + b)) out to
+pub offer-room : (g : Params) (p : Place) (k d b out to : ℕ) → Carried g d b → Room p (g .n + k) (largestFrame g) out to
+    → Room p (g .n) (offerAt + (d + b)) out to
 unfolding largestFrame
 offer-room g p k d b out to C R =
-    let h : 17 + (d + b) ≤ largestFrame g = omega (arith, C .list-is, C .block-is) in
-    room-within p (g .n + k) (g .n) (largestFrame g) (17 + (d + b)) out to (omega arith) h R
+    let h : offerAt + (d + b) ≤ largestFrame g = omega (arith, C .list-is, C .block-is) in
+    room-within p (g .n + k) (g .n) (largestFrame g) (offerAt + (d + b)) out to (omega arith) h R
 
 -- an entry fits into its chunk
-pub entry-fits : (g : Params) (d b : ℕ) → Bounded g → Carried g d b → (d ≤ 320) × (b ≤ 256)
+pub entry-fits : (g : Params) (d b : ℕ) → Bounded g → Carried g d b → (d ≤ listBytes) × (b ≤ 256)
 entry-fits g d b B C =
     let M = small g B in
     (omega (arith, C .list-is, M .list-room), omega (arith, C .block-is, M .block-room))

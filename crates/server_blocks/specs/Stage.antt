@@ -1,5 +1,5 @@
 -- How the code handles a frame of a write, stage by stage: what each stage asks, and what it leaves. These are definitions.
-use Prim.Native.Nat.{ℕ, _+_, _-_, _≤_}
+use Prim.Native.Nat.{ℕ, _-_, _≤_}
 use mathlib.Core.Path.{_≡_}
 use mathlib.Core.Bool.{Bool, false, not, _&&_}
 use mathlib.Core.List.{List, []}
@@ -10,7 +10,7 @@ use Rattle.blocks.specs.declared.Params.{Params}
 use Rattle.sha256.specs.Hash.{digestOf}
 use Rattle.frame.specs.declared.Verdict.{Verdict}
 use Rattle.frame.specs.Refusals.{andThen, refused}
-use Rattle.frame.specs.Params.{Bounded, width, listed, largestFrame}
+use Rattle.frame.specs.Params.{Bounded, width, listed, largestFrame, serverFrames}
 use Rattle.frame.specs.Messages.{Entry, entry, Offer, offer, Stage, echo, ready, message, Sending, toAll, blockIs, numberIn, fromServer}
 use Rattle.frame.specs.Outbox.{outbox, firstPlace, Room}
 use Rattle.frame.specs.Chunks.{storeIf, completeAt, echoesFrom, readiesFrom}
@@ -41,11 +41,11 @@ pub record Own (g : Params) (me : ℕ) : Type 0 where
 
 -- room for all frames of the step k: readies, and those of an acceptance
 abbrev pub RoomFor : Call → ℕ → ℕ → Type 0
-RoomFor k out to = Room firstPlace (k .params .n + 9) (largestFrame (k .params)) out to
+RoomFor k out to = Room firstPlace (serverFrames (k .params)) (largestFrame (k .params)) out to
 
 -- and a whole state area
 abbrev pub LentFor : Call → ℕ → ℕ → ℕ → Type 0
-LentFor k area out to = Lent (k .params) (k .header .client) area firstPlace (k .params .n + 9) out to
+LentFor k area out to = Lent (k .params) (k .header .client) area firstPlace (serverFrames (k .params)) out to
 
 -- ---- echoes and readies, kinds 4 and 5
 

@@ -9,6 +9,7 @@ use lib.ListN.{length, take, drop}
 use lib.Dec.{eqb, leb}
 use borrow.Author.Tests.{lt-leb, le-leb, eqb-true, eqb-false}
 use Rattle.area.specs.Area.{pick}
+use Rattle.area.specs.Responses.{turnedDown}
 use Rattle.quorum.proofs.Logic.{impossible}
 use Rattle.area.specs.Numbers.{be8}
 use Rattle.area.proofs.Sets.{length-part}
@@ -17,7 +18,7 @@ use Rattle.frame.specs.declared.Party.the-variants as P
 use Rattle.frame.specs.declared.Refusal.the-variants as R
 use Rattle.frame.specs.Params.{width, listed}
 use Rattle.frame.specs.Messages.{entry, offer, Body, getStamp, askRead, readComplete, stampIs, message, sending}
-use Rattle.frame.specs.Frames.{bodyAt, retired, lengthOf, bodyLength, offerIn, bodyIn, messageIn}
+use Rattle.frame.specs.Frames.{offerAt, bodyAt, retired, lengthOf, bodyLength, offerIn, bodyIn, messageIn}
 use Rattle.frame.proofs.Writing.{part-at}
 use Rattle.server_rules.specs.declared.Server.{Server}
 use Rattle.server_rules.specs.declared.Scope.{Scope}
@@ -35,7 +36,7 @@ use Rattle.server_deliver.specs.Handed.{stepFor}
 -- ---- the offer of a frame of a write
 
 -- the length of the frame
-pub offer-frame : (g : Params) (kind l : ℕ) → 3 ≤ kind → kind ≤ 5 → l ≡ bodyAt + bodyLength g kind → l ≡ 17 + (32 * g .n + width g)
+pub offer-frame : (g : Params) (kind l : ℕ) → 3 ≤ kind → kind ≤ 5 → l ≡ bodyAt + bodyLength g kind → l ≡ offerAt + (32 * g .n + width g)
 unfolding bodyLength lengthOf pick
 offer-frame g kind l h k e =
     let a : 1 < kind = omega arith in
@@ -44,18 +45,20 @@ offer-frame g kind l h k e =
     omega (arith, z)
 
 -- the parts of a frame that the code lends
-pub carried-in : (g : Params) (f : List ℕ) (w : ℕ) → w ≡ width g → length f ≡ 17 + (32 * g .n + width g)
-    → Carried g (length (take (17 + 32 * g .n - 17) (drop 17 f))) (length (take (17 + 32 * g .n + w - (17 + 32 * g .n)) (drop (17 + 32 * g .n) f)))
+pub carried-in : (g : Params) (f : List ℕ) (w : ℕ) → w ≡ width g → length f ≡ offerAt + (32 * g .n + width g)
+    → Carried g (length (take (offerAt + 32 * g .n - offerAt) (drop offerAt f)))
+    (length (take (offerAt + 32 * g .n + w - (offerAt + 32 * g .n)) (drop (offerAt + 32 * g .n) f)))
 carried-in g f w e l = record {
-  list-is = ap length (part-at f 17 (32 * g .n) (listed g) refl) ∙ length-part f 17 (listed g) (omega (arith, l));
-  block-is = ap length (part-at f (17 + 32 * g .n) w (width g) e) ∙ length-part f (17 + 32 * g .n) (width g) (omega (arith, l));
+  list-is = ap length (part-at f offerAt (32 * g .n) (listed g) refl) ∙ length-part f offerAt (listed g) (omega (arith, l));
+  block-is = ap length (part-at f (offerAt + 32 * g .n) w (width g) e) ∙ length-part f (offerAt + 32 * g .n) (width g) (omega (arith, l));
 }
 
 pub offer-is : (g : Params) (f : List ℕ) (T w : ℕ) → T ≡ be8 f bodyAt → w ≡ width g
-    → offer T (entry (take (17 + 32 * g .n - 17) (drop 17 f)) (take (17 + 32 * g .n + w - (17 + 32 * g .n)) (drop (17 + 32 * g .n) f))) ≡ offerIn g f
+    → offer T (entry (take (offerAt + 32 * g .n - offerAt) (drop offerAt f))
+    (take (offerAt + 32 * g .n + w - (offerAt + 32 * g .n)) (drop (offerAt + 32 * g .n) f))) ≡ offerIn g f
 offer-is g f T w t e =
-    let d = part-at f 17 (32 * g .n) (listed g) refl in
-    let b = part-at f (17 + 32 * g .n) w (width g) e in
+    let d = part-at f offerAt (32 * g .n) (listed g) refl in
+    let b = part-at f (offerAt + 32 * g .n) w (width g) e in
     λ i. offer (t i) (entry (d i) (b i))
 
 -- a kind up to 8 that is not retired
@@ -114,7 +117,7 @@ module _ (H : List ℕ → List ℕ) (k : Call) (s : Server) (a initial f out to
 
 -- 2, 9 and 11: nobody sends them to a server
 abbrev refusing : List ℕ → List ℕ → List ℕ → Server → Outcome
-refusing a out to s = record { reply = Y.Refused R.Sender; server = s; area = a; out = out; to = to }
+refusing a out to s = record { reply = turnedDown 11; server = s; area = a; out = out; to = to }
 
 module _ (H : List ℕ → List ℕ) (k : Call) (s : Server) (a initial f out to : List ℕ) (x : Scope) (q : x ≡ scopeOf s (k .header .client)) where
   abbrev Refuses : Type 0

@@ -20,11 +20,6 @@ pub by-flag : (b : Bool) (u T : ℕ) (e : Entry) → entryBy (kept b (offer u e)
 by-flag true u T e = refl
 by-flag false u T e = refl
 
-pub by-flags : (b : ℕ → Bool) (u : ℕ → ℕ) (e : ℕ → Entry) (T : ℕ)
-    → atTime (λ j. kept (b j) (offer (u j) (e j))) T ≡ (λ j. kept (b j && eqb (u j) T) (e j))
-unfolding atTime
-by-flags b u e T i j = by-flag (b j) (u j) T (e j) i
-
 -- ---- those of one digest list
 
 module _ (H : List ℕ → List ℕ) (g : Params) where

@@ -1,5 +1,5 @@
 -- What is accepted behind a counted frame: which writes, and what that leaves of slots, blocks, readers and the present value, and sends. Assumes nothing.
-use Prim.Native.Nat.{ℕ, _+_, _*_, _≤_}
+use Prim.Native.Nat.{ℕ, _+_, _≤_}
 use native.Mathlib.Omega.{arith}
 use native.Mathlib.Decide.{ℕ-discrete}
 use mathlib.Core.Bool.{Bool, true, false}
@@ -13,7 +13,7 @@ use Rattle.quorum.specs.Quorum.{Among}
 use Rattle.area.specs.Area.{pick}
 use Rattle.area.proofs.Tests.{kept-some, not-true}
 use Rattle.blocks.specs.declared.Params.{Params}
-use Rattle.frame.specs.Chunks.{entryAt, storeIf, presentAt, completeAt, areaBytes}
+use Rattle.frame.specs.Chunks.{listBytes, chunkAt, entryAt, storeIf, presentAt, completeAt, areaBytes}
 use Rattle.frame.specs.Messages.{Offer, offer, Sending, Sized}
 use Rattle.frame.specs.Params.{width, listed}
 use Rattle.frame.specs.Stamps.{older}
@@ -37,8 +37,8 @@ done-sized g M a R c is x y q =
     let o = offer (x .blocks .time) (entryAt g a (completeAt c)) in
     let e : o ≡ y = kept-some (x .blocks .complete) o y q .1 in
     rw (← e) (record {
-      list-is = length-take-le (listed g) (drop (576 * completeAt c) a) (rw length-drop (omega (arith, M .list-room)));
-      block-is = length-take-le (width g) (drop (576 * completeAt c + 320) a) (rw length-drop (omega (arith, M .block-room)));
+      list-is = length-take-le (listed g) (drop (chunkAt (completeAt c)) a) (rw length-drop (omega (arith, M .list-room)));
+      block-is = length-take-le (width g) (drop (chunkAt (completeAt c) + listBytes) a) (rw length-drop (omega (arith, M .block-room)));
     })
 
 module _ {g : Params} {s : Server} {a : List ℕ} {c : ℕ} where

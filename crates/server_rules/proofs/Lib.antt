@@ -14,3 +14,4 @@ pub mod Taking
 pub mod Counting
 pub mod Freeing
 pub mod Speaking
+pub mod Responses

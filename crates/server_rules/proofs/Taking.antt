@@ -1,7 +1,7 @@
 -- What is known of a frame that a server takes; and a delivery keeps a well-formed server. Assumes nothing.
 use Prim.Native.Nat.{ℕ, _+_, _≤_}
 use native.Mathlib.Omega.{arith}
-use mathlib.Core.Bool.{Bool, true, false}
+use mathlib.Core.Bool.{true}
 use mathlib.Core.Path.{_≡_, refl, ap, _∙_, subst}
 use mathlib.Core.List.{List}
 use lib.ListN.{length, drop, length-drop}
@@ -19,7 +19,7 @@ use Rattle.frame.specs.declared.Verdict.{Verdict}
 use Rattle.frame.specs.declared.Opened.{Opened}
 use Rattle.frame.specs.declared.Verdict.the-variants as J
 use Rattle.frame.specs.declared.Opened.the-variants as O
-use Rattle.frame.specs.Frames.{offerAt, lengthOf, bodyLength, opened, entryIn, bodyIn, messageIn}
+use Rattle.frame.specs.Frames.{valueAt, offerAt, lengthOf, bodyLength, opened, entryIn, bodyIn, messageIn}
 use Rattle.frame.specs.Messages.{Message, Judged, good, judgedBy, after, numberIn, Sized}
 use Rattle.frame.specs.Params.{width, listed, paramsTest}
 use Rattle.frame.specs.Refusals.{andThen}
@@ -55,7 +55,7 @@ body-sized g f k l =
     (λ u. by-pick (SizedIn g) (eqb k 5) _ _ (λ q. offered 5 refl q)
     (λ u. by-pick (SizedIn g) (eqb k 9) _ _ (λ q. tt)
     (λ u. by-pick (SizedIn g) (eqb k 10) _ _ (λ q. tt)
-    (λ u. by-pick (SizedIn g) (eqb k 11) _ _ (λ q. entry-in g f 22 (let h = long g f k 11 (13 + (listed g + width g)) l refl q in omega (arith, h)))
+    (λ u. by-pick (SizedIn g) (eqb k 11) _ _ (λ q. entry-in g f valueAt (let h = long g f k 11 (13 + (listed g + width g)) l refl q in omega (arith, h)))
     (λ u. tt))))))))
   where
     offered : (k′ : ℕ) → bodyLength g k′ ≡ 8 + (listed g + width g) → eqb k k′ ≡ true → Sized g (entryIn g f offerAt)

@@ -19,8 +19,8 @@ use Rattle.frame.proofs.Sizes.{Small}
 use Rattle.server_rules.specs.declared.Slot.{Slot}
 use Rattle.server_rules.specs.Broadcast.{kept}
 use Rattle.server_rules.specs.WellFormed.{Bounds, SlotWithin}
-use Rattle.server_rules.specs.State.{freshSlot, freshBlocks, withBlocks, blockView, blockSent, blockEcho, blockReady, blockMarks}
-use Rattle.server_rules.proofs.Parts.{same-part, firstOf, noPart, withSent, withEcho, withReady, Flags, flag-place, kept-set, kept-when}
+use Rattle.server_rules.specs.State.{freshSlot, freshBlocks, withBlocks, blockView, blockEcho, blockReady, blockMarks}
+use Rattle.server_rules.proofs.Parts.{same-part, firstOf, noPart, withEcho, withReady, Flags, flag-place, kept-set, kept-when}
 
 -- a slot's arrays have eleven places, of which the first is never set
 abbrev pub shapes : Bounds
@@ -64,10 +64,6 @@ module _ (g : Params) (M : Small g) (a : List ℕ) (room : areaBytes ≤ length 
         → blockView g (storeIf t a p e) c x ≡ blockView g a c x
     client-if true d p e Q is′ ne lo hi = other-client d p e (Q refl) is′ ne lo hi
     client-if false d p e Q is′ ne lo hi = refl
-
-    pub sent-view : blockView g a c (withBlocks x (blockSent (x .blocks))) ≡ withSent (blockView g a c x)
-    unfolding blockView
-    sent-view = refl
 
     module _ (j : ℕ) (at : Among 10 j) (o : Offer) (Q : Sized g (o .entry)) where
       pub echo-view : blockView g (storeEntry a (echoAt c j) (o .entry)) c (withBlocks x (blockEcho (x .blocks) j (o .time))) ≡ withEcho (blockView g a c x) j o

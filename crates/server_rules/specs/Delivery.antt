@@ -7,6 +7,7 @@ use lib.ListN.{length}
 use lib.Seq.{sets}
 use lib.Dec.{ltb, eqb}
 use Rattle.area.specs.Area.{pick}
+use Rattle.area.specs.Responses.{Response, turnedDown, gives}
 use Rattle.blocks.specs.declared.Params.{Params}
 use Rattle.frame.specs.declared.Party.{Party}
 use Rattle.frame.specs.declared.Verdict.{Verdict}
@@ -25,30 +26,33 @@ use Rattle.server_rules.specs.State.{freshServer}
 use Rattle.server_rules.specs.Tests.{judge}
 use Rattle.server_rules.specs.Steps.{Effect, sendOnly, effect}
 
--- ---- what a reply says
+-- what a reply says: the number, or how many frames were sent
+abbrev pub replyResponse : Reply → Response ℕ
+replyResponse (Y.Step c) = gives c
+replyResponse (Y.Refused r) = turnedDown (numberOf r)
 
--- its number: 0 of a step, else why the call was turned down
-unfoldable pub replyNumber : Reply → ℕ
-replyNumber (Y.Step c) = 0
-replyNumber (Y.Refused r) = numberOf r
+-- its number, 0 of a step
+unfoldable pub replyNumber : Response ℕ → ℕ
+replyNumber (turnedDown n) = n
+replyNumber (gives c) = 0
 
--- its value: how many frames were sent
-unfoldable pub replyCount : Reply → ℕ
-replyCount (Y.Step c) = c
-replyCount (Y.Refused r) = 0
+-- how many frames were sent
+unfoldable pub replyCount : Response ℕ → ℕ
+replyCount (turnedDown n) = 0
+replyCount (gives c) = c
 
 -- ---- a frame is handed in
 
 -- the whole outcome: the reply, the server, and every byte of the lent areas
 pub record Outcome : Type 0 where
-  pub reply : Reply
+  pub reply : Response ℕ
   pub server : Server
   pub area : List ℕ
   pub out : List ℕ
   pub to : List ℕ
 
 abbrev pub outcome : Served → List ℕ → List ℕ → List ℕ → Outcome
-outcome r area out to = record { reply = r .reply; server = r .server; area = area; out = out; to = to }
+outcome r area out to = record { reply = replyResponse (r .reply); server = r .server; area = area; out = out; to = to }
 
 module _ (H : List ℕ → List ℕ) (g : Params) (me : ℕ) where
   -- "The answer is the number alone; state and all lent bytes remain unchanged."
@@ -60,9 +64,9 @@ module _ (H : List ℕ → List ℕ) (g : Params) (me : ℕ) where
   unfoldable pub delivered : Server → List ℕ → List ℕ → Party → List ℕ → List ℕ → List ℕ → Effect
   delivered s a initial from f out to = effectBy (judge H g me s a initial from f out to) s a initial from
 
-  unfoldable pub replyOf : Judged → ℕ → Reply
-  replyOf (bad r) c = Y.Refused r
-  replyOf (good m) c = Y.Step c
+  unfoldable pub replyOf : Judged → ℕ → Response ℕ
+  replyOf (bad r) c = turnedDown (numberOf r)
+  replyOf (good m) c = gives c
 
   -- frames lie end to end from the start of the out area, two bytes for the receiver of each in the to area; other bytes stay as lent
   unfoldable pub outcomeOf : Judged → Effect → List ℕ → List ℕ → Outcome
@@ -81,13 +85,13 @@ module _ (H : List ℕ → List ℕ) (g : Params) (me : ℕ) where
 -- ---- the constructor: the own block of the initial value goes to the host's initial area, its digests to the state area
 
 pub record Constructed : Type 0 where
-  pub reply : Reply
+  pub reply : Response ℕ
   pub server : Server
   pub area : List ℕ
   pub initial : List ℕ
 
 abbrev pub constructed : Served → List ℕ → List ℕ → Constructed
-constructed r area initial = record { reply = r .reply; server = r .server; area = area; initial = initial }
+constructed r area initial = record { reply = replyResponse (r .reply); server = r .server; area = area; initial = initial }
 
 module _ (H : List ℕ → List ℕ) (g : Params) (me : ℕ) where
   -- 1, 2, 3, 10
@@ -100,9 +104,9 @@ module _ (H : List ℕ → List ℕ) (g : Params) (me : ℕ) where
       J.Fine)))
 
   unfoldable pub constructBy : Verdict → List ℕ → List ℕ → List ℕ → Constructed
-  constructBy (J.Bad r) v a initial = record { reply = Y.Refused r; server = freshServer; area = a; initial = initial }
+  constructBy (J.Bad r) v a initial = record { reply = turnedDown (numberOf r); server = freshServer; area = a; initial = initial }
   constructBy J.Fine v a initial = record {
-    reply = Y.Step 0;
+    reply = gives 0;
     server = freshServer;
     area = sets a (chunkAt presentAt) (digestsOf H g v);
     initial = sets initial 0 (blockAt H g v me);

@@ -8,22 +8,20 @@ use mathlib.Core.List.{List}
 use lib.ListN.{length}
 use lib.Seq.{length-sets}
 use Rattle.quorum.proofs.Logic.{impossible}
+use Rattle.area.specs.Responses.{turnedDown}
 use Rattle.blocks.specs.declared.Params.{Params}
 use Rattle.frame.specs.declared.Stamp.{Stamp}
 use Rattle.frame.specs.declared.Party.{Party}
-use Rattle.frame.specs.declared.Refusal.{Refusal}
 use Rattle.frame.specs.Stamps.{older}
 use Rattle.frame.specs.Messages.{Body, numberIn, Judged, bad, good}
 use Rattle.frame.specs.Outbox.{frames, receivers}
 use Rattle.server_rules.specs.declared.Server.{Server}
-use Rattle.server_rules.specs.declared.Reply.the-variants as Y
 use Rattle.server_rules.specs.Steps as S
 use Rattle.server_rules.specs.Tests as ST
 use Rattle.server_rules.specs.Delivery as SD
 use Rattle.server_rules.proofs.Freeing.{freed-stamp}
 use Rattle.server_rules.proofs.Shapes.{Shape, idle, answers, notes, ends, settles, step-length, Delivery, refused, taken, shape-delivered}
 use Rattle.client_rules.specs.declared.Client.{Client}
-use Rattle.client_rules.specs.declared.Answer.the-variants as Z
 use Rattle.client_rules.specs.Steps as C
 use Rattle.client_rules.proofs.Shapes.{shape-of, shape-length}
 use Rattle.client_rules.specs.Tests as CT
@@ -57,13 +55,13 @@ module _ (H : List ℕ → List ℕ) (g : Params) (me : ℕ) where
         go (taken m e x) = record { stamp = left x; area = step-length H g me s a initial (numberIn from) (m .client) x }
 
     -- "state and all lent bytes remain unchanged"
-    pub server-refused : (r : Refusal) → SD.delivery H g me s a initial from f out to .reply ≡ Y.Refused r
-        → SD.delivery H g me s a initial from f out to ≡ record { reply = Y.Refused r; server = s; area = a; out = out; to = to }
+    pub server-refused : (n : ℕ) → SD.delivery H g me s a initial from f out to .reply ≡ turnedDown n
+        → SD.delivery H g me s a initial from f out to ≡ record { reply = turnedDown n; server = s; area = a; out = out; to = to }
     unfolding SD.delivery SD.delivered SD.effectBy SD.outcomeOf SD.replyOf frames receivers
-    server-refused r = go (ST.judge H g me s a initial from f out to)
+    server-refused n = go (ST.judge H g me s a initial from f out to)
       where
-        go : (j : Judged) → SD.replyOf H g me j (length (SD.effectBy H g me j s a initial from .sends)) ≡ Y.Refused r
-            → SD.outcomeOf H g me j (SD.effectBy H g me j s a initial from) out to ≡ record { reply = Y.Refused r; server = s; area = a; out = out; to = to }
+        go : (j : Judged) → SD.replyOf H g me j (length (SD.effectBy H g me j s a initial from .sends)) ≡ turnedDown n
+            → SD.outcomeOf H g me j (SD.effectBy H g me j s a initial from) out to ≡ record { reply = turnedDown n; server = s; area = a; out = out; to = to }
         go (bad x) e = ap (λ y. record { reply = y; server = s; area = a; out = out; to = to }) e
         go (good m) e = impossible (cc e)
 
@@ -86,17 +84,6 @@ module _ (H : List ℕ → List ℕ) (g : Params) (me : ℕ) where
 -- ---- a client's step
 
 module _ (H : List ℕ → List ℕ) (g : Params) (me : ℕ) where
-  event-answers : (x : C.Event) (c : ℕ) (r : Refusal) {A : Type 0} → CD.eventAnswer x c ≡ Z.Refused r → A
-  unfolding CD.eventAnswer
-  event-answers C.nothing c r e = impossible (cc e)
-  event-answers C.written c r e = impossible (cc e)
-  event-answers C.outOfStamps c r e = impossible (cc e)
-  event-answers (C.stopped x) c r e = of-read (x .bytes) e
-    where
-      of-read : (o : Option (List ℕ)) {A : Type 0} → CD.readAnswer (x .stamp) o ≡ Z.Refused r → A
-      of-read none e = impossible (cc e)
-      of-read (some v) e = impossible (cc e)
-
   length-result : (x : C.Event) (l : List ℕ) → length (CD.resultOf x l) ≡ length l
   unfolding CD.resultOf
   length-result C.nothing l = refl
@@ -131,13 +118,13 @@ module _ (H : List ℕ → List ℕ) (g : Params) (me : ℕ) where
     )
 
     -- "state and all lent bytes remain unchanged"
-    pub client-refused : (r : Refusal) → CD.delivery H g me s a v from f result out to .answer ≡ Z.Refused r
-        → CD.delivery H g me s a v from f result out to ≡ record { answer = Z.Refused r; client = s; area = a; result = result; out = out; to = to }
+    pub client-refused : (n : ℕ) → CD.delivery H g me s a v from f result out to .answer ≡ turnedDown n
+        → CD.delivery H g me s a v from f result out to ≡ record { answer = turnedDown n; client = s; area = a; result = result; out = out; to = to }
     unfolding CD.delivery CD.delivered CD.effectBy CD.outcomeOf CD.answerOf CD.resultOf frames receivers
-    client-refused r = go (CT.judge H g me s a v from f result out to)
+    client-refused n = go (CT.judge H g me s a v from f result out to)
       where
-        go : (j : Judged) → CD.answerOf j (CD.effectBy H g me j s a v from) ≡ Z.Refused r
+        go : (j : Judged) → CD.answerOf j (CD.effectBy H g me j s a v from) ≡ turnedDown n
             → CD.outcomeOf j (CD.effectBy H g me j s a v from) result out to
-            ≡ record { answer = Z.Refused r; client = s; area = a; result = result; out = out; to = to }
+            ≡ record { answer = turnedDown n; client = s; area = a; result = result; out = out; to = to }
         go (bad x) e = ap (λ y. record { answer = y; client = s; area = a; result = result; out = out; to = to }) e
-        go (good m) e = event-answers (C.effect H g me s a v from m .event) _ r e
+        go (good m) e = impossible (cc e)

@@ -16,7 +16,7 @@ use Rattle.blocks.specs.declared.Params.{Params}
 use Rattle.frame.specs.declared.Stamp.{Stamp}
 use Rattle.frame.specs.declared.Party.{Party}
 use Rattle.frame.specs.declared.Verdict.the-variants as J
-use Rattle.frame.specs.Chunks.{areaBytes}
+use Rattle.frame.specs.Chunks.{listBytes, areaBytes}
 use Rattle.frame.specs.Messages.{Entry, Body, getStamp, askRead, stampIs, valueIs, Message, message, Sending, toAll, numberIn, Sized, Formed, FormedBody}
 use Rattle.frame.specs.Params.{width, listed, Bounded}
 use Rattle.frame.specs.Stamps.{zeroStamp, lastTime, partsAgree}
@@ -125,9 +125,9 @@ present-sized g M x a initial R I = record {
   block-is = go (eqb (x .time) 0);
 }
   where
-    go : (b : Bool) → length (pick b (take (width g) initial) (take (width g) (drop 320 a))) ≡ width g
+    go : (b : Bool) → length (pick b (take (width g) initial) (take (width g) (drop listBytes a))) ≡ width g
     go true = length-take-le (width g) initial I
-    go false = take-sized (width g) 320 a (omega (arith, M .block-room))
+    go false = take-sized (width g) listBytes a (omega (arith, M .block-room))
 
 no-time : {H : List ℕ → List ℕ} {g : Params} {me : ℕ} {s : Server} {a initial : List ℕ} {j c : ℕ} {b : Body} {p : S.Counting}
     → Counted H g me s a initial j c b p → TimeIn ranges b

@@ -9,7 +9,7 @@ use lib.Dec.{eqb}
 use borrow.Author.Tests.{eqb-true, eqb-false}
 use Rattle.blocks.specs.declared.Params.{Params}
 use Rattle.frame.specs.Messages.{Entry, Sized}
-use Rattle.frame.specs.Chunks.{chunkAt, entryAt, storeEntry, storeIf}
+use Rattle.frame.specs.Chunks.{chunkBytes, chunkAt, entryAt, storeEntry, storeIf}
 use Rattle.frame.proofs.Chunks.{length-store, entry-same, entry-other}
 use Rattle.frame.proofs.Sizes.{Small}
 use Rattle.runs.specs.World.{put}
@@ -24,7 +24,7 @@ pub record Shows (g : Params) (w : ℕ) (a : List ℕ) (f : ℕ → Entry) : Typ
   pub long : length a ≡ w
   pub at : (p : ℕ) → entryAt g a p ≡ f p
 
-module _ (g : Params) (M : Small g) (w : ℕ) (a : List ℕ) (f : ℕ → Entry) (X : Shows g w a f) (p : ℕ) (room : chunkAt p + 576 ≤ w) (e : Entry) where
+module _ (g : Params) (M : Small g) (w : ℕ) (a : List ℕ) (f : ℕ → Entry) (X : Shows g w a f) (p : ℕ) (room : chunkAt p + chunkBytes ≤ w) (e : Entry) where
   pub stored : Sized g e → Shows g w (storeEntry a p e) (put f p e)
   stored Q = record { long = length-store a p e ∙ X .long; at = λ q. go q (eqb q p) refl }
     where

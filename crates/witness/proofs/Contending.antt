@@ -7,7 +7,6 @@ use mathlib.Core.Logic.{_⊎_, inl, inr, ⊎-elim}
 use mathlib.Core.Option.{some}
 use mathlib.Core.List.{List, [], _∷_, List·Memᴰ, List·Memᴰ·head, List·Memᴰ·cases-cons, List·Memᴰ·not-nil}
 use Rattle.quorum.proofs.Logic.{impossible}
-use Rattle.frame.specs.Refusals.{refusal}
 use Rattle.frame.specs.Stamps.{older}
 use Rattle.frame.specs.Params.{Bounded}
 use Rattle.frame.specs.Messages.{ready}
@@ -71,12 +70,12 @@ sound = Setups.sound Toy.toy g initial 4 (λ c. false) bounded (record { many = 
 record Computed : Type 0 where
   pub proper : image Z calls .proper ≡ true
   -- six calls are refused
-  pub stale : refusedIn Z (image Z asking) (readAsked 1) ≡ some (refusal 12)
-  pub busy : refusedIn Z (image Z (readAsked 1 ∷ asking)) (Toy.startWrite g 1 (value 2)) ≡ some (refusal 15)
-  pub framing : refusedIn Z (image Z (Toy.startWrite g 1 (value 2) ∷ readAsked 1 ∷ asking)) noFrame ≡ some (refusal 4)
-  pub kind : refusedIn Z (image Z (noFrame ∷ Toy.startWrite g 1 (value 2) ∷ readAsked 1 ∷ asking)) timeAlone ≡ some (refusal 6)
-  pub digest : refusedIn Z (image Z (timeAlone ∷ noFrame ∷ Toy.startWrite g 1 (value 2) ∷ readAsked 1 ∷ asking)) falseBlock ≡ some (refusal 14)
-  pub room : refusedIn Z (image Z (falseBlock ∷ timeAlone ∷ noFrame ∷ Toy.startWrite g 1 (value 2) ∷ readAsked 1 ∷ asking)) noRoom ≡ some (refusal 10)
+  pub stale : refusedIn Z (image Z asking) (readAsked 1) ≡ some 12
+  pub busy : refusedIn Z (image Z (readAsked 1 ∷ asking)) (Toy.startWrite g 1 (value 2)) ≡ some 15
+  pub framing : refusedIn Z (image Z (Toy.startWrite g 1 (value 2) ∷ readAsked 1 ∷ asking)) noFrame ≡ some 4
+  pub kind : refusedIn Z (image Z (noFrame ∷ Toy.startWrite g 1 (value 2) ∷ readAsked 1 ∷ asking)) timeAlone ≡ some 6
+  pub digest : refusedIn Z (image Z (timeAlone ∷ noFrame ∷ Toy.startWrite g 1 (value 2) ∷ readAsked 1 ∷ asking)) falseBlock ≡ some 14
+  pub room : refusedIn Z (image Z (falseBlock ∷ timeAlone ∷ noFrame ∷ Toy.startWrite g 1 (value 2) ∷ readAsked 1 ∷ asking)) noRoom ≡ some 10
   -- two writes are accepted, and the read completes
   pub larger : acceptedIn Z (image Z first) (block ready 2 2 1) ≡ write 2 ∷ []
   pub smaller : acceptedIn Z (image Z second) (block ready 1 2 1) ≡ write 1 ∷ []
@@ -105,7 +104,7 @@ unfolding judgedBad verdictBad refusedIn FrChunks.entryAt RuWorld.start SeDelive
     SeSteps.freeBy SeSteps.free SeSteps.freed SeSteps.settle SeSteps.onRead SeSteps.onReadComplete SeSteps.onBody SeSteps.effect SeTests.roomTest
     SeTests.senderRight SeTests.counted SeTests.openTest SeTests.readTest SeTests.doneTest FrCoded.fitTest SeTests.orderTest SeTests.messageTest
     SeTests.judgeOpened SeTests.judge CB.lengthTest CB.readTest CB.writeTest CB.openRead CB.openWrite CB.beginBy CB.readBegun
-    CB.writeBegun CB.beginAnswer CB.begunOf CB.readBeginning CB.writeBeginning ClRows.placesFrom ClRows.rowView ClRows.hasStamp ClRows.smallest ClRows.placeFor
+    CB.writeBegun CB.begunOf CB.readBeginning CB.writeBeginning ClRows.placesFrom ClRows.rowView ClRows.hasStamp ClRows.smallest ClRows.placeFor
     ClRows.atStamp ClRows.rowsFrom ClRows.agreed ClRows.firstBy ClRows.firstAgreed ClRows.foundOf ClRows.foundBy ClRows.search ClState.freshRow
     ClState.freshClient ClState.largest ClSteps.quorate ClSteps.sendBelow ClSteps.gatherBy ClSteps.onStamp ClSteps.endBy ClSteps.onAck ClSteps.completeBy
     ClSteps.settle ClSteps.keepBy ClSteps.onValue ClSteps.onBody ClSteps.effect ClTests.sendRoom ClTests.roomTest ClTests.valueTest ClTests.answers

@@ -12,12 +12,12 @@ use lib.Dec.{eqb, leb, ltb}
 use borrow.Author.Tests.{eqb-true, leb-true, le-leb, ltb-true, not-true}
 use Rattle.quorum.proofs.Logic.{impossible, and-split, and-true, or-split}
 use Rattle.area.specs.Area.{Bytes, pick, same}
+use Rattle.area.specs.Responses.{turnedDown}
 use Rattle.area.proofs.Same.{same-true}
 use Rattle.frame.specs.declared.Party.{Party}
 use Rattle.frame.specs.declared.Verdict.{Verdict}
 use Rattle.frame.specs.declared.Header.{Header}
-use Rattle.frame.specs.declared.Refusal.{Refusal}
-use Rattle.frame.specs.Refusals.{refusal}
+use Rattle.frame.specs.Refusals.{numberOf, answeredBy}
 use Rattle.frame.specs.declared.Party.the-variants as P
 use Rattle.frame.specs.declared.Verdict.the-variants as J
 use Rattle.frame.specs.declared.Opened.the-variants as O
@@ -328,15 +328,20 @@ module _ (Z : Setup) (G : Exact Z) where
 
   -- ---- refusals
 
-  judged-bad : (j : Judged) (r : Refusal) → judgedBad j ≡ some r → j ≡ bad r
-  unfolding judgedBad
-  judged-bad (bad x) r e = let h : x ≡ r = cc e in ap bad h
-  judged-bad (good m) r e = impossible (cc e)
+  reply-bad : (i c n : ℕ) (j : Judged) → judgedBad j ≡ some n → SD.replyOf H g i j c ≡ turnedDown n
+  unfolding judgedBad SD.replyOf
+  reply-bad i c n (bad x) e = let h : numberOf x ≡ n = cc e in ap turnedDown h
+  reply-bad i c n (good m) e = impossible (cc e)
 
-  verdict-bad : (b : Verdict) (r : Refusal) → verdictBad b ≡ some r → b ≡ J.Bad r
+  answer-bad : (j : Judged) (x : C.Effect) (n : ℕ) → judgedBad j ≡ some n → CD.answerOf j x ≡ turnedDown n
+  unfolding judgedBad CD.answerOf
+  answer-bad (bad x) y n e = let h : numberOf x ≡ n = cc e in ap turnedDown h
+  answer-bad (good m) y n e = impossible (cc e)
+
+  verdict-bad : {A : Type 0} (b : Verdict) (x : A) (n : ℕ) → verdictBad b ≡ some n → answeredBy b x ≡ turnedDown n
   unfolding verdictBad
-  verdict-bad (J.Bad x) r e = let h : x ≡ r = cc e in ap J.Bad h
-  verdict-bad J.Fine r e = impossible (cc e)
+  verdict-bad (J.Bad r) x n e = let h : numberOf r ≡ n = cc e in ap turnedDown h
+  verdict-bad J.Fine x n e = impossible (cc e)
 
   -- what a frame is judged in the run, and in the pass
   pub server-judged : (ks : List Call) (i : ℕ) (from : Party) (f out to : List ℕ)
@@ -357,19 +362,14 @@ module _ (Z : Setup) (G : Exact Z) where
       judge-client H g (G .bounded) M c (p .client) (p .area) (lentTo Z (run Z ks) c lent) from f result out to (D .area .long)
       ∙ (λ z. Asked.judgeBy H g c (D .client z) (lent-at (run Z ks) (image Z ks) (depicts ks) c lent z) from f result out to)
 
-  pub refuses-by : (ks : List Call) (k : Call) (n : ℕ) → refusedIn Z (image Z ks) k ≡ some (refusal n) → Refuses Z n ks k
-  unfolding refusedIn SD.delivery SD.outcomeOf SD.replyOf CD.delivery CD.outcomeOf CD.answerOf CB.readBeginning CB.writeBeginning CB.begunOf CB.beginAnswer
-  refuses-by ks (toServer i from f out to) n e =
-      ap (λ x. SD.replyOf H g i x (length (serverEffect Z (run Z ks) i from f out to .sends))) (server-judged ks i from f out to ∙ judged-bad _ (refusal n) e)
-  refuses-by ks (toClient c from f lent result out to) n e =
-      ap (λ x. CD.answerOf x (clientEffect Z (run Z ks) c from f lent result out to))
-      (client-judged ks c from f lent result out to ∙ judged-bad _ (refusal n) e)
+  pub refuses-by : (ks : List Call) (k : Call) (n : ℕ) → refusedIn Z (image Z ks) k ≡ some n → Refuses Z n ks k
+  unfolding refusedIn SD.delivery SD.outcomeOf CD.delivery CD.outcomeOf CB.readBeginning CB.writeBeginning CB.begunOf
+  refuses-by ks (toServer i from f out to) n e = reply-bad i _ n _ (ap judgedBad (server-judged ks i from f out to) ∙ e)
+  refuses-by ks (toClient c from f lent result out to) n e = answer-bad _ _ n (ap judgedBad (client-judged ks c from f lent result out to) ∙ e)
   refuses-by ks (beginRead c out to) n e =
-      ap (λ b. CB.beginAnswer g c b (CB.readBegun g c (run Z ks .clients c .client) out to))
-      (ap (λ s. CB.readTest g c s out to) (depicts ks .clients c .client) ∙ verdict-bad _ (refusal n) e)
+      verdict-bad _ _ n (ap (λ s. verdictBad (CB.readTest g c s out to)) (depicts ks .clients c .client) ∙ e)
   refuses-by ks (beginWrite c v out to) n e =
-      ap (λ b. CB.beginAnswer g c b (CB.writeBegun g c (run Z ks .clients c .client) v out to))
-      (ap (λ s. CB.writeTest g c s v out to) (depicts ks .clients c .client) ∙ verdict-bad _ (refusal n) e)
+      verdict-bad _ _ n (ap (λ s. verdictBad (CB.writeTest g c s v out to)) (depicts ks .clients c .client) ∙ e)
 
 -- what happens before the last n calls happens in the run
 pub at-drop : (E : Event) (n : ℕ) (ks : List Call) (p : ℕ) → At E (drop n ks) p → At E ks p

@@ -67,8 +67,8 @@ unfolding allBytes Toy.toy Toy.zeros Toy.four Toy.setup Toy.handServer Toy.handC
     SeSteps.ripeBy SeSteps.ripe SeSteps.freeBy SeSteps.free SeSteps.freed SeSteps.settle SeSteps.onRead SeSteps.onReadComplete SeSteps.onBody SeSteps.effect
     SeTests.roomTest SeTests.senderRight SeTests.counted SeTests.openTest SeTests.readTest SeTests.doneTest FrCoded.fitTest SeTests.orderTest
     SeTests.messageTest SeTests.judgeOpened SeTests.judge ClBeginning.lengthTest ClBeginning.readTest
-    ClBeginning.writeTest ClBeginning.openRead ClBeginning.openWrite ClBeginning.beginBy ClBeginning.readBegun ClBeginning.writeBegun ClBeginning.beginAnswer
-    ClBeginning.begunOf ClBeginning.readBeginning ClBeginning.writeBeginning ClDelivery.eventAnswer ClDelivery.answerOf ClDelivery.resultOf ClDelivery.outcomeOf
+    ClBeginning.writeTest ClBeginning.openRead ClBeginning.openWrite ClBeginning.beginBy ClBeginning.readBegun ClBeginning.writeBegun
+    ClBeginning.begunOf ClBeginning.readBeginning ClBeginning.writeBeginning ClDelivery.progressBy ClDelivery.answerOf ClDelivery.resultOf ClDelivery.outcomeOf
     ClDelivery.effectBy ClDelivery.delivered ClDelivery.delivery ClRows.placesFrom ClRows.rowView ClRows.hasStamp ClRows.smallest ClRows.placeFor ClRows.atStamp
     ClRows.rowsFrom ClRows.agreed ClRows.firstBy ClRows.firstAgreed ClRows.foundOf ClRows.foundBy ClRows.search ClState.freshRow ClState.freshClient
     ClState.largest ClSteps.quorate ClSteps.sendBelow ClSteps.gatherBy ClSteps.onStamp ClSteps.endBy ClSteps.onAck ClSteps.completeBy ClSteps.settle

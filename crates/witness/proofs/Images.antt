@@ -8,11 +8,11 @@ use lib.Dec.{eqb, leb, ltb}
 use Rattle.area.specs.Area.{pick, same}
 use Rattle.frame.specs.declared.Party.{Party}
 use Rattle.frame.specs.declared.Opened.{Opened}
-use Rattle.frame.specs.declared.Refusal.{Refusal}
 use Rattle.frame.specs.declared.Verdict.{Verdict}
 use Rattle.frame.specs.declared.Verdict.the-variants as J
 use Rattle.frame.specs.declared.Party.the-variants as P
 use Rattle.frame.specs.declared.Opened.the-variants as O
+use Rattle.frame.specs.Refusals.{numberOf}
 use Rattle.frame.specs.Messages.{Entry, Sending, Judged, bad, good}
 use Rattle.frame.specs.Frames.{build, opened}
 use Rattle.frame.specs.Chunks.{entryAt}
@@ -73,12 +73,12 @@ unfoldable pub allBytes : List ℕ → Bool
 allBytes [] = true
 allBytes (x ∷ l) = ltb x 256 && allBytes l
 
-unfoldable pub judgedBad : Judged → Option Refusal
-judgedBad (bad r) = some r
+unfoldable pub judgedBad : Judged → Option ℕ
+judgedBad (bad r) = some (numberOf r)
 judgedBad (good m) = none
 
-unfoldable pub verdictBad : Verdict → Option Refusal
-verdictBad (J.Bad r) = some r
+unfoldable pub verdictBad : Verdict → Option ℕ
+verdictBad (J.Bad r) = some (numberOf r)
 verdictBad J.Fine = none
 
 unfoldable pub isFrame : Opened → Bool
@@ -165,8 +165,8 @@ module _ (Z : Setup) where
   }
   image (k ∷ ks) = advance (image ks) k
 
-  -- whether a call is refused, and why
-  unfoldable pub refusedIn : Image → Call → Option Refusal
+  -- whether a call is refused, and with which number
+  unfoldable pub refusedIn : Image → Call → Option ℕ
   refusedIn w (toServer i from f out to) = judgedBad (Served.judgeBy H g i (w .servers i .server) from f out to)
   refusedIn w (toClient c from f lent result out to) = judgedBad (Asked.judgeBy H g c (w .clients c .client) (lentIn w c lent) from f result out to)
   refusedIn w (beginRead c out to) = verdictBad (CB.readTest g c (w .clients c .client) out to)

@@ -1,6 +1,8 @@
 -- By how the trace closes. Assumes nothing.
-use Rattle.playback.proofs.Outcomes.{malformed-ending, cut-ending}
+use mathlib.Core.Path.{refl}
+use Rattle.area.specs.Area.{pick}
 use Rattle.playback.specs.Playback.{endingOf}
+use Rattle.playback.proofs.Outcomes.{ending-case}
 use borrow.Author.Needs.{needs}
 use Rattle.playback.proofs.ending_of.Statement.{statement}
 use Rattle.playback.proofs.ending_of.Tie as tie
@@ -21,14 +23,16 @@ add-t5 : tie.Need-add-t5
 add-t5 c = search needs
 
 returns : tie.Need-returns
-unfolding endingOf
-returns c = search needs
+unfolding endingOf pick
+returns c = ending-case _ _ _ _ (c .enum-told .given .1) refl
 
 returns-2 : tie.Need-returns-2
-returns-2 c = malformed-ending _ _ (c .enum-told2 .given .1)
+unfolding endingOf pick
+returns-2 c = ending-case _ _ _ _ (c .enum-told2 .given .1) refl
 
 returns-3 : tie.Need-returns-3
-returns-3 c = cut-ending _ _ (c .enum-told3 .given .1)
+unfolding endingOf pick
+returns-3 c = ending-case _ _ _ _ (c .enum-told3 .given .1) refl
 
 pub ending-of-spec : {M : Type 1} → statement M
 ending-of-spec =

@@ -31,7 +31,7 @@ out-test-requires : tie.Need-out-test-requires
 out-test-requires c κs =
     let a = c .before .before .before .before .before .before .before .before .before .args in
     bounds digestOf (a .g) (a .me) (a .value .now) (a .trace .now) (a .area .now) (a .initial .now) (a .out .now) _
-    (c .before .before .before .construct-test .ensures) (c .before .enum-told .given .1) _ (c .survey .ensures)
+    (c .before .before .before .construct-test .ensures) (c .before .enum-told .given .1) (c .survey .result) (c .survey .ensures)
 
 enum-known-room : tie.Need-enum-known-room
 enum-known-room c = search needs
@@ -45,7 +45,7 @@ returns-2 c =
     let t = k .before .before .before in
     let a = t .before .before .before .before .before .before .args in
     out-refused digestOf (a .g) (a .me) (a .value .now) (a .trace .now) (a .area .now) (a .initial .now) (a .out .now) _
-    (t .construct-test .ensures) (k .before .enum-told .given .1) _ (k .survey .ensures) _
+    (t .construct-test .ensures) (k .before .enum-told .given .1) (k .survey .result) (k .survey .ensures) _
     (c .before .before .before .before .out-test .ensures) _ _ (c .before .before .room .given .1) (c .refuse2 .ensures)
 
 enum-told-2 : tie.Need-enum-told-2
@@ -57,7 +57,7 @@ play-all-requires c κs =
     let t = k .before .before .before in
     let a = t .before .before .before .before .before .before .args in
     test-fine digestOf (a .g) (a .me) (a .value .now) (a .trace .now) (a .area .now) (a .initial .now) (a .out .now) _
-    (t .construct-test .ensures) (k .before .enum-told .given .1) _ (k .survey .ensures) _
+    (t .construct-test .ensures) (k .before .enum-told .given .1) (k .survey .result) (k .survey .ensures) _
     (c .before .before .before .before .before .out-test .ensures) (c .before .before .before .enum-told2 .given .1)
 
 ending-of-requires : tie.Need-ending-of-requires
@@ -66,7 +66,7 @@ ending-of-requires c κs =
     let t = k .before .before .before in
     let a = t .before .before .before .before .before .before .args in
     let n = few-counted digestOf (a .g) (a .me) (a .value .now) (a .trace .now) (a .area .now) (a .initial .now) (a .out .now) _
-    (t .construct-test .ensures) (k .before .enum-told .given .1) _ (k .survey .ensures) in
+    (t .construct-test .ensures) (k .before .enum-told .given .1) (k .survey .result) (k .survey .ensures) in
     omega (arith, n, t .before .before .before .before .before .before .good .1 .1 .1 .0 .1)
 
 same-length : tie.Need-same-length
@@ -85,9 +85,9 @@ returns-3 c =
     let t = k .before .before .before in
     let a = t .before .before .before .before .before .before .args in
     play-done digestOf (a .g) (a .me) (a .value .now) (a .trace .now) (a .area .now) (a .initial .now) (a .out .now) _
-    (t .construct-test .ensures) (k .before .enum-told .given .1) _ (k .survey .ensures) _
-    (p .before .before .before .before .before .before .out-test .ensures) (p .before .before .before .before .enum-told2 .given .1) (p .play-all .result) _ _ _ _
-    (p .play-all .ensures) (c .ending-of .ensures)
+    (t .construct-test .ensures) (k .before .enum-told .given .1) (k .survey .result) (k .survey .ensures) _
+    (p .before .before .before .before .before .before .out-test .ensures) (p .before .before .before .before .enum-told2 .given .1) (p .play-all .result) _ _ _
+    (c .ending-of .result) (p .play-all .ensures) (c .ending-of .ensures)
 
 pub play-spec : {M : Type 1} → statement M
 play-spec =

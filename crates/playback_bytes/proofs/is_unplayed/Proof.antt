@@ -1,5 +1,5 @@
 -- By the answer. Assumes nothing.
-use Rattle.playback_bytes.specs.Calls.{isUnplayed}
+use Rattle.area.specs.Responses.{isTurnedDown}
 use native.Mathlib.Omega.{arith}
 use borrow.Author.Needs.{needs}
 use Rattle.playback_bytes.proofs.is_unplayed.Statement.{statement}
@@ -12,11 +12,11 @@ enum-told-2 : tie.Need-enum-told-2
 enum-told-2 c = search needs
 
 returns : tie.Need-returns
-unfolding isUnplayed
+unfolding isTurnedDown
 returns c = search needs
 
 returns-2 : tie.Need-returns-2
-unfolding isUnplayed
+unfolding isTurnedDown
 returns-2 c = search needs
 
 pub is-unplayed-spec : {M : Type 1} → statement M

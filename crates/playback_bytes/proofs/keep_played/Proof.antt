@@ -1,5 +1,6 @@
 -- As it was, or written. Assumes nothing.
-use Rattle.playback_bytes.proofs.Calls.{kept-old, kept-new}
+use Rattle.answers.proofs.Left.{left-old, left-new}
+use Rattle.playback_bytes.specs.Calls.{playedAfter}
 use native.Mathlib.Omega.{arith}
 use borrow.Author.Needs.{needs}
 use Rattle.playback_bytes.proofs.keep_played.Statement.{statement}
@@ -9,7 +10,8 @@ is-unplayed-requires : tie.Need-is-unplayed-requires
 is-unplayed-requires c κs = search needs
 
 returns : tie.Need-returns
-returns c = kept-old _ _ _ _ (c .before .is-unplayed .ensures) (c .if1 .taken)
+unfolding playedAfter
+returns c = left-old _ _ _ _ (c .before .is-unplayed .ensures) (c .if1 .taken)
 
 put-server-requires : tie.Need-put-server-requires
 put-server-requires c κs = search needs
@@ -18,7 +20,8 @@ same-length : tie.Need-same-length
 same-length c = search needs
 
 returns-2 : tie.Need-returns-2
-returns-2 c = kept-new _ _ _ _ (c .before .before .before .before .before .is-unplayed .ensures) _ (c .before .before .before .before .if1 .left) (c .before .before .put-server .ensures)
+unfolding playedAfter
+returns-2 c = left-new _ _ _ _ (c .before .before .before .before .before .is-unplayed .ensures) (c .before .before .before .before .if1 .left) _ (c .before .before .put-server .ensures)
 
 pub keep-played-spec : {M : Type 1} → statement M
 keep-played-spec =

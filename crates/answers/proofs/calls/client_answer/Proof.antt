@@ -1,7 +1,8 @@
 -- Case by case. Assumes nothing.
-use mathlib.Core.Path.{sym, ap, _∙_}
+use mathlib.Core.Path.{_∙_}
 use borrow.Author.Needs.{needs}
 use Rattle.answers.specs.Answers.{clientAnswer}
+use Rattle.answers.proofs.Cases.{client-case}
 use Rattle.answers.proofs.calls.client_answer.Statement.{statement}
 use Rattle.answers.proofs.calls.client_answer.Tie as tie
 
@@ -46,27 +47,27 @@ cast-result c = search needs
 
 returns : tie.Need-returns
 unfolding clientAnswer
-returns c = sym (ap (clientAnswer _) (c .before .a .given .1))
+returns c = client-case _ _ _ (c .before .a .given .1)
 
 returns-2 : tie.Need-returns-2
 unfolding clientAnswer
-returns-2 c = sym (ap (clientAnswer _) (c .enum-told .given .1))
+returns-2 c = client-case _ _ _ (c .enum-told .given .1)
 
 returns-3 : tie.Need-returns-3
 unfolding clientAnswer
-returns-3 c = sym (ap (clientAnswer _) (c .enum-told2 .given .1))
+returns-3 c = client-case _ _ _ (c .enum-told2 .given .1)
 
 returns-4 : tie.Need-returns-4
 unfolding clientAnswer
-returns-4 c = sym (ap (clientAnswer _) (c .before .a2 .given .1))
+returns-4 c = client-case _ _ _ (c .before .a2 .given .1)
 
 returns-5 : tie.Need-returns-5
 unfolding clientAnswer
-returns-5 c = sym (ap (clientAnswer _) (c .enum-told3 .given .1))
+returns-5 c = client-case _ _ _ (c .enum-told3 .given .1)
 
 returns-6 : tie.Need-returns-6
 unfolding clientAnswer
-returns-6 c = c .number-of .ensures ∙ sym (ap (clientAnswer _) (c .before .before .a3 .given .1))
+returns-6 c = c .number-of .ensures ∙ client-case _ _ _ (c .before .before .a3 .given .1)
 
 pub client-answer-spec : {M : Type 1} → statement M
 client-answer-spec =

@@ -1,6 +1,7 @@
 -- Case by case. Assumes nothing.
 use mathlib.Core.Path.{sym, ap, _∙_}
 use borrow.Author.Needs.{needs}
+use Rattle.blocks.specs.Calls.{codeResponse}
 use Rattle.answers.specs.Answers.{codeAnswer}
 use Rattle.answers.proofs.calls.code_answer.Statement.{statement}
 use Rattle.answers.proofs.calls.code_answer.Tie as tie
@@ -16,11 +17,11 @@ fault-number-requires c κs = search needs
 
 returns : tie.Need-returns
 unfolding codeAnswer
-returns c = sym (ap codeAnswer (c .enum-told .given .1))
+returns c = sym (ap (λ z. codeAnswer (codeResponse z)) (c .enum-told .given .1))
 
 returns-2 : tie.Need-returns-2
 unfolding codeAnswer
-returns-2 c = c .fault-number .ensures ∙ sym (ap codeAnswer (c .before .before .c .given .1))
+returns-2 c = c .fault-number .ensures ∙ sym (ap (λ z. codeAnswer (codeResponse z)) (c .before .before .c .given .1))
 
 pub code-answer-spec : {M : Type 1} → statement M
 code-answer-spec =

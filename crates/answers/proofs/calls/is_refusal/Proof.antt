@@ -1,7 +1,8 @@
 -- Case by case. Assumes nothing.
 use mathlib.Core.Path.{sym, ap}
 use borrow.Author.Needs.{needs}
-use Rattle.answers.specs.Answers.{isRefusal}
+use Rattle.area.specs.Responses.{isTurnedDown}
+use Rattle.client_rules.specs.Answers.{answerResponse}
 use Rattle.answers.proofs.calls.is_refusal.Statement.{statement}
 use Rattle.answers.proofs.calls.is_refusal.Tie as tie
 
@@ -24,28 +25,28 @@ enum-known-a-3 : tie.Need-enum-known-a-3
 enum-known-a-3 c = search needs
 
 returns : tie.Need-returns
-unfolding isRefusal
-returns c = sym (ap isRefusal (c .before .a .given .1))
+unfolding isTurnedDown
+returns c = sym (ap (λ z. isTurnedDown (answerResponse z)) (c .before .a .given .1))
 
 returns-2 : tie.Need-returns-2
-unfolding isRefusal
-returns-2 c = sym (ap isRefusal (c .enum-told .given .1))
+unfolding isTurnedDown
+returns-2 c = sym (ap (λ z. isTurnedDown (answerResponse z)) (c .enum-told .given .1))
 
 returns-3 : tie.Need-returns-3
-unfolding isRefusal
-returns-3 c = sym (ap isRefusal (c .enum-told2 .given .1))
+unfolding isTurnedDown
+returns-3 c = sym (ap (λ z. isTurnedDown (answerResponse z)) (c .enum-told2 .given .1))
 
 returns-4 : tie.Need-returns-4
-unfolding isRefusal
-returns-4 c = sym (ap isRefusal (c .before .a2 .given .1))
+unfolding isTurnedDown
+returns-4 c = sym (ap (λ z. isTurnedDown (answerResponse z)) (c .before .a2 .given .1))
 
 returns-5 : tie.Need-returns-5
-unfolding isRefusal
-returns-5 c = sym (ap isRefusal (c .enum-told3 .given .1))
+unfolding isTurnedDown
+returns-5 c = sym (ap (λ z. isTurnedDown (answerResponse z)) (c .enum-told3 .given .1))
 
 returns-6 : tie.Need-returns-6
-unfolding isRefusal
-returns-6 c = sym (ap isRefusal (c .before .a3 .given .1))
+unfolding isTurnedDown
+returns-6 c = sym (ap (λ z. isTurnedDown (answerResponse z)) (c .before .a3 .given .1))
 
 pub is-refusal-spec : {M : Type 1} → statement M
 is-refusal-spec =

@@ -1,6 +1,7 @@
 -- Case by case. Assumes nothing.
 use mathlib.Core.Path.{sym, ap, _∙_}
 use borrow.Author.Needs.{needs}
+use Rattle.server_rules.specs.Delivery.{replyResponse}
 use Rattle.answers.specs.Answers.{serverAnswer}
 use Rattle.answers.proofs.calls.server_answer.Statement.{statement}
 use Rattle.answers.proofs.calls.server_answer.Tie as tie
@@ -22,11 +23,11 @@ cast-result c = search needs
 
 returns : tie.Need-returns
 unfolding serverAnswer
-returns c = sym (ap serverAnswer (c .before .a .given .1))
+returns c = sym (ap (λ z. serverAnswer (replyResponse z)) (c .before .a .given .1))
 
 returns-2 : tie.Need-returns-2
 unfolding serverAnswer
-returns-2 c = c .number-of .ensures ∙ sym (ap serverAnswer (c .before .before .a2 .given .1))
+returns-2 c = c .number-of .ensures ∙ sym (ap (λ z. serverAnswer (replyResponse z)) (c .before .before .a2 .given .1))
 
 pub server-answer-spec : {M : Type 1} → statement M
 server-answer-spec =

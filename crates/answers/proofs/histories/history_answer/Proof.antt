@@ -1,6 +1,7 @@
 -- Case by case. Assumes nothing.
 use mathlib.Core.Path.{sym, ap}
 use borrow.Author.Needs.{needs}
+use Rattle.order.specs.Histories.{judgeResponse}
 use Rattle.answers.specs.Answers.{historyAnswer}
 use Rattle.answers.proofs.histories.history_answer.Statement.{statement}
 use Rattle.answers.proofs.histories.history_answer.Tie as tie
@@ -34,15 +35,15 @@ cast-result c = search needs
 
 returns : tie.Need-returns
 unfolding historyAnswer
-returns c = sym (ap historyAnswer (c .before .a .given .1))
+returns c = sym (ap (λ z. historyAnswer (judgeResponse z)) (c .before .a .given .1))
 
 returns-2 : tie.Need-returns-2
 unfolding historyAnswer
-returns-2 c = sym (ap historyAnswer (c .before .a2 .given .1))
+returns-2 c = sym (ap (λ z. historyAnswer (judgeResponse z)) (c .before .a2 .given .1))
 
 returns-3 : tie.Need-returns-3
 unfolding historyAnswer
-returns-3 c = sym (ap historyAnswer (c .before .a3 .given .1))
+returns-3 c = sym (ap (λ z. historyAnswer (judgeResponse z)) (c .before .a3 .given .1))
 
 pub history-answer-spec : {M : Type 1} → statement M
 history-answer-spec =

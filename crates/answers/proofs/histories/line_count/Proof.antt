@@ -1,6 +1,7 @@
 -- Case by case. Assumes nothing.
 use mathlib.Core.Path.{sym, ap}
 use borrow.Author.Needs.{needs}
+use Rattle.order.specs.Histories.{judgeResponse}
 use Rattle.answers.specs.Answers.{lineCount}
 use Rattle.answers.proofs.histories.line_count.Statement.{statement}
 use Rattle.answers.proofs.histories.line_count.Tie as tie
@@ -16,7 +17,7 @@ enum-known-a-3 c = search needs
 
 returns : tie.Need-returns
 unfolding lineCount
-returns c = sym (ap lineCount (c .before .a .given .1))
+returns c = sym (ap (λ z. lineCount (judgeResponse z)) (c .before .a .given .1))
 
 returns-2 : tie.Need-returns-2
 unfolding lineCount

@@ -1,6 +1,7 @@
 -- Case by case. Assumes nothing.
 use mathlib.Core.Path.{sym, ap}
 use borrow.Author.Needs.{needs}
+use Rattle.history_sheet.specs.Laying.{laidResponse}
 use Rattle.answers.specs.Answers.{historyAnswer}
 use Rattle.answers.specs.Answers.{sheetAnswer}
 use Rattle.answers.proofs.histories.sheet_answer.Statement.{statement}
@@ -35,15 +36,15 @@ cast-result c = search needs
 
 returns : tie.Need-returns
 unfolding sheetAnswer historyAnswer
-returns c = sym (ap sheetAnswer (c .before .a .given .1))
+returns c = sym (ap (λ z. sheetAnswer (laidResponse z)) (c .before .a .given .1))
 
 returns-2 : tie.Need-returns-2
 unfolding sheetAnswer historyAnswer
-returns-2 c = sym (ap sheetAnswer (c .before .a2 .given .1))
+returns-2 c = sym (ap (λ z. sheetAnswer (laidResponse z)) (c .before .a2 .given .1))
 
 returns-3 : tie.Need-returns-3
 unfolding sheetAnswer historyAnswer
-returns-3 c = sym (ap sheetAnswer (c .before .a3 .given .1))
+returns-3 c = sym (ap (λ z. sheetAnswer (laidResponse z)) (c .before .a3 .given .1))
 
 pub sheet-answer-spec : {M : Type 1} → statement M
 sheet-answer-spec =

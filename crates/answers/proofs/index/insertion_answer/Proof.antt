@@ -1,5 +1,6 @@
 -- Case by case. Assumes nothing.
 use mathlib.Core.Path.{sym, ap, _∙_}
+use Rattle.accession_index.specs.Index.{insertionResponse}
 use Rattle.answers.specs.Answers.{insertionAnswer}
 use borrow.Author.Needs.{needs}
 use Rattle.answers.proofs.index.insertion_answer.Statement.{statement}
@@ -22,11 +23,11 @@ number-of-requires c κs = search needs
 
 returns : tie.Need-returns
 unfolding insertionAnswer
-returns c = sym (ap insertionAnswer (c .before .a .given .1))
+returns c = sym (ap (λ z. insertionAnswer (insertionResponse z)) (c .before .a .given .1))
 
 returns-2 : tie.Need-returns-2
 unfolding insertionAnswer
-returns-2 c = c .number-of .ensures ∙ sym (ap insertionAnswer (c .before .before .a2 .given .1))
+returns-2 c = c .number-of .ensures ∙ sym (ap (λ z. insertionAnswer (insertionResponse z)) (c .before .before .a2 .given .1))
 
 pub insertion-answer-spec : {M : Type 1} → statement M
 insertion-answer-spec =

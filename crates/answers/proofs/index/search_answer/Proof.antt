@@ -1,5 +1,6 @@
 -- Case by case. Assumes nothing.
 use mathlib.Core.Path.{sym, ap}
+use Rattle.accession_index.specs.Index.{foundPlace}
 use Rattle.answers.specs.Answers.{searchAnswer}
 use borrow.Author.Needs.{needs}
 use Rattle.answers.proofs.index.search_answer.Statement.{statement}
@@ -19,11 +20,11 @@ enum-told c = search needs
 
 returns : tie.Need-returns
 unfolding searchAnswer
-returns c = sym (ap searchAnswer (c .before .f .given .1))
+returns c = sym (ap (λ z. searchAnswer (foundPlace z)) (c .before .f .given .1))
 
 returns-2 : tie.Need-returns-2
 unfolding searchAnswer
-returns-2 c = sym (ap searchAnswer (c .enum-told .given .1))
+returns-2 c = sym (ap (λ z. searchAnswer (foundPlace z)) (c .enum-told .given .1))
 
 pub search-answer-spec : {M : Type 1} → statement M
 search-answer-spec =

@@ -2,7 +2,7 @@
 use mathlib.Core.Path.{_∙_}
 use Prim.Native.Nat.{ℕ, _+_, _≤_}
 use lib.ListN.{length, length-set}
-use Rattle.server_rules.specs.Delivery.{replyCount}
+use Rattle.server_rules.specs.Delivery.{replyResponse, replyCount}
 use Rattle.playback.specs.Stages.{sentIn}
 use Rattle.playback.proofs.Copies.{report-room, sent-asks, report-put}
 use native.Mathlib.Omega.{arith}
@@ -19,7 +19,7 @@ reply-number-requires c κs = search needs
 slice-write-out : tie.Need-slice-write-out
 slice-write-out c =
     let p = c .before .before .before .before .before .args in
-    let r = report-room (p .a) (p .frames .now) (p .to .now) (p .out .now) (p .at) (c .before .before .before .before .before .pre .3) in omega (arith, r)
+    let r = report-room (replyResponse (p .a)) (p .frames .now) (p .to .now) (p .out .now) (p .at) (c .before .before .before .before .before .pre .3) in omega (arith, r)
 
 add-write2 : tie.Need-add-write2
 add-write2 c = search needs
@@ -30,7 +30,7 @@ cast-write2 c = search needs
 write2-requires : tie.Need-write2-requires
 write2-requires c κs =
     let p = c .before .before .before .before .before .before .args in
-    let r = report-room (p .a) (p .frames .now) (p .to .now) (p .out .now) (p .at) (c .before .before .before .before .before .before .pre .3) in
+    let r = report-room (replyResponse (p .a)) (p .frames .now) (p .to .now) (p .out .now) (p .at) (c .before .before .before .before .before .before .pre .3) in
     rw length-set (omega (arith, r))
 
 add-put-sent : tie.Need-add-put-sent
@@ -41,9 +41,9 @@ put-sent-requires c κs =
     let p = c .before .before .before .before .before .before .before .before .before .before .args in
     let h = c .before .before .before .before .before .before .before .before .before .before .pre in
     let m = c .before .before .before .before .before .before .reply-count in
-    let r = report-room (p .a) (p .frames .now) (p .to .now) (p .out .now) (p .at) (h .3) in
+    let r = report-room (replyResponse (p .a)) (p .frames .now) (p .to .now) (p .out .now) (p .at) (h .3) in
     let l = c .before .before .before .write2 .kept .0 in
-    let w : p .at + 3 + length (sentIn (replyCount (p .a)) (p .frames .now) (p .to .now)) ≤ length (c .before .before .before .write2 .last .0) = rw
+    let w : p .at + 3 + length (sentIn (replyCount (replyResponse (p .a))) (p .frames .now) (p .to .now)) ≤ length (c .before .before .before .write2 .last .0) = rw
     (l, length-set) r in
     sent-asks _ _ _ _ _ _ (m .ensures) (h .0) (h .1) w
 
@@ -56,7 +56,7 @@ same-length c =
 returns : tie.Need-returns
 returns c =
     let a = c .before .before .before .before .before .before .before .before .before .before .before .before .before .args in
-    report-put (a .a) (a .frames .now) (a .to .now) (a .out .now) (a .at) _ _ _ _ _
+    report-put (replyResponse (a .a)) (a .frames .now) (a .to .now) (a .out .now) (a .at) _ _ _ _ _
     (c .before .before .before .before .before .before .before .before .reply-number .ensures)
     (c .before .before .before .before .before .before .before .before .before .reply-count .ensures)
     (c .before .before .before .before .before .before .write2 .ensures) (c .before .before .put-sent .ensures .0) (c .before .before .put-sent .ensures .1)

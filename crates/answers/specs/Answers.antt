@@ -1,5 +1,5 @@
--- What a host is answered: one number of 64 bits. Its lowest byte is 0, or the number of the refusal, 1 to 19, and then all else is 0. The byte above it says
--- what happened, and the bytes above that say how many. These are definitions.
+-- What a host is answered: one number of 64 bits. Its lowest byte is 0, or the number of the refusal, and then all else is 0. The byte above it says what
+-- happened, and the bytes above that say how many. These are definitions.
 use Prim.Native.Nat.{ℕ, _+_, _*_, _%_}
 use mathlib.Core.List.{List}
 use mathlib.Core.Option.{Option, none, some}

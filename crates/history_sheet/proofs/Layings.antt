@@ -22,8 +22,7 @@ use Rattle.order.specs.declared.judge.Answer.the-variants as O
 use Rattle.order.specs.declared.judge.Verdict.{Verdict}
 use Rattle.order.proofs.Picks.{pick-yes, pick-no}
 use Rattle.order.proofs.Less.{true-false}
-use Rattle.order.proofs.Inserts.{noEntry}
-use Rattle.order.proofs.Rows.{row-length}
+use Rattle.order.proofs.Rows.{noEntry, row-length}
 use Rattle.order.proofs.Arranged.{theRow, size, stands, row-is-row}
 use Rattle.order.proofs.Answers.{isOrder, first}
 use Rattle.history_row.specs.Rows.{none, added, addedAll}

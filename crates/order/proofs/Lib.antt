@@ -1,13 +1,13 @@
 pub mod Picks
 pub mod Less
 pub mod Lists
-pub mod Searches
-pub mod Inserts
-pub mod Judges
+pub mod Turns
 pub mod Rows
 pub mod StampLaws
 pub mod Callers
 pub mod Accepts
 pub mod Arranged
+pub mod Ranks
+pub mod Stages
 pub mod Theorems
 pub mod Answers

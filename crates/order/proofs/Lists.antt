@@ -60,11 +60,11 @@ none-passes f l i d e h =
 
 -- ---- counting
 
-count-hit : {A : Type 0} (f : A → Bool) (x : A) (l : List A) → f x ≡ true → count f (x ∷ l) ≡ 1 + count f l
+pub count-hit : {A : Type 0} (f : A → Bool) (x : A) (l : List A) → f x ≡ true → count f (x ∷ l) ≡ 1 + count f l
 unfolding count pick
 count-hit f x l e = rw e
 
-count-miss : {A : Type 0} (f : A → Bool) (x : A) (l : List A) → f x ≡ false → count f (x ∷ l) ≡ 0 + count f l
+pub count-miss : {A : Type 0} (f : A → Bool) (x : A) (l : List A) → f x ≡ false → count f (x ∷ l) ≡ 0 + count f l
 unfolding count pick
 count-miss f x l e = rw e
 

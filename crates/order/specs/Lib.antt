@@ -1,4 +1,5 @@
 pub mod Operations
 pub mod Histories
+pub mod Stages
 pub mod Callers
 pub mod Orders

@@ -1,5 +1,5 @@
-// Histories of a register, document 01 "Histories": whether all operations of a history can stand in one row, and in which.
+// Histories of a register, document 01 "Histories": whether all operations of a history can stand in one row, and in which. Operations are taken by
+// value here; `history_row` walks the slice that holds them.
 pub mod judge;
 pub mod operation;
 pub mod search;
-pub mod sort;

@@ -1,4 +1,4 @@
--- Operations added one after the other: the turns of the walk over the slice, and what the walk gives. Assumes nothing.
+-- Operations added one after the other to a history by value, and the answer for it. Assumes nothing.
 use mathlib.Core.Path.{_≡_, refl, sym, ap, _∙_}
 use mathlib.Core.List.{List, [], _∷_, _++_, append-assoc, append-nil}
 use Prim.Native.Nat.{ℕ, zero, suc, _+_, _<_, _≤_}
@@ -9,31 +9,17 @@ use lib.ListN.{length, getD, take, set, length-append, length-set}
 use lib.Seq.{take-all, take-suc-set, length-take-le}
 use borrow.Author.Tests.{ltb-true, ltb-false, lt-ltb, le-ltb, lt-leb, le-leb}
 use Rattle.area.specs.Area.{pick}
-use Rattle.order.specs.Histories.{noOperation, refused, judged}
+use Rattle.order.specs.Histories.{Judgement, refused, judged}
 use Rattle.order.proofs.Lists.{by-test}
 use Rattle.order.specs.declared.operation.Operation.{Operation}
-use Rattle.history_row.specs.Rows.{none, added, addedAll, verdictOf}
+use Rattle.history_row.specs.Rows.{none, added, addedAll}
 use Rattle.history_row.specs.declared.History.{History}
 
--- what is added after none of the operations, after one more, and after all
-pub added-none : (ops : List Operation) (h : History) → h ≡ addedAll h (take 0 ops)
-unfolding addedAll
-added-none ops h = refl
+-- the answer for a history by value
+unfoldable pub verdictOf : History → Judgement
+verdictOf h = pick (ltb 64 (h .count)) (refused 18) (judged (take (h .count) (h .rows)))
 
-next : (ops : List Operation) (h : History) (i : ℕ) → i < length ops → addedAll h (take (suc i) ops) ≡ added (addedAll h (take i ops)) (getD ops i noOperation)
-unfolding addedAll
-next [] h i l = absurd (omega arith)
-next (a ∷ ops) h zero l = refl
-next (a ∷ ops) h (suc i) l = next ops (added h a) i (omega arith)
-
-pub added-next : (ops : List Operation) (h acc : History) (a : Operation) (i : ℕ) → i < length ops → acc ≡ addedAll h (take i ops) → a ≡ getD ops i noOperation
-    → added acc a ≡ addedAll h (take (i + 1) ops)
-added-next ops h acc a i l p q = rw (p, q, add-one i) (sym (next ops h i l))
-
-pub added-whole : (ops : List Operation) (h acc : History) (i : ℕ) → length ops ≤ i → acc ≡ addedAll h (take i ops) → acc ≡ addedAll h ops
-added-whole ops h acc i l p = p ∙ ap (addedAll h) (take-all i ops l)
-
--- ---- what the walk gives is what is judged
+-- ---- what is gathered is what is judged
 
 pub added-fits : (h : History) (a : Operation) → h .count < 64 → added h a ≡ record { rows = set (h .rows) (h .count) a; count = h .count + 1 }
 unfolding added pick
@@ -86,7 +72,7 @@ verdict-added h (a ∷ ops) e l =
     ∙ verdict-over (record { rows = h .rows; count = 65 }) ops (omega arith)
     ∙ sym (judged-over (take (h .count) (h .rows) ++ a ∷ ops) (omega arith)))
 
--- the walk from no operations on, and the answer
+-- from no operations on
 pub verdict-row : (ops : List Operation) → verdictOf (addedAll none ops) ≡ judged ops
 unfolding none
 verdict-row ops = verdict-added none ops refl (omega arith)

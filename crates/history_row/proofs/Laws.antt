@@ -9,15 +9,11 @@ use lib.ListN.{length, getD, take, set, length-append, length-set}
 use lib.Seq.{take-all, take-suc-set, length-take-le}
 use borrow.Author.Tests.{ltb-true, ltb-false, lt-ltb, le-ltb, lt-leb, le-leb}
 use Rattle.area.specs.Area.{pick}
-use Rattle.order.specs.Histories.{Judgement, refused, judged}
+use Rattle.order.specs.Histories.{refused, judged}
 use Rattle.order.proofs.Lists.{by-test}
 use Rattle.order.specs.declared.operation.Operation.{Operation}
-use Rattle.history_row.specs.Rows.{none, added, addedAll}
+use Rattle.history_row.specs.Rows.{none, added, addedAll, verdictOf}
 use Rattle.history_row.specs.declared.History.{History}
-
--- the answer for a history by value
-unfoldable pub verdictOf : History → Judgement
-verdictOf h = pick (ltb 64 (h .count)) (refused 18) (judged (take (h .count) (h .rows)))
 
 -- ---- what is gathered is what is judged
 

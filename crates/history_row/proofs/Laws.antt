@@ -1,12 +1,12 @@
 -- Operations added one after the other to a history by value, and the answer for it. Assumes nothing.
 use mathlib.Core.Path.{_≡_, refl, sym, ap, _∙_}
 use mathlib.Core.List.{List, [], _∷_, _++_, append-assoc, append-nil}
-use Prim.Native.Nat.{ℕ, zero, suc, _+_, _<_, _≤_}
+use Prim.Native.Nat.{suc, _+_, _<_, _≤_}
 use native.Mathlib.Numerals.{add-one}
 use native.Mathlib.Omega.{arith}
 use lib.Dec.{ltb}
-use lib.ListN.{length, getD, take, set, length-append, length-set}
-use lib.Seq.{take-all, take-suc-set, length-take-le}
+use lib.ListN.{length, take, set, length-append, length-set}
+use lib.Seq.{take-suc-set, length-take-le}
 use borrow.Author.Tests.{ltb-true, ltb-false, lt-ltb, le-ltb, lt-leb, le-leb}
 use Rattle.area.specs.Area.{pick}
 use Rattle.order.specs.Histories.{refused, judged}

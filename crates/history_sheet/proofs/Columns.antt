@@ -25,7 +25,7 @@ value-one : (n c : ℕ) → valueFrom n (c ∷ []) ≡ n * 10 + (c - 48)
 unfolding valueFrom
 value-one n c = refl
 
--- the last digit behind those of the tenth
+-- the last digit after those of the tenth
 pub decimal-more : (n : ℕ) → 10 ≤ n → n < 10 ^ 20 → decimal n ≡ decimal (n / 10) ++ ((n % 10 + 48) ∷ [])
 decimal-more n g h =
     let c = n % 10 + 48 in
@@ -66,7 +66,7 @@ aligned-snoc w t c =
 
 -- ---- the stores of `put_number`
 
--- a store behind others does not wait for them
+-- a store after others does not wait for them
 sets-behind : (d : List ℕ) (j c i : ℕ) (vs : List ℕ) → i + length vs ≤ j → sets (set d j c) i vs ≡ set (sets d i vs) j c
 sets-behind d j c i [] h = refl
 sets-behind d j c i (v ∷ vs) h =
@@ -106,7 +106,7 @@ first-put d at k x h =
     ∙ sym (sets-snoc d at (replicate k 32) (x + 48))
     ∙ ap (sets d at) (ap (λ l. l ++ ((x + 48) ∷ [])) (sym (aligned-none k)) ∙ sym (aligned-snoc k [] (x + 48)) ∙ ap (aligned (suc k)) (sym (decimal-one x h)))
 
--- the first digit, behind spaces
+-- the first digit, after spaces
 pub first-turn : (d : List ℕ) (at k x : ℕ) → 1 ≤ k → x < 10
     → set (sets d at (replicate (k - 1) 32)) (at + (k - 1)) (x + 48) ≡ sets d at (aligned k (decimal x))
 first-turn d at zero x p h = absurd (omega arith)

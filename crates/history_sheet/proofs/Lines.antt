@@ -59,7 +59,7 @@ module _ (a : Operation) (h : InWidth a) where
   unfolding widths
   caller-fits = client-fits (a .caller) (h .1 .1 .1 .1 .1 .0)
 
-  -- ---- the fields, each with a space behind it
+  -- ---- the fields, each with a space after it
 
   abbrev front : ℕ → List (List ℕ)
   front place = aligned 3 (decimal place) ∷ kindOf a ∷ aligned 10 (decimal (a .start)) ∷ aligned 10 (decimal (a .end)) ∷ []

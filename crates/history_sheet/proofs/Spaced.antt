@@ -1,4 +1,4 @@
--- Pieces with a space behind each, stored one after the other, and as a line that is filled with spaces. Assumes nothing.
+-- Pieces with a space after each, stored one after the other, and as a line that is filled with spaces. Assumes nothing.
 use mathlib.Core.Path.{_≡_, refl, sym, ap, _∙_}
 use mathlib.Core.List.{List, [], _∷_, _++_, append-assoc}
 use Prim.Native.Nat.{ℕ, suc, _+_, _-_, _<_, _≤_}
@@ -12,11 +12,11 @@ use Rattle.history_sheet.specs.Stages.{spaced}
 
 -- ---- stores one after the other
 
--- a byte behind what is stored
+-- a byte after what is stored
 pub put-last : (d : List ℕ) (at w : ℕ) (vs : List ℕ) (c : ℕ) → length vs ≡ w → set (sets d at vs) (at + w) c ≡ sets d at (vs ++ (c ∷ []))
 put-last d at w vs c e = ap (λ i. set (sets d at vs) (at + i) c) (sym e) ∙ sym (sets-snoc d at vs c)
 
--- a list behind what is stored
+-- a list after what is stored
 pub put-next : (d : List ℕ) (at w : ℕ) (a b : List ℕ) {x y : List ℕ} → x ≡ sets d at a → length a ≡ w → y ≡ sets x (at + w) b → y ≡ sets d at (a ++ b)
 put-next d at w a b p e q = q ∙ ap (λ l. sets l (at + w) b) p ∙ sets-next d at a b w e
 

@@ -1,5 +1,5 @@
 -- What is proved of sheets (specs/Board.antt): their size and newlines, that each line reads back, that a sheet determines the row, and that each operation
--- stands on it once. Assumes nothing.
+-- is on it once. Assumes nothing.
 use mathlib.Core.Path.{_≡_, refl, sym, ap, _∙_}
 use mathlib.Core.List.{List, [], _∷_}
 use Prim.Native.Nat.{ℕ, _+_, _-_, _*_, _/_, _%_, _<_, _≤_}

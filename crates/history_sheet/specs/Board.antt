@@ -1,4 +1,4 @@
--- A sheet read again, as who stands before the board does: a line's fields are cut at their columns. And what is proved of sheets (`Theorem`; its proof is in
+-- A sheet read again, as a reader of the board does: a line's fields are cut at their columns. And what is proved of sheets (`Theorem`; its proof is in
 -- proofs/Theorem.antt). Assumes nothing: these are definitions and statements.
 use mathlib.Core.Path.{_≡_}
 use Prim.Native.Nat.{ℕ, _+_, _*_, _/_, _%_, _<_, _≤_}
@@ -55,7 +55,7 @@ pub record Fits (row : List Operation) : Type 0 where
   pub widths : (i : ℕ) → i < length row → InWidth (getD row i noOperation)
 
 pub record Theorem : Type 0 where
-  -- a sheet has 60 lines of 73 bytes for each page, and a newline behind every 72
+  -- a sheet has 60 lines of 73 bytes for each page, and a newline after every 72
   pub size : (row : List Operation) → Fits row → length (sheetOf row) ≡ pagesOf (length row) * pageSize
   pub newlines : (row : List Operation) → Fits row → (r : ℕ) → r < pagesOf (length row) * 60 → getD (sheetOf row) (73 * r + 72) 0 ≡ 10
   -- line 60 of each page holds its number, right-aligned
@@ -67,7 +67,7 @@ pub record Theorem : Type 0 where
       × (operationOf (fieldsIn (lineOn (sheetOf row) (lineFor i))) ≡ getD row i noOperation)
   -- so a sheet determines the row
   pub determines : (a b : List Operation) → Fits a → Fits b → sheetOf a ≡ sheetOf b → a ≡ b
-  -- each operation of a history stands on its sheet once: every line number has one place, and the place's line says the operation of that line
+  -- each operation of a history is on its sheet once: every line number has one place, and the place's line says the operation of that line
   pub once : (ops : List Operation) → AllInWidth ops → length ops ≤ 64
       → (row : List ℕ) × Row ops row
       × ((p : ℕ) → p < length row → operationOf (fieldsIn (lineOn (sheetOf (inOrder ops)) (lineFor p))) ≡ inPlace ops row p)

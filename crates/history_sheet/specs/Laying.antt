@@ -14,7 +14,7 @@ use Rattle.history_sheet.specs.Sheet.{pageSize, pagesOf, sheetOf}
 use Rattle.history_sheet.specs.declared.Laid.{Laid}
 use Rattle.history_sheet.specs.declared.Laid.the-variants as L
 
--- what a history that is not refused gives: so many pages, or an offending pair by the line numbers of its earlier and of its later operation
+-- what a history that is not refused gives: how many pages, or an offending pair by the line numbers of its earlier and of its later operation
 pub data SheetResult : Type 0 where
   pagesLaid : ℕ → SheetResult
   unordered : ℕ → ℕ → SheetResult
@@ -36,7 +36,7 @@ outcome x out = record { answer = x; out = out }
 unfoldable pub inOrder : List Operation → List Operation
 inOrder ops = map (λ e. e .operation) (rowOf ops)
 
--- operations that stand in a row: their pages from the front of the area on, and what is behind them as lent; 10, "lent area short"
+-- operations in a row: their pages from the front of the area on, and what follows them as lent; 10, "lent area short"
 unfoldable pub laidOut : List Operation → List ℕ → Outcome
 laidOut row out =
     pick (ltb (length out) (pagesOf (length row) * pageSize)) (outcome (turnedDown 10) out)

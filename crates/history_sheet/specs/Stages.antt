@@ -1,4 +1,4 @@
--- Stages of the code that lays a sheet: pieces with a space behind each, and the operations that line numbers name. What a sheet is, says Sheet.antt.
+-- Stages of the code that lays a sheet: pieces with a space after each, and the operations that line numbers name. What a sheet is, says Sheet.antt.
 -- Assumes nothing: these are definitions.
 use Prim.Native.Nat.{ℕ, _-_, _<_, _≤_}
 use mathlib.Core.List.{List, [], _∷_, _++_}
@@ -8,7 +8,7 @@ use Rattle.order.specs.Histories.{noOperation}
 use Rattle.order.specs.declared.operation.Operation.{Operation}
 use Rattle.history_text.specs.Printed.{InWidth}
 
--- pieces, each with a space behind it
+-- pieces, each with a space after it
 unfoldable pub spaced : List (List ℕ) → List ℕ
 spaced [] = []
 spaced (piece ∷ pieces) = piece ++ 32 ∷ spaced pieces

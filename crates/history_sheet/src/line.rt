@@ -25,7 +25,7 @@ fn kind(write: bool) -> u8
     82
 }
 
-// The kind and a space behind it.
+// The kind and a space after it.
 fn put_kind(out: &mut [u8], at: usize, write: bool)
     requires { ⌜ at + 2 ≤ length (now out) ⌝ }
     ensures { λ _. ⌜ now (out .exit) ≡ sets (now (out .entry)) at (pick write 87 82 ∷ 32 ∷ []) ⌝ }

@@ -63,7 +63,7 @@ digit-value c e =
     let h = ltb-false 9 (pick (ltb c 48) 10 (pick (ltb 57 c) 10 (c - 48))) e in absurd (omega arith))
     (λ u. (is-digit c (ltb-false c 48 t) (ltb-false 57 c u), sym (pick-no _ _ _ refl t (pick-no _ _ _ refl u refl)))))
 
--- digits that were read behind some that make v: they stand at the front of the text
+-- digits that were read after some that make v: they are at the front of the text
 record Behind (limit v u : ℕ) (text : List ℕ) (w n : ℕ) : Type 0 where
   pub field : List ℕ
   pub rest : List ℕ
@@ -171,7 +171,7 @@ number-says limit (c ∷ text) =
     (digits-say limit (0 * 10 + digitOf c) (0 + 1) text))
     (λ l. tt))))))
 
--- ---- a number and the byte behind it
+-- ---- a number and the byte after it
 
 abbrev SaysField : ℕ → ℕ → List ℕ → Field → Type 0
 SaysField limit end text (Number w n) = (w ≤ limit) × (text ≡ shown w end ++ drop n text)

@@ -171,7 +171,7 @@ value-decimal n h = value-of 20 n h
 
 -- ---- plain digits are those of their value
 
--- a digit behind a number's digits
+-- a digit after a number's digits
 decimal-next : (n c : ℕ) → 1 ≤ n → Digit c → n * 10 + (c - 48) < 10 ^ 20 → decimal (n * 10 + (c - 48)) ≡ decimal n ++ (c ∷ [])
 unfolding decimal
 decimal-next n c g d h =

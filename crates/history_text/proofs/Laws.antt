@@ -95,7 +95,7 @@ pub then-bad : {A : Type 0} (f : Field) (bad : A) (g : ℕ → ℕ → A) {r : F
 unfolding thenNumber
 then-bad f bad g e t = ap (λ x. thenNumber x bad g) (sym t ∙ e)
 
--- ---- a number and the byte behind it
+-- ---- a number and the byte after it
 
 pub field-bad : (limit end : ℕ) (text : List ℕ) {r : Field} → r ≡ numberOf limit text → r ≡ Bad → Bad ≡ fieldOf limit end text
 unfolding fieldOf

@@ -77,7 +77,7 @@ digits-read (suc k) n limit u t h l =
     ∙ digit-read limit (n / 10) (u + length (decimalOf k (n / 10))) (n % 10) t r m
     ∙ ap₂ (λ x y. digitsOf limit x y t) v o)
 
--- ---- a number, and a number with the byte behind it
+-- ---- a number, and a number with the byte after it
 
 number-read : (n limit c : ℕ) (t : List ℕ) → n ≤ limit → limit ≤ 18446744073709551615 → 9 < digitOf c
     → numberOf limit (decimal n ++ c ∷ t) ≡ Number n (length (decimal n))
@@ -124,7 +124,7 @@ newline : 9 < digitOf 10
 unfolding digitOf pick
 newline = lit< tt
 
--- ---- the parts of a line, and what stands behind them
+-- ---- the parts of a line, and what follows them
 
 behind-two : (f g t : List ℕ) → drop (length f + length g) (f ++ (g ++ t)) ≡ t
 behind-two f g t =

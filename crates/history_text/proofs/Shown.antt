@@ -9,7 +9,7 @@ use Rattle.order.specs.declared.operation.Operation.{Operation}
 use Rattle.history_text.specs.Decimals.{decimal}
 use Rattle.history_text.specs.Printed.{join, kindOf, fieldsOf, printed}
 
--- a number and the byte behind it
+-- a number and the byte after it
 unfoldable pub shown : ℕ → ℕ → List ℕ
 shown n end = decimal n ++ (end ∷ [])
 

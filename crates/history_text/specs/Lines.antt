@@ -70,7 +70,7 @@ unfoldable pub recordThen : Operation → Lines → Lines
 recordThen a (Records ops) = Records (a ∷ ops)
 recordThen a Malformed = Malformed
 
--- "a newline after": behind the last newline there is nothing
+-- "a newline after": after the last newline there is nothing
 unfoldable pub recordsOf : List (List ℕ) → Lines
 recordsOf [] = Malformed
 recordsOf (rest ∷ []) = pick (same rest []) (Records []) Malformed

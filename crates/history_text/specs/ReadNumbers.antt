@@ -29,7 +29,7 @@ unfoldable pub thenNumber : {A : Type 0} → Field → A → (ℕ → ℕ → A)
 thenNumber (Number value used) bad f = f value used
 thenNumber Bad bad f = bad
 
--- a number and the byte behind it, a space or a newline
+-- a number and the byte after it, a space or a newline
 unfoldable pub fieldOf : ℕ → ℕ → List ℕ → Field
 fieldOf limit end text = thenNumber (numberOf limit text) Bad (λ value used. pick (eqb (getD text used 0) end) (Number value (used + 1)) Bad)
 

@@ -38,7 +38,7 @@ fn kind(c: u8) -> u8
     2
 }
 
-// Start and end, each with a space behind it.
+// Start and end, each with a space after it.
 fn read_interval(s: &[u8], at: usize) -> Interval
     requires { ⌜ at ≤ length (now s) ⌝ }
     ensures { λ r. ⌜ (r ≡ intervalOf (drop at (now (s .entry)))) × WithinInterval (length (now (s .entry)) - at) r ⌝ }
@@ -54,7 +54,7 @@ fn read_interval(s: &[u8], at: usize) -> Interval
     Interval::Times(start as u32, end as u32, a + b)
 }
 
-// Time, writer and sequence, each with a space behind it.
+// Time, writer and sequence, each with a space after it.
 fn read_stamp(s: &[u8], at: usize) -> Stamp
     requires { ⌜ at ≤ length (now s) ⌝ }
     ensures { λ r. ⌜ (r ≡ stampOf (drop at (now (s .entry)))) × WithinStamp (length (now (s .entry)) - at) r ⌝ }
@@ -74,7 +74,7 @@ fn read_stamp(s: &[u8], at: usize) -> Stamp
     Stamp::Parts(time, writer as u8, sequence as u32, a + b + d)
 }
 
-// The operation whose line starts at index at; its caller has a newline behind it.
+// The operation whose line starts at index at; its caller has a newline after it.
 pub fn read_line(s: &[u8], at: usize) -> Line
     requires { ⌜ at ≤ length (now s) ⌝ }
     ensures { λ r. ⌜ (r ≡ operationOf (drop at (now (s .entry)))) × WithinLine (length (now (s .entry)) - at) r ⌝ }

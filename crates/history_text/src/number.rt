@@ -24,7 +24,7 @@ fn digit(c: u8) -> u64
     (c - 48) as u64
 }
 
-// Whether value with the digit d behind it is at most limit.
+// Whether value with the digit d after it is at most limit.
 fn fits(value: u64, d: u64, limit: u64) -> bool
     requires { ⌜ d < 10 ⌝ }
     ensures { λ r. ⌜ r ≡ leb (value * 10 + d) limit ⌝ }
@@ -79,7 +79,7 @@ fn read_number(s: &[u8], at: usize, limit: u64) -> Field
     read_digits(s, at, limit)
 }
 
-// The number from index at on, with the byte end behind it.
+// The number from index at on, with the byte end after it.
 pub fn read_field(s: &[u8], at: usize, limit: u64, end: u8) -> Field
     requires { ⌜ (at ≤ length (now s)) × (0 < end) ⌝ }
     ensures { λ r. ⌜ (r ≡ fieldOf limit end (drop at (now (s .entry)))) × WithinField limit (length (now (s .entry)) - at) r ⌝ }

@@ -30,7 +30,7 @@ module _ (ops : List Operation) (A : Accepted ops) where
   unfolding malformed
   starts i h = leb-false _ _ (pick-not _ _ _ _ (λ q. false-true (sym q)) (formed i h) .0)
 
-  -- two writes of one stamp stand in one line
+  -- two writes of one stamp are in one line
   pub one-write : (i j : ℕ) → i < j → j < length ops → at ops i .write ≡ true → at ops j .write ≡ true → stamp (at ops i) ≡ stamp (at ops j) → ⊥
   unfolding malformed writings writes
   one-write i j h g w v e =
@@ -61,7 +61,7 @@ module _ (ops : List Operation) (A : Accepted ops) where
   -- ---- a history with an order has no offending pair
 
   module _ (row : List ℕ) (O : Order ops row) where
-    -- a line has a place in the row, where the operation of that line stands
+    -- a line has a place in the row, and the operation at that place is the one in that line
     found : (l : ℕ) → Line ops l → (p : ℕ) × (p < length row) × (inPlace ops row p ≡ inLine ops l)
     found l h = let w = O .whole .places l h in (w .0, w .1, ap (inLine ops) (w .2))
 

@@ -33,7 +33,7 @@ place-le f (x ∷ l) =
     (λ t. let e = place-hit f x l t in omega arith)
     (λ t. let e = place-miss f x l t in let r = place-le f l in omega arith)
 
--- an element that passes stands no earlier than the first that does
+-- an element that passes is no earlier than the first that does
 pub place-first : {A : Type 0} (f : A → Bool) (l : List A) (i : ℕ) (d : A) → i < length l → f (getD l i d) ≡ true → place f l ≤ i
 place-first f [] i d h p = absurd (not-suc-le-zero h)
 place-first f (x ∷ l) zero d h p = let e = place-hit f x l p in omega arith

@@ -1,10 +1,10 @@
 // A line of the script, read byte by byte: up to six fields with one space between, and the bytes that its last field spells.
-use case_text::field::Field;
-use case_text::field::field_with;
-use case_text::field::is_bytes;
-use case_text::field::is_number;
-use case_text::field::no_field;
-use case_text::field::store;
+use case_text::fields::Field;
+use case_text::fields::field_with;
+use case_text::fields::is_bytes;
+use case_text::fields::is_number;
+use case_text::fields::no_field;
+use case_text::fields::store;
 
 // The words of the script, by number; 0 stands for any other.
 pub const HALL: u8 = 1;

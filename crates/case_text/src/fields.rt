@@ -1,5 +1,6 @@
 // A field of a line, read byte by byte, so that it may be of any length.
 use crate::text::digit;
+ghost use Prim.Native.Nat.{_≤_};
 
 // How many bytes it has, 9 standing for more than 8; the last eight of them as one number; its value as a decimal number, whether it is one, without leading
 // zeros, and whether that is too large, 2^64 or more; whether it is hexadecimal, and the digit that waits for its second.
@@ -103,6 +104,19 @@ pub fn is_number(f: Field) -> bool {
         return false;
     }
     f.decimal
+}
+
+// A field's value as a decimal number, 1000 standing for more: larger than any number of parties or length of a value.
+pub fn capped(f: Field) -> usize
+    ensures { λ r. ⌜ r ≤ 1000 ⌝ }
+{
+    if f.large {
+        return 1000;
+    }
+    if 1000 < f.number {
+        return 1000;
+    }
+    f.number as usize
 }
 
 // Whether a field spells bytes: two digits each, or `-` for none.

@@ -1,18 +1,19 @@
-//! Random lines, many of them damaged, through the proved programs hall, accession and decode and through the second implementation. The programs are taken
-//! from target/bin, where `rt check hall accession decode` puts them. A failure prints the line and the seed; SEMDUOLI_SEED=SEED tries that input alone, and
+//! Random lines, many of them damaged, through the proved programs and through the second implementation. The programs are taken from target/bin, where
+//! `rt check hall accession decode history sheet` puts them. A failure prints the line and the seed; SEMDUOLI_SEED=SEED tries that input alone, and
 //! SEMDUOLI_FACTOR=N tries N times as many from SEMDUOLI_SEED on.
 
 use register::blocks::encoded;
 use register::random::Random;
 use register::Params;
 use std::collections::BTreeSet;
-use std::io::Write;
+use std::io::{ErrorKind, Write};
 use std::path::{Path, PathBuf};
 use std::process::{Command, Stdio};
 
-/// Inputs of one program, and lines of one input.
+/// Inputs of a program that answers each line, and lines of one of them; inputs of a program that answers the whole of them.
 const INPUTS: u64 = 12;
 const LINES: usize = 150;
+const HISTORIES: u64 = 200;
 
 fn at(path: &str) -> PathBuf {
     Path::new(env!("CARGO_MANIFEST_DIR")).join("../..").join(path)
@@ -29,7 +30,11 @@ fn proved(name: &str, input: &[u8]) -> Vec<u8> {
     let mut child = Command::new(path).stdin(Stdio::piped()).stdout(Stdio::piped()).spawn().unwrap();
     let mut to = child.stdin.take().unwrap();
     std::thread::scope(|scope| {
-        scope.spawn(move || to.write_all(input).unwrap());
+        // A program may answer without reading on.
+        scope.spawn(move || match to.write_all(input) {
+            Err(error) if error.kind() == ErrorKind::BrokenPipe => (),
+            written => written.unwrap(),
+        });
         child.wait_with_output().unwrap().stdout
     })
 }
@@ -147,45 +152,69 @@ fn accession_line(random: &mut Random) -> Vec<u8> {
     }
 }
 
+/// A line of a history: of few clients, times and stamps, so that lines are about the same ones.
+fn history_line(random: &mut Random, i: usize) -> Vec<u8> {
+    let start = random.range(3 * i, 3 * i + 6);
+    let end = start + random.range(1, 9);
+    let time = if random.chance(1, 16) { random.below(5) } else { i / 2 + 1 };
+    let (kind, caller) = (if i.is_multiple_of(2) { 'W' } else { 'R' }, random.below(9));
+    format!("{kind} {start} {end} {time} 1 1 {caller}").into_bytes()
+}
+
 type Run = fn(&[u8]) -> Vec<u8>;
 
-/// Inputs of lines, a third of them damaged: both answer the same, and every answer of the list is among theirs.
-fn compare(name: &str, run: Run, answers: &[&str], lines: &dyn Fn(&mut Random) -> Vec<Vec<u8>>) {
+/// How a program is compared: how many inputs, of which one line in so many is damaged, and answers that must be among the program's.
+struct Plan<'a> {
+    name: &'a str,
+    run: Run,
+    inputs: u64,
+    damaged: usize,
+    answers: &'a [&'a str],
+}
+
+/// The lines as one input, some of them damaged, the last one now and then without its newline.
+fn some_input(random: &mut Random, damaged_in: usize, lines: Vec<Vec<u8>>) -> Vec<u8> {
+    let mut input = Vec::new();
+    for line in lines {
+        let line = if random.chance(1, damaged_in) { damaged(random, &line) } else { line };
+        input.extend(line.into_iter().filter(|&c| c != b'\n'));
+        input.push(b'\n');
+    }
+    if random.chance(1, 8) {
+        input.pop();
+    }
+    input
+}
+
+/// Both answer every input the same, and every answer of the plan's list is among theirs.
+fn compare(plan: &Plan, lines: &dyn Fn(&mut Random) -> Vec<Vec<u8>>) {
     let seed = variable("SEMDUOLI_SEED");
-    let count =
-        variable("SEMDUOLI_FACTOR").map_or(if seed.is_some() { 1 } else { INPUTS }, |factor| factor * INPUTS);
+    let usual = if seed.is_some() { 1 } else { plan.inputs };
+    let count = variable("SEMDUOLI_FACTOR").map_or(usual, |factor| factor * plan.inputs);
     let first = seed.unwrap_or(1);
     let mut seen = BTreeSet::new();
     for seed in first..first + count {
-        let mut random = Random::new(seed);
-        let mut input = Vec::new();
-        for line in lines(&mut random) {
-            let line = if random.chance(1, 3) { damaged(&mut random, &line) } else { line };
-            input.extend(line.into_iter().filter(|&c| c != b'\n'));
-            input.push(b'\n');
-        }
-        if random.chance(1, 2) {
-            input.pop();
-        }
-        let (expected, given) = (run(&input), proved(name, &input));
+        let random = &mut Random::new(seed);
+        let drawn = lines(random);
+        let input = some_input(random, plan.damaged, drawn);
+        let (expected, given) = ((plan.run)(&input), proved(plan.name, &input));
         if expected != given {
-            differ(name, seed, &input, &expected, &given, run);
+            differ(plan, seed, &input, &expected, &given);
         }
         let text = String::from_utf8_lossy(&given).into_owned();
         seen.extend(text.lines().map(|line| match line.strip_prefix("refused ") {
             Some(_) => line.to_string(),
-            None => line.split(' ').next().unwrap_or("").to_string(),
+            None => line.split_whitespace().next().unwrap_or("").to_string(),
         }));
     }
-    if count >= INPUTS {
-        for answer in answers {
-            assert!(seen.contains(*answer), "no line of {name} was answered {answer}");
-        }
+    for answer in plan.answers.iter().filter(|_| count >= plan.inputs) {
+        assert!(seen.contains(*answer), "nothing of {} was answered {answer}", plan.name);
     }
 }
 
 /// Says at which line the answers begin to differ.
-fn differ(name: &str, seed: u64, input: &[u8], expected: &[u8], given: &[u8], run: Run) {
+fn differ(plan: &Plan, seed: u64, input: &[u8], expected: &[u8], given: &[u8]) {
+    let (name, run) = (plan.name, plan.run);
     let same = expected.iter().zip(given).take_while(|(a, b)| a == b).count();
     let mut start = 0;
     let line = input.split_inclusive(|&c| c == b'\n').find(|line| {
@@ -207,31 +236,69 @@ fn answered(run: impl Fn(&mut &[u8], &mut Vec<u8>) -> std::io::Result<()>, input
 
 #[test]
 fn decode() {
-    let run: Run = |input| answered(|from, to| hall::decode::run(from, to), input);
     let refused = ["refused 1", "refused 2", "refused 3", "refused 9", "refused 10", "refused 21"];
-    compare("decode", run, &[&["value", "what?"][..], &refused].concat(), &|random| {
-        (0..LINES).map(|_| decode_line(random)).collect()
-    });
+    let plan = Plan {
+        name: "decode",
+        run: |input| answered(|from, to| hall::decode::run(from, to), input),
+        inputs: INPUTS,
+        damaged: 3,
+        answers: &[&["value", "what?"][..], &refused].concat(),
+    };
+    compare(&plan, &|random| (0..LINES).map(|_| decode_line(random)).collect());
 }
 
 #[test]
 fn accession() {
-    let run: Run = |input| answered(|from, to| hall::accession::run(from, to), input);
-    compare("accession", run, &["place", "none", "index", "what?", "refused 25", "refused 26"], &|random| {
-        (0..LINES).map(|_| accession_line(random)).collect()
-    });
+    let plan = Plan {
+        name: "accession",
+        run: |input| answered(|from, to| hall::accession::run(from, to), input),
+        inputs: INPUTS,
+        damaged: 3,
+        answers: &["place", "none", "index", "what?", "refused 25", "refused 26"],
+    };
+    compare(&plan, &|random| (0..LINES).map(|_| accession_line(random)).collect());
 }
 
 /// The lines of the script that README shows, some of them left out.
 #[test]
 fn hall_script() {
-    let run: Run = |input| answered(|from, to| hall::run(from, to), input);
     let script = std::fs::read(at("crates/hall/stdin")).unwrap();
     let lines: Vec<Vec<u8>> = script.split(|&c| c == b'\n').map(<[u8]>::to_vec).collect();
-    compare(
-        "hall",
-        run,
-        &["ready", "step", ">", "what?", "refused 4", "refused 6", "refused 12"],
-        &|random| lines.iter().filter(|_| random.chance(15, 16)).cloned().collect(),
-    );
+    let plan = Plan {
+        name: "hall",
+        run: |input| answered(|from, to| hall::run(from, to), input),
+        inputs: INPUTS,
+        damaged: 3,
+        answers: &["ready", "step", ">", "what?", "refused 4", "refused 6", "refused 12"],
+    };
+    compare(&plan, &|random| lines.iter().filter(|_| random.chance(15, 16)).cloned().collect());
+}
+
+fn history_lines(random: &mut Random) -> Vec<Vec<u8>> {
+    let count = random.pick(&[1, 2, 3, 5, 8, 20, 64, 65]);
+    (0..count).map(|i| history_line(random, i)).collect()
+}
+
+#[test]
+fn history() {
+    let plan = Plan {
+        name: "history",
+        run: |input| register::history::report(input).into_bytes(),
+        inputs: HISTORIES,
+        damaged: 32,
+        answers: &["order", "no", "refused 18", "refused 19"],
+    };
+    compare(&plan, &history_lines);
+}
+
+#[test]
+fn sheet() {
+    let plan = Plan {
+        name: "sheet",
+        run: register::sheet::report,
+        inputs: HISTORIES,
+        damaged: 32,
+        answers: &["1", "2", "no", "refused 18", "refused 19"],
+    };
+    compare(&plan, &history_lines);
 }

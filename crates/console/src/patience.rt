@@ -29,7 +29,7 @@ pub fn is_again() -> bool {
     false
 }
 
-// How many turns are left: none where it does not go on.
+// How many turns a loop has left after one of them: none if it is not to go on.
 pub fn left_after(left: u64, more: bool) -> u64
     requires { ⌜ 0 < left ⌝ }
     ensures { λ r. ⌜ r < left ⌝ }

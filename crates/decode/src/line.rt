@@ -19,8 +19,8 @@ const DECODE: u64 = 0x6465636f6465;
 
 const DECODE_LENGTH: usize = 6;
 
-// The place of the field being read, 8 standing for one too many; whether each field before it has the form that its place asks for, and what it says as a
-// decimal number, 1000 standing for more; the field itself; and how many bytes of NUMBERS and of BLOCKS are kept.
+// The place of the field being read, 8 for any after the last; whether each field before it has the form that its place asks for, and its value as a decimal
+// number, or 1000 if it is larger; the field being read; and how many bytes of NUMBERS and of BLOCKS are kept.
 pub struct Line {
     pub place: usize,
     pub right: bool,
@@ -59,7 +59,7 @@ fn fits(place: usize, f: Field) -> bool {
     is_bytes(f)
 }
 
-// The line with the field being read taken into account.
+// The line after the end of the field being read.
 fn ended(line: Line) -> Line {
     let i = line.place;
     let f = line.field;

@@ -10,11 +10,20 @@ use console::output::put;
 use console::output::put_hex;
 use console::output::put_refused;
 use console::output::put_what;
+ghost use Rattle.blocks.specs.Calls.{outcome};
+ghost use Rattle.decode.specs.Kept.{DecodesAll};
 
 fn put_value(out: Out, text: &mut [u8], value: &[u8]) -> Out {
     let word = put(out, text, b"value ");
     let digits = put_hex(word, text, value);
     put(digits, text, b"\n")
+}
+
+// Decodes from what is kept of a line's numbers and blocks: the outcome is the same as from all of them.
+fn decode_kept(g: Params, numbers: &[u8], blocks: &[u8], area: &mut [u8]) -> Coded
+    ensures { λ r. ⌜ DecodesAll g (now (numbers .entry)) (now (blocks .entry)) (now (area .entry)) (outcome r (now (area .exit))) ⌝ }
+{
+    blocks::decode(g, numbers, blocks, area)
 }
 
 // Decodes into the front of the area, of which as much is lent as room says.
@@ -28,7 +37,7 @@ fn decode_in(
     text: &mut [u8],
 ) -> Out {
     let most = count_of(room, area);
-    let said = blocks::decode(g, numbers, blocks, &mut area[..most]);
+    let said = decode_kept(g, numbers, blocks, &mut area[..most]);
     if let Coded::Refused(f) = said {
         return put_refused(out, text, fault_number(f));
     }

@@ -95,13 +95,13 @@ fn ticks(child: &Child) -> u64 {
     fields[11].parse::<u64>().unwrap() + fields[12].parse::<u64>().unwrap()
 }
 
-/// Of a second of waiting a program takes at most a twentieth.
+/// Of a second of waiting a program takes at most three hundredths.
 fn waits(children: &[Child]) {
     let before: Vec<u64> = children.iter().map(ticks).collect();
     sleep(Duration::from_secs(1));
     for ((name, child), before) in PROGRAMS.iter().zip(children).zip(before) {
         let taken = ticks(child) - before;
-        assert!(taken <= 5, "{name} took {taken} hundredths of a second of waiting");
+        assert!(taken <= 3, "{name} took {taken} hundredths of a second of waiting");
     }
 }
 

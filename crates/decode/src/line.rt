@@ -24,7 +24,7 @@ const DECODE_LENGTH: usize = 6;
 pub struct Line {
     pub place: usize,
     pub right: bool,
-    pub values: [usize; 8],
+    pub values: [usize; FIELDS],
     pub field: Field,
     pub numbers: usize,
     pub blocks: usize,
@@ -34,7 +34,7 @@ pub fn no_line() -> Line {
     Line {
         place: 0,
         right: true,
-        values: [0; 8],
+        values: [0; FIELDS],
         field: no_field(),
         numbers: 0,
         blocks: 0,

@@ -16,6 +16,12 @@ use console::patience::left_after;
 mod answers;
 mod line;
 
+// How many bytes of NUMBERS and of BLOCKS are kept, as in specs/Kept.antt: one more than any decoding can use, which takes at most ten blocks of 256 bytes. So
+// a longer field is refused for its length, as it would be if all of it were kept.
+const NUMBERS_KEPT: usize = 11;
+
+const BYTES_KEPT: usize = 2561;
+
 // The line that is being read, and the output.
 struct Run {
     line: Line,
@@ -43,13 +49,12 @@ fn take(
     }
 }
 
-// Reads the input to its end, in at most 2^64 - 1 parts. Of NUMBERS and BLOCKS one byte more is kept than any decoding can use, which takes at most ten blocks
-// of 256 bytes: so a longer field is refused for its length, as it would be if all of it were kept.
+// Reads the input to its end, in at most 2^64 - 1 parts.
 fn read_all(fd: i32) {
     let mut text = io::buffer();
     let mut chunk = io::large_buffer();
-    let mut numbers = [0u8; 11];
-    let mut blocks = [0u8; 2561];
+    let mut numbers = [0u8; NUMBERS_KEPT];
+    let mut blocks = [0u8; BYTES_KEPT];
     let mut r = Run {
         line: no_line(),
         out: nothing(),

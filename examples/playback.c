@@ -1,8 +1,9 @@
 /* Plays back a server's trace for the staff: a file of entries, each a length (2 bytes, high byte first, counting what follows), version 1, the
  * sender's class (0 client, 1 server) and number, and the frame as it was handed in. From a fresh server, with the parameters that the machine had, it
  * prints a line for each entry (sender, kind, answer, frames sent), then a summary: how many, how the trace ended, and the stamp and the block that the
- * server holds at the end. Of long traces standard error says how far it is. Exit status: 0 the trace is whole, 1 it closed by 22 or 23, 2 nothing was
- * played or not all could be written, 3 refused. */
+ * server holds at the end. Of long traces standard error says how far it is. Exit status: 0 the trace is whole (an empty one is), 1 it closed by 22 or
+ * 23, at its first entry or later, 2 wrong arguments, a file that cannot be read or output that cannot be written, as standard error says, 3 the
+ * parameters, own number or initial value were refused. */
 #define _DEFAULT_SOURCE
 #include <errno.h>
 #include <signal.h>
@@ -69,13 +70,18 @@ static int digit(uint8_t c)
     return found ? (int)(found - digits) : -1;
 }
 
+static int is_blank(uint8_t c)
+{
+    return c == ' ' || c == '\t' || c == '\r' || c == '\n';
+}
+
 /* hexadecimal digits as bytes, in their place; what names the text is for the message */
 static struct bytes from_hex(struct bytes b, const char *what)
 {
     size_t digits = 0;
     char why[64];
     for (size_t i = 0; i < b.length; i++) {
-        if (strchr(" \t\r\n", b.at[i]) && b.at[i])
+        if (is_blank(b.at[i]))
             continue;
         int d = digit(b.at[i]);
         if (d < 0) {
@@ -89,6 +95,20 @@ static struct bytes from_hex(struct bytes b, const char *what)
         stop(what, "an odd number of hexadecimal digits");
     b.length = digits / 2;
     return b;
+}
+
+/* whether there are bytes, and all of them are hexadecimal digits, spaces and new lines */
+static int is_hex(struct bytes b)
+{
+    size_t digits = 0;
+    for (size_t i = 0; i < b.length; i++) {
+        if (is_blank(b.at[i]))
+            continue;
+        if (digit(b.at[i]) < 0)
+            return 0;
+        digits++;
+    }
+    return digits > 0;
 }
 
 static size_t number(const char *text, const char *name)
@@ -202,6 +222,12 @@ static const char *refusal(unsigned number)
     }
 }
 
+/* the ending of a word for so many of what it names */
+static const char *plural(unsigned long long count)
+{
+    return count == 1 ? "" : "s";
+}
+
 static const char *class_name(uint8_t class_)
 {
     return class_ == SEMDUOLI_CLASS_SERVER ? "server" : "client";
@@ -239,7 +265,7 @@ static const uint8_t *print_entry(uint64_t i, const uint8_t *entry, size_t lengt
     if (answer)
         printf(": refused %u, %s\n", answer, refusal(answer));
     else
-        printf(": step, %u %s\n", count, count == 1 ? "frame" : "frames");
+        printf(": step, %u frame%s\n", count, plural(count));
     reply += REPLY;
     for (unsigned j = 0; j < count; j++) {
         const uint8_t *frame = reply + RECEIVER;
@@ -287,8 +313,8 @@ static void print_all(uint64_t played, unsigned closing, int frames_too)
             fprintf(stderr, "playback: %llu of %llu entries printed\n", (unsigned long long)i, (unsigned long long)played);
         }
     }
-    printf("played %llu: %llu steps, %llu turned down, %llu frames sent\n", (unsigned long long)played, answers[0],
-           (unsigned long long)played - answers[0], frames);
+    printf("played %llu: %llu step%s, %llu turned down, %llu frame%s sent\n", (unsigned long long)played, answers[0], plural(answers[0]),
+           (unsigned long long)played - answers[0], frames, plural(frames));
     for (unsigned r = 1; r < 256; r++)
         if (answers[r])
             printf("refused %u, %s: %llu\n", r, refusal(r), answers[r]);
@@ -326,5 +352,7 @@ int main(int count, char **arguments)
         print_all(SEMDUOLI_ENTRIES(answer), closing, frames_too);
     if (fflush(stdout) || ferror(stdout))
         stop("standard output", strerror(errno));
+    if (closing && !hex && SEMDUOLI_ENTRIES(answer) == 0 && is_hex(play.trace))
+        fprintf(stderr, "playback: %s has hexadecimal digits alone: to play them back as bytes, give -x\n", given[6]);
     return refused ? REFUSED : closing ? CLOSED : WHOLE;
 }

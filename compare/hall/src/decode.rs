@@ -6,9 +6,6 @@ use register::params::MAX_VALUE;
 use register::Params;
 use std::io::{self, BufRead, Write};
 
-/// The longest line that is read.
-const LINE: usize = 8192;
-
 fn answer(line: &[u8]) -> Option<String> {
     let fields: Vec<&[u8]> = line.split(|&c| c == b' ').collect();
     let [b"decode", n, t, k, l, room, numbers, blocks] = fields[..] else { return None };
@@ -26,8 +23,7 @@ pub fn run(input: &mut impl BufRead, out: &mut impl Write) -> io::Result<()> {
     let mut line = Vec::new();
     while input.read_until(b'\n', &mut line)? > 0 {
         let text = line.strip_suffix(b"\n").unwrap_or(&line);
-        let said = if text.len() > LINE { None } else { answer(text) };
-        writeln!(out, "{}", said.unwrap_or_else(|| "what?".to_string()))?;
+        writeln!(out, "{}", answer(text).unwrap_or_else(|| "what?".to_string()))?;
         line.clear();
     }
     Ok(())

@@ -1,11 +1,11 @@
-//! The proved programs on inputs that cannot be read and outputs that cannot be written: they say so and answer nothing. They are taken from
-//! target/bin, where `rt check history sheet hall accession decode` puts them.
+//! The proved programs on inputs that cannot be read and outputs that cannot be written: they say so and answer nothing; and on such as make them wait, which
+//! takes next to no processor time. They are taken from target/bin, where `rt check history sheet hall accession decode` puts them.
 
 use std::fs::{read, File};
 use std::io::{Read, Write};
 use std::os::fd::AsRawFd;
 use std::path::{Path, PathBuf};
-use std::process::{Command, Output, Stdio};
+use std::process::{Child, Command, Output, Stdio};
 use std::thread::sleep;
 use std::time::Duration;
 
@@ -80,14 +80,75 @@ extern "C" {
     fn fcntl(fd: i32, command: i32, ...) -> i32;
 }
 
+/// Reads and writes of it do not wait.
+fn set_nonblocking(end: &impl AsRawFd) {
+    const F_SETFL: i32 = 4;
+    const O_NONBLOCK: i32 = 2048;
+    assert_eq!(unsafe { fcntl(end.as_raw_fd(), F_SETFL, O_NONBLOCK) }, 0);
+}
+
+/// The processor time that a process has taken, in the kernel's ticks, of which a second has 100.
+fn ticks(child: &Child) -> u64 {
+    let stat = std::fs::read_to_string(format!("/proc/{}/stat", child.id())).unwrap();
+    // the fields after the name, which is in parentheses: the 12th and 13th are the time in the program and in the kernel
+    let fields: Vec<&str> = stat[stat.rfind(')').unwrap() + 1..].split_whitespace().collect();
+    fields[11].parse::<u64>().unwrap() + fields[12].parse::<u64>().unwrap()
+}
+
+/// Of a second of waiting a program takes at most three hundredths.
+fn waits(children: &[Child]) {
+    let before: Vec<u64> = children.iter().map(ticks).collect();
+    sleep(Duration::from_secs(1));
+    for ((name, child), before) in PROGRAMS.iter().zip(children).zip(before) {
+        let taken = ticks(child) - before;
+        assert!(taken <= 3, "{name} took {taken} hundredths of a second of waiting");
+    }
+}
+
+/// An empty pipe that does not wait.
+#[test]
+fn idle_input() {
+    let (mut ends, mut children) = (Vec::new(), Vec::new());
+    for name in PROGRAMS {
+        let (from, to) = std::io::pipe().unwrap();
+        set_nonblocking(&from);
+        children.push(program(name).stdin(from).stdout(Stdio::null()).spawn().unwrap());
+        ends.push(to);
+    }
+    waits(&children);
+    drop(ends);
+    for mut child in children {
+        child.wait().unwrap();
+    }
+}
+
+/// A full pipe that does not wait and is read late: nothing is lost of more answers than it holds.
+#[test]
+fn late_reader() {
+    const LINES: usize = 50_000;
+    let folder = Path::new(env!("CARGO_TARGET_TMPDIR"));
+    for name in ["hall", "accession", "decode"] {
+        let input = folder.join(format!("{name}.in"));
+        std::fs::write(&input, "x\n".repeat(LINES)).unwrap();
+        let (mut from, to) = std::io::pipe().unwrap();
+        set_nonblocking(&to);
+        let child = program(name).stdin(File::open(input).unwrap()).stdout(to).spawn().unwrap();
+        sleep(Duration::from_millis(100));
+        let mut children = [child];
+        waits(&children);
+        let mut given = String::new();
+        from.read_to_string(&mut given).unwrap();
+        children[0].wait().unwrap();
+        assert_eq!(given, "what?\n".repeat(LINES), "{name}");
+    }
+}
+
 /// A pipe that does not wait, filled slowly: the program waits for all of it.
 #[test]
 fn slow() {
-    const F_SETFL: i32 = 4;
-    const O_NONBLOCK: i32 = 2048;
     for name in PROGRAMS {
         let (from, mut to) = std::io::pipe().unwrap();
-        assert_eq!(unsafe { fcntl(from.as_raw_fd(), F_SETFL, O_NONBLOCK) }, 0);
+        set_nonblocking(&from);
         let mut child = program(name).stdin(from).stdout(Stdio::piped()).spawn().unwrap();
         for piece in read(example(name, "stdin")).unwrap().chunks(7).take(20) {
             to.write_all(piece).unwrap();

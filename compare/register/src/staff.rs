@@ -53,13 +53,17 @@ fn hex(bytes: &[u8]) -> String {
     bytes.iter().map(|byte| format!("{byte:02x}")).collect()
 }
 
+/// So many of what the word names.
+fn counted(count: usize, word: &str) -> String {
+    format!("{count} {word}{}", if count == 1 { "" } else { "s" })
+}
+
 fn lines(trace: &[u8], played: &Played, frames_too: bool) -> String {
     let mut text = String::new();
     for (i, (entry, reply)) in entries(trace).0.iter().zip(&played.replies).enumerate() {
-        let answer = match (reply.number, reply.sends.len()) {
-            (0, 1) => "step, 1 frame".to_string(),
-            (0, count) => format!("step, {count} frames"),
-            (number, _) => format!("refused {number}, {}", refusal(number)),
+        let answer = match reply.number {
+            0 => format!("step, {}", counted(reply.sends.len(), "frame")),
+            number => format!("refused {number}, {}", refusal(number)),
         };
         let words = frame_words(entry.frame);
         writeln!(text, "{}: {}, {words}: {answer}", i + 1, party(entry.from)).unwrap();
@@ -75,8 +79,8 @@ fn summary(played: &Played) -> String {
     let by = |number: u8| played.replies.iter().filter(|reply| reply.number == number).count();
     let frames: usize = played.replies.iter().map(|reply| reply.sends.len()).sum();
     let steps = by(0);
-    let mut text =
-        format!("played {count}: {steps} steps, {} turned down, {frames} frames sent\n", count - steps);
+    let (took, sent) = (counted(steps, "step"), counted(frames, "frame"));
+    let mut text = format!("played {count}: {took}, {} turned down, {sent} sent\n", count - steps);
     for number in (1..=u8::MAX).filter(|&number| by(number) > 0) {
         writeln!(text, "refused {number}, {}: {}", refusal(number), by(number)).unwrap();
     }

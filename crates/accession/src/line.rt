@@ -1,8 +1,8 @@
 // A line of the input, read byte by byte: a word, and for two of the words one argument behind a space.
-use case_text::field::Field;
-use case_text::field::field_with;
-use case_text::field::no_field;
-use case_text::field::store;
+use case_text::fields::Field;
+use case_text::fields::field_with;
+use case_text::fields::no_field;
+use case_text::fields::store;
 
 // Its word; how many spaces it has, 2 standing for more than 1; the argument, and how many bytes that spells, 8 standing for more.
 pub struct Line {

@@ -21,7 +21,7 @@ fn open_named() -> i32 {
     fd
 }
 
-// The descriptor of the input: standard input, or the file that the one argument names. -1 where there is none, which is said.
+// The descriptor of the input: standard input, or the file that the one argument names; -1 if that can't be opened or there are more, which is said.
 pub fn open_input() -> i32 {
     let count = os::arg_count();
     if count < 2 {
@@ -93,7 +93,7 @@ struct Whole {
     more: bool,
 }
 
-// One piece more, behind the first count bytes.
+// Reads one piece more, into the buffer after its first count bytes.
 fn read_more(fd: i32, buf: &mut [u8], count: usize) -> Whole
     requires { ⌜ count ≤ length (now buf) ⌝ }
     ensures { λ r. ⌜ r .count ≤ length (now (buf .exit)) ⌝ }

@@ -7,8 +7,8 @@ use case_text::text::until;
 ghost use Prim.Native.Nat.{_≤_};
 ghost use lib.ListN.{length};
 
-// A part of a line: from where to where it lies in the buffer, whether the line ends with it, and whether more may follow. How many bytes of the buffer are
-// read and where they go on; whether a line is begun; the output after reading.
+// A part of a line: where it starts and ends in the buffer, whether the line ends with it, and whether the input may have more. How many bytes of the buffer
+// were read, and at which of them the next part starts; whether a line has begun and not ended; the output after reading.
 pub struct Part {
     pub start: usize,
     pub end: usize,
@@ -20,7 +20,7 @@ pub struct Part {
     pub out: Out,
 }
 
-// No bytes, and nothing behind them in the buffer.
+// A part of no bytes, after which the buffer has none either.
 fn empty(ends: bool, more: bool, begun: bool, out: Out) -> Part
     ensures { λ r. ⌜ (r .start ≤ 0) × (r .end ≤ 0) ⌝ }
 {
@@ -72,7 +72,7 @@ fn part_at(read: &[u8], at: usize, out: Out) -> Part
     }
 }
 
-// Reads the next piece. At the input's end a line that is begun ends, unless the input could not be read or the answers not be written.
+// Reads the next piece. Where the input ends, a line that has begun ends too, unless the input could not be read or the answers could not be written.
 fn read_part(fd: i32, buf: &mut [u8], begun: bool, out: Out) -> Part
     ensures { λ r. ⌜ (r .start ≤ r .end) × (r .end ≤ length (now (buf .exit))) ⌝ }
 {
@@ -90,7 +90,7 @@ fn read_part(fd: i32, buf: &mut [u8], begun: bool, out: Out) -> Part
     part_at(&buf[..n], 0, out)
 }
 
-// The next part, p being the one before it, with what the program has put since; text is the area in which that waits.
+// The part that follows p. What the program has put since p waits in the area text, and is written before more is read.
 pub fn next_part(p: Part, fd: i32, buf: &mut [u8], out: Out, text: &[u8]) -> Part
     ensures { λ r. ⌜ (r .start ≤ r .end) × (r .end ≤ length (now (buf .exit))) ⌝ }
 {

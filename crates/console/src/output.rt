@@ -79,7 +79,7 @@ pub fn flush(out: Out, area: &[u8]) -> Out {
     send(out, &area[..n])
 }
 
-// Room for so many bytes more, by writing what waits where that is needed.
+// Makes room for so many bytes more: what waits is written if they do not fit after it.
 fn with_room(out: Out, area: &[u8], size: usize) -> Out {
     let n = count_of(out.used, area);
     if area.len() - n < size {
@@ -88,7 +88,7 @@ fn with_room(out: Out, area: &[u8], size: usize) -> Out {
     out
 }
 
-// Puts a text behind what waits.
+// Adds a text to what waits.
 pub fn put(out: Out, area: &mut [u8], text: &[u8]) -> Out {
     let ready = with_room(out, area, text.len());
     let n = count_of(ready.used, area);
@@ -122,7 +122,7 @@ pub fn put_hex(out: Out, area: &mut [u8], bytes: &[u8]) -> Out {
     y
 }
 
-// Puts the answer to a line that is none.
+// Puts the answer to a line of no form that the program knows.
 pub fn put_what(out: Out, area: &mut [u8]) -> Out {
     put(out, area, b"what?\n")
 }

@@ -1,21 +1,35 @@
 // Calls that fail only for now, and loops that make such a call again.
+use libc::types::timespec;
 ghost use Prim.Native.Nat.{_<_};
 
-// Whether the call that just failed is to be made again: it was interrupted, or nothing was ready yet. Then another process is let run first, since the
-// libraries have no call that waits for a descriptor.
+// Waits for a hundredth of a second, or until a signal comes. The libraries have no call that waits for a descriptor, so that a program that waits for one
+// looks again after such a pause.
+fn pause() {
+    let asked = timespec {
+        tv_sec: 0,
+        tv_nsec: 10000000,
+    };
+    let mut left = timespec {
+        tv_sec: 0,
+        tv_nsec: 0,
+    };
+    libc::nanosleep(&asked, &mut left);
+}
+
+// Whether the call that just failed is to be made again: it was interrupted, or nothing was ready yet; then after a pause.
 pub fn is_again() -> bool {
     let error = os::errno();
     if error == libc::EINTR {
         return true;
     }
     if error == libc::EAGAIN {
-        libc::sched_yield();
+        pause();
         return true;
     }
     false
 }
 
-// How many turns are left: none where it does not go on.
+// How many turns a loop has left after one of them: none if it is not to go on.
 pub fn left_after(left: u64, more: bool) -> u64
     requires { ⌜ 0 < left ⌝ }
     ensures { λ r. ⌜ r < left ⌝ }

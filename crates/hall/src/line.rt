@@ -1,10 +1,11 @@
 // A line of the script, read byte by byte: up to six fields with one space between, and the bytes that its last field spells.
-use case_text::field::Field;
-use case_text::field::field_with;
-use case_text::field::is_bytes;
-use case_text::field::is_number;
-use case_text::field::no_field;
-use case_text::field::store;
+use case_text::fields::Field;
+use case_text::fields::capped;
+use case_text::fields::field_with;
+use case_text::fields::is_bytes;
+use case_text::fields::is_number;
+use case_text::fields::no_field;
+use case_text::fields::store;
 
 // The words of the script, by number; 0 stands for any other.
 pub const HALL: u8 = 1;
@@ -108,22 +109,11 @@ fn letter_of(word: u64) -> u8 {
     0
 }
 
-// A field's value as a number, 1000 standing for more.
-fn small(f: Field) -> u16 {
-    if f.large {
-        return 1000;
-    }
-    if 1000 < f.number {
-        return 1000;
-    }
-    f.number as u16
-}
-
 fn mark_of(f: Field) -> Mark {
     Mark {
         word: word_of(f.length, f.word),
         decimal: is_number(f),
-        number: small(f),
+        number: capped(f) as u16,
         bytes: is_bytes(f),
     }
 }

@@ -6,11 +6,11 @@ use Rattle.decode.proofs.read_all.Statement.{statement}
 use Rattle.decode.proofs.read_all.Tie as tie
 
 abbrev Inv-loop : tie.InvT-loop
-Inv-loop fd text₀ chunk₀ line₀ r₀ p₀ left₀ text chunk line r p left =
-    (length text ≡ length text₀) × (length chunk ≡ length chunk₀) × (length line ≡ length line₀)
+Inv-loop fd text₀ chunk₀ numbers₀ blocks₀ r₀ p₀ left₀ text chunk numbers blocks r p left =
+    (length text ≡ length text₀) × (length chunk ≡ length chunk₀) × (length numbers ≡ length numbers₀) × (length blocks ≡ length blocks₀)
 
 abbrev μ-loop : tie.MeasureT-loop
-μ-loop fd text₀ chunk₀ line₀ r₀ p₀ left₀ text chunk line r p left = left
+μ-loop fd text₀ chunk₀ numbers₀ blocks₀ r₀ p₀ left₀ text chunk numbers blocks r p left = left
 
 buffer-requires : tie.Need-buffer-requires Inv-loop μ-loop
 buffer-requires c κs = search needs
@@ -18,11 +18,11 @@ buffer-requires c κs = search needs
 large-buffer-requires : tie.Need-large-buffer-requires Inv-loop μ-loop
 large-buffer-requires c κs = search needs
 
-nothing-requires : tie.Need-nothing-requires Inv-loop μ-loop
-nothing-requires c κs = search needs
-
 no-line-requires : tie.Need-no-line-requires Inv-loop μ-loop
 no-line-requires c κs = search needs
+
+nothing-requires : tie.Need-nothing-requires Inv-loop μ-loop
+nothing-requires c κs = search needs
 
 no-part-requires : tie.Need-no-part-requires Inv-loop μ-loop
 no-part-requires c κs = search needs
@@ -54,6 +54,9 @@ slice-aggregate-take c = search needs
 slice-aggregate-take-2 : tie.Need-slice-aggregate-take-2 Inv-loop μ-loop
 slice-aggregate-take-2 c = search needs
 
+slice-aggregate-take-3 : tie.Need-slice-aggregate-take-3 Inv-loop μ-loop
+slice-aggregate-take-3 c = search needs
+
 take-requires : tie.Need-take-requires Inv-loop μ-loop
 take-requires c κs = search needs
 
@@ -83,8 +86,8 @@ read-all-spec =
     μ-loop
     buffer-requires
     large-buffer-requires
-    nothing-requires
     no-line-requires
+    nothing-requires
     no-part-requires
     loop-holds
     slice-aggregate-next-part
@@ -95,6 +98,7 @@ read-all-spec =
     part-take-end
     slice-aggregate-take
     slice-aggregate-take-2
+    slice-aggregate-take-3
     take-requires
     left-after-requires
     loop-less

@@ -1,8 +1,10 @@
 // A field of a line, read byte by byte, so that it may be of any length.
 use crate::text::digit;
+ghost use Prim.Native.Nat.{_≤_};
 
-// How many bytes it has, 9 standing for more than 8; the last eight of them as one number; its value as a decimal number, whether it is one, without leading
-// zeros, and whether that is too large, 2^64 or more; whether it is hexadecimal, and the digit that waits for its second.
+// How many bytes it has, 9 for any number above 8; the last eight of them as one number; its value as a decimal number, modulo 2^64; whether all of it are
+// decimal digits without leading zeros, and whether the value is 2^64 or more; whether all of it are hexadecimal digits, whether they are odd in number, and
+// the last of them.
 pub struct Field {
     pub length: usize,
     pub word: u64,
@@ -88,7 +90,7 @@ pub fn field_with(f: Field, b: u8) -> Field {
     }
 }
 
-// Stores the byte that two digits spell behind the first used bytes, where there is room, and answers how many are used then.
+// Stores the byte that two digits spell after the bytes that are used, if there is room, and answers how many are used then.
 pub fn store(bytes: &mut [u8], used: usize, high: u8, low: u8) -> usize {
     if bytes.len() <= used {
         return used;
@@ -103,6 +105,19 @@ pub fn is_number(f: Field) -> bool {
         return false;
     }
     f.decimal
+}
+
+// A field's value as a decimal number, or 1000 if it is larger: more than any number of parties or length of a value may be.
+pub fn capped(f: Field) -> usize
+    ensures { λ r. ⌜ r ≤ 1000 ⌝ }
+{
+    if f.large {
+        return 1000;
+    }
+    if 1000 < f.number {
+        return 1000;
+    }
+    f.number as usize
 }
 
 // Whether a field spells bytes: two digits each, or `-` for none.

@@ -14,6 +14,23 @@ static void show(const char *name, const uint8_t *bytes, size_t length)
     printf("\n");
 }
 
+/* whether a number has the type size_t, or one that counts like it */
+#define IS_SIZE(x) (sizeof(x) == sizeof(size_t) && (x) * 0 - 1 > 0)
+
+/* Sizes are size_t whatever is passed: with numbers in int the last one would be beyond the largest int. */
+static void show_sizes(void)
+{
+    int n = 10, k = 1, size = 256, entries = 200000;
+    int all = IS_SIZE(SEMDUOLI_BLOCK(k, size)) && IS_SIZE(SEMDUOLI_BLOCKS(n, k, size)) && IS_SIZE(SEMDUOLI_INITIAL(k, size)) &&
+              IS_SIZE(SEMDUOLI_FRAME(n, k, size)) && IS_SIZE(SEMDUOLI_FRAME_MOST) && IS_SIZE(SEMDUOLI_SERVER_OUT(n, k, size)) &&
+              IS_SIZE(SEMDUOLI_SERVER_TO(n)) && IS_SIZE(SEMDUOLI_CLIENT_OUT(n, k, size)) && IS_SIZE(SEMDUOLI_CLIENT_TO(n)) &&
+              IS_SIZE(SEMDUOLI_OUT_MOST) && IS_SIZE(SEMDUOLI_TO_MOST) && IS_SIZE(SEMDUOLI_SHEET(size)) && IS_SIZE(SEMDUOLI_DIGEST) &&
+              IS_SIZE(SEMDUOLI_SERVER) && IS_SIZE(SEMDUOLI_CLIENT) && IS_SIZE(SEMDUOLI_AREA) && IS_SIZE(SEMDUOLI_ROWS) && IS_SIZE(SEMDUOLI_STAMP) &&
+              IS_SIZE(SEMDUOLI_LINES) && IS_SIZE(SEMDUOLI_PAGE) && IS_SIZE(SEMDUOLI_INDEX) && IS_SIZE(SEMDUOLI_PLAYBACK_OUT(n, k, size, entries));
+    printf("%sout of %d entries played back: %llu bytes\n", all ? "" : "a size is no size_t; ", entries,
+           (unsigned long long)SEMDUOLI_PLAYBACK_OUT(n, k, size, entries));
+}
+
 /* the length of a frame */
 static size_t length_of(const uint8_t *frame)
 {
@@ -235,6 +252,7 @@ int main(void)
     uint8_t digest[SEMDUOLI_DIGEST], blocks[N * B], chosen[K * B], back[SIZE];
     const uint8_t numbers[K] = {4, 2}, all[N] = {1, 2, 3, 4};
 
+    show_sizes();
     printf("digest: %u\n", (unsigned)semduoli_digest((const uint8_t *)"abc", 3, digest, sizeof digest));
     show("digest:", digest, sizeof digest);
     printf("digest of nothing: %u\n", (unsigned)semduoli_digest(NULL, 0, digest, sizeof digest));

@@ -64,6 +64,11 @@ mod semduoli {
         pub fn frame(&self) -> usize {
             22 + 32 * self.n + self.block()
         }
+
+        // The out area of so many entries played back.
+        pub fn playback_out(&self, entries: usize) -> usize {
+            entries * (3 + (self.n + 9) * (self.frame() + 2))
+        }
     }
 
     // A party: its class, and its number.
@@ -437,7 +442,7 @@ impl Run {
     fn play_back(&mut self, trace: usize, short_by: usize) {
         let asked = [0, 7, 1, 1, 2, 0, 0, 0, 5];
         let whole = [&[0, 12, 1, 0, 2], &asked[..], &[0, 12, 1, 1, 2], &asked, &[0, 2]].concat();
-        let room = 2 * (3 + (self.g.n + 9) * (self.g.frame() + 2));
+        let room = self.g.playback_out(2);
         let (mut out, s) = (vec![0; room], &mut self.servers[3]);
         let lent = &mut out[..room - short_by];
         let answer = semduoli::playback(&self.g, 3, b"first", &whole[..trace], &mut s.area, &mut s.initial, &mut s.state, lent);
@@ -451,6 +456,9 @@ impl Run {
 fn main() {
     let g = semduoli::Params { n: 4, t: 1, k: 2, size: 5 };
     let value = b"hello";
+
+    let largest = semduoli::Params { n: 10, t: 3, k: 1, size: 256 };
+    println!("out of 200000 entries played back: {} bytes", largest.playback_out(200000));
 
     let mut digest = [0; semduoli::DIGEST];
     println!("digest: {}", semduoli::digest(b"abc", &mut digest).0);

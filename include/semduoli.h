@@ -59,40 +59,41 @@ extern "C" {
 #define SEMDUOLI_CLIENTS_MOST 8
 #define SEMDUOLI_SIZE_MOST 256
 
-/* ---- sizes in bytes. k is not 0 where a size depends on it. */
+/* ---- sizes in bytes. Each is a constant expression of type size_t where the numbers passed are constants, and is computed in size_t whatever type they
+ * have. k is not 0 where a size depends on it. */
 
-#define SEMDUOLI_DIGEST 32
+#define SEMDUOLI_DIGEST ((size_t)32)
 /* the records of a server and of a client: state */
-#define SEMDUOLI_SERVER 2128
-#define SEMDUOLI_CLIENT 769
+#define SEMDUOLI_SERVER ((size_t)2128)
+#define SEMDUOLI_CLIENT ((size_t)769)
 /* what a server keeps of digests and blocks, area, and a client of the values that an open read has received, rows */
-#define SEMDUOLI_AREA 97344
-#define SEMDUOLI_ROWS 23040
+#define SEMDUOLI_AREA ((size_t)97344)
+#define SEMDUOLI_ROWS ((size_t)23040)
 /* a block, and all blocks of a value; a server's block of the initial value: initial */
-#define SEMDUOLI_BLOCK(k, size) (((size) + (k) - 1) / (k))
-#define SEMDUOLI_BLOCKS(n, k, size) ((n) * SEMDUOLI_BLOCK(k, size))
+#define SEMDUOLI_BLOCK(k, size) (((size_t)(size) + (size_t)(k) - 1) / (size_t)(k))
+#define SEMDUOLI_BLOCKS(n, k, size) ((size_t)(n) * SEMDUOLI_BLOCK(k, size))
 #define SEMDUOLI_INITIAL(k, size) SEMDUOLI_BLOCK(k, size)
 /* the largest frame of a register, and of any */
-#define SEMDUOLI_FRAME(n, k, size) (22 + 32 * (n) + SEMDUOLI_BLOCK(k, size))
+#define SEMDUOLI_FRAME(n, k, size) (22 + 32 * (size_t)(n) + SEMDUOLI_BLOCK(k, size))
 #define SEMDUOLI_FRAME_MOST SEMDUOLI_FRAME(SEMDUOLI_SERVERS_MOST, 1, SEMDUOLI_SIZE_MOST)
 /* the areas out and to: n + 9 largest frames of a server's call, n of a client's, and two bytes for the receiver of each */
-#define SEMDUOLI_SERVER_OUT(n, k, size) (((n) + 9) * SEMDUOLI_FRAME(n, k, size))
-#define SEMDUOLI_SERVER_TO(n) (2 * ((n) + 9))
-#define SEMDUOLI_CLIENT_OUT(n, k, size) ((n) * SEMDUOLI_FRAME(n, k, size))
-#define SEMDUOLI_CLIENT_TO(n) (2 * (n))
+#define SEMDUOLI_SERVER_OUT(n, k, size) (((size_t)(n) + 9) * SEMDUOLI_FRAME(n, k, size))
+#define SEMDUOLI_SERVER_TO(n) (2 * ((size_t)(n) + 9))
+#define SEMDUOLI_CLIENT_OUT(n, k, size) ((size_t)(n) * SEMDUOLI_FRAME(n, k, size))
+#define SEMDUOLI_CLIENT_TO(n) (2 * (size_t)(n))
 #define SEMDUOLI_OUT_MOST SEMDUOLI_SERVER_OUT(SEMDUOLI_SERVERS_MOST, 1, SEMDUOLI_SIZE_MOST)
 #define SEMDUOLI_TO_MOST SEMDUOLI_SERVER_TO(SEMDUOLI_SERVERS_MOST)
 /* the area out of a playback of so many entries: 3 bytes for each, and a server's areas out and to */
-#define SEMDUOLI_PLAYBACK_OUT(n, k, size, entries) ((entries) * (3 + SEMDUOLI_SERVER_OUT(n, k, size) + SEMDUOLI_SERVER_TO(n)))
+#define SEMDUOLI_PLAYBACK_OUT(n, k, size, entries) ((size_t)(entries) * (3 + SEMDUOLI_SERVER_OUT(n, k, size) + SEMDUOLI_SERVER_TO(n)))
 /* a stamp: time (8), writer (1) and write sequence (4), high byte first */
-#define SEMDUOLI_STAMP 13
+#define SEMDUOLI_STAMP ((size_t)13)
 /* line numbers of a history */
-#define SEMDUOLI_LINES 64
+#define SEMDUOLI_LINES ((size_t)64)
 /* a page of a history's sheet, and the sheet of so many operations, which has one page or two */
-#define SEMDUOLI_PAGE 4380
-#define SEMDUOLI_SHEET(operations) (((operations) < 60 ? 1 : 2) * SEMDUOLI_PAGE)
-/* an index of accession numbers, and the values that it takes */
-#define SEMDUOLI_INDEX 577
+#define SEMDUOLI_PAGE ((size_t)4380)
+#define SEMDUOLI_SHEET(operations) (((size_t)(operations) < 60 ? 1 : 2) * SEMDUOLI_PAGE)
+/* an index of accession numbers, and how many values it takes */
+#define SEMDUOLI_INDEX ((size_t)577)
 #define SEMDUOLI_INDEX_VALUES 64
 
 /* ---- the parts of an answer */

@@ -2,8 +2,9 @@
  *
  * Numbers and lent areas of bytes are all that is passed. An area is a pointer and its length in bytes. A call reads and writes only the areas
  * it is lent, keeps no pointer after it returns, and allocates nothing. Of an area of length 0 the pointer is not used and may be NULL. An area
- * that is lent to be written (`uint8_t *`) must not overlap another area of the same call. A longer area than needed is accepted; its further
- * bytes stay as they were. Calls with different areas may run at the same time.
+ * that is lent to be written (`uint8_t *`) must not overlap another area of the same call: a frame that still lies in the out area of the call that
+ * sent it is copied before it is handed in by a call that is lent the same out area. A longer area than needed is accepted; its further bytes stay
+ * as they were. Calls with different areas may run at the same time.
  *
  * n, t, k and size are a register's parameters: n servers (4 to 10), of which at most t are false (at least 1, n > 3t), k blocks that decode a
  * value (1 to n - 2t), and the length of a value in bytes (1 to 256). All parties of a register are given the same ones in every call. me is the
@@ -33,7 +34,17 @@
  * 5. Call a party's record from one thread at a time, and give a call stack enough: up to 11,500 bytes were measured, of semduoli_playback 29,900
  *    (docs/PERFORMANCE.md has them for each call), which is no bound; 64 KB is ample.
  * 6. Lend areas of the sizes below. The largest frame there can be has SEMDUOLI_FRAME_MOST bytes, and SEMDUOLI_OUT_MOST and SEMDUOLI_TO_MOST bytes
- *    are enough as out and to for every party of every register.
+ *    are enough as out and to for every party of every register. A call that is answered 10 has done nothing, and is made again with longer areas.
+ * 7. Bound what is kept to be sent again, but drop only what nobody needs. A dropped frame never harms the order of reads and writes; it can keep an
+ *    operation open for ever. What may be dropped unconfirmed, by the kind of the frame:
+ *      at a client   1 when its write no longer awaits stamps, 3 when its write has ended, 10 when its read has ended, 12 when a later read has begun.
+ *                    So 2n frames at most are kept: those of the open operation, and the last read-completes.
+ *      at a server, to a client   of 2 and of 9 all but the one of the highest sequence; of 11 those of lower sequences than the highest, and of this
+ *                    all but the four with the largest stamps. So six for each client.
+ *      at a server, to a server   4 when this server has accepted the write: when semduoli_server_open of its client is above its sequence.
+ *    What is left, the ready frames (5), has no bound: one for each write and each server that has not confirmed it, about 32n + 17 bytes and a block.
+ *    To a server that is away they grow with every write, and all are needed: it takes the writes of a client one after the other, and nothing else
+ *    brings it the ones that it missed. A server to which they were dropped stays behind for good and counts as one of the t false ones.
  *
  * examples/first.c is a small host, and examples/bank.c one that does all of this.
  */
@@ -115,7 +126,7 @@ enum semduoli_refusal {
     SEMDUOLI_REFUSED_OWNER = 7,       /* frame's client not 1 to 8, or sequence 0; a client that is asked for not 1 to 8 */
     SEMDUOLI_REFUSED_BODY = 8,        /* frame's body length wrong for its kind */
     SEMDUOLI_REFUSED_CONTENT = 9,     /* stamp parts mixed, writer above 8, or blocks not fit */
-    SEMDUOLI_REFUSED_ROOM = 10,       /* lent area short */
+    SEMDUOLI_REFUSED_ROOM = 10,       /* lent area short; see below which it can be */
     SEMDUOLI_REFUSED_SENDER = 11,     /* sender or receiver not the kind's or not the owner */
     SEMDUOLI_REFUSED_STALE = 12,      /* frame old, repeated or not awaited */
     SEMDUOLI_REFUSED_AHEAD = 13,      /* frame above the open sequence; hand it in again when that has moved */
@@ -129,6 +140,20 @@ enum semduoli_refusal {
     SEMDUOLI_REFUSED_FULL = 25,       /* index full */
     SEMDUOLI_REFUSED_SHORT = 26       /* value under 8 bytes for the index, tested before 25 */
 };
+
+/* 10 does not say which area was short. It is one of these, with the bytes that each must have at least, whatever the call will write:
+ *   semduoli_digest               out SEMDUOLI_DIGEST
+ *   semduoli_encode, _decode      out SEMDUOLI_BLOCKS(n, k, size); out size
+ *   semduoli_judge                lines SEMDUOLI_LINES
+ *   semduoli_sheet                out SEMDUOLI_SHEET(operations of the history)
+ *   semduoli_index_...            index SEMDUOLI_INDEX
+ *   semduoli_server_fresh         state SEMDUOLI_SERVER, area SEMDUOLI_AREA, initial SEMDUOLI_INITIAL(k, size)
+ *   semduoli_server_deliver       these three, out SEMDUOLI_SERVER_OUT(n, k, size), to SEMDUOLI_SERVER_TO(n)
+ *   semduoli_server_stamp, _open  state SEMDUOLI_SERVER; of the first also stamp SEMDUOLI_STAMP
+ *   semduoli_playback             state, area and initial as above, out SEMDUOLI_PLAYBACK_OUT(n, k, size, entries that are played)
+ *   semduoli_client_fresh, _open  state SEMDUOLI_CLIENT
+ *   semduoli_begin_read, _write   state SEMDUOLI_CLIENT, out SEMDUOLI_CLIENT_OUT(n, k, size), to SEMDUOLI_CLIENT_TO(n)
+ *   semduoli_client_deliver       these three, rows SEMDUOLI_ROWS, result size, stamp SEMDUOLI_STAMP */
 
 /* the class of a party: of a frame's sender, and in the to area */
 #define SEMDUOLI_CLASS_CLIENT 0
@@ -289,11 +314,22 @@ uint64_t semduoli_begin_write(size_t n, size_t t, size_t k, size_t size, size_t 
  *   SEMDUOLI_SENT            nothing has ended; the count says how many frames are sent, 0 or n. With n a write goes out: its stamp is the time in its
  *                            frames (byte 3 is 3, bytes 9 to 16 the time) plus 1, me, and its sequence
  *   SEMDUOLI_WRITTEN         the write has ended; nothing is sent
- *   SEMDUOLI_OUT_OF_STAMPS   the write has closed as out of stamps; nothing is sent, and the client writes no more
+ *   SEMDUOLI_OUT_OF_STAMPS   the write has closed as out of stamps: one of the first n - t servers that answered has the largest time there is,
+ *                            2^64 - 1. Nothing is sent, the value is written nowhere, and the client writes no more: each further write is refused by 17
  *   SEMDUOLI_VALUE           the read has ended; its value is in the first size bytes of result, its stamp in the first SEMDUOLI_STAMP bytes of stamp,
  *                            and n frames are sent, as the count says
- *   SEMDUOLI_DISAGREEMENT    the read has ended without a value: the blocks that it found do not lie on one encoding. n frames are sent, as the count says
- * result has size bytes at least, stamp SEMDUOLI_STAMP; they stay as they were unless a read ends with a value. Refusals: 1 to 12, 14. */
+ *   SEMDUOLI_DISAGREEMENT    the read has ended without a value: n - t servers gave the same stamp and digests, but their blocks are not all blocks of
+ *                            one value. n frames are sent, as the count says
+ * result has size bytes at least, stamp SEMDUOLI_STAMP; they stay as they were unless a read ends with a value. Refusals: 1 to 12, 14.
+ *
+ * A disagreement is no refusal, and no passing fault. It is proved that with at most t false servers, true senders and no party that went on after
+ * losing its state, a client sees it only where two different blocks have one SHA-256 digest. So one of these conditions does not hold. Take no value
+ * from that read; keep the client's areas, the frames it was handed and the servers' traces for the staff; find the machine at fault (semduoli_playback)
+ * before results of this register are relied upon. The client itself is ready: another read may be begun, and may give a value.
+ *
+ * One false server can close a client's writing for good: it answers a get-stamp with the time 2^64 - 1, and is among the first n - t. With the time
+ * 2^64 - 2 the write goes through, the servers then hold the largest stamp there is, and every client's next write closes. Nothing that was written is
+ * lost, and reads go on; but no call opens such a client, or such a register, for writing again. Request F-9 is to end this. */
 uint64_t semduoli_client_deliver(size_t n, size_t t, size_t k, size_t size, size_t me, size_t sender_class, size_t sender, const uint8_t *value,
                                  size_t value_length, const uint8_t *frame, size_t frame_length, uint8_t *rows, size_t rows_length,
                                  uint8_t *result, size_t result_length, uint8_t *stamp, size_t stamp_length, uint8_t *state, size_t state_length,

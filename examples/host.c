@@ -58,7 +58,7 @@ static void judge(const char *text)
     else if (SEMDUOLI_OUTCOME(answer) == SEMDUOLI_ORDERED)
         show("history:", lines, SEMDUOLI_COUNT(answer));
     else
-        printf("history: %u and %u offend\n", (unsigned)(answer >> 16 & 0xff), (unsigned)(answer >> 24 & 0xff));
+        printf("history: %u and %u offend\n", SEMDUOLI_EARLIER(answer), SEMDUOLI_LATER(answer));
 }
 
 /* The first line of a history's sheet, and its page number, at the right of the last line; the area has so many bytes. */
@@ -71,7 +71,7 @@ static void lay(const char *text, size_t room)
     else if (SEMDUOLI_OUTCOME(answer) == SEMDUOLI_ORDERED)
         printf("sheet: pages %u, %.63s, page %c\n", SEMDUOLI_COUNT(answer), (const char *)sheet, sheet[SEMDUOLI_PAGE - 2]);
     else
-        printf("sheet: %u and %u offend\n", (unsigned)(answer >> 16 & 0xff), (unsigned)(answer >> 24 & 0xff));
+        printf("sheet: %u and %u offend\n", SEMDUOLI_EARLIER(answer), SEMDUOLI_LATER(answer));
 }
 
 static void insert(const char *value, uint8_t *index, size_t index_length)

@@ -112,6 +112,11 @@ mod semduoli {
         pub fn sequence(&self) -> u64 {
             self.0 >> 16
         }
+
+        // The lines of an offending pair: that of the operation that precedes, and that of the other.
+        pub fn pair(&self) -> (u64, u64) {
+            (self.0 >> 16 & 0xff, self.0 >> 24 & 0xff)
+        }
     }
 
     pub fn digest(m: &[u8], out: &mut [u8]) -> Answer {
@@ -259,7 +264,8 @@ fn judge(text: &str) {
     } else if answer.outcome() == 0 {
         show("history:", &lines[..answer.count()]);
     } else {
-        println!("history: {} and {} offend", answer.0 >> 16 & 0xff, answer.0 >> 24 & 0xff);
+        let (earlier, later) = answer.pair();
+        println!("history: {earlier} and {later} offend");
     }
 }
 
@@ -273,7 +279,8 @@ fn lay(text: &str, room: usize) {
         let (line, number) = (String::from_utf8_lossy(&sheet[..63]), sheet[semduoli::PAGE - 2] as char);
         println!("sheet: pages {}, {line}, page {number}", answer.count());
     } else {
-        println!("sheet: {} and {} offend", answer.0 >> 16 & 0xff, answer.0 >> 24 & 0xff);
+        let (earlier, later) = answer.pair();
+        println!("sheet: {earlier} and {later} offend");
     }
 }
 

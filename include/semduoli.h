@@ -114,6 +114,9 @@ extern "C" {
 #define SEMDUOLI_COUNT(answer) ((unsigned)((answer) >> 16 & 0xffff))
 #define SEMDUOLI_SEQUENCE(answer) ((uint64_t)((answer) >> 16))
 #define SEMDUOLI_ENTRIES(answer) ((uint64_t)((answer) >> 24))
+/* the lines of an offending pair of a history: that of the operation that precedes, and that of the other */
+#define SEMDUOLI_EARLIER(answer) ((unsigned)((answer) >> 16 & 0xff))
+#define SEMDUOLI_LATER(answer) ((unsigned)((answer) >> 24 & 0xff))
 
 enum semduoli_refusal {
     SEMDUOLI_ACCEPTED = 0,            /* none */
@@ -158,6 +161,17 @@ enum semduoli_refusal {
 /* the class of a party: of a frame's sender, and in the to area */
 #define SEMDUOLI_CLASS_CLIENT 0
 #define SEMDUOLI_CLASS_SERVER 1
+
+/* the kinds of frames */
+#define SEMDUOLI_KIND_GET_STAMP 1
+#define SEMDUOLI_KIND_STAMP 2
+#define SEMDUOLI_KIND_SEND 3
+#define SEMDUOLI_KIND_ECHO 4
+#define SEMDUOLI_KIND_READY 5
+#define SEMDUOLI_KIND_ACK 9
+#define SEMDUOLI_KIND_READ 10
+#define SEMDUOLI_KIND_VALUE 11
+#define SEMDUOLI_KIND_READ_COMPLETE 12
 
 /* what happened at a client */
 #define SEMDUOLI_SENT 0
@@ -222,8 +236,8 @@ uint64_t semduoli_decode(size_t n, size_t t, size_t k, size_t size, const uint8_
  * one space between, a newline after. The caller is 1 to 8, or 0 where it is not known; of two operations of one known caller the one that
  * ends at the point at which the other starts precedes it, any others are concurrent at equal points. SEMDUOLI_ORDERED: they have, and the
  * count says how many they are; lines, of SEMDUOLI_LINES bytes at least, has their line numbers in that order at its front, and what is behind
- * them stays as lent. SEMDUOLI_OFFENDING: they have none; bits 16 to 23 are the line number of the earlier operation of an offending pair,
- * bits 24 to 31 that of the later, the one that is preceded, and lines stays as lent. Of all offending pairs it is the one whose later
+ * them stays as lent. SEMDUOLI_OFFENDING: they have none; SEMDUOLI_EARLIER(answer) is the line number of the earlier operation of an offending pair,
+ * SEMDUOLI_LATER(answer) that of the later, the one that is preceded, and lines stays as lent. Of all offending pairs it is the one whose later
  * operation has the smallest line number, and of those the one whose earlier operation has the smallest. */
 uint64_t semduoli_judge(const uint8_t *text, size_t text_length, uint8_t *lines, size_t lines_length);
 

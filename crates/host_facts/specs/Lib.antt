@@ -1,0 +1,4 @@
+pub mod Outcomes
+pub mod Frames
+pub mod Traces
+pub mod Present

@@ -4,6 +4,7 @@
  * clients saw, by its own clock, and has it judged. The argument names the folder of the files. The exit status is 0 if every operation ended and what
  * was seen has an order. */
 #define _POSIX_C_SOURCE 200809L
+#include <errno.h>
 #include <fcntl.h>
 #include <stdio.h>
 #include <stdlib.h>
@@ -39,9 +40,9 @@ static char history[4096];
 
 /* ---- what is kept */
 
-static void stop(const char *what)
+static void stop(const char *what, const char *why)
 {
-    perror(what);
+    fprintf(stderr, "%s: %s\n", what, why);
     exit(1);
 }
 
@@ -49,7 +50,7 @@ static void path_of(const struct party *p, const char *suffix, char *path, size_
 {
     int length = snprintf(path, room, "%s/%c%u%s", folder, p->class_ == SEMDUOLI_CLASS_SERVER ? 's' : 'c', p->number, suffix);
     if (length < 0 || (size_t)length >= room)
-        stop("the folder's name is too long");
+        stop(folder, "the name is too long");
 }
 
 /* makes room for so many frames that are not confirmed */
@@ -60,7 +61,7 @@ static void make_room(struct party *p, size_t frames)
     p->unsent_room = 2 * frames;
     p->unsent = (struct parcel *)realloc(p->unsent, p->unsent_room * sizeof *p->unsent);
     if (!p->unsent)
-        stop("frames that are not confirmed");
+        stop("frames that are not confirmed", strerror(errno));
 }
 
 /* Stores a party as one: the new file takes the old one's place when it is whole and on the disk. Only when the folder is there too, the old file
@@ -73,10 +74,10 @@ static void store(const struct party *p)
     FILE *file = fopen(fresh, "wb");
     if (!file || fwrite(p, sizeof *p, 1, file) != 1 || fwrite(p->unsent, sizeof *p->unsent, p->unsent_count, file) != p->unsent_count || fflush(file) ||
         fsync(fileno(file)) || fclose(file) || rename(fresh, path))
-        stop(path);
+        stop(path, strerror(errno));
     int directory = open(folder, O_RDONLY);
     if (directory < 0 || fsync(directory) || close(directory))
-        stop(folder);
+        stop(folder, strerror(errno));
 }
 
 /* starts a party again from its file */
@@ -88,11 +89,11 @@ static void restart(struct party *p)
     memset(p, 0xee, sizeof *p);
     FILE *file = fopen(path, "rb");
     if (!file || fread(p, sizeof *p, 1, file) != 1)
-        stop(path);
+        stop(path, strerror(errno));
     p->unsent = NULL, p->unsent_room = 0;
     make_room(p, p->unsent_count);
     if (fread(p->unsent, sizeof *p->unsent, p->unsent_count, file) != p->unsent_count || fclose(file))
-        stop(path);
+        stop(path, strerror(errno));
     restarts++;
 }
 
@@ -100,17 +101,17 @@ static void restart(struct party *p)
 
 static unsigned kind_of(const struct parcel *q)
 {
-    return q->frame[3];
+    return SEMDUOLI_HEADER_KIND(semduoli_frame_header(N, T, K, SIZE, q->frame, q->length));
 }
 
 static size_t client_of(const struct parcel *q)
 {
-    return q->frame[4];
+    return SEMDUOLI_HEADER_CLIENT(semduoli_frame_header(N, T, K, SIZE, q->frame, q->length));
 }
 
 static uint64_t sequence_of(const struct parcel *q)
 {
-    return (uint64_t)q->frame[5] << 24 | (uint64_t)q->frame[6] << 16 | (uint64_t)q->frame[7] << 8 | q->frame[8];
+    return SEMDUOLI_HEADER_SEQUENCE(semduoli_frame_header(N, T, K, SIZE, q->frame, q->length));
 }
 
 /* the frames of an answer are to be sent, and stay until they are confirmed */
@@ -122,7 +123,7 @@ static void add_sent(struct party *p, uint64_t answer, const uint8_t *out, const
         q->from[0] = p->class_;
         q->from[1] = p->number;
         memcpy(q->to, to + 2 * i, 2);
-        q->length = 2 + 256 * out[0] + out[1];
+        q->length = semduoli_frame_length(out);
         memcpy(q->frame, out, q->length);
         out += q->length;
     }
@@ -211,19 +212,22 @@ static void note(const struct party *c)
     int added = snprintf(history + length, room, "%c %u %u %llu %u %u %u\n", c->kind, c->start, ++now, (unsigned long long)semduoli_stamp_time(c->stamp),
                          semduoli_stamp_writer(c->stamp), (unsigned)semduoli_stamp_sequence(c->stamp), c->number);
     if (added < 0 || (size_t)added >= room)
-        stop("the history is too long");
+        stop("history", "too long");
 }
 
 /* The stamp of a write: one above the time in the frames of the step that sends it out, the client's number, and the sequence. */
 static void note_stamp(struct party *c)
 {
-    const uint8_t *frame = c->unsent[c->unsent_count - 1].frame;
+    const struct parcel *q = &c->unsent[c->unsent_count - 1];
+    uint64_t sequence = sequence_of(q);
     uint8_t *stamp = c->stamp;
-    memcpy(stamp, frame + 9, 8);
-    for (int i = 7; i >= 0 && ++stamp[i] == 0; i--)
+    if (semduoli_frame_time(N, T, K, SIZE, q->frame, q->length, stamp, SEMDUOLI_TIME) >> 8 != SEMDUOLI_HAS_TIME)
+        stop("write", "a frame without a time");
+    for (int i = SEMDUOLI_TIME - 1; i >= 0 && ++stamp[i] == 0; i--)
         ;
-    stamp[8] = c->number;
-    memcpy(stamp + 9, frame + 5, 4);
+    stamp[SEMDUOLI_TIME] = c->number;
+    for (int i = SEMDUOLI_STAMP - 1; i > (int)SEMDUOLI_TIME; i--, sequence >>= 8)
+        stamp[i] = (uint8_t)sequence;
 }
 
 /* What has ended is told, and noted where it has a stamp: a write that closed and a read whose blocks disagree are no lines of the history. */

@@ -27,7 +27,7 @@ static void send_frames(uint8_t sender_class, uint8_t sender, uint64_t answer)
         p->from[0] = sender_class;
         p->from[1] = sender;
         memcpy(p->to, to + 2 * i, 2);
-        p->length = 2 + 256 * frame[0] + frame[1];
+        p->length = semduoli_frame_length(frame);
         memcpy(p->frame, frame, p->length);
         frame += p->length;
     }

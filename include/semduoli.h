@@ -26,9 +26,9 @@
  * 2. Send again what may have been lost, until the receiver's host has confirmed that it took the frame over: that it was handed in and answered by
  *    anything but 10 and 13, or is kept there to be handed in again. Repeats do no harm, in any order: they are answered 12, a get-stamp is answered again.
  *    An operation may stay open as long as a frame between honest parties is missing.
- * 3. Hand a frame that a server answered 13 in again when its sequence has come: when semduoli_server_open of the client that the frame names (byte 4)
- *    is the frame's sequence (bytes 5 to 8) or above. And bound what is kept of such frames: a false party can make 13s for ever. Keep at most some, say
- *    four, for each sender and client; what is beyond is dropped and not confirmed, and comes again by its sender's resending.
+ * 3. Hand a frame that a server answered 13 in again when its sequence has come: when semduoli_server_open of the client that the frame names is the
+ *    frame's sequence or above (semduoli_frame_header tells both). And bound what is kept of such frames: a false party can make 13s for ever. Keep at
+ *    most some, say four, for each sender and client; what is beyond is dropped and not confirmed, and comes again by its sender's resending.
  * 4. Authenticate the links. What is proved takes it that the class and number of a frame's sender are true: a frame is handed in as that party's
  *    whose key or connection it came by, never as the party's that the frame itself names.
  * 5. Call a party's record from one thread at a time, and give a call stack enough: up to 11,500 bytes were measured, of semduoli_playback 29,900
@@ -36,7 +36,7 @@
  * 6. Lend areas of the sizes below. The largest frame there can be has SEMDUOLI_FRAME_MOST bytes, and SEMDUOLI_OUT_MOST and SEMDUOLI_TO_MOST bytes
  *    are enough as out and to for every party of every register. A call that is answered 10 has done nothing, and is made again with longer areas.
  * 7. Bound what is kept to be sent again, but drop only what nobody needs. A dropped frame never harms the order of reads and writes; it can keep an
- *    operation open for ever. What may be dropped unconfirmed, by the kind of the frame:
+ *    operation open for ever. What may be dropped unconfirmed, by the kind of the frame (semduoli_frame_header):
  *      at a client   1 when its write no longer awaits stamps, 3 when its write has ended, 10 when its read has ended, 12 when a later read has begun.
  *                    So 2n frames at most are kept: those of the open operation, and the last read-completes.
  *      at a server, to a client   of 2 and of 9 all but the one of the highest sequence; of 11 those of lower sequences than the highest, and of this
@@ -96,8 +96,13 @@ extern "C" {
 #define SEMDUOLI_TO_MOST SEMDUOLI_SERVER_TO(SEMDUOLI_SERVERS_MOST)
 /* the area out of a playback of so many entries: 3 bytes for each, and a server's areas out and to */
 #define SEMDUOLI_PLAYBACK_OUT(n, k, size, entries) ((size_t)(entries) * (3 + SEMDUOLI_SERVER_OUT(n, k, size) + SEMDUOLI_SERVER_TO(n)))
-/* a stamp: time (8), writer (1) and write sequence (4), high byte first */
+/* a stamp: time (8), writer (1) and write sequence (4), high byte first; the time of a frame, which is laid down likewise */
 #define SEMDUOLI_STAMP ((size_t)13)
+#define SEMDUOLI_TIME ((size_t)8)
+/* an entry of a trace before its frame, an entry with a frame of so many bytes, and the longest frame of an entry */
+#define SEMDUOLI_ENTRY_HEAD ((size_t)5)
+#define SEMDUOLI_ENTRY(frame) (SEMDUOLI_ENTRY_HEAD + (size_t)(frame))
+#define SEMDUOLI_ENTRY_FRAME_MOST ((size_t)65532)
 /* line numbers of a history */
 #define SEMDUOLI_LINES ((size_t)64)
 /* a page of a history's sheet, and the sheet of so many operations, which has one page or two */
@@ -114,6 +119,15 @@ extern "C" {
 #define SEMDUOLI_COUNT(answer) ((unsigned)((answer) >> 16 & 0xffff))
 #define SEMDUOLI_SEQUENCE(answer) ((uint64_t)((answer) >> 16))
 #define SEMDUOLI_ENTRIES(answer) ((uint64_t)((answer) >> 24))
+/* the header of a frame: its kind, the client that it names, the owner of its operation, and the operation's sequence */
+#define SEMDUOLI_HEADER_KIND(answer) SEMDUOLI_OUTCOME(answer)
+#define SEMDUOLI_HEADER_CLIENT(answer) ((unsigned)((answer) >> 16 & 0xff))
+#define SEMDUOLI_HEADER_SEQUENCE(answer) ((uint64_t)((answer) >> 24 & 0xffffffff))
+/* an entry that was read: its sender's class and number, and the bytes of the whole entry; and the bytes of one that was written */
+#define SEMDUOLI_ENTRY_CLASS(answer) ((unsigned)((answer) >> 16 & 0xff))
+#define SEMDUOLI_ENTRY_SENDER(answer) ((unsigned)((answer) >> 24 & 0xff))
+#define SEMDUOLI_ENTRY_READ(answer) ((size_t)((answer) >> 32))
+#define SEMDUOLI_ENTRY_WRITTEN(answer) ((size_t)((answer) >> 16))
 /* the lines of an offending pair of a history: that of the operation that precedes, and that of the other */
 #define SEMDUOLI_EARLIER(answer) ((unsigned)((answer) >> 16 & 0xff))
 #define SEMDUOLI_LATER(answer) ((unsigned)((answer) >> 24 & 0xff))
@@ -122,7 +136,7 @@ enum semduoli_refusal {
     SEMDUOLI_ACCEPTED = 0,            /* none */
     SEMDUOLI_REFUSED_PARTIES = 1,     /* n, t or own number out of bounds */
     SEMDUOLI_REFUSED_THRESHOLD = 2,   /* k out of bounds */
-    SEMDUOLI_REFUSED_LENGTH = 3,      /* size out of bounds, or value not that long */
+    SEMDUOLI_REFUSED_LENGTH = 3,      /* size out of bounds, or value not that long; message or frame too long */
     SEMDUOLI_REFUSED_FRAMING = 4,     /* frame under 9 bytes, or length field wrong */
     SEMDUOLI_REFUSED_VERSION = 5,     /* frame's version not 1 */
     SEMDUOLI_REFUSED_KIND = 6,        /* frame's kind not 1 to 5 or 9 to 12 */
@@ -140,6 +154,8 @@ enum semduoli_refusal {
     SEMDUOLI_REFUSED_RECORD = 18,     /* history malformed */
     SEMDUOLI_REFUSED_UNLISTED = 19,   /* history reads a stamp that is not listed */
     SEMDUOLI_REFUSED_DISAGREEMENT = 21, /* blocks to decode that are not all of one value */
+    SEMDUOLI_REFUSED_MALFORMED = 22,  /* no entry begins there: length under 3, version not 1 or class above 1, as far as the bytes go */
+    SEMDUOLI_REFUSED_CUT = 23,        /* the bytes end inside an entry */
     SEMDUOLI_REFUSED_FULL = 25,       /* index full */
     SEMDUOLI_REFUSED_SHORT = 26       /* value under 8 bytes for the index, tested before 25 */
 };
@@ -153,6 +169,9 @@ enum semduoli_refusal {
  *   semduoli_server_fresh         state SEMDUOLI_SERVER, area SEMDUOLI_AREA, initial SEMDUOLI_INITIAL(k, size)
  *   semduoli_server_deliver       these three, out SEMDUOLI_SERVER_OUT(n, k, size), to SEMDUOLI_SERVER_TO(n)
  *   semduoli_server_stamp, _open  state SEMDUOLI_SERVER; of the first also stamp SEMDUOLI_STAMP
+ *   semduoli_server_block         state, area and initial as above, block SEMDUOLI_BLOCK(k, size)
+ *   semduoli_frame_time           time SEMDUOLI_TIME
+ *   semduoli_entry_write          out SEMDUOLI_ENTRY(frame_length)
  *   semduoli_playback             state, area and initial as above, out SEMDUOLI_PLAYBACK_OUT(n, k, size, entries that are played)
  *   semduoli_client_fresh, _open  state SEMDUOLI_CLIENT
  *   semduoli_begin_read, _write   state SEMDUOLI_CLIENT, out SEMDUOLI_CLIENT_OUT(n, k, size), to SEMDUOLI_CLIENT_TO(n)
@@ -173,6 +192,10 @@ enum semduoli_refusal {
 #define SEMDUOLI_KIND_VALUE 11
 #define SEMDUOLI_KIND_READ_COMPLETE 12
 
+/* whether a frame carries a time */
+#define SEMDUOLI_NO_TIME 0
+#define SEMDUOLI_HAS_TIME 1
+
 /* what happened at a client */
 #define SEMDUOLI_SENT 0
 #define SEMDUOLI_WRITTEN 1
@@ -186,8 +209,9 @@ enum semduoli_refusal {
 #define SEMDUOLI_OPEN_ACKING 2  /* a write that awaits acks */
 #define SEMDUOLI_OPEN_READING 3 /* a read */
 
-/* how a trace closed that was played back */
+/* how a trace closed that was played back; what stands at the front of one that is read */
 #define SEMDUOLI_TRACE_WHOLE 0
+#define SEMDUOLI_TRACE_ENTRY 1
 #define SEMDUOLI_TRACE_MALFORMED 22 /* length under 3, version not 1 or class above 1, as far as the entry's bytes go */
 #define SEMDUOLI_TRACE_CUT 23       /* the trace ends inside an entry */
 
@@ -212,6 +236,12 @@ static inline unsigned semduoli_stamp_writer(const uint8_t *stamp)
 static inline uint32_t semduoli_stamp_sequence(const uint8_t *stamp)
 {
     return (uint32_t)stamp[9] << 24 | (uint32_t)stamp[10] << 16 | (uint32_t)stamp[11] << 8 | stamp[12];
+}
+
+/* The bytes of a frame, by the two that it begins with. */
+static inline size_t semduoli_frame_length(const uint8_t *frame)
+{
+    return 2 + 256 * (size_t)frame[0] + frame[1];
 }
 
 /* The version of the library: SEMDUOLI_VERSION where this header is its own. */
@@ -267,10 +297,23 @@ uint64_t semduoli_index_search(uint64_t number, const uint8_t *index, size_t ind
 /* ---- parties: the host keeps each party's record and lends it to every call as state, SEMDUOLI_SERVER or SEMDUOLI_CLIENT bytes. Any bytes are
  * accepted as a record; only those that these calls wrote are one of a run. Where the record's area is short, the lowest number up to 10 is answered.
  *
- * Frames that a call sends lie end to end from the start of out; the count says how many they are. Each begins with two bytes, high byte first, that
- * say how many bytes follow. The to area has two bytes for each frame in the same order: the class of its receiver, SEMDUOLI_CLASS_CLIENT or
- * SEMDUOLI_CLASS_SERVER, and its number. The host carries each frame to its receiver and hands it in there, by a deliver call, with the class and
- * the number of the party that sent it. A sender of another class, or whose number is above 255, is nobody: 11, unless a lower number applies. */
+ * Frames that a call sends lie end to end from the start of out; the count says how many they are, and semduoli_frame_length how long each is: it
+ * begins with two bytes, high byte first, that say how many follow. The to area has two bytes for each frame in the same order: the class of its
+ * receiver, SEMDUOLI_CLASS_CLIENT or SEMDUOLI_CLASS_SERVER, and its number. The host carries each frame to its receiver and hands it in there, by a
+ * deliver call, with the class and the number of the party that sent it. A sender of another class, or whose number is above 255, is nobody: 11, unless
+ * a lower number applies. */
+
+/* ---- frames: what a host may ask of one that it sends or was handed, so that it reads no byte of it. A frame is opened as every party of the register
+ * would open it; one that does not open says nothing but the number by which it is turned down. Refusals: 1 to 9. */
+
+/* The kind of a frame, SEMDUOLI_HEADER_KIND(answer), one of SEMDUOLI_KIND_..; the client that it names, SEMDUOLI_HEADER_CLIENT(answer), 1 to 8; and the
+ * sequence of that client's operation, SEMDUOLI_HEADER_SEQUENCE(answer): of a write in kinds 1 to 5 and 9, of a read in kinds 10 to 12. */
+uint64_t semduoli_frame_header(size_t n, size_t t, size_t k, size_t size, const uint8_t *frame, size_t frame_length);
+
+/* The time that a frame carries. SEMDUOLI_HAS_TIME: it is in the first SEMDUOLI_TIME bytes of time, and semduoli_stamp_time(time) is its number: of kind
+ * 2 that of the server's stamp, of 3 to 5 the one that the write goes by (its stamp has one more), of 11 that of the value's stamp. SEMDUOLI_NO_TIME: a
+ * frame of its kind carries none, and time stays as lent. Refusals: also 10, after the others. */
+uint64_t semduoli_frame_time(size_t n, size_t t, size_t k, size_t size, const uint8_t *frame, size_t frame_length, uint8_t *time, size_t time_length);
 
 /* ---- a server, of which the host keeps, beside the record, the area of SEMDUOLI_AREA bytes and its block of the initial value, initial */
 
@@ -294,9 +337,25 @@ uint64_t semduoli_server_stamp(const uint8_t *state, size_t state_length, uint8_
  * that was answered 13 is handed in again when this has come to its sequence. Refusals: 7, 10. */
 uint64_t semduoli_server_open(size_t client, const uint8_t *state, size_t state_length);
 
-/* Plays back what server me was handed: makes it afresh, as semduoli_server_fresh does, and hands it the frames of a trace in their order. A trace is
- * entries end to end: a length (2 bytes, high byte first) that counts what follows it, version 1, the class and the number of the sender, and the
- * frame. The outcome is SEMDUOLI_TRACE_WHOLE, or where the trace closes before its end SEMDUOLI_TRACE_MALFORMED or .._CUT; SEMDUOLI_ENTRIES(answer) says how
+/* The block that the server holds of the value with that stamp, into the first SEMDUOLI_BLOCK(k, size) bytes of block. Refusals: 1, 2, 3, 10. */
+uint64_t semduoli_server_block(size_t n, size_t t, size_t k, size_t size, const uint8_t *area, size_t area_length, const uint8_t *initial,
+                               size_t initial_length, const uint8_t *state, size_t state_length, uint8_t *block, size_t block_length);
+
+/* ---- traces: what a server was handed, as entries end to end. An entry is a length (2 bytes, high byte first) that counts what follows it, version 1,
+ * the class and the number of the sender, and from byte SEMDUOLI_ENTRY_HEAD on the frame. */
+
+/* Writes an entry to the start of out; SEMDUOLI_ENTRY_WRITTEN(answer) says how many bytes it takes, SEMDUOLI_ENTRY(frame_length). Any bytes may be its
+ * frame. Refusals, in this order: 3, the frame is longer than SEMDUOLI_ENTRY_FRAME_MOST; 10; 11, the class is neither SEMDUOLI_CLASS_CLIENT nor
+ * SEMDUOLI_CLASS_SERVER, or the sender's number is above 255. */
+uint64_t semduoli_entry_write(size_t sender_class, size_t sender, const uint8_t *frame, size_t frame_length, uint8_t *out, size_t out_length);
+
+/* Reads the entry at the start of trace, which may have more behind it. SEMDUOLI_TRACE_ENTRY: there is one; SEMDUOLI_ENTRY_CLASS(answer) and
+ * SEMDUOLI_ENTRY_SENDER(answer) name the sender, and SEMDUOLI_ENTRY_READ(answer) says how many bytes the entry takes, so that its frame has
+ * SEMDUOLI_ENTRY_HEAD bytes less. SEMDUOLI_TRACE_WHOLE: no bytes are left. Refusals, in this order: 22, 23. */
+uint64_t semduoli_entry_read(const uint8_t *trace, size_t trace_length);
+
+/* Plays back what server me was handed: makes it afresh, as semduoli_server_fresh does, and hands it the frames of a trace in their order.
+ * The outcome is SEMDUOLI_TRACE_WHOLE, or where the trace closes before its end SEMDUOLI_TRACE_MALFORMED or .._CUT; SEMDUOLI_ENTRIES(answer) says how
  * many entries were played, and it closed at the next one. From the start of out each of them has the number of its answer (1 byte, 0 for a step), the
  * count of frames sent (2, high byte first), and each frame behind its receiver's class and number; what is behind stays as lent. A frame that is
  * turned down does not end the playback. Record, area and initial block are then those of a server that took these steps; out has
@@ -325,8 +384,8 @@ uint64_t semduoli_begin_write(size_t n, size_t t, size_t k, size_t size, size_t 
                               size_t value_length, uint8_t *out, size_t out_length, uint8_t *to, size_t to_length);
 
 /* Hands a frame to client me, with the value of its open write; where no write is open the value is not looked at and may have length 0.
- *   SEMDUOLI_SENT            nothing has ended; the count says how many frames are sent, 0 or n. With n a write goes out: its stamp is the time in its
- *                            frames (byte 3 is 3, bytes 9 to 16 the time) plus 1, me, and its sequence
+ *   SEMDUOLI_SENT            nothing has ended; the count says how many frames are sent, 0 or n. With n a write goes out, in frames of kind
+ *                            3: its stamp is their time (semduoli_frame_time) plus 1, me, and their sequence
  *   SEMDUOLI_WRITTEN         the write has ended; nothing is sent
  *   SEMDUOLI_OUT_OF_STAMPS   the write has closed as out of stamps: one of the first n - t servers that answered has the largest time there is,
  *                            2^64 - 1. Nothing is sent, the value is written nowhere, and the client writes no more: each further write is refused by 17

@@ -67,7 +67,7 @@ static void ask_of_frames(void)
     printf("header, n = 3: %u\n", (unsigned)semduoli_frame_header(3, T, K, SIZE, stamp, sizeof stamp));
 }
 
-/* what stands at the front of so many bytes of a trace */
+/* what is at the front of so many bytes of a trace, and how many bytes it takes */
 static size_t read_entry(const uint8_t *trace, size_t length)
 {
     uint64_t answer = semduoli_entry_read(trace, length);
@@ -174,7 +174,7 @@ static struct client clients[CLIENTS + 1];
 static struct parcel waiting[WAITING];
 static size_t taken, added, refused;
 
-/* puts the frames that a party sent behind those that wait */
+/* puts the frames that a party sent after those that wait */
 static void add_sent(uint8_t sender_class, uint8_t sender, uint64_t answer, const uint8_t *out, const uint8_t *to)
 {
     size_t at = 0;

@@ -101,7 +101,7 @@ mod semduoli {
     pub const ENTRY_HEAD: usize = 5;
     pub const VERSION: u64 = 3;
 
-    // Whether a frame carries a time, and what stands at the front of a trace.
+    // Whether a frame carries a time, and what is at the front of a trace.
     pub const HAS_TIME: u64 = 1;
     pub const TRACE_WHOLE: u64 = 0;
 
@@ -334,7 +334,7 @@ fn ask_of_frames(g: &semduoli::Params) {
     println!("header, n = 3: {}", semduoli::frame_header(&semduoli::Params { n: 3, ..*g }, &stamp).0);
 }
 
-// What stands at the front of a trace, and how many bytes it takes.
+// What is at the front of a trace, and how many bytes it takes.
 fn read_entry(trace: &[u8]) -> usize {
     let answer = semduoli::entry_read(trace);
     let (sender, bytes) = answer.entry_read();
@@ -469,7 +469,7 @@ impl Run {
         (vec![0; frames * self.g.frame()], vec![0; 2 * frames])
     }
 
-    // Puts the frames that a party sent behind those that wait.
+    // Puts the frames that a party sent after those that wait.
     fn add_sent(&mut self, from: semduoli::Party, answer: &semduoli::Answer, out: &[u8], to: &[u8]) {
         let mut at = 0;
         for i in 0..answer.count() {

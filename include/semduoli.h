@@ -31,7 +31,7 @@
  *    most some, say four, for each sender and client; what is beyond is dropped and not confirmed, and comes again by its sender's resending.
  * 4. Authenticate the links. What is proved takes it that the class and number of a frame's sender are true: a frame is handed in as that party's
  *    whose key or connection it came by, never as the party's that the frame itself names.
- * 5. Call a party's record from one thread at a time, and give a call stack enough: up to 11,500 bytes were measured, of semduoli_playback 29,900
+ * 5. Call a party's record from one thread at a time, and give a call stack enough: up to 12,200 bytes were measured, of semduoli_playback 29,900
  *    (docs/PERFORMANCE.md has them for each call), which is no bound; 64 KB is ample.
  * 6. Lend areas of the sizes below. The largest frame there can be has SEMDUOLI_FRAME_MOST bytes, and SEMDUOLI_OUT_MOST and SEMDUOLI_TO_MOST bytes
  *    are enough as out and to for every party of every register. A call that is answered 10 has done nothing, and is made again with longer areas.
@@ -44,7 +44,8 @@
  *      at a server, to a server   4 when this server has accepted the write: when semduoli_server_open of its client is above its sequence.
  *    What is left, the ready frames (5), has no bound: one for each write and each server that has not confirmed it, about 32n + 17 bytes and a block.
  *    To a server that is away they grow with every write, and all are needed: it takes the writes of a client one after the other, and nothing else
- *    brings it the ones that it missed. A server to which they were dropped stays behind for good and counts as one of the t false ones.
+ *    brings it the ones that it missed. A server to which they were dropped lags for good and counts as one of the t false ones. (What is
+ *    proved of operations that end takes it that every frame arrives; that these are not needed follows from the steps, and is not proved.)
  *
  * examples/first.c is a small host, and examples/bank.c one that does all of this.
  */
@@ -181,7 +182,7 @@ enum semduoli_refusal {
 #define SEMDUOLI_CLASS_CLIENT 0
 #define SEMDUOLI_CLASS_SERVER 1
 
-/* the kinds of frames */
+/* the kinds of frames: 1, 3, 10 and 12 go from a client to a server, 2, 9 and 11 from a server to a client, 4 and 5 between servers */
 #define SEMDUOLI_KIND_GET_STAMP 1
 #define SEMDUOLI_KIND_STAMP 2
 #define SEMDUOLI_KIND_SEND 3
@@ -209,7 +210,7 @@ enum semduoli_refusal {
 #define SEMDUOLI_OPEN_ACKING 2  /* a write that awaits acks */
 #define SEMDUOLI_OPEN_READING 3 /* a read */
 
-/* how a trace closed that was played back; what stands at the front of one that is read */
+/* how a trace closed that was played back; what is at the front of one that is read */
 #define SEMDUOLI_TRACE_WHOLE 0
 #define SEMDUOLI_TRACE_ENTRY 1
 #define SEMDUOLI_TRACE_MALFORMED 22 /* length under 3, version not 1 or class above 1, as far as the entry's bytes go */
@@ -265,23 +266,23 @@ uint64_t semduoli_decode(size_t n, size_t t, size_t k, size_t size, const uint8_
 /* Whether the operations of a history have an order. A line for each, at most 64: kind R or W, start, end, time, writer, sequence and caller,
  * one space between, a newline after. The caller is 1 to 8, or 0 where it is not known; of two operations of one known caller the one that
  * ends at the point at which the other starts precedes it, any others are concurrent at equal points. SEMDUOLI_ORDERED: they have, and the
- * count says how many they are; lines, of SEMDUOLI_LINES bytes at least, has their line numbers in that order at its front, and what is behind
- * them stays as lent. SEMDUOLI_OFFENDING: they have none; SEMDUOLI_EARLIER(answer) is the line number of the earlier operation of an offending pair,
+ * count says how many they are; lines, of SEMDUOLI_LINES bytes at least, has their line numbers in that order at its front, and what
+ * follows them stays as lent. SEMDUOLI_OFFENDING: they have none; SEMDUOLI_EARLIER(answer) is the line number of the earlier operation of an offending pair,
  * SEMDUOLI_LATER(answer) that of the later, the one that is preceded, and lines stays as lent. Of all offending pairs it is the one whose later
  * operation has the smallest line number, and of those the one whose earlier operation has the smallest. */
 uint64_t semduoli_judge(const uint8_t *text, size_t text_length, uint8_t *lines, size_t lines_length);
 
-/* The season sheet of a history, as text from the start of out: pages of 60 lines of 72 columns, a newline behind each line. An operation has one
+/* The season sheet of a history, as text from the start of out: pages of 60 lines of 72 columns, a newline after each line. An operation has one
  * line, in the order that semduoli_judge gives: its place in that order (3 columns), kind (1), start (10), end (10), time (20), writer (1), sequence
  * (10) and caller (1), right-aligned, one space between. A page has 59 operations, and its 60th line has its number at the right; no operations have
- * one page. SEMDUOLI_ORDERED: the sheet is laid, and the count says how many pages, of SEMDUOLI_PAGE bytes each; what is behind them stays as lent.
+ * one page. SEMDUOLI_ORDERED: the sheet is laid, and the count says how many pages, of SEMDUOLI_PAGE bytes each; what follows them stays as lent.
  * SEMDUOLI_OFFENDING: as in semduoli_judge. Refusals, in this order: 18, 19, 10. A history that is refused or has no order needs no area, and out
  * stays as lent. */
 uint64_t semduoli_sheet(const uint8_t *text, size_t text_length, uint8_t *out, size_t out_length);
 
 /* ---- the index of accession numbers: a value's number is its first eight bytes, high byte first; its place is counted from 1 by insertion. The host
  * keeps the index beside the values, as SEMDUOLI_INDEX bytes: a count, then for each value its number (8 bytes, high byte first) and its place (1),
- * rising by number, those of one number in order of insertion. What lies behind the rows that are counted stays as lent. Any bytes are accepted as an
+ * rising by number, those of one number in order of insertion. What follows the rows that are counted stays as lent. Any bytes are accepted as an
  * index; only those that these calls wrote, from an empty one on, tell what was inserted. A count above 64 is a full index of 64 rows, and rows that
  * do not rise are searched by halving as they stand. */
 
@@ -349,7 +350,7 @@ uint64_t semduoli_server_block(size_t n, size_t t, size_t k, size_t size, const 
  * SEMDUOLI_CLASS_SERVER, or the sender's number is above 255. */
 uint64_t semduoli_entry_write(size_t sender_class, size_t sender, const uint8_t *frame, size_t frame_length, uint8_t *out, size_t out_length);
 
-/* Reads the entry at the start of trace, which may have more behind it. SEMDUOLI_TRACE_ENTRY: there is one; SEMDUOLI_ENTRY_CLASS(answer) and
+/* Reads the entry at the start of trace, which may have more after it. SEMDUOLI_TRACE_ENTRY: there is one; SEMDUOLI_ENTRY_CLASS(answer) and
  * SEMDUOLI_ENTRY_SENDER(answer) name the sender, and SEMDUOLI_ENTRY_READ(answer) says how many bytes the entry takes, so that its frame has
  * SEMDUOLI_ENTRY_HEAD bytes less. SEMDUOLI_TRACE_WHOLE: no bytes are left. Refusals, in this order: 22, 23. */
 uint64_t semduoli_entry_read(const uint8_t *trace, size_t trace_length);
@@ -357,7 +358,7 @@ uint64_t semduoli_entry_read(const uint8_t *trace, size_t trace_length);
 /* Plays back what server me was handed: makes it afresh, as semduoli_server_fresh does, and hands it the frames of a trace in their order.
  * The outcome is SEMDUOLI_TRACE_WHOLE, or where the trace closes before its end SEMDUOLI_TRACE_MALFORMED or .._CUT; SEMDUOLI_ENTRIES(answer) says how
  * many entries were played, and it closed at the next one. From the start of out each of them has the number of its answer (1 byte, 0 for a step), the
- * count of frames sent (2, high byte first), and each frame behind its receiver's class and number; what is behind stays as lent. A frame that is
+ * count of frames sent (2, high byte first), and each frame after its receiver's class and number; what follows stays as lent. A frame that is
  * turned down does not end the playback. Record, area and initial block are then those of a server that took these steps; out has
  * SEMDUOLI_PLAYBACK_OUT bytes at least for the entries that are played, whatever they send. Refusals: 1, 2, 3, 10. */
 uint64_t semduoli_playback(size_t n, size_t t, size_t k, size_t size, size_t me, const uint8_t *value, size_t value_length, const uint8_t *trace,

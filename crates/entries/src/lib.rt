@@ -27,7 +27,7 @@ pub struct Found {
     pub end: usize,
 }
 
-// What stands at the front of some bytes.
+// What is at the front of some bytes.
 pub enum Reading {
     Entry(Found),
     Closed(Closing),

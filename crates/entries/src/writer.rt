@@ -11,7 +11,7 @@ ghost use Prim.Native.Nat.{_<_};
 ghost use Rattle.entries.specs.Entries.{leadBytes};
 ghost use Rattle.entries.specs.Writing.{written, writingResponse, writing};
 
-// What stands before a frame of an entry, of which size bytes follow the length.
+// What comes before the frame in an entry of which size bytes follow the length.
 fn lead_bytes(sender: Party, size: usize) -> [u8; 5]
     ensures { λ r. ⌜ r ≡ leadBytes size sender ⌝ }
 {

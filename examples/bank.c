@@ -1,8 +1,8 @@
 /* A host that does what include/semduoli.h asks of one. Four servers and two clients of a register, each with a file that holds all that belongs to it;
  * links that lose and repeat frames, those to one server so often that it lags behind; a false server that, besides what it must, sends frames of
  * far-off writes for ever, and at last closes a client's writing; parties that are started again from their files. The host writes down what its
- * clients saw, by its own clock, and has it judged. The argument names the folder of the files. The exit status is 0 if every operation ended and what
- * was seen has an order. */
+ * clients saw, by its own clock, and has it judged. The argument names the folder of the files. The exit status is 0 if every operation ended, no read by
+ * a disagreement, and what was seen has an order. */
 #define _POSIX_C_SOURCE 200809L
 #include <errno.h>
 #include <fcntl.h>
@@ -36,6 +36,7 @@ static struct party servers[N + 1], clients[CLIENTS + 1];
 static const char *folder;
 static uint32_t now;
 static unsigned handed_in, lost, repeated, ahead, dropped, again, needless, restarts;
+static int disagreed;
 static char history[4096];
 
 /* ---- what is kept */
@@ -64,15 +65,16 @@ static void make_room(struct party *p, size_t frames)
         stop("frames that are not confirmed", strerror(errno));
 }
 
-/* Stores a party as one: the new file takes the old one's place when it is whole and on the disk. Only when the folder is there too, the old file
- * cannot come back. */
+/* Stores a party as one: the new file takes the old one's place when it is whole and on the disk, and so that the old one does not come back after a
+ * crash, the folder is brought to the disk too. */
 static void store(const struct party *p)
 {
     char path[512], fresh[512];
     path_of(p, "", path, sizeof path);
     path_of(p, ".new", fresh, sizeof fresh);
     FILE *file = fopen(fresh, "wb");
-    if (!file || fwrite(p, sizeof *p, 1, file) != 1 || fwrite(p->unsent, sizeof *p->unsent, p->unsent_count, file) != p->unsent_count || fflush(file) ||
+    size_t frames = p->unsent_count;
+    if (!file || fwrite(p, sizeof *p, 1, file) != 1 || (frames && fwrite(p->unsent, sizeof *p->unsent, frames, file) != frames) || fflush(file) ||
         fsync(fileno(file)) || fclose(file) || rename(fresh, path))
         stop(path, strerror(errno));
     int directory = open(folder, O_RDONLY);
@@ -89,11 +91,11 @@ static void restart(struct party *p)
     memset(p, 0xee, sizeof *p);
     FILE *file = fopen(path, "rb");
     if (!file || fread(p, sizeof *p, 1, file) != 1)
-        stop(path, strerror(errno));
+        stop(path, "cannot be read whole");
     p->unsent = NULL, p->unsent_room = 0;
     make_room(p, p->unsent_count);
-    if (fread(p->unsent, sizeof *p->unsent, p->unsent_count, file) != p->unsent_count || fclose(file))
-        stop(path, strerror(errno));
+    if ((p->unsent_count && fread(p->unsent, sizeof *p->unsent, p->unsent_count, file) != p->unsent_count) || fclose(file))
+        stop(path, "cannot be read whole");
     restarts++;
 }
 
@@ -239,8 +241,10 @@ static void tell(const struct party *c, unsigned outcome, const uint8_t *result)
         printf("client %u has read %.*s\n", c->number, SIZE, (const char *)result);
     if (outcome == SEMDUOLI_OUT_OF_STAMPS)
         printf("client %u: its write has closed as out of stamps\n", c->number);
-    if (outcome == SEMDUOLI_DISAGREEMENT)
+    if (outcome == SEMDUOLI_DISAGREEMENT) { /* a case for the staff: more is false than is allowed for */
         printf("client %u: the blocks of its read disagree\n", c->number);
+        disagreed = 1;
+    }
 }
 
 /* hands a frame to a client; whether it is confirmed */
@@ -276,10 +280,12 @@ static int begin(struct party *c, const char *const *script, size_t *at)
     memcpy(c->value, value, *value ? SIZE : 0);
     uint64_t answer = *value ? semduoli_begin_write(N, T, K, SIZE, c->number, c->state, SEMDUOLI_CLIENT, c->value, SIZE, out, sizeof out, to, sizeof to)
                              : semduoli_begin_read(N, T, K, SIZE, c->number, c->state, SEMDUOLI_CLIENT, out, sizeof out, to, sizeof to);
-    if (SEMDUOLI_REFUSAL(answer)) { /* nothing was begun, and the client goes on with what is next */
-        printf("client %u: a %s is refused by %u\n", c->number, *value ? "write" : "read", SEMDUOLI_REFUSAL(answer));
+    if (SEMDUOLI_REFUSAL(answer) == SEMDUOLI_REFUSED_CLOSED) { /* nothing was begun, and the client goes on with what is next */
+        printf("client %u may not write: refused by %u\n", c->number, SEMDUOLI_REFUSAL(answer));
         return 1;
     }
+    if (SEMDUOLI_REFUSAL(answer))
+        stop("an operation", "cannot be begun");
     add_sent(c, answer, out, to);
     store(c);
     return 1;
@@ -419,5 +425,5 @@ int main(int count, char **arguments)
     int ordered = has_order();
     printf("rounds %u, handed in %u, lost %u, repeated %u, starts from a file %u\n", round, handed_in, lost, repeated, restarts);
     printf("came too early %u, of them not kept %u, handed in again %u; not sent again, since nobody needs them, %u\n", ahead, dropped, again, needless);
-    return round == ROUNDS || !ordered;
+    return round == ROUNDS || !ordered || disagreed;
 }

@@ -26,7 +26,8 @@ use Rattle.frame.specs.Frames.{bodyAt, lengthOf, bodyLength, opened, openingRes
 use Rattle.frame.proofs.Chain.{stop-bounds, within-bounds}
 use Rattle.frame.proofs.Opening.{opens-facts}
 use Rattle.host_facts.specs.Outcomes.{wrote}
-use Rattle.host_facts.specs.Frames.{headerAnswer, headerCall, timeOf, carriesTime, timed, timeGiven, timeCall}
+use Rattle.host_facts.specs.Frames.{headerAnswer, headerCall, timeOf, timed, timeGiven, timeCall}
+use Rattle.host_facts.specs.Kinds.{carriesTime}
 
 pub header-done : (g : Params) (f : List ℕ) (a : Response Header) (x : ℕ) → a ≡ openedUnder g f → x ≡ headerAnswer a → x ≡ headerCall g f
 unfolding headerCall

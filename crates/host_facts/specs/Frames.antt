@@ -1,12 +1,11 @@
 -- What a host may ask of a frame. It is opened as a party of the register would open it; what does not open says nothing but the number. These are
 -- definitions.
 use Prim.Native.Nat.{ℕ, _+_, _*_}
-use mathlib.Core.Bool.{Bool, _||_, _&&_}
 use mathlib.Core.List.{List}
 use mathlib.Core.Option.{Option, none, some}
 use lib.ListN.{length}
 use lib.Seq.{sets}
-use lib.Dec.{eqb, ltb, leb}
+use lib.Dec.{ltb}
 use Rattle.area.specs.Area.{pick}
 use Rattle.area.specs.Responses.{Response, turnedDown, gives}
 use Rattle.area.specs.Numbers.{bytes8}
@@ -33,10 +32,6 @@ timeOf readComplete = none
 timeOf (stampIs T) = some T
 timeOf (blockIs z o) = some (o .time)
 timeOf (valueIs s e) = some (s .time)
-
--- the kinds of such frames
-unfoldable pub carriesTime : ℕ → Bool
-carriesTime kind = eqb kind 11 || (leb 2 kind && leb kind 5)
 
 -- 1 in the second byte of the answer, and the time in 8 bytes of the area; or 0, and the area as lent
 unfoldable pub timed : Option ℕ → List ℕ → Wrote

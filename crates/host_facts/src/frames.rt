@@ -9,7 +9,8 @@ use frame::opener::opened_under;
 use frame::refusals::number_of;
 ghost use mathlib.Core.Path.{_≡_};
 ghost use Rattle.frame.specs.Frames.{openingResponse};
-ghost use Rattle.host_facts.specs.Frames.{carriesTime, headerAnswer, headerCall, timeCall};
+ghost use Rattle.host_facts.specs.Frames.{headerAnswer, headerCall, timeCall};
+ghost use Rattle.host_facts.specs.Kinds.{carriesTime};
 ghost use Rattle.host_facts.specs.Outcomes.{wrote};
 
 // The bytes of a time.

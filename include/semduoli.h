@@ -239,7 +239,7 @@ static inline uint32_t semduoli_stamp_sequence(const uint8_t *stamp)
     return (uint32_t)stamp[9] << 24 | (uint32_t)stamp[10] << 16 | (uint32_t)stamp[11] << 8 | stamp[12];
 }
 
-/* The bytes of a frame, by the two that it begins with. */
+/* How many bytes a frame of an out area has, by the two that it begins with. (One that came by a link has as many as came.) */
 static inline size_t semduoli_frame_length(const uint8_t *frame)
 {
     return 2 + 256 * (size_t)frame[0] + frame[1];
@@ -402,7 +402,7 @@ uint64_t semduoli_begin_write(size_t n, size_t t, size_t k, size_t size, size_t 
  * before results of this register are relied upon. The client itself is ready: another read may be begun, and may give a value.
  *
  * One false server can close a client's writing for good: it answers a get-stamp with the time 2^64 - 1, and is among the first n - t. With the time
- * 2^64 - 2 the write goes through, the servers then hold the largest stamp there is, and every client's next write closes. Nothing that was written is
+ * 2^64 - 2 the write goes through, the servers then hold a stamp of the largest time, and every client's next write closes. Nothing that was written is
  * lost, and reads go on; but no call opens such a client, or such a register, for writing again. Request F-9 is to end this. */
 uint64_t semduoli_client_deliver(size_t n, size_t t, size_t k, size_t size, size_t me, size_t sender_class, size_t sender, const uint8_t *value,
                                  size_t value_length, const uint8_t *frame, size_t frame_length, uint8_t *rows, size_t rows_length,

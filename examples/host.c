@@ -1,5 +1,5 @@
-/* A host in C that makes every call: a digest, blocks, histories, an index of accession numbers, a client that begins a write, and a whole run of a
- * register whose parties are all in this process. */
+/* A host in C that makes every call: a digest, blocks, histories, an index of accession numbers, frames and entries of a trace, a client that begins a
+ * write, and a whole run of a register whose parties are all in this process. */
 #include <stdio.h>
 #include <string.h>
 #include "semduoli.h"
@@ -14,10 +14,21 @@ static void show(const char *name, const uint8_t *bytes, size_t length)
     printf("\n");
 }
 
-/* the length of a frame */
-static size_t length_of(const uint8_t *frame)
+/* whether a number has the type size_t, or one that counts like it */
+#define IS_SIZE(x) (sizeof(x) == sizeof(size_t) && (x) * 0 - 1 > 0)
+
+/* Sizes are size_t whatever is passed: with numbers in int the last one would be beyond the largest int. */
+static void show_sizes(void)
 {
-    return 2 + 256 * frame[0] + frame[1];
+    int n = 10, k = 1, size = 256, entries = 200000;
+    int all = IS_SIZE(SEMDUOLI_BLOCK(k, size)) && IS_SIZE(SEMDUOLI_BLOCKS(n, k, size)) && IS_SIZE(SEMDUOLI_INITIAL(k, size)) &&
+              IS_SIZE(SEMDUOLI_FRAME(n, k, size)) && IS_SIZE(SEMDUOLI_FRAME_MOST) && IS_SIZE(SEMDUOLI_SERVER_OUT(n, k, size)) &&
+              IS_SIZE(SEMDUOLI_SERVER_TO(n)) && IS_SIZE(SEMDUOLI_CLIENT_OUT(n, k, size)) && IS_SIZE(SEMDUOLI_CLIENT_TO(n)) &&
+              IS_SIZE(SEMDUOLI_OUT_MOST) && IS_SIZE(SEMDUOLI_TO_MOST) && IS_SIZE(SEMDUOLI_SHEET(size)) && IS_SIZE(SEMDUOLI_DIGEST) &&
+              IS_SIZE(SEMDUOLI_SERVER) && IS_SIZE(SEMDUOLI_CLIENT) && IS_SIZE(SEMDUOLI_AREA) && IS_SIZE(SEMDUOLI_ROWS) && IS_SIZE(SEMDUOLI_STAMP) &&
+              IS_SIZE(SEMDUOLI_LINES) && IS_SIZE(SEMDUOLI_PAGE) && IS_SIZE(SEMDUOLI_INDEX) && IS_SIZE(SEMDUOLI_PLAYBACK_OUT(n, k, size, entries));
+    printf("%sout of %d entries played back: %llu bytes\n", all ? "" : "a size is no size_t; ", entries,
+           (unsigned long long)SEMDUOLI_PLAYBACK_OUT(n, k, size, entries));
 }
 
 /* the frames of an answer, each with its receiver */
@@ -25,11 +36,68 @@ static void show_sent(uint64_t answer, const uint8_t *out, const uint8_t *to)
 {
     size_t at = 0;
     for (unsigned i = 0; i < SEMDUOLI_COUNT(answer); i++) {
-        size_t length = length_of(out + at);
+        size_t length = semduoli_frame_length(out + at);
         printf("to %s %u", to[2 * i] ? "server" : "client", to[2 * i + 1]);
         show(":", out + at, length);
         at += length;
     }
+}
+
+/* what a frame says: its kind, client and sequence, and the time that it carries */
+static void show_frame(const char *name, const uint8_t *frame, size_t length)
+{
+    uint8_t time[SEMDUOLI_TIME];
+    uint64_t header = semduoli_frame_header(N, T, K, SIZE, frame, length);
+    uint64_t timed = semduoli_frame_time(N, T, K, SIZE, frame, length, time, sizeof time);
+    printf("%s: refusal %u, kind %u, client %u, sequence %u", name, SEMDUOLI_REFUSAL(header), SEMDUOLI_HEADER_KIND(header), SEMDUOLI_HEADER_CLIENT(header),
+           (unsigned)SEMDUOLI_HEADER_SEQUENCE(header));
+    if (!SEMDUOLI_REFUSAL(timed) && SEMDUOLI_OUTCOME(timed) == SEMDUOLI_HAS_TIME)
+        printf(", time %llu", (unsigned long long)semduoli_stamp_time(time));
+    printf("\n");
+}
+
+static void ask_of_frames(void)
+{
+    const uint8_t stamp[] = {0, 15, 1, 2, 8, 0xff, 0xff, 0xff, 0xff, 0xff, 0xff, 0xff, 0xff, 0xff, 0xff, 0xff, 0xfe}, retired[] = {0, 7, 1, 6, 2, 0, 0, 0, 5};
+    uint8_t time[SEMDUOLI_TIME];
+    show_frame("stamp", stamp, sizeof stamp);
+    show_frame("stamp, cut", stamp, sizeof stamp - 1);
+    show_frame("retired kind", retired, sizeof retired);
+    printf("time, area short: %u\n", (unsigned)semduoli_frame_time(N, T, K, SIZE, stamp, sizeof stamp, time, sizeof time - 1));
+    printf("header, n = 3: %u\n", (unsigned)semduoli_frame_header(3, T, K, SIZE, stamp, sizeof stamp));
+}
+
+/* what is at the front of so many bytes of a trace, and how many bytes it takes */
+static size_t read_entry(const uint8_t *trace, size_t length)
+{
+    uint64_t answer = semduoli_entry_read(trace, length);
+    if (SEMDUOLI_REFUSAL(answer))
+        printf("entry: refusal %u\n", SEMDUOLI_REFUSAL(answer));
+    else if (SEMDUOLI_OUTCOME(answer) == SEMDUOLI_TRACE_WHOLE)
+        printf("entry: none left\n");
+    else
+        printf("entry of class %u, number %u, bytes %u\n", SEMDUOLI_ENTRY_CLASS(answer), SEMDUOLI_ENTRY_SENDER(answer),
+               (unsigned)SEMDUOLI_ENTRY_READ(answer));
+    return SEMDUOLI_ENTRY_READ(answer);
+}
+
+/* a trace of two entries, written and read back */
+static void keep_trace(void)
+{
+    const uint8_t frame[] = {0, 7, 1, 1, 2, 0, 0, 0, 5};
+    uint8_t trace[2 * SEMDUOLI_ENTRY(sizeof frame)];
+    size_t at = 0;
+    at += SEMDUOLI_ENTRY_WRITTEN(semduoli_entry_write(SEMDUOLI_CLASS_CLIENT, 2, frame, sizeof frame, trace, sizeof trace));
+    at += SEMDUOLI_ENTRY_WRITTEN(semduoli_entry_write(SEMDUOLI_CLASS_SERVER, 255, frame, sizeof frame, trace + at, sizeof trace - at));
+    show("trace:", trace, at);
+    printf("write, area short: %u\n", (unsigned)semduoli_entry_write(SEMDUOLI_CLASS_CLIENT, 2, frame, sizeof frame, trace, sizeof frame + 4));
+    printf("write, third class: %u\n", (unsigned)semduoli_entry_write(2, 2, frame, sizeof frame, trace, sizeof trace));
+    printf("write, number 256: %u\n", (unsigned)semduoli_entry_write(SEMDUOLI_CLASS_SERVER, 256, frame, sizeof frame, trace, sizeof trace));
+    at = read_entry(trace, sizeof trace);
+    at += read_entry(trace + at, sizeof trace - at);
+    read_entry(trace + at, sizeof trace - at);
+    read_entry(trace, sizeof frame);
+    read_entry(trace + 1, sizeof frame);
 }
 
 static void judge(const char *text)
@@ -41,7 +109,7 @@ static void judge(const char *text)
     else if (SEMDUOLI_OUTCOME(answer) == SEMDUOLI_ORDERED)
         show("history:", lines, SEMDUOLI_COUNT(answer));
     else
-        printf("history: %u and %u offend\n", (unsigned)(answer >> 16 & 0xff), (unsigned)(answer >> 24 & 0xff));
+        printf("history: %u and %u offend\n", SEMDUOLI_EARLIER(answer), SEMDUOLI_LATER(answer));
 }
 
 /* The first line of a history's sheet, and its page number, at the right of the last line; the area has so many bytes. */
@@ -54,7 +122,7 @@ static void lay(const char *text, size_t room)
     else if (SEMDUOLI_OUTCOME(answer) == SEMDUOLI_ORDERED)
         printf("sheet: pages %u, %.63s, page %c\n", SEMDUOLI_COUNT(answer), (const char *)sheet, sheet[SEMDUOLI_PAGE - 2]);
     else
-        printf("sheet: %u and %u offend\n", (unsigned)(answer >> 16 & 0xff), (unsigned)(answer >> 24 & 0xff));
+        printf("sheet: %u and %u offend\n", SEMDUOLI_EARLIER(answer), SEMDUOLI_LATER(answer));
 }
 
 static void insert(const char *value, uint8_t *index, size_t index_length)
@@ -106,7 +174,7 @@ static struct client clients[CLIENTS + 1];
 static struct parcel waiting[WAITING];
 static size_t taken, added, refused;
 
-/* puts the frames that a party sent behind those that wait */
+/* puts the frames that a party sent after those that wait */
 static void add_sent(uint8_t sender_class, uint8_t sender, uint64_t answer, const uint8_t *out, const uint8_t *to)
 {
     size_t at = 0;
@@ -115,7 +183,7 @@ static void add_sent(uint8_t sender_class, uint8_t sender, uint64_t answer, cons
         p->from[0] = sender_class;
         p->from[1] = sender;
         memcpy(p->to, to + 2 * i, 2);
-        p->length = length_of(out + at);
+        p->length = semduoli_frame_length(out + at);
         memcpy(p->frame, out + at, p->length);
         at += p->length;
     }
@@ -139,6 +207,8 @@ static uint64_t hand_to_client(const struct parcel *p)
                                               sizeof c->rows, result, sizeof result, stamp, sizeof stamp, c->state, sizeof c->state, out, sizeof out, to,
                                               sizeof to);
     add_sent(SEMDUOLI_CLASS_CLIENT, me, answer, out, to);
+    if (SEMDUOLI_OUTCOME(answer) == SEMDUOLI_SENT && SEMDUOLI_COUNT(answer))
+        show_frame("a write goes out", out, semduoli_frame_length(out));
     if (SEMDUOLI_OUTCOME(answer) == SEMDUOLI_WRITTEN)
         printf("client %u has written\n", me);
     if (SEMDUOLI_OUTCOME(answer) == SEMDUOLI_VALUE)
@@ -172,6 +242,18 @@ static void begin(uint8_t me, const uint8_t *value)
     add_sent(SEMDUOLI_CLASS_CLIENT, me, answer, out, to);
 }
 
+/* the block that a server holds, into an area that is so much short */
+static void show_block(uint8_t server, size_t short_by)
+{
+    uint8_t block[B];
+    struct server *s = &servers[server];
+    uint64_t answer = semduoli_server_block(N, T, K, SIZE, s->area, sizeof s->area, s->initial, sizeof s->initial, s->state, sizeof s->state, block,
+                                            sizeof block - short_by);
+    printf("server %u, block: %u\n", server, (unsigned)answer);
+    if (!SEMDUOLI_REFUSAL(answer))
+        show("block:", block, sizeof block);
+}
+
 /* what is open at a client, and what a server holds and works on for client 1 */
 static void show_open(uint8_t client, uint8_t server)
 {
@@ -196,6 +278,7 @@ static void whole_run(const uint8_t *initial, const uint8_t *value)
         semduoli_client_fresh(clients[j].state, sizeof clients[j].state);
     begin(2, NULL);
     carry();
+    show_block(3, 0);
     begin(1, value);
     show_open(1, 1);
     carry();
@@ -203,6 +286,8 @@ static void whole_run(const uint8_t *initial, const uint8_t *value)
     show_open(2, 1);
     carry();
     show_open(2, 1);
+    show_block(3, 0);
+    show_block(3, 1);
 }
 
 /* what server 1 answers to client 1's get-stamp from this sender, so many bytes of the frame and of the record being lent */
@@ -235,6 +320,7 @@ int main(void)
     uint8_t digest[SEMDUOLI_DIGEST], blocks[N * B], chosen[K * B], back[SIZE];
     const uint8_t numbers[K] = {4, 2}, all[N] = {1, 2, 3, 4};
 
+    show_sizes();
     printf("digest: %u\n", (unsigned)semduoli_digest((const uint8_t *)"abc", 3, digest, sizeof digest));
     show("digest:", digest, sizeof digest);
     printf("digest of nothing: %u\n", (unsigned)semduoli_digest(NULL, 0, digest, sizeof digest));
@@ -262,6 +348,8 @@ int main(void)
     lay("W 1 2 5 1 1 0\nW 3 4 4 2 1 0\n", 0);
     lay("W 1 2 5 1 1\n", 0);
     find_lots();
+    ask_of_frames();
+    keep_trace();
 
     uint8_t state[SEMDUOLI_CLIENT], out[SEMDUOLI_CLIENT_OUT(N, K, SIZE)], to[SEMDUOLI_CLIENT_TO(N)];
     printf("fresh: %u\n", (unsigned)semduoli_client_fresh(state, sizeof state));

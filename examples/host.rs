@@ -28,6 +28,16 @@ mod semduoli {
                 n: usize, t: usize, k: usize, size: usize, me: usize, v: *const u8, v_len: usize, trace: *const u8, trace_len: usize, area: *mut u8,
                 area_len: usize, initial: *mut u8, initial_len: usize, state: *mut u8, state_len: usize, out: *mut u8, out_len: usize,
             ) -> u64;
+            pub fn semduoli_frame_header(n: usize, t: usize, k: usize, size: usize, f: *const u8, f_len: usize) -> u64;
+            pub fn semduoli_frame_time(
+                n: usize, t: usize, k: usize, size: usize, f: *const u8, f_len: usize, time: *mut u8, time_len: usize,
+            ) -> u64;
+            pub fn semduoli_entry_write(class: usize, sender: usize, f: *const u8, f_len: usize, out: *mut u8, out_len: usize) -> u64;
+            pub fn semduoli_entry_read(trace: *const u8, trace_len: usize) -> u64;
+            pub fn semduoli_server_block(
+                n: usize, t: usize, k: usize, size: usize, area: *const u8, area_len: usize, initial: *const u8, initial_len: usize, state: *const u8,
+                state_len: usize, block: *mut u8, block_len: usize,
+            ) -> u64;
             pub fn semduoli_version() -> u64;
             pub fn semduoli_server_stamp(state: *const u8, state_len: usize, stamp: *mut u8, stamp_len: usize) -> u64;
             pub fn semduoli_server_open(client: usize, state: *const u8, state_len: usize) -> u64;
@@ -64,6 +74,11 @@ mod semduoli {
         pub fn frame(&self) -> usize {
             22 + 32 * self.n + self.block()
         }
+
+        // The out area of so many entries played back.
+        pub fn playback_out(&self, entries: usize) -> usize {
+            entries * (3 + (self.n + 9) * (self.frame() + 2))
+        }
     }
 
     // A party: its class, and its number.
@@ -82,9 +97,16 @@ mod semduoli {
     pub const PAGE: usize = 4380;
     pub const INDEX: usize = 577;
     pub const STAMP: usize = 13;
+    pub const TIME: usize = 8;
+    pub const ENTRY_HEAD: usize = 5;
     pub const VERSION: u64 = 3;
 
+    // Whether a frame carries a time, and what is at the front of a trace.
+    pub const HAS_TIME: u64 = 1;
+    pub const TRACE_WHOLE: u64 = 0;
+
     // What happened at a client.
+    pub const SENT: u64 = 0;
     pub const WRITTEN: u64 = 1;
     pub const VALUE: u64 = 3;
 
@@ -106,6 +128,26 @@ mod semduoli {
 
         pub fn sequence(&self) -> u64 {
             self.0 >> 16
+        }
+
+        // The kind of a frame, the client that it names, and its sequence.
+        pub fn header(&self) -> (u64, u64, u64) {
+            (self.outcome(), self.0 >> 16 & 0xff, self.0 >> 24 & 0xffffffff)
+        }
+
+        // An entry that was read: its sender, and the bytes of the whole entry.
+        pub fn entry_read(&self) -> (Party, usize) {
+            (Party((self.0 >> 16 & 0xff) as usize, (self.0 >> 24 & 0xff) as usize), (self.0 >> 32) as usize)
+        }
+
+        // The bytes of an entry that was written.
+        pub fn entry_written(&self) -> usize {
+            (self.0 >> 16) as usize
+        }
+
+        // The lines of an offending pair: that of the operation that precedes, and that of the other.
+        pub fn pair(&self) -> (u64, u64) {
+            (self.0 >> 16 & 0xff, self.0 >> 24 & 0xff)
         }
     }
 
@@ -186,6 +228,31 @@ mod semduoli {
         Answer(unsafe { raw::semduoli_server_open(client, state.as_ptr(), state.len()) })
     }
 
+    pub fn frame_header(g: &Params, f: &[u8]) -> Answer {
+        Answer(unsafe { raw::semduoli_frame_header(g.n, g.t, g.k, g.size, f.as_ptr(), f.len()) })
+    }
+
+    pub fn frame_time(g: &Params, f: &[u8], time: &mut [u8]) -> Answer {
+        Answer(unsafe { raw::semduoli_frame_time(g.n, g.t, g.k, g.size, f.as_ptr(), f.len(), time.as_mut_ptr(), time.len()) })
+    }
+
+    pub fn entry_write(from: Party, f: &[u8], out: &mut [u8]) -> Answer {
+        Answer(unsafe { raw::semduoli_entry_write(from.0, from.1, f.as_ptr(), f.len(), out.as_mut_ptr(), out.len()) })
+    }
+
+    pub fn entry_read(trace: &[u8]) -> Answer {
+        Answer(unsafe { raw::semduoli_entry_read(trace.as_ptr(), trace.len()) })
+    }
+
+    pub fn server_block(g: &Params, area: &[u8], initial: &[u8], state: &[u8], block: &mut [u8]) -> Answer {
+        Answer(unsafe {
+            raw::semduoli_server_block(
+                g.n, g.t, g.k, g.size, area.as_ptr(), area.len(), initial.as_ptr(), initial.len(), state.as_ptr(), state.len(), block.as_mut_ptr(),
+                block.len(),
+            )
+        })
+    }
+
     pub fn client_open(state: &[u8]) -> Answer {
         Answer(unsafe { raw::semduoli_client_open(state.as_ptr(), state.len()) })
     }
@@ -246,6 +313,59 @@ fn show_sent(answer: &semduoli::Answer, out: &[u8], to: &[u8]) {
     }
 }
 
+// What a frame says: its kind, client and sequence, and the time that it carries.
+fn show_frame(g: &semduoli::Params, name: &str, frame: &[u8]) {
+    let mut time = [0; semduoli::TIME];
+    let (answer, timed) = (semduoli::frame_header(g, frame), semduoli::frame_time(g, frame, &mut time));
+    let (kind, client, sequence) = answer.header();
+    print!("{name}: refusal {}, kind {kind}, client {client}, sequence {sequence}", answer.refusal());
+    if timed.refusal() == 0 && timed.outcome() == semduoli::HAS_TIME {
+        print!(", time {}", u64::from_be_bytes(time));
+    }
+    println!();
+}
+
+fn ask_of_frames(g: &semduoli::Params) {
+    let stamp = [0, 15, 1, 2, 8, 0xff, 0xff, 0xff, 0xff, 0xff, 0xff, 0xff, 0xff, 0xff, 0xff, 0xff, 0xfe];
+    show_frame(g, "stamp", &stamp);
+    show_frame(g, "stamp, cut", &stamp[..16]);
+    show_frame(g, "retired kind", &[0, 7, 1, 6, 2, 0, 0, 0, 5]);
+    println!("time, area short: {}", semduoli::frame_time(g, &stamp, &mut [0; semduoli::TIME - 1]).0);
+    println!("header, n = 3: {}", semduoli::frame_header(&semduoli::Params { n: 3, ..*g }, &stamp).0);
+}
+
+// What is at the front of a trace, and how many bytes it takes.
+fn read_entry(trace: &[u8]) -> usize {
+    let answer = semduoli::entry_read(trace);
+    let (sender, bytes) = answer.entry_read();
+    if answer.refusal() != 0 {
+        println!("entry: refusal {}", answer.refusal());
+    } else if answer.outcome() == semduoli::TRACE_WHOLE {
+        println!("entry: none left");
+    } else {
+        println!("entry of class {}, number {}, bytes {bytes}", sender.0, sender.1);
+    }
+    bytes
+}
+
+// A trace of two entries, written and read back.
+fn keep_trace() {
+    let frame = [0, 7, 1, 1, 2, 0, 0, 0, 5];
+    let (client, server) = (semduoli::Party(semduoli::CLASS_CLIENT, 2), semduoli::Party(semduoli::CLASS_SERVER, 255));
+    let mut trace = [0; 2 * (semduoli::ENTRY_HEAD + 9)];
+    let mut at = semduoli::entry_write(client, &frame, &mut trace).entry_written();
+    at += semduoli::entry_write(server, &frame, &mut trace[at..]).entry_written();
+    show("trace:", &trace[..at]);
+    println!("write, area short: {}", semduoli::entry_write(client, &frame, &mut trace[..13]).0);
+    println!("write, third class: {}", semduoli::entry_write(semduoli::Party(2, 2), &frame, &mut trace).0);
+    println!("write, number 256: {}", semduoli::entry_write(semduoli::Party(semduoli::CLASS_SERVER, 256), &frame, &mut trace).0);
+    at = read_entry(&trace);
+    at += read_entry(&trace[at..]);
+    read_entry(&trace[at..]);
+    read_entry(&trace[..9]);
+    read_entry(&trace[1..10]);
+}
+
 fn judge(text: &str) {
     let mut lines = [0; semduoli::LINES];
     let answer = semduoli::judge(text.as_bytes(), &mut lines);
@@ -254,7 +374,8 @@ fn judge(text: &str) {
     } else if answer.outcome() == 0 {
         show("history:", &lines[..answer.count()]);
     } else {
-        println!("history: {} and {} offend", answer.0 >> 16 & 0xff, answer.0 >> 24 & 0xff);
+        let (earlier, later) = answer.pair();
+        println!("history: {earlier} and {later} offend");
     }
 }
 
@@ -268,7 +389,8 @@ fn lay(text: &str, room: usize) {
         let (line, number) = (String::from_utf8_lossy(&sheet[..63]), sheet[semduoli::PAGE - 2] as char);
         println!("sheet: pages {}, {line}, page {number}", answer.count());
     } else {
-        println!("sheet: {} and {} offend", answer.0 >> 16 & 0xff, answer.0 >> 24 & 0xff);
+        let (earlier, later) = answer.pair();
+        println!("sheet: {earlier} and {later} offend");
     }
 }
 
@@ -347,7 +469,7 @@ impl Run {
         (vec![0; frames * self.g.frame()], vec![0; 2 * frames])
     }
 
-    // Puts the frames that a party sent behind those that wait.
+    // Puts the frames that a party sent after those that wait.
     fn add_sent(&mut self, from: semduoli::Party, answer: &semduoli::Answer, out: &[u8], to: &[u8]) {
         let mut at = 0;
         for i in 0..answer.count() {
@@ -374,6 +496,7 @@ impl Run {
         );
         self.add_sent(p.to, &answer, &out, &to);
         match answer.outcome() {
+            semduoli::SENT if answer.count() > 0 => show_frame(&self.g, "a write goes out", &out[..length_of(&out)]),
             semduoli::WRITTEN => println!("client {} has written", p.to.1),
             semduoli::VALUE => {
                 let (time, sequence) = (u64::from_be_bytes(stamp[..8].try_into().unwrap()), u32::from_be_bytes(stamp[9..].try_into().unwrap()));
@@ -423,6 +546,17 @@ impl Run {
         show(" stamp", &stamp);
     }
 
+    // The block that a server holds, into an area that is so much short.
+    fn show_block(&self, server: usize, short_by: usize) {
+        let (mut block, s) = (vec![0; self.g.block()], &self.servers[server]);
+        let room = block.len() - short_by;
+        let answer = semduoli::server_block(&self.g, &s.area, &s.initial, &s.state, &mut block[..room]);
+        println!("server {server}, block: {}", answer.0);
+        if answer.refusal() == 0 {
+            show("block:", &block);
+        }
+    }
+
     // What server 1 answers to client 1's get-stamp from this sender, so many bytes of the frame and of the record being lent.
     fn hand_get_stamp(&mut self, name: &str, class: usize, sender: usize, frame: usize, state: usize) {
         let (mut out, mut to) = self.areas(self.g.n + 9);
@@ -437,7 +571,7 @@ impl Run {
     fn play_back(&mut self, trace: usize, short_by: usize) {
         let asked = [0, 7, 1, 1, 2, 0, 0, 0, 5];
         let whole = [&[0, 12, 1, 0, 2], &asked[..], &[0, 12, 1, 1, 2], &asked, &[0, 2]].concat();
-        let room = 2 * (3 + (self.g.n + 9) * (self.g.frame() + 2));
+        let room = self.g.playback_out(2);
         let (mut out, s) = (vec![0; room], &mut self.servers[3]);
         let lent = &mut out[..room - short_by];
         let answer = semduoli::playback(&self.g, 3, b"first", &whole[..trace], &mut s.area, &mut s.initial, &mut s.state, lent);
@@ -451,6 +585,9 @@ impl Run {
 fn main() {
     let g = semduoli::Params { n: 4, t: 1, k: 2, size: 5 };
     let value = b"hello";
+
+    let largest = semduoli::Params { n: 10, t: 3, k: 1, size: 256 };
+    println!("out of 200000 entries played back: {} bytes", largest.playback_out(200000));
 
     let mut digest = [0; semduoli::DIGEST];
     println!("digest: {}", semduoli::digest(b"abc", &mut digest).0);
@@ -482,6 +619,8 @@ fn main() {
     lay("W 1 2 5 1 1 0\nW 3 4 4 2 1 0\n", 0);
     lay("W 1 2 5 1 1\n", 0);
     find_lots();
+    ask_of_frames(&g);
+    keep_trace();
 
     let mut state = [0xff; semduoli::CLIENT];
     let mut out = [0; 4 * (22 + 32 * 4 + 3)];
@@ -498,6 +637,7 @@ fn main() {
     let mut run = Run::fresh(g, 2, b"first");
     run.begin(2, b"");
     run.carry();
+    run.show_block(3, 0);
     run.begin(1, value);
     run.show_open(1, 1);
     run.carry();
@@ -505,6 +645,8 @@ fn main() {
     run.show_open(2, 1);
     run.carry();
     run.show_open(2, 1);
+    run.show_block(3, 0);
+    run.show_block(3, 1);
     run.hand_get_stamp("from client 1", semduoli::CLASS_CLIENT, 1, 9, semduoli::SERVER);
     run.hand_get_stamp("from client 257", semduoli::CLASS_CLIENT, 257, 9, semduoli::SERVER);
     run.hand_get_stamp("from a third class", 2, 1, 9, semduoli::SERVER);

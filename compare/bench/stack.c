@@ -1,7 +1,8 @@
-/* stack: the stack that the library's calls use, in a table of docs/PERFORMANCE.md. A whole write and then a whole read, all parties honest and
- * frames in the order sent, and the playback of what server 1 was handed. Each call is made on a thread of its own, whose stack is painted before;
- * the lowest byte that is no longer paint says how deep the call went. What an empty thread uses is subtracted; it ends some 70 bytes deeper than it
- * begins, and so much is missing from a figure, while the frame that makes the call is in it. Bytes below the lowest written one that a call reserves are not seen, nor are paths that this run does not take.
+/* stack: the stack that the library's calls use, as a table for docs/PERFORMANCE.md. A whole write and then a whole read, all parties honest and
+ * frames in the order sent, what a host asks of each frame, and the playback of what server 1 was handed. Each call is made on a thread of its own,
+ * whose stack is painted before; the lowest byte that is no longer paint says how deep the call went. What an empty thread uses is subtracted; it ends
+ * some 70 bytes deeper than it begins, and so much is missing from a figure (0 is a call that goes no deeper), while the frame that makes the call is in
+ * it. Bytes below the lowest written one that a call reserves are not seen, nor are paths that this run does not take.
  * Link with -z now: else the first calls of memcpy would count the linker's work. */
 #define _XOPEN_SOURCE 700
 #include <pthread.h>
@@ -19,13 +20,16 @@ static const struct set {
 static struct set p; /* that is being measured */
 
 /* the rows of the table; rows 1 to 12 are a server's deliveries by the frame's kind, of which 2, 9 and 11 go to clients and 6 to 8 are retired */
-enum { SERVER_FRESH = 0, CLIENT_FRESH = 13, BEGIN_READ, BEGIN_WRITE, CLIENT_DELIVER, PLAYBACK, TABLE };
+enum { SERVER_FRESH = 0, CLIENT_FRESH = 13, BEGIN_READ, BEGIN_WRITE, CLIENT_DELIVER, PLAYBACK, ENTRY_WRITE, ENTRY_READ, SERVER_BLOCK, FRAME_HEADER, FRAME_TIME,
+       TABLE };
 
 static const char *const names[TABLE] = {
     "server_fresh", "server_deliver, kind 1", NULL, "server_deliver, kind 3", "server_deliver, kind 4", "server_deliver, kind 5",
     NULL, NULL, NULL, NULL, "server_deliver, kind 10", NULL,
-    "server_deliver, kind 12", "client_fresh", "begin_read", "begin_write", "client_deliver", "playback"};
+    "server_deliver, kind 12", "client_fresh", "begin_read", "begin_write", "client_deliver", "playback", "entry_write", "entry_read",
+    "server_block", "frame_header", "frame_time"};
 static size_t deepest[TABLE];
+static int made[TABLE];
 
 /* ---- the parties: servers 1 to n, client 1, and the frames under way, first in, first out */
 
@@ -46,7 +50,7 @@ static uint8_t out[SEMDUOLI_SERVER_OUT(N, K, SIZE) + SEMDUOLI_CLIENT_OUT(N, K, S
 static struct parcel waiting[WAITING];
 static size_t taken, added;
 /* what server 1 was handed, as a trace, and the server that it gives */
-static uint8_t trace[ENTRIES * (5 + SEMDUOLI_FRAME(N, K, SIZE))], told[SEMDUOLI_PLAYBACK_OUT(N, K, SIZE, ENTRIES)];
+static uint8_t trace[ENTRIES * SEMDUOLI_ENTRY(SEMDUOLI_FRAME(N, K, SIZE))], told[SEMDUOLI_PLAYBACK_OUT(N, K, SIZE, ENTRIES)];
 static size_t trace_length;
 static struct server played;
 static uint64_t answer; /* of the last call */
@@ -111,6 +115,41 @@ static void *playback(void *unused)
     return unused;
 }
 
+/* puts a frame that was handed to server 1 at the end of its trace */
+static void *entry_write(void *parcel)
+{
+    const struct parcel *f = parcel;
+    answer = semduoli_entry_write(f->from[0], f->from[1], f->frame, f->length, trace + trace_length, sizeof trace - trace_length);
+    return NULL;
+}
+
+static void *entry_read(void *unused)
+{
+    answer = semduoli_entry_read(trace, trace_length);
+    return unused;
+}
+
+static void *server_block(void *unused)
+{
+    answer = semduoli_server_block(p.n, p.t, p.k, p.size, servers[1].area, sizeof servers[1].area, servers[1].initial, sizeof servers[1].initial,
+                                   servers[1].state, sizeof servers[1].state, result, sizeof result);
+    return unused;
+}
+
+static void *frame_header(void *parcel)
+{
+    const struct parcel *f = parcel;
+    answer = semduoli_frame_header(p.n, p.t, p.k, p.size, f->frame, f->length);
+    return NULL;
+}
+
+static void *frame_time(void *parcel)
+{
+    const struct parcel *f = parcel;
+    answer = semduoli_frame_time(p.n, p.t, p.k, p.size, f->frame, f->length, stamp, sizeof stamp);
+    return NULL;
+}
+
 /* ---- measuring */
 
 enum { STACK = 256 * 1024, PAINT = 0xa5 };
@@ -138,11 +177,12 @@ static void measure(size_t row, void *(*call)(void *), void *of)
     size_t empty = used(nothing, NULL), whole = used(call, of), own = whole > empty ? whole - empty : 0;
     if (own > deepest[row])
         deepest[row] = own;
+    made[row] = 1;
 }
 
 /* ---- a run */
 
-/* puts the frames that the last call sent behind those that wait */
+/* puts the frames that the last call sent after those that wait */
 static void add_sent(const uint8_t *sender)
 {
     size_t at = 0;
@@ -152,24 +192,19 @@ static void add_sent(const uint8_t *sender)
             fail("too many frames wait");
         memcpy(f->from, sender, 2);
         memcpy(f->to, to + 2 * i, 2);
-        f->length = 2 + 256 * out[at] + out[at + 1];
+        f->length = semduoli_frame_length(out + at);
         memcpy(f->frame, out + at, f->length);
         at += f->length;
     }
 }
 
-/* puts a frame that was handed to server 1 behind its trace */
-static void record(const struct parcel *f)
+/* what a frame says; the answer is its header */
+static void look_at(struct parcel *f)
 {
-    uint8_t *entry = trace + trace_length;
-    if (trace_length + 5 + f->length > sizeof trace)
-        fail("too many frames for a trace");
-    entry[0] = (uint8_t)((3 + f->length) >> 8);
-    entry[1] = (uint8_t)(3 + f->length);
-    entry[2] = 1;
-    memcpy(entry + 3, f->from, 2);
-    memcpy(entry + 5, f->frame, f->length);
-    trace_length += 5 + f->length;
+    measure(FRAME_TIME, frame_time, f);
+    measure(FRAME_HEADER, frame_header, f);
+    if (SEMDUOLI_REFUSAL(answer))
+        fail("a frame does not open");
 }
 
 /* an operation of the client, and the delivery of everything that it causes; it must end so */
@@ -183,10 +218,15 @@ static void operate(size_t row, void *written, unsigned end)
     while (taken != added) {
         struct parcel f = waiting[taken++ % WAITING];
         int to_server = f.to[0] == SEMDUOLI_CLASS_SERVER;
-        measure(to_server ? f.frame[3] : CLIENT_DELIVER, to_server ? server_deliver : client_deliver, &f);
-        if (to_server && f.to[1] == 1)
-            record(&f);
-        if (SEMDUOLI_REFUSAL(answer) == 13)
+        if (to_server && f.to[1] == 1) {
+            measure(ENTRY_WRITE, entry_write, &f);
+            if (SEMDUOLI_REFUSAL(answer))
+                fail("too many frames for a trace");
+            trace_length += SEMDUOLI_ENTRY_WRITTEN(answer);
+        }
+        look_at(&f);
+        measure(to_server ? SEMDUOLI_HEADER_KIND(answer) : CLIENT_DELIVER, to_server ? server_deliver : client_deliver, &f);
+        if (SEMDUOLI_REFUSAL(answer) == SEMDUOLI_REFUSED_AHEAD)
             waiting[added++ % WAITING] = f;
         ended |= !to_server && SEMDUOLI_OUTCOME(answer) == end;
         add_sent(f.to);
@@ -216,6 +256,12 @@ static void whole_run(void)
     measure(PLAYBACK, playback, NULL);
     if (SEMDUOLI_REFUSAL(answer) || SEMDUOLI_OUTCOME(answer) || memcmp(played.state, servers[1].state, SEMDUOLI_SERVER))
         fail("the trace played back gives another server");
+    measure(ENTRY_READ, entry_read, NULL);
+    if (SEMDUOLI_OUTCOME(answer) != SEMDUOLI_TRACE_ENTRY)
+        fail("the trace has no entry");
+    measure(SERVER_BLOCK, server_block, NULL);
+    if (answer)
+        fail("a server has no block");
 }
 
 int main(void)
@@ -228,7 +274,7 @@ int main(void)
     }
     printf("\n\n| call | stack, bytes |\n|---|---|\n");
     for (size_t row = 0; row < TABLE; row++) {
-        if (names[row] && !deepest[row])
+        if (names[row] && !made[row])
             fail("a row without a call");
         if (names[row])
             printf("| %s | %zu |\n", names[row], deepest[row]);

@@ -8,7 +8,8 @@ fn main() {
     let folder = std::env::var_os("SEMDUOLI_LIBRARY").map_or(usual, PathBuf::from);
     // libraries of commits up to F-7 are called register
     let names = ["semduoli", "register"];
-    let name = names.into_iter().find(|name| folder.join(format!("lib{name}.a")).is_file()).unwrap_or(names[0]);
+    let name =
+        names.into_iter().find(|name| folder.join(format!("lib{name}.a")).is_file()).unwrap_or(names[0]);
     let library = folder.join(format!("lib{name}.a"));
     println!("cargo:rerun-if-changed={}", library.display());
     if !library.is_file() {

@@ -57,6 +57,47 @@ mod raw {
             stamp_length: usize,
         ) -> u64;
         pub fn semduoli_server_open(client: usize, state: *const u8, state_length: usize) -> u64;
+        pub fn semduoli_server_block(
+            n: usize,
+            t: usize,
+            k: usize,
+            size: usize,
+            area: *const u8,
+            area_length: usize,
+            initial: *const u8,
+            initial_length: usize,
+            state: *const u8,
+            state_length: usize,
+            block: *mut u8,
+            block_length: usize,
+        ) -> u64;
+        pub fn semduoli_frame_header(
+            n: usize,
+            t: usize,
+            k: usize,
+            size: usize,
+            frame: *const u8,
+            frame_length: usize,
+        ) -> u64;
+        pub fn semduoli_frame_time(
+            n: usize,
+            t: usize,
+            k: usize,
+            size: usize,
+            frame: *const u8,
+            frame_length: usize,
+            time: *mut u8,
+            time_length: usize,
+        ) -> u64;
+        pub fn semduoli_entry_read(trace: *const u8, trace_length: usize) -> u64;
+        pub fn semduoli_entry_write(
+            class: usize,
+            sender: usize,
+            frame: *const u8,
+            frame_length: usize,
+            out: *mut u8,
+            out_length: usize,
+        ) -> u64;
         pub fn semduoli_client_fresh(state: *mut u8, state_length: usize) -> u64;
         pub fn semduoli_begin_read(
             n: usize,
@@ -233,6 +274,45 @@ pub fn server_stamp(state: &[u8], stamp: &mut [u8]) -> u64 {
 
 pub fn server_open(client: usize, state: &[u8]) -> u64 {
     unsafe { raw::semduoli_server_open(client, state.as_ptr(), state.len()) }
+}
+
+pub fn server_block(p: &Params, area: &[u8], initial: &[u8], state: &[u8], block: &mut [u8]) -> u64 {
+    unsafe {
+        raw::semduoli_server_block(
+            p.n,
+            p.t,
+            p.k,
+            p.l,
+            area.as_ptr(),
+            area.len(),
+            initial.as_ptr(),
+            initial.len(),
+            state.as_ptr(),
+            state.len(),
+            block.as_mut_ptr(),
+            block.len(),
+        )
+    }
+}
+
+pub fn frame_header(p: &Params, frame: &[u8]) -> u64 {
+    unsafe { raw::semduoli_frame_header(p.n, p.t, p.k, p.l, frame.as_ptr(), frame.len()) }
+}
+
+pub fn frame_time(p: &Params, frame: &[u8], time: &mut [u8]) -> u64 {
+    let (time_length, time) = (time.len(), time.as_mut_ptr());
+    unsafe { raw::semduoli_frame_time(p.n, p.t, p.k, p.l, frame.as_ptr(), frame.len(), time, time_length) }
+}
+
+pub fn entry_read(trace: &[u8]) -> u64 {
+    unsafe { raw::semduoli_entry_read(trace.as_ptr(), trace.len()) }
+}
+
+pub fn entry_write(from: Sender, frame: &[u8], out: &mut [u8]) -> u64 {
+    let (out_length, out) = (out.len(), out.as_mut_ptr());
+    unsafe {
+        raw::semduoli_entry_write(from.class, from.number, frame.as_ptr(), frame.len(), out, out_length)
+    }
 }
 
 pub fn client_fresh(state: &mut [u8]) -> u64 {

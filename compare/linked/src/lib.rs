@@ -4,6 +4,7 @@
 mod accession;
 pub mod calls;
 mod coding;
+mod facts;
 mod histories;
 mod playbacks;
 pub mod runs;
@@ -99,6 +100,15 @@ pub const KINDS: &[Kind] = &[
         name: "asked", usual: 20_000, case: single::asked, refusals: &[7, 10],
         outcomes: &["nothing open, or a server's", "open, awaiting stamps", "open, awaiting acks", "open reads"],
     },
+    Kind {
+        name: "frame", usual: 20_000, case: facts::frame,
+        refusals: &[1, 2, 3, 4, 5, 6, 7, 8, 9, 10], outcomes: &["frames without a time", "with one"],
+    },
+    Kind {
+        name: "entry", usual: 5_000, case: facts::entry,
+        refusals: &[3, 10, 11, 22, 23], outcomes: &["entries written and traces at their end", "entries read"],
+    },
+    Kind { name: "block", usual: 10_000, refusals: &[1, 2, 3, 10], outcomes: &["present blocks"], case: single::block },
     Kind { name: "fresh", usual: 5_000, refusals: &[1, 2, 3, 10], outcomes: &["servers made"], case: single::fresh },
     Kind {
         name: "server", usual: 60_000, case: single::server,

@@ -3,7 +3,7 @@
 use crate::calls::Sender;
 use crate::{bits, calls, pattern, same_answer, same_bytes, Difference, Seen};
 use register::any::{bounds, client_call, server_call, ClientAct, ClientCall};
-use register::flat::{self, Done, Operation, Outcome};
+use register::flat::{self, Done, Operation, Outcome, STATE_AREA};
 use register::frame::{client_named, open};
 use register::layout::{
     client_in, put_client, put_scope, put_server, put_stamp, server_in, CLIENT, SERVER, STAMP,
@@ -300,6 +300,32 @@ pub fn asked(seed: u64) -> Result<Seen, Difference> {
     same_bytes("state", &state, &given)?;
     compare(calls::version().wrapping_sub(VERSION), 0)?;
     Ok(seen)
+}
+
+/// A server's present block, of any record and areas.
+pub fn block(seed: u64) -> Result<Seen, Difference> {
+    let mut random = Random::new(seed);
+    let c = server_call(&mut random);
+    let length = record_length(SERVER, &mut random);
+    let state = record_bytes(SERVER, length, |bytes| put_loose_server(&c.server, bytes, &mut random));
+    let within = bounds(&c.p, 1, 1);
+    let size = if within.is_none() { c.p.block() } else { 4 };
+    let room = if random.chance(1, 20) { random.below(size) } else { size + random.below(3) };
+    let (mut block, mut expected_block) = (pattern(room, seed), pattern(room, seed));
+    let short = length < SERVER || c.area.len() < STATE_AREA || c.initial.len() < size || room < size;
+    let expected = match within {
+        Some(number) => number as u64,
+        None if short => 10,
+        None => {
+            expected_block[..size].copy_from_slice(c.server.present(&c.p, &c.initial, &c.area));
+            0
+        }
+    };
+    let answer = calls::server_block(&c.p, &c.area, &c.initial, &state, &mut block);
+    let at = |difference| format!("{:?}: {difference}", c.p);
+    same_answer(answer, expected).map_err(at)?;
+    same_bytes("block", &block, &expected_block).map_err(at)?;
+    Ok(Seen::of(answer))
 }
 
 /// What is open at a client, in the bits of include/semduoli.h.

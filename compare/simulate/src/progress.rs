@@ -1,5 +1,6 @@
 //! How far a long comparison is, and its figures in words.
 
+use register::playback::Closing;
 use register::{accession, Refusal};
 use std::time::{Duration, Instant};
 
@@ -37,6 +38,8 @@ pub fn refusal_lines(counts: &[u64]) -> String {
     let line = |number: u8| {
         let count = counts[number as usize];
         let words = match number {
+            n if n == Closing::Malformed.number() => "a trace's entry malformed",
+            n if n == Closing::Cut.number() => "a trace ends inside an entry",
             n if n == accession::Refusal::Full as u8 => "the index of accession numbers is full",
             n if n == accession::Refusal::Short as u8 => "a value under 8 bytes",
             _ => Refusal::of_number(number).map_or("", Refusal::words),

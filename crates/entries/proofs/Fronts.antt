@@ -1,4 +1,4 @@
--- What stands at the front of a list of bytes, by cases: nothing, 22, 23, or an entry. Assumes nothing.
+-- What is at the front of a list of bytes, by cases: nothing, 22, 23, or an entry. Assumes nothing.
 use Prim.Native.Nat.{ℕ, _+_, _≤_, _<_}
 use native.Mathlib.Omega.{arith}
 use mathlib.Core.Path.{_≡_, refl, sym, ap₂, _∙_}

@@ -1,4 +1,5 @@
--- A closing's number gives the closing back, and what a reading says the reading, so that no two say the same. Assumes nothing.
+-- A closing's number gives the closing back, and what a reading or a writing says the reading or the writing, so that no two say the same. Assumes
+-- nothing.
 use Prim.Native.Nat.{ℕ}
 use mathlib.Core.Path.{_≡_, refl, ap}
 use mathlib.Core.Option.{Option, none, some}
@@ -11,7 +12,12 @@ use Rattle.entries.specs.declared.Found.{Found}
 use Rattle.entries.specs.declared.Reading.{Reading}
 use Rattle.entries.specs.declared.Reading.the-variants as R
 use Rattle.entries.specs.declared.Survey.{Survey}
+use Rattle.entries.specs.declared.Writing.{Writing}
+use Rattle.entries.specs.declared.Writing.the-variants as W
+use Rattle.frame.specs.Refusals.{refusal}
+use Rattle.frame.proofs.Responses.{one-each}
 use Rattle.entries.specs.Entries.{closingNumber, readingResponse, Surveyed, surveyed}
+use Rattle.entries.specs.Writing.{writingResponse}
 
 -- the closing with the number n (0 where none has it)
 abbrev closing : ℕ → Closing
@@ -38,3 +44,11 @@ surveyIn x = record { count = x .count; closing = closing (x .closing) }
 
 pub survey-back : (s : Survey) → surveyIn (surveyed s) ≡ s
 survey-back s = ap (λ (c : Closing). record { count = s .count; closing = c }) (closing-back (s .closing))
+
+abbrev writingIn : Response ℕ → Writing
+writingIn (gives m) = W.Written m
+writingIn (turnedDown n) = W.Refused (refusal n)
+
+pub writing-back : (w : Writing) → writingIn (writingResponse w) ≡ w
+writing-back (W.Written m) = refl
+writing-back (W.Refused r) = ap W.Refused (one-each r)

@@ -25,7 +25,7 @@ use Rattle.entries.proofs.Traces.{trace-entry, fewer}
 
 -- ---- entries written are read back
 
--- the entry e, and l behind it
+-- the entry e, and l after it
 record Behind (e : TraceEntry) (l : List ℕ) : Type 0 where
   pub begins : Begins (entryBytes e ++ l)
   pub sender : foundAt (entryBytes e ++ l) .sender ≡ e .sender
@@ -145,7 +145,7 @@ only-one (a ∷ b ∷ v ∷ c ∷ j ∷ r) p B =
 front-same : (l more : List ℕ) (i : ℕ) → i < length l → getD (l ++ more) i 0 ≡ getD l i 0
 front-same l more i h = List·getD-append l more 0 i h
 
--- 22: no entry begins there, whatever stands behind
+-- 22: no entry begins there, whatever follows
 never-begins : (l more : List ℕ) → Unsound l → Begins (l ++ more) → ⊥
 unfolding be2
 never-begins l more (length-low h u) B = omega (arith, B .long, front-same l more 0 (omega arith), front-same l more 1 (omega arith))

@@ -1,4 +1,4 @@
--- A trace is read from its front: an entry, and then what stands behind it. Assumes nothing.
+-- A trace is read from its front: an entry, and then what follows it. Assumes nothing.
 use Prim.Native.Nat.{ℕ, zero, suc, _+_, _-_, _≤_, _<_}
 use native.Mathlib.Omega.{arith}
 use mathlib.Core.Path.{_≡_, refl, sym, ap, ap₂, _∙_}
@@ -18,13 +18,13 @@ use Rattle.entries.specs.Entries.{closingNumber, readingResponse, readin
 use Rattle.entries.specs.Entries.{surveyed, surveyOf}
 use Rattle.entries.proofs.Fronts.{Begins, foundAt, Unsound, length-low, version-other, class-high, Front, empty, bad, short, one, front}
 
--- behind an entry fewer bytes are left
+-- after an entry fewer bytes are left
 pub fewer : (l : List ℕ) → Begins l → (m : ℕ) → length l ≤ suc m → length (drop (2 + be2 l 0) l) ≤ m
 fewer l B m h = let w = B .whole in let g = B .long in rw length-drop (omega arith)
 
 -- ---- how many entries may be read does not matter where there are so many bytes
 
--- what is read behind an entry is all that counts
+-- what is read after an entry is all that counts
 pub same-then : (l : List ℕ) (f g : List ℕ → Trace) → (Begins l → f (drop (2 + be2 l 0) l) ≡ g (drop (2 + be2 l 0) l))
     → {r : Response (Option Found)} → Front l r → thenTrace r l f ≡ thenTrace r l g
 unfolding thenTrace
@@ -133,7 +133,7 @@ module _ (trace : List ℕ) (at : ℕ) (r : Reading) (is : readingResponse r ≡
     pub rest-within : (5 ≤ x .end) × (x .end ≤ length trace - at)
     rest-within = let w = entry-within (drop at trace) x (sym read-rest ∙ ap readingResponse e) in (w .0, omega (arith, w .1, length-drop at trace))
 
-    -- an entry, and those behind it
+    -- an entry, and those after it
     pub rest-entry : traceOf (drop at trace) ≡ before (foundIn (take (length trace - at) (drop at trace)) x ∷ []) (traceOf (drop (at + x .end) trace))
     rest-entry =
         trace-entry (drop at trace) x (sym read-rest ∙ ap readingResponse e)
@@ -141,7 +141,7 @@ module _ (trace : List ℕ) (at : ℕ) (r : Reading) (is : readingResponse r ≡
 
 -- ---- counting
 
--- count entries stand before index at, and those that are left are read from there
+-- count entries come before index at, and those that are left are read from there
 pub record Counts (trace : List ℕ) (at count : ℕ) : Type 0 where
   pub many : count + length (traceOf (drop at trace) .entries) ≡ length (traceOf trace .entries)
   pub ends : traceOf (drop at trace) .closing ≡ traceOf trace .closing

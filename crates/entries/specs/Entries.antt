@@ -36,7 +36,7 @@ entryVersion = 1
 abbrev pub frameAt : ℕ
 frameAt = 5
 
--- what stands before the frame, of which size bytes follow the length
+-- what comes before the frame in an entry of which size bytes follow the length
 unfoldable pub leadBytes : ℕ → Party → List ℕ
 leadBytes size p = bytes2 size ++ (entryVersion ∷ partyBytes p)
 
@@ -74,7 +74,7 @@ readingResponse (R.Closed C.Whole) = gives none
 readingResponse (R.Closed C.Malformed) = turnedDown (closingNumber C.Malformed)
 readingResponse (R.Closed C.Cut) = turnedDown (closingNumber C.Cut)
 
--- what stands at the front of the bytes that are left: nothing, so that the trace is whole; 22; 23; or an entry
+-- what is at the front of the bytes that are left: nothing, so that the trace is whole; 22; 23; or an entry
 unfoldable pub readingOf : List ℕ → Response (Option Found)
 readingOf l =
     pick (eqb (length l) 0) (gives none)
@@ -98,7 +98,7 @@ before es t = record { entries = es ++ t .entries; closing = t .closing }
 abbrev pub foundIn : List ℕ → Found → TraceEntry
 foundIn l x = traceEntry (x .sender) (part l frameAt (x .end - frameAt))
 
--- an entry, and what the bytes behind it say
+-- an entry, and what the bytes after it say
 unfoldable pub thenTrace : Response (Option Found) → List ℕ → (List ℕ → Trace) → Trace
 thenTrace (turnedDown n) l rest = closed n
 thenTrace (gives none) l rest = closed 0

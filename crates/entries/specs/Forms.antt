@@ -22,7 +22,7 @@ AllWritable (e ∷ es) = Writable e × AllWritable es
 pub data Closes (l : List ℕ) : ℕ → Type 0 where
   -- there are none
   closesWhole : l ≡ [] → Closes l 0
-  -- whatever may stand behind them, no entry begins there
+  -- whatever may follow them, no entry begins there
   closesMalformed : ((e : TraceEntry) → Writable e → (more rest : List ℕ) → l ++ more ≡ entryBytes e ++ rest → ⊥) → Closes l 22
   -- they are the front of an entry, and not all of it
   closesCut : (l ≡ [] → ⊥) → (e : TraceEntry) → Writable e → (more : List ℕ) → (more ≡ [] → ⊥) → l ++ more ≡ entryBytes e → Closes l 23
@@ -35,7 +35,7 @@ pub record Read (l : List ℕ) (t : Trace) : Type 0 where
   pub closes : Closes rest (t .closing)
 
 pub record Theorem : Type 0 where
-  -- entries written are read back, whatever stands behind them
+  -- entries written are read back, whatever follows them
   pub back : (es : List TraceEntry) → AllWritable es → (rest : List ℕ) → traceOf (traceBytes es ++ rest) ≡ before es (traceOf rest)
   -- only written forms are read, and a trace closes where no entry begins: at its end, at 22 or at 23
   pub only : (l : List ℕ) → Bytes l → Read l (traceOf l)

@@ -1,10 +1,11 @@
 // Entries of a trace (document 02, F-8): a frame and its sender each.
 use frame::Party;
+use frame::Refusal;
 
 pub mod reader;
 pub mod writer;
 
-// Where an entry's frame begins: behind length (2), version, and the sender's class and number.
+// Where an entry's frame begins: after length (2), version, and the sender's class and number.
 pub const FRAME_AT: usize = 5;
 
 // The version of entries.
@@ -26,10 +27,16 @@ pub struct Found {
     pub end: usize,
 }
 
-// What stands at the front of some bytes.
+// What is at the front of some bytes.
 pub enum Reading {
     Entry(Found),
     Closed(Closing),
+}
+
+// What writing an entry gives: how many bytes it takes, or why it is turned down.
+pub enum Writing {
+    Written(usize),
+    Refused(Refusal),
 }
 
 // How many entries a trace has before it closes.

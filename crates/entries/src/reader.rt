@@ -39,7 +39,7 @@ fn is_cut(l: &[u8]) -> bool
     l.len() < 2 + area::read2(l, 0) as usize
 }
 
-// What stands at the front of l: an entry, or how the trace closes there.
+// What is at the front of l: an entry, or how the trace closes there.
 pub fn read_entry(l: &[u8]) -> Reading
     ensures { λ r. ⌜ readingResponse r ≡ readingOf (now (l .entry)) ⌝ }
 {

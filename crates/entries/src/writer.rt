@@ -2,14 +2,16 @@
 use crate::FRAME_AT;
 use crate::LONGEST;
 use crate::VERSION;
+use crate::Writing;
 use frame::Party;
+use frame::Refusal;
 use frame::parties::party_bytes;
 ghost use mathlib.Core.Path.{_≡_};
 ghost use Prim.Native.Nat.{_<_};
 ghost use Rattle.entries.specs.Entries.{leadBytes};
-ghost use Rattle.entries.specs.Writing.{written, writing};
+ghost use Rattle.entries.specs.Writing.{written, writingResponse, writing};
 
-// What stands before a frame of an entry, of which size bytes follow the length.
+// What comes before the frame in an entry of which size bytes follow the length.
 fn lead_bytes(sender: Party, size: usize) -> [u8; 5]
     ensures { λ r. ⌜ r ≡ leadBytes size sender ⌝ }
 {
@@ -19,19 +21,19 @@ fn lead_bytes(sender: Party, size: usize) -> [u8; 5]
     [high, low, VERSION, party[0], party[1]]
 }
 
-// Writes an entry at the front of out. The answer is how many bytes it takes: 0 if the frame is too long for an entry, or out too short.
-pub fn write_entry(sender: Party, f: &[u8], out: &mut [u8]) -> usize
-    ensures { λ r. ⌜ written r (now (out .exit)) ≡ writing sender (now (f .entry)) (now (out .entry)) ⌝ }
+// Writes an entry at the front of out. 3: the frame is too long for an entry; 10: out is too short.
+pub fn write_entry(sender: Party, f: &[u8], out: &mut [u8]) -> Writing
+    ensures { λ r. ⌜ written (writingResponse r) (now (out .exit)) ≡ writing sender (now (f .entry)) (now (out .entry)) ⌝ }
 {
     if LONGEST < f.len() {
-        return 0;
+        return Writing::Refused(Refusal::Length);
     }
     let size = FRAME_AT + f.len();
     if out.len() < size {
-        return 0;
+        return Writing::Refused(Refusal::Room);
     }
     let lead = lead_bytes(sender, size - 2);
     area::put(out, 0, &lead);
     area::put(out, FRAME_AT, f);
-    size
+    Writing::Written(size)
 }

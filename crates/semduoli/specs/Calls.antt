@@ -20,18 +20,12 @@ use Rattle.order.specs.Histories.{Judgement}
 use Rattle.layout.specs.Clients.{clientSize, clientBytes, clientIn}
 use Rattle.answers.specs.Answers.{codeAnswer, leftBy, testAnswer, clientAnswer, lineCount, historyAnswer}
 use Rattle.answers.specs.Short.{readShort, valueShort}
+pub use Rattle.host_facts.specs.Outcomes.{Wrote, wrote}
 
 abbrev pub params : ℕ → ℕ → ℕ → ℕ → Params
 params n t k L = record { n = n; t = t; k = k; size = L }
 
 -- ---- calls that lend one area to be written
-
-pub record Wrote : Type 0 where
-  pub answer : ℕ
-  pub out : List ℕ
-
-abbrev pub wrote : ℕ → List ℕ → Wrote
-wrote x out = record { answer = x; out = out }
 
 -- the digest of at most 256 bytes, 3 for more; 10, "lent area short"
 unfoldable pub digestCall : List ℕ → List ℕ → Wrote

@@ -4,6 +4,7 @@ pub mod accession;
 pub mod asked;
 pub mod clients;
 pub mod coding;
+pub mod facts;
 pub mod histories;
 pub mod playbacks;
 pub mod senders;

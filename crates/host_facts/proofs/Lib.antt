@@ -1,0 +1,4 @@
+pub mod FrameLaws
+pub mod TraceLaws
+pub mod PresentLaws
+pub mod Told

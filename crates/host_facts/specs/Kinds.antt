@@ -1,0 +1,8 @@
+-- The code's test for frames that carry a time. Nothing here has to be believed: that it says the same as `timeOf` of Frames.antt is shown in
+-- proofs/FrameLaws.antt.
+use Prim.Native.Nat.{ℕ}
+use mathlib.Core.Bool.{Bool, _||_, _&&_}
+use lib.Dec.{eqb, leb}
+
+unfoldable pub carriesTime : ℕ → Bool
+carriesTime kind = eqb kind 11 || (leb 2 kind && leb kind 5)

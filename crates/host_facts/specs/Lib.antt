@@ -1,0 +1,5 @@
+pub mod Outcomes
+pub mod Frames
+pub mod Kinds
+pub mod Traces
+pub mod Present

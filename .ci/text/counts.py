@@ -9,6 +9,7 @@ from tree import SUPPLIED
 # crate. A new one is a fault; when one has gone, this number goes down with it.
 UNNAMED = 117
 LONGEST_LINE = 160
+BELOW = r"`(\w+)` and the (\d+) crates below it"
 
 
 def lines_of(tree, page):
@@ -75,7 +76,7 @@ def crate_faults(tree, unnamed=UNNAMED):
 def seen(tree, cell):
     """The crates that a cell of the column "sees" means; "and below" adds what those before it see."""
     cell = re.sub(r"\(.*?\)", "", cell)
-    above, _, rest = cell.rpartition("and below")
+    above = cell.rpartition("and below")[0]
     crates = {name for name in re.findall(r"\w+", cell) if name in tree.crates}
     for name in re.findall(r"\w+", above):
         crates |= set(tree.crates.get(name, []))
@@ -151,18 +152,17 @@ def reading_faults(tree):
 
 def number_faults(tree):
     """How many crates and edits there are is counted; minutes are said with the commit at which they were measured."""
-    edits = sum(path.suffix == ".edit" for path in tree.files)
+    right = {"crates": len(tree.crates), "edits": sum(path.suffix == ".edit" for path in tree.files)}
     for page in tree.pages:
         for number, text in paragraphs(tree, page):
-            for said in re.findall(r"`(\w+)` and the (\d+) crates below it", text):
-                below = len(set(tree.crates.get(said[0], [])) - SUPPLIED)
-                if int(said[1]) != below:
-                    yield page, number, f"{said[0]} has {below} crates below it, not {said[1]}"
-            text = re.sub(r"`\w+` and the \d+ crates below it", "", text)
-            for said, what, right in [(re.findall(r"\b(\d+) crates\b", text), "crates", len(tree.crates)), (re.findall(r"\b(\d+) edits\b", text), "edits", edits)]:
-                for count in said:
-                    if int(count) != right:
-                        yield page, number, f"there are {right} {what}, not {count}"
+            for crate, count in re.findall(BELOW, text):
+                below = len(set(tree.crates.get(crate, [])) - SUPPLIED)
+                if int(count) != below:
+                    yield page, number, f"{crate} has {below} crates below it, not {count}"
+            text = re.sub(BELOW, "", text)
+            for count, what in re.findall(r"\b(\d+) (crates|edits)\b", text):
+                if int(count) != right[what]:
+                    yield page, number, f"there are {right[what]} {what}, not {count}"
             if re.search(r"\b\d+ (?:minutes|min)\b", text) and not re.search(r"\b[0-9a-f]{7}\b", text):
                 yield page, number, "minutes are stated without the commit at which they were measured"
 

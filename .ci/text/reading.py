@@ -122,9 +122,8 @@ class Reading:
     @cached_property
     def exported(self):
         """The exported calls: (file, function)."""
-        for path in self.tree.files:
-            if path.suffix == ".rt":
-                yield from ((path, name) for name in re.findall(r'extern "C" fn (\w+)', self.tree.text(path)))
+        code = [path for path in self.tree.files if path.suffix == ".rt"]
+        return [(path, name) for path in code for name in re.findall(r'extern "C" fn (\w+)', self.tree.code(path))]
 
     @property
     def files(self):

@@ -60,7 +60,21 @@ From `low/src/lib.rt`: `double`.
 | `low` | the ground: `low/specs/Low.antt`: `twice`, `Pair` | – |
 | `high` | a program | low and below |
 """,
-    "docs/DECISIONS.md": "# Decisions\n\n## The decisions\n\n| no. | what |\n|---|---|\n| 3 | a |\n| 5 | F-1: b |\n\n## Where the others are\n\n| no. | what |\n|---|---|\n| 1, 4 | c |\n",
+    "docs/DECISIONS.md": """# Decisions
+
+## The decisions
+
+| no. | what |
+|---|---|
+| 3 | a |
+| 5 | F-1: b |
+
+## Where the others are
+
+| no. | what |
+|---|---|
+| 1, 4 | c |
+""",
     "docs/PROTOCOL.md": "# Protocol\n\nDecision 3; DECISIONS 3 to 5.\n\n## 10. Requests\n\n| request | what |\n|---|---|\n| F-1 | d |\n",
 }
 
@@ -97,10 +111,12 @@ class Text(unittest.TestCase):
         self.assertEqual(self.changed(cite_faults, "compare/README.md", "Nothing", "The `high::double`"), ["the crate high defines no double"])
 
     def test_a_file_that_the_reading_list_lacks(self):
-        self.assertEqual(self.changed(reading_faults, "docs/MAP.md", ", `Deep.antt`", ""), ["the reading list lacks low/specs/Deep.antt, which a promise or a theorem reaches"])
+        lacking = self.changed(reading_faults, "docs/MAP.md", ", `Deep.antt`", "")
+        self.assertEqual(lacking, ["the reading list lacks low/specs/Deep.antt, which a promise or a theorem reaches"])
 
     def test_a_file_that_it_has_too_much(self):
-        self.assertEqual(self.changed(reading_faults, "docs/MAP.md", "`Deep.antt`", "`Deep.antt`, `Aside.antt`"), ["the reading list has low/specs/Aside.antt, which nothing reaches"])
+        more = self.changed(reading_faults, "docs/MAP.md", "`Deep.antt`", "`Deep.antt`, `Aside.antt`")
+        self.assertEqual(more, ["the reading list has low/specs/Aside.antt, which nothing reaches"])
 
     def test_a_definition_that_comes_to_be_reached(self):
         self.assertEqual(
@@ -144,7 +160,8 @@ class Text(unittest.TestCase):
     def test_decisions_and_requests(self):
         self.assertEqual(self.changed(reference_faults, "docs/PROTOCOL.md", "3 to 5", "3 to 6"), ["there is no decision 6"])
         self.assertEqual(self.changed(reference_faults, "docs/PROTOCOL.md", "Decision 3", "For F-2"), ["PROTOCOL, section 10, has no F-2"])
-        self.assertEqual(self.changed(reference_faults, "docs/DECISIONS.md", "| 3 | a |\n| 5 |", "| 5 | a |\n| 3 |"), ["the decisions do not rise, or one is there twice"])
+        falling = self.changed(reference_faults, "docs/DECISIONS.md", "| 3 | a |\n| 5 |", "| 5 | a |\n| 3 |")
+        self.assertEqual(falling, ["the decisions do not rise, or one is there twice"])
 
     def test_lines_and_links(self):
         self.assertEqual(self.changed(line_faults, "compare/README.md", "Nothing", "long " * 33), ["a line of 166 characters"])

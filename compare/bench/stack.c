@@ -1,4 +1,4 @@
-/* stack: the stack that the library's calls use, in a table of docs/PERFORMANCE.md. A whole write and then a whole read, all parties honest and
+/* stack: the stack that the library's calls use, as a table for docs/PERFORMANCE.md. A whole write and then a whole read, all parties honest and
  * frames in the order sent, and the playback of what server 1 was handed. Each call is made on a thread of its own, whose stack is painted before;
  * the lowest byte that is no longer paint says how deep the call went. What an empty thread uses is subtracted; it ends some 70 bytes deeper than it
  * begins, and so much is missing from a figure, while the frame that makes the call is in it. Bytes below the lowest written one that a call reserves are not seen, nor are paths that this run does not take.

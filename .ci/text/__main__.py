@@ -1,8 +1,8 @@
 """python3 .ci/text: whether the pages say what is there. Prints a line for each fault, page, line and what is wrong, and then exits with 1.
 
-Checked: every path and name in backquotes is in the tree (cites.py); the reading list of MAP is what promises and theorems reach (reading.py); crates.txt, the
-layers of MAP, numbers of crates and edits, minutes, decisions and requests that are cited, lengths of lines and links (counts.py). Not checked: what a sentence
-says beyond that, and the notes of docs/landings, each of which speaks of its own commit.
+Checked: every path and name in backquotes, and every path of a command line, is in the tree (cites.py); the reading list of MAP is what promises and
+theorems reach (reading.py); crates.txt, the layers of MAP, numbers of crates and edits, minutes, decisions and requests that are cited, lengths of lines
+and links (counts.py). Not checked: what a sentence says beyond that, and the notes of docs/landings, each of which speaks of its own commit.
 """
 
 import sys

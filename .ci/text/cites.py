@@ -120,8 +120,18 @@ class Cited:
                 yield number, fault
 
 
+def command_faults(tree, page):
+    """Paths in the command lines of a page that begin with a folder of the root, or of the page's own, and are not there."""
+    for number, line in enumerate(tree.text(page).split("\n"), 1):
+        for word in re.findall(r"[\w.\-]+(?:/[\w.\-]+)+", line) if line.startswith("    ") else []:
+            first = word.split("/")[0]
+            known = [place for place in (tree.root, page.parent) if first != "target" and (place / first).is_dir()]
+            if known and not OPEN & set(word.split("/")) and not any((place / word).exists() for place in known):
+                yield number, f"there is no {word}"
+
+
 def cite_faults(tree):
     """Faults of all pages: (page, line, what)."""
     for page in tree.pages:
-        for number, fault in Cited(tree, page).faults():
+        for number, fault in [*Cited(tree, page).faults(), *command_faults(tree, page)]:
             yield page, number, fault

@@ -101,6 +101,10 @@ class Text(unittest.TestCase):
     def test_a_path_that_is_not_there(self):
         self.assertEqual(self.changed(cite_faults, "README.md", "docs/MAP.md", "docs/GONE.md"), ["there is no docs/GONE.md"])
 
+    def test_a_path_of_a_command_that_is_not_there(self):
+        self.assertEqual(self.changed(cite_faults, "compare/README.md", "Nothing.", "    docs/MAP.md target/none\n"), [])
+        self.assertEqual(self.changed(cite_faults, "compare/README.md", "Nothing.", "    run docs/GONE.md\n"), ["there is no docs/GONE.md"])
+
     def test_a_name_that_is_not_there(self):
         self.assertEqual(self.changed(cite_faults, "compare/README.md", "Nothing", "The `gone`"), ["nothing in the tree is called gone"])
 

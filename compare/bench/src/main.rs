@@ -1,4 +1,4 @@
-//! bench [--quick] [TEXT]: the proved static library beside plain Rust, in the tables of docs/PERFORMANCE.md. Each row is measured in runs of
+//! bench [--quick] [TEXT]: the proved static library beside plain Rust, in the tables that docs/PERFORMANCE.md sums up. Each row is measured in runs of
 //! many short rounds; in a round every side works for a fraction of a millisecond, one after the other, the first and the last in
 //! turns. A run's ratio is that of the sides' median times. The rule, fixed before measuring: a row keeps its bound if the median of its
 //! runs' ratios is at most the bound. With TEXT only rows whose name has it. `bench --turns EARLIER LATER [--quick]` is what bench/whole runs: whole

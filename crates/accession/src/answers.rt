@@ -67,7 +67,7 @@ fn put_index(out: Out, text: &mut [u8], index: Index) -> Out {
     put(y, text, b"\n")
 }
 
-// The value is inserted by its first eight bytes: what it has behind them changes nothing.
+// The value is inserted by its first eight bytes: what follows them changes nothing.
 fn insert(index: Index, line: Line, bytes: &[u8], out: Out, text: &mut [u8]) -> Answered {
     if !is_bytes(line.argument) {
         return Answered {

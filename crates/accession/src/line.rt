@@ -1,10 +1,10 @@
-// A line of the input, read byte by byte: a word, and for two of the words one argument behind a space.
+// A line of the input, read byte by byte: a word, and for two of the words one argument after a space.
 use case_text::fields::Field;
 use case_text::fields::field_with;
 use case_text::fields::no_field;
 use case_text::fields::store;
 
-// Its word; how many spaces it has, 2 standing for more than 1; the argument, and how many bytes that spells, 8 standing for more.
+// Its word; how many spaces it has, 2 meaning more than 1; the argument, and how many bytes that spells, 8 meaning 8 or more.
 pub struct Line {
     pub word: Field,
     pub spaces: u8,
@@ -67,7 +67,7 @@ pub fn add_part(line: Line, part: &[u8], bytes: &mut [u8]) -> Line {
     y
 }
 
-// Whether the line is this word, of so many bytes, with so many spaces behind it.
+// Whether the line is this word, of the given number of bytes, followed by the given number of spaces.
 pub fn is_word(line: Line, length: usize, word: u64, spaces: u8) -> bool {
     let f = line.word;
     if f.length != length {

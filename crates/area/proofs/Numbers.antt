@@ -71,7 +71,7 @@ be8-bytes8 x l h =
     let b : x % 4294967296 < 4294967296 = omega arith in
     rw (be4-bytes4 (x / 4294967296) [] a, be4-bytes4 (x % 4294967296) [] b) (div-add-mod' x 4294967296)
 
--- what stands at the front of a list
+-- what is at the front of a list
 pub be2-front : (u w : List ℕ) → 2 ≤ length u → be2 (u ++ w) 0 ≡ be2 u 0
 unfolding be2
 be2-front u w h = omega (arith, List·getD-append u w 0 0 (omega arith), List·getD-append u w 0 1 (omega arith))

@@ -17,11 +17,11 @@ pub sets-append : {A : Type 0} (d : List A) (i : ℕ) (a b : List A) → sets d 
 sets-append d i [] b = rw add-zero
 sets-append d i (x ∷ a) b = sets-append (set d i x) (suc i) a b ∙ rw (add-suc, suc-add)
 
--- the same from the other side: a store behind one of w elements
+-- the same from the other side: a store after one of w elements
 pub sets-next : {A : Type 0} (d : List A) (i : ℕ) (a b : List A) (w : ℕ) → length a ≡ w → sets (sets d i a) (i + w) b ≡ sets d i (a ++ b)
 sets-next d i a b w e = rw (← e) (sym (sets-append d i a b))
 
--- one more element behind those that are stored
+-- one more element after those that are stored
 pub sets-snoc : {A : Type 0} (d : List A) (i : ℕ) (a : List A) (x : A) → sets d i (a ++ (x ∷ [])) ≡ set (sets d i a) (i + length a) x
 sets-snoc d i a x = sets-append d i a (x ∷ [])
 
@@ -46,7 +46,7 @@ sets-whole l vs e =
 
 -- ---- an element
 
--- one behind those that were stored
+-- one after those that were stored
 pub getD-after : {A : Type 0} (l : List A) (i : ℕ) (vs : List A) (k : ℕ) (d : A) → i + length vs ≤ k → getD (sets l i vs) k d ≡ getD l k d
 getD-after l i [] k d h = refl
 getD-after l i (x ∷ vs) k d h = getD-after (set l i x) (suc i) vs k d (omega arith) ∙ getD-set-other l i k x d (λ e. omega arith)

@@ -47,7 +47,7 @@ pub fn equal(a: &[u8], b: &[u8]) -> bool
     true
 }
 
-// Whether the bytes of d stand in area from index at on.
+// Whether area has the bytes of d from index at on.
 pub fn equal_at(area: &[u8], at: usize, d: &[u8]) -> bool
     requires { ⌜ at + length (now d) ≤ length (now area) ⌝ }
     ensures { λ r. ⌜ r ≡ same (part (now (area .entry)) at (length (now (d .entry)))) (now (d .entry)) ⌝ }

@@ -40,7 +40,7 @@ distinct-take zero js h = tt
 distinct-take (suc m) [] h = tt
 distinct-take (suc m) (j ∷ js) h = (all-take _ m js (h .0), distinct-take m js (h .1))
 
--- their blocks stand in front
+-- their blocks come first
 pub blocks-take : (k : ℕ) (v : List ℕ) (m : ℕ) (js : List ℕ) → m ≤ length js
     → take (m * blockLength (length v) k) (blocksOf k v js) ≡ blocksOf k v (take m js)
 unfolding blocksOf

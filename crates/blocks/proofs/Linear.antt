@@ -118,7 +118,7 @@ unfolding plus scale
 plus-zeros c [] = refl
 plus-zeros c (a ∷ l) = ap₂ _∷_ (ap (λ (u : ℕ). a ⊕ u) (R.zero-right c) ∙ X.zero-r a) (plus-zeros c l)
 
--- a value stored where 0 stands is a multiple of a unit added
+-- a value stored in place of a 0 is a multiple of a unit added
 set-plus : (l : List ℕ) (i y : ℕ) → y < 256 → i < length l → getD l i 0 ≡ 0 → set l i y ≡ plus l (scale y (unit (length l) i))
 unfolding plus scale unit
 set-plus [] i y h k e = absurd (omega arith)
@@ -189,7 +189,7 @@ unit-front (suc k) zero i h = absurd (omega arith)
 unit-front (suc k) (suc n) zero h = ap (λ (l : List ℕ). 1 ∷ l) (zeros-front k n (omega arith))
 unit-front (suc k) (suc n) (suc i) h = ap (λ (l : List ℕ). 0 ∷ l) (unit-front k n i (omega arith))
 
--- the rows before row i stand
+-- the rows before row i are stored
 abbrev pub Rows : List ℕ → List ℕ → ℕ → Type 0
 Rows xs t i = (j : ℕ) → j < i → part t (j * length xs) (length xs) ≡ basis xs j
 

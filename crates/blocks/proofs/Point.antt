@@ -1,4 +1,4 @@
--- A zero coefficient behind the last one changes nothing: the steps of interpolation, on lists that have room for one coefficient more.
+-- A zero coefficient after the last one changes nothing: the steps of interpolation, on lists that have room for one coefficient more.
 -- Assumes nothing.
 use mathlib.Core.Path.{_≡_, refl, sym, ap, ap₂, _∙_}
 use mathlib.Core.List.{List, [], _∷_, _++_}
@@ -58,7 +58,7 @@ pub root-front : (m : List ℕ) (x k : ℕ) → length m ≡ k + 1
 root-front m x k e =
     ap (λ (l : List ℕ). take (length l) (withRoot x l)) (last-zero m k (omega arith)) ∙ root-take x (take k m)
 
--- one level of interpolation: from what the call with one point fewer leaves, p₁ and m₁, with the rest of the two lists behind
+-- one level of interpolation: from what the call with one point fewer leaves, p₁ and m₁, followed by the rest of the two lists
 unfoldable pub Level : (xs ys P M : List ℕ) → Type 0
 Level xs ys P M =
     (newtonStep (take (length P - 1) P) (take (length P) M) (getD xs 0 0) (getD ys 0 0) ≡ through xs ys)

@@ -30,7 +30,7 @@ front-differs a b x y n la lb e =
     let f : a ≡ b = sym (take-at a x n la) ∙ ap (take n) q ∙ take-at b y n lb in
     same-false b a e (sym f)))
 
--- the next block stands in front of the rest
+-- the next block comes before the rest
 block-rest : (k : ℕ) (v js : List ℕ) (i : ℕ) → i < length js → blocksOf k v (drop i js) ≡ blockOf k v (getD js i 0) ++ blocksOf k v (drop (suc i) js)
 unfolding blocksOf
 block-rest k v js i h = ap (blocksOf k v) (drop-cons js i 0 h)
@@ -87,7 +87,7 @@ module _ (k : ℕ) (v : List ℕ) (j b : ℕ) (d d′ : List ℕ) (h : 0 < k) (l
   pub buffer-length : b ≡ length (take b d′)
   buffer-length = sym (length-take-le b d′ buffer-room)
 
-  -- what stands at a place, compared with it
+  -- what is at a place, compared with it
   pub stands : (w : List ℕ) (at : ℕ) (r : Bool) → r ≡ same (part w at (length (take b d′))) (take b d′)
       → r ≡ same (part w at (blockLength (length v) k)) (blockOf k v j)
   stands w at r q = q ∙ ap₂ (λ m x. same (part w at m) x) (sym buffer-length ∙ e) buffer-front

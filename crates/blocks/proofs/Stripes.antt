@@ -1,4 +1,4 @@
--- Blocks and stripes: how many there are, where a stripe stands in the value, and that the padding need not be stored. Assumes nothing.
+-- Blocks and stripes: how many there are, where a stripe is in the value, and that the padding need not be stored. Assumes nothing.
 use mathlib.Core.Path.{_≡_, refl, sym, ap, ap₂, _∙_}
 use mathlib.Core.List.{List, [], _∷_, _++_}
 use Prim.Native.Nat.{ℕ, zero, suc, _+_, _-_, _*_, _/_, _<_, _≤_}
@@ -42,7 +42,7 @@ pub length-blockOf : (k : ℕ) (v : List ℕ) (j : ℕ) → length (blockOf k v 
 unfolding blockOf
 length-blockOf k v j = length-table (blockLength (length v) k) _
 
--- ---- zeros behind the coefficients do not count
+-- ---- zeros after the coefficients do not count
 
 zeros-eval : (k n x : ℕ) → eval (take k (replicate n 0)) x ≡ 0
 unfolding eval

@@ -28,14 +28,14 @@ told a l = record { answer = a; out = l }
 abbrev pub outcome : Coded → List ℕ → Outcome
 outcome c l = told (codeResponse c) l
 
--- the result stands in front of the area, whose further bytes stay as they were; a refusal leaves them all
+-- the result is at the front of the area, whose further bytes stay as they were; a refusal leaves them all
 unfoldable pub written : Coded → List ℕ → List ℕ → Outcome
 written Done out bytes = told (gives tt) (sets out 0 bytes)
 written (Refused f) out bytes = told (turnedDown (numberOf f)) out
 
 -- ---- encode
 
--- 3: "or value not L long"; 10: "lent area short". For a value of length bytes and an area of room bytes
+-- refusal 3: "or value not L long"; 10: "lent area short". For a value of length bytes and an area of room bytes
 unfoldable pub encodeTest : Params → ℕ → ℕ → Coded
 encodeTest g len room =
     andThen (paramsTest g)
@@ -47,7 +47,7 @@ encoding g value out = written (encodeTest g (length value) (length out)) out (e
 
 -- ---- decode
 
--- j is none of js
+-- j is not among js
 unfoldable pub absent : ℕ → List ℕ → Bool
 absent j [] = true
 absent j (i ∷ js) = not (eqb i j) && absent j js
@@ -61,8 +61,8 @@ unfoldable pub numbersFit : ℕ → List ℕ → Bool
 numbersFit n [] = true
 numbersFit n (j ∷ js) = numberFits n j && absent j js && numbersFit n js
 
--- 9: "blocks to decode not" k to n "in number" (request F-7), "not b long, or numbers repeated or not 1 to n"; 10: "lent area short". For blocks of len bytes
--- in all
+-- refusal 9: "blocks to decode not" k to n "in number" (request F-7), "not b long, or numbers repeated or not 1 to n"; 10: "lent area short". For blocks
+-- of len bytes in all
 unfoldable pub decodeTest : Params → List ℕ → ℕ → ℕ → Coded
 decodeTest g numbers len room =
     andThen (paramsTest g)
@@ -72,7 +72,7 @@ decodeTest g numbers len room =
     (demand (numbersFit (g .n) numbers) (fault 9)
     (demand (leb (g .size) room) (fault 10) Done)))))
 
--- 21, request F-7: "a direct decode whose blocks disagree"
+-- refusal 21, request F-7: "a direct decode whose blocks disagree"
 unfoldable pub agreeTest : Params → List ℕ → List ℕ → Coded
 agreeTest g numbers blocks = demand (agree (g .k) (g .size) numbers blocks) (fault 21) Done
 

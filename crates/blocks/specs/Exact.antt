@@ -35,7 +35,7 @@ pub record Called (g : Params) (js w out : List ℕ) : Type 0 where
   pub answers : (v : List ℕ) → BlocksOf (g .k) (g .size) js w v → decoding g js w out ≡ told (gives tt) (sets out 0 v)
   pub answered : decoding g js w out .answer ≡ gives tt
       → (v : List ℕ) × BlocksOf (g .k) (g .size) js w v × (decoding g js w out ≡ told (gives tt) (sets out 0 v))
-  -- 21, exactly if they are no value's
+  -- refusal 21, exactly if there is no value that has them all
   pub disagrees : ((v : List ℕ) → BlocksOf (g .k) (g .size) js w v → ⊥) → decoding g js w out ≡ told (turnedDown 21) out
   pub disagreed : decoding g js w out .answer ≡ turnedDown 21 → (v : List ℕ) → BlocksOf (g .k) (g .size) js w v → ⊥
 

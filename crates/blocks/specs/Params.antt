@@ -53,7 +53,7 @@ paramsTest g =
     (demand (thresholdFits (g .n) (g .t) (g .k)) (fault 2)
     (demand (lengthFits (g .size)) (fault 3) Done))
 
--- what 1 to 3 leave: "n from 4 to 10; t is at least 1 with n > 3t", "k is 1 to n - 2t", "L, 1 to 256 bytes"
+-- what refusals 1 to 3 let pass: "n from 4 to 10; t is at least 1 with n > 3t", "k is 1 to n - 2t", "L, 1 to 256 bytes"
 pub record Bounded (g : Params) : Type 0 where
   pub servers-low : 4 ≤ g .n
   pub servers-high : g .n ≤ 10

@@ -9,7 +9,7 @@ use crate::Coded;
 use crate::Fault;
 use crate::Params;
 
-// Whether n servers bear t false ones.
+// Whether n servers can tolerate t false ones: n is 4 to 10, t at least 1, and n > 3t.
 pub fn parties_fit(n: usize, t: usize) -> bool
     ensures { λ r. ⌜ r ≡ partiesFit n t ⌝ }
 {
@@ -28,7 +28,7 @@ pub fn parties_fit(n: usize, t: usize) -> bool
     true
 }
 
-// Whether k blocks are enough to decode and always to be had.
+// Whether k is 1 to n - 2t, so that k true blocks can always be had.
 pub fn threshold_fits(n: usize, t: usize, k: usize) -> bool
     ensures { λ r. ⌜ r ≡ thresholdFits n t k ⌝ }
 {
@@ -118,7 +118,7 @@ fn number_fits(n: usize, j: u8) -> bool
     true
 }
 
-// Whether j is none of js from index i on.
+// Whether j is not among js from index i on.
 fn absent_from(js: &[u8], i: usize, j: u8) -> bool
     ensures { λ r. ⌜ r ≡ absent j (drop i (now (js .entry))) ⌝ }
 {

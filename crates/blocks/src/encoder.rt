@@ -9,7 +9,7 @@ ghost use Rattle.area.specs.Area.{part, same};
 use crate::bounds::block_length;
 use crate::polynomial::value_at;
 
-// The value at x of the polynomial of stripe r of v. Zeros behind the last coefficient change nothing, so no padding is stored.
+// The value at x of the polynomial of stripe r of v. Zeros after the last coefficient change nothing, so no padding is stored.
 fn stripe_value(v: &[u8], k: usize, r: usize, x: u8, ps: &[u8; 255], ls: &[u8; 256]) -> u8
     requires { ⌜ (0 < k) × (k ≤ 8) × (length (now v) ≤ 256) × (r < blockLength (length (now v)) k) × Tables (now ps) (now ls) ⌝ }
     ensures { λ s. ⌜ s ≡ blockByte k (now (v .entry)) x r ⌝ }
@@ -59,7 +59,7 @@ pub fn encode_blocks(v: &[u8], n: usize, k: usize, out: &mut [u8], ps: &[u8; 255
     }
 }
 
-// Whether block j of the value v stands in w from index at on.
+// Whether w has block j of the value v from index at on.
 pub fn block_stands(
     v: &[u8],
     k: usize,

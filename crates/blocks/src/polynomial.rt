@@ -37,7 +37,7 @@ fn newton_step(p: &mut [u8], m: &[u8], x: u8, y: u8, ps: &[u8; 255], ls: &[u8; 2
     ensures { λ _. ⌜ now (p .exit) ≡ newtonStep (now (p .entry)) (now (m .entry)) x y ⌝ }
 {
     let gap = y ^ value_at(p, x, ps, ls);
-    // as at the points of a unit vector behind its one: then no inverse is needed
+    // as at the points of a unit vector after its one: then no inverse is needed
     if gap == 0 {
         return;
     }

@@ -1,7 +1,7 @@
 -- Agreement and validity of a broadcast, in every run of lawful calls.
 -- An honest server echoes one payload for a write. So each ready of x by an honest server is supported: n - t servers, of which the honest ones echoed x.
--- (The first ready follows n - t echoes; a later one may follow few readies, one of which is an honest server's and supported already.) Behind
--- a delivery and an acceptance are all readies, more than t, so they are supported, too. Two supports share an honest server, which echoed
+-- (The first ready follows n - t echoes; a later one may follow few readies, one of which is an honest server's and supported already.) Before
+-- a delivery and an acceptance come all readies, more than t, so they are supported, too. Two supports share an honest server, which echoed
 -- once: agreement. A support has an honest server, which echoed what it had from the client: validity. Assumes nothing.
 use Prim.Native.Nat.{ℕ, _-_, _<_}
 use native.Mathlib.Omega.{arith}

@@ -1,6 +1,6 @@
 -- What a run shows of one broadcast by echoes and readies, and what one call may do to it.
--- K is a call, and a run is the list of its calls, latest first. P is the payload: a time, or a digest list. The protocol has both broadcasts in one
--- run and gives an instance for each; nothing here knows frames or areas. n - t echoes or few readies bring forth a ready, all readies a delivery.
+-- K is a call, and a run is the list of its calls, latest first. P is the payload: in the protocol a time with a digest list, the one instance
+-- since request F-4; nothing here knows frames or areas. n - t echoes or few readies lead to a ready, all readies to a delivery.
 -- Throughout i and j are servers, c is a client, s a sequence number, x a payload. Assumes nothing.
 use Prim.Native.Nat.{ℕ, _-_, _<_}
 use mathlib.Core.Bool.{Bool, true, false}

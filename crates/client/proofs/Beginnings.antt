@@ -35,7 +35,7 @@ use Rattle.client.specs.Stages.{Opening}
 use Rattle.frame.proofs.Rooms.{room-within}
 use Rattle.client.proofs.SendRooms.{room-of-send}
 
--- ---- what the tests tell where nothing spoke against it
+-- ---- what the tests tell where none of them refused
 
 room-first : (g : Params) (out to : ℕ) → sendRoom g out to ≡ J.Fine → Room firstPlace (g .n) 9 out to
 unfolding largestFrame

@@ -54,7 +54,7 @@ pub pass-below : (m n : ℕ) (r : Refusal) → n < m → J.Fine ≡ pick (leb m 
 unfolding pick
 pass-below m n r h = let e : leb m n ≡ false = lt-leb _ _ h in rw e
 
--- ---- 12
+-- ---- refusal 12
 
 module _ (f : Bool) where
   pub late-phase : (x : Bool) → not f ≡ true → J.Bad R.Stale ≡ awaited (f && x)
@@ -83,7 +83,7 @@ module _ (f : Bool) where
         let d : eqb q l ≡ true = eq-eqb q l h in
         rw (e, d, z)
 
--- ---- 10
+-- ---- refusal 10
 
 pub room-rest : (g : Params) (area result out to : ℕ) (v : Verdict) → rowsBytes ≤ area → g .size ≤ result → v ≡ sendRoom g out to
     → v ≡ roomTest g area result out to

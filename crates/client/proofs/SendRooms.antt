@@ -12,7 +12,7 @@ use Rattle.frame.specs.Outbox.{firstPlace, Room}
 use Rattle.frame.proofs.Verdicts.{fine-not}
 use Rattle.client_rules.specs.Tests.{sendRoom}
 
--- what test 10 tells where it did not speak against it
+-- what test 10 tells where it is passed
 pub room-of-send : (g : Params) (out to : ℕ) → sendRoom g out to ≡ J.Fine → Room firstPlace (g .n) (largestFrame g) out to
 unfolding sendRoom outRoom toRoom
 room-of-send g out to e =

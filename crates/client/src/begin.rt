@@ -25,7 +25,7 @@ ghost use Rattle.client_rules.specs.Tests.{sendRoom};
 ghost use Rattle.client_rules.specs.Beginning.{begun, idleTest, closedTest, lengthTest, openRead, openWrite, begunOf, readBeginning, writeBeginning};
 ghost use Rattle.client.specs.Stages.{Opening};
 
-// 1, 2, 3, 10, 15 and 16 of a read, where last is the last number used.
+// Refusals 1, 2, 3, 10, 15 and 16 of a read; last is the last number used.
 fn read_test(g: Params, me: usize, p: Phase, last: u32, out: usize, to: usize) -> Verdict
     ensures { λ r. ⌜ r ≡ andThen (paramsTest g me lastClient) (andThen (sendRoom g out to) (idleTest p last)) ⌝ }
 {
@@ -40,7 +40,7 @@ fn read_test(g: Params, me: usize, p: Phase, last: u32, out: usize, to: usize) -
     idle_test(p, last)
 }
 
-// 15, 16 and 17 of a write.
+// Refusals 15, 16 and 17 of a write.
 fn ready_test(p: Phase, last: u32, closed: bool) -> Verdict
     ensures { λ r. ⌜ r ≡ andThen (idleTest p last) (closedTest closed) ⌝ }
 {
@@ -51,7 +51,7 @@ fn ready_test(p: Phase, last: u32, closed: bool) -> Verdict
     closed_test(closed)
 }
 
-// 1, 2, 3, 10, 15, 16 and 17 of a write of a value of this length.
+// Refusals 1, 2, 3, 10, 15, 16 and 17 of a write of a value of this length.
 fn write_test(
     g: Params,
     me: usize,

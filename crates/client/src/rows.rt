@@ -39,7 +39,7 @@ pub fn has_stamp(stamps: [Stamp; 4], m: usize, x: Stamp) -> bool
     false
 }
 
-// The place of the smaller of the stamps at i and at least, which is i's only where it is older.
+// Of the two places i and least, the one with the smaller stamp; least if they are equal.
 fn smaller(stamps: [Stamp; 4], i: usize, least: usize) -> usize
     requires { ⌜ (i < 4) × (least < 4) ⌝ }
     ensures { λ r. ⌜ (r ≡ pick (older (getD stamps i zeroStamp) (getD stamps least zeroStamp)) i least) × (r < 4) ⌝ }
@@ -61,7 +61,7 @@ fn smallest_of(stamps: [Stamp; 4]) -> usize
     smaller(stamps, 3, b)
 }
 
-// Where a new stamp goes: behind the others, in place of the smallest of four, or nowhere.
+// Where a new stamp goes: after the others, in place of the smallest of four, or nowhere.
 pub fn place_for(r: Row, x: Stamp) -> Spot
     ensures { λ p. ⌜ p ≡ spotOf (placeFor r x) ⌝ }
 {

@@ -16,7 +16,7 @@ ghost use Rattle.frame.specs.Params.{Bounded};
 ghost use Rattle.client_rules.specs.Tests.{sendRoom, roomTest, valueTest, awaited};
 ghost use Rattle.client_rules.specs.Beginning.{idleTest, closedTest, lengthTest};
 
-// 10: whether the out and to areas are long enough, of which only the lengths count.
+// Refusal 10: whether the out and to areas, given by their lengths, are long enough.
 pub fn send_room(g: Params, out: usize, to: usize) -> Verdict
     requires { ⌜ Bounded g ⌝ }
     ensures { λ r. ⌜ r ≡ sendRoom g out to ⌝ }
@@ -30,7 +30,7 @@ pub fn send_room(g: Params, out: usize, to: usize) -> Verdict
     Verdict::Fine
 }
 
-// 10: whether all lent areas are.
+// Refusal 10: whether all lent areas are long enough.
 pub fn room_test(g: Params, area: usize, result: usize, out: usize, to: usize) -> Verdict
     requires { ⌜ Bounded g ⌝ }
     ensures { λ r. ⌜ r ≡ roomTest g area result out to ⌝ }
@@ -44,7 +44,7 @@ pub fn room_test(g: Params, area: usize, result: usize, out: usize, to: usize) -
     send_room(g, out, to)
 }
 
-// 3: whether a value of len bytes is L long.
+// Refusal 3: whether a value of len bytes is L long.
 pub fn length_test(g: Params, len: usize) -> Verdict
     ensures { λ r. ⌜ r ≡ lengthTest g len ⌝ }
 {
@@ -54,7 +54,7 @@ pub fn length_test(g: Params, len: usize) -> Verdict
     Verdict::Fine
 }
 
-// 3: whether the lent value of an open write is.
+// Refusal 3: whether the lent value is L long where a write is open.
 pub fn value_test(g: Params, p: Phase, len: usize) -> Verdict
     ensures { λ r. ⌜ r ≡ valueTest g p len ⌝ }
 {
@@ -67,7 +67,7 @@ pub fn value_test(g: Params, p: Phase, len: usize) -> Verdict
     Verdict::Fine
 }
 
-// 15 and 16, where last is the last number used.
+// Refusals 15 and 16; last is the last number used.
 pub fn idle_test(p: Phase, last: u32) -> Verdict
     ensures { λ r. ⌜ r ≡ idleTest p last ⌝ }
 {
@@ -80,7 +80,7 @@ pub fn idle_test(p: Phase, last: u32) -> Verdict
     Verdict::Fine
 }
 
-// 17: whether an earlier write closed as out of stamps.
+// Refusal 17: whether an earlier write closed as out of stamps.
 pub fn closed_test(closed: bool) -> Verdict
     ensures { λ r. ⌜ r ≡ closedTest closed ⌝ }
 {
@@ -90,7 +90,7 @@ pub fn closed_test(closed: bool) -> Verdict
     Verdict::Fine
 }
 
-// 12 of a frame of operation q, where last is the number of the open one, whose phase is right where fit holds; again: one was counted already.
+// Refusal 12 of a frame of operation q: last is the open operation's number, fit says that it is in the right phase, again that one was counted already.
 pub fn awaited_test(fit: bool, q: u32, last: u32, again: bool) -> Verdict
     ensures { λ r. ⌜ r ≡ awaited (fit && (eqb q last && not again)) ⌝ }
 {

@@ -41,7 +41,7 @@ fine-sender g from c me w v i e f k =
     let n = server-number g from (and-left (fromServer g from) (eqb c me) (a .0)) in
     (omega (arith, n .0, k), omega (arith, n .1, k))
 
--- ---- 11
+-- ---- refusal 11
 
 pub not-sender : (b t e : Bool) → b ≡ t → not b ≡ true → false ≡ (t && e)
 not-sender b t e p q = let d : t ≡ false = sym p ∙ not-true b q in rw d
@@ -49,7 +49,7 @@ not-sender b t e p q = let d : t ≡ false = sym p ∙ not-true b q in rw d
 pub same-client : (b t e : Bool) → b ≡ t → not b ≡ false → e ≡ (t && e)
 same-client b t e p q = let d : t ≡ true = sym p ∙ not-false b q in rw d
 
--- ---- 12
+-- ---- refusal 12
 
 pub awaited-at : (v : Verdict) (fit : Bool) (q last i j : ℕ) (heard : List Bool) → v ≡ awaited (fit && (eqb q last && not (getD heard i false))) → i ≡ j
     → v ≡ awaited (fit && (eqb q last && not (getD heard j false)))
@@ -66,7 +66,7 @@ pub awaited-fit : (fit x : Bool) → awaited (fit && x) ≡ J.Fine → fit ≡ t
 unfolding awaited
 awaited-fit fit x e = and-left fit x (fine-is (fit && x) R.Stale J.Fine e .0)
 
--- ---- 14
+-- ---- refusal 14
 
 pub fit-in : (H : List ℕ → List ℕ) (g : Params) (f : List ℕ) (i w j : ℕ) (v : Verdict) → w ≡ width g
     → v ≡ fitTest H (entry (take (i + 32 * g .n - i) (drop i f)) (take (i + 32 * g .n + w - (i + 32 * g .n)) (drop (i + 32 * g .n) f))) j

@@ -36,7 +36,7 @@ ghost use Rattle.client_rules.specs.Delivery.{outcome, delivery};
 ghost use Rattle.client.specs.Stages.{answered};
 ghost use Rattle.client_deliver.specs.Needs.{Admitted};
 
-// 1 to 3: the parameters and the own number, and a value of this length, which must be L where a write is open.
+// Refusals 1 to 3: the parameters, the own number, and the value's length, which must be L where a write is open.
 fn call_test(g: Params, me: usize, p: Phase, value: usize) -> Verdict
     ensures { λ r. ⌜ r ≡ andThen (paramsTest g me lastClient) (valueTest g p value) ⌝ }
 {

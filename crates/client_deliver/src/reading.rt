@@ -56,7 +56,7 @@ fn keep(
     settle(client, k.params, k.me, area, result, out, to)
 }
 
-// 11: a server's value.
+// Kind 11: a server's value.
 pub fn on_value(
     s: Client,
     k: Call,

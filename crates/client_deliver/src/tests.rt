@@ -29,7 +29,7 @@ ghost use Rattle.frame.specs.Frames.{entryIn, valueAt};
 ghost use Rattle.group_rules.specs.Coded.{fitTest};
 ghost use Rattle.client_rules.specs.Tests.{awaited, keptTest};
 
-// 11: whether the sender is one of servers 1 to n, and the client that the frame names is this one.
+// Refusal 11: whether the sender is one of servers 1 to n, and the client that the frame names is this one.
 pub fn sender_right(g: Params, from: Party, c: u8, me: u8) -> bool
     ensures { λ r. ⌜ r ≡ (fromServer g from && eqb c me) ⌝ }
 {
@@ -39,8 +39,8 @@ pub fn sender_right(g: Params, from: Party, c: u8, me: u8) -> bool
     c == me
 }
 
-// 11 and 12 of a stamp or an ack, where last is the number of the open write, whose phase is right where fit holds;
-// heard says of which servers one was counted.
+// Refusals 11 and 12 of a stamp or an ack: last is the open write's number, fit says that it is in the right phase;
+// heard says from which servers one was counted.
 pub fn reply_test(
     g: Params,
     me: u8,
@@ -61,7 +61,7 @@ pub fn reply_test(
     awaited_test(fit, h.sequence, last, heard[j])
 }
 
-// 14 of a value from server j.
+// Refusal 14 of a value from server j.
 fn entry_fit(g: Params, f: &[u8], j: usize) -> Verdict
     requires { ⌜ Bounded g × (1 ≤ j) × (j ≤ g .n) × (valueAt + entryLength g ≤ length (now f)) ⌝ }
     ensures { λ r. ⌜ r ≡ fitTest digestOf (entryIn g (now (f .entry)) valueAt) j ⌝ }
@@ -71,7 +71,7 @@ fn entry_fit(g: Params, f: &[u8], j: usize) -> Verdict
     fit_test(&f[VALUE_AT..middle], &f[middle..end], j)
 }
 
-// 12 and 14 of a value from server j with stamp x.
+// Refusals 12 and 14 of a value from server j with stamp x.
 fn kept_test(s: Client, g: Params, j: usize, q: u32, x: Stamp, f: &[u8]) -> Verdict
     requires { ⌜ Bounded g × (1 ≤ j) × (j ≤ g .n) × (valueAt + entryLength g ≤ length (now f)) ⌝ }
     ensures { λ r. ⌜ r ≡ keptTest digestOf s j q x (entryIn g (now (f .entry)) valueAt) ⌝ }
@@ -87,7 +87,7 @@ fn kept_test(s: Client, g: Params, j: usize, q: u32, x: Stamp, f: &[u8]) -> Verd
     entry_fit(g, f, j)
 }
 
-// 11, 12 and 14 of a value with stamp x.
+// Refusals 11, 12 and 14 of a value with stamp x.
 pub fn entry_test(
     s: Client,
     g: Params,

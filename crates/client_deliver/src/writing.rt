@@ -66,7 +66,7 @@ fn gather(s: Client, g: Params, me: u8, value: &[u8], out: &mut [u8], to: &mut [
     }
 }
 
-// 2: a server's stamp.
+// Kind 2: a server's stamp.
 pub fn on_stamp(
     s: Client,
     k: Call,
@@ -107,7 +107,7 @@ pub fn on_stamp(
     gather(client, k.params, k.me, value, out, to)
 }
 
-// 9: a server's ack.
+// Kind 9: a server's ack.
 pub fn on_ack(s: Client, k: Call) -> Answered
     requires { ⌜ Bounded (k .params) ⌝ }
     ensures { λ r. ⌜ ((a l o t : List ℕ) → outcome r a l o t

@@ -1,4 +1,4 @@
--- What a search of a client's rows finds stands in n - t of them. Assumes nothing.
+-- What a search of a client's rows finds is in n - t of them. Assumes nothing.
 use Prim.Native.Nat.{ℕ, _-_}
 use native.Mathlib.Omega.{arith}
 use mathlib.Core.Bool.{Bool, true, false}

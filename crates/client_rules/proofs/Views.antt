@@ -37,7 +37,7 @@ pub record Shaped (l : List Row) : Type 0 where
 abbrev pub shapes : Bounds
 shapes = record { number = λ q. Unit {0}; heard = λ l. length l ≡ 11; times = λ l. length l ≡ 11; rows = Shaped }
 
--- what stands at place i of server j's row
+-- what is at place i of server j's row
 abbrev pub placed : Params → List ℕ → ℕ → Row → ℕ → Kept
 placed g a j r i = record { stamp = getD (r .stamps) i zeroStamp; entry = entryAt g a (placeAt j i) }
 

@@ -7,7 +7,7 @@ use Rattle.client_rules.specs.declared.Answer.{Answer}
 use Rattle.client_rules.specs.declared.Answer.the-variants as Y
 
 pub data Progress : Type 0 where
-  -- so many frames were sent, and nothing has ended
+  -- this many frames were sent, and nothing has ended
   goesOn : ℕ → Progress
   -- "At n - t acks it has ended"; "closes the write as out of stamps"
   writeEnds writeCloses : Progress

@@ -37,18 +37,18 @@ begun r out to = record { answer = answerResponse (r .answer); client = r .clien
 
 -- ---- the tests
 
--- 15, "an operation is open"; 16, "sequences used up", where last is the last number used
+-- refusal 15, "an operation is open"; 16, "sequences used up": last is the last number used
 abbrev pub idleTest : Phase → ℕ → Verdict
 idleTest p last =
     pick (not (idle p)) (refused 15)
     (pick (leb lastSequence last) (refused 16)
     J.Fine)
 
--- 17: "a write by a client whose earlier write closed as out of stamps"
+-- refusal 17: "a write by a client whose earlier write closed as out of stamps"
 abbrev pub closedTest : Bool → Verdict
 closedTest closed = pick closed (refused 17) J.Fine
 
--- 3: "value not L long"
+-- refusal 3: "value not L long"
 unfoldable pub lengthTest : Params → ℕ → Verdict
 lengthTest g v = pick (eqb v (g .size)) J.Fine (refused 3)
 

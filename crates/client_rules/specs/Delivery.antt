@@ -34,7 +34,7 @@ abbrev pub readProgress : Stamp → Option (List ℕ) → Progress
 readProgress x none = readDisagrees
 readProgress x (some v) = readGives x
 
--- of a step with an event and so many frames
+-- of a step with an event and this many frames sent
 unfoldable pub progressBy : Event → ℕ → Progress
 progressBy nothing c = goesOn c
 progressBy written c = writeEnds

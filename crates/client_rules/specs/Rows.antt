@@ -50,7 +50,7 @@ unfoldable pub smallest : List Stamp → ℕ → ℕ
 smallest l zero = 0
 smallest l (suc m) = pick (older (getD l (suc m) zeroStamp) (getD l (smallest l m) zeroStamp)) (suc m) (smallest l m)
 
--- where a new stamp goes: behind the others, in place of the smallest of four, or nowhere
+-- where a new stamp goes: after the others, in place of the smallest of four, or nowhere
 unfoldable pub placeFor : Row → Stamp → Option ℕ
 placeFor r x =
     pick (ltb (r .count) 4) (some (r .count))
@@ -67,7 +67,7 @@ unfoldable pub atStamp : List Kept → Stamp → Option Entry
 atStamp [] x = none
 atStamp (k ∷ l) x = pick (sameStamp (k .stamp) x) (some (k .entry)) (atStamp l x)
 
--- the rows f j to f (j + m - 1), one behind the other
+-- the rows f j to f (j + m - 1), one after the other
 unfoldable pub rowsFrom : (ℕ → List Kept) → ℕ → ℕ → List Kept
 rowsFrom f j zero = []
 rowsFrom f j (suc m) = f j ++ rowsFrom f (suc j) m

@@ -26,25 +26,25 @@ use Rattle.client_rules.specs.declared.Phase.{Phase}
 use Rattle.client_rules.specs.State.{asking, acking, reading, writing, rowOf, heardOf}
 use Rattle.client_rules.specs.Rows.{used, hasStamp}
 
--- 10, of the lengths of the out and to areas: "The client's largest need is now n frames" (request F-4)
+-- refusal 10, of the lengths of the out and to areas: "The client's largest need is now n frames" (request F-4)
 unfoldable pub sendRoom : Params → ℕ → ℕ → Verdict
 sendRoom g out to =
     pick (ltb out (outRoom g (clientFrames g))) (refused 10)
     (pick (ltb to (toRoom (clientFrames g))) (refused 10)
     J.Fine)
 
--- 10, of all lent areas: "others their full content"
+-- refusal 10, of all lent areas: "others their full content"
 unfoldable pub roomTest : Params → ℕ → ℕ → ℕ → ℕ → Verdict
 roomTest g area result out to =
     pick (ltb area rowsBytes) (refused 10)
     (pick (ltb result (g .size)) (refused 10)
     (sendRoom g out to))
 
--- 3: the lent value of an open write is L long; with no write open it is not looked at
+-- refusal 3: the lent value of an open write is L long; with no write open it is not looked at
 unfoldable pub valueTest : Params → Phase → ℕ → Verdict
 valueTest g p v = pick (writing p && not (eqb v (g .size))) (refused 3) J.Fine
 
--- 11: only stamps, acks and values go to clients
+-- refusal 11: only stamps, acks and values go to clients
 unfoldable pub answers : Body → Bool
 answers getStamp = false
 answers ack = true
@@ -54,18 +54,18 @@ answers (stampIs T) = true
 answers (blockIs z o) = false
 answers (valueIs x e) = true
 
--- 12: "old, repeated or not awaited"
+-- refusal 12: "old, repeated or not awaited"
 unfoldable pub awaited : Bool → Verdict
 awaited b = pick b J.Fine (refused 12)
 
--- 12 and 14, of a value for read q from server j: "of kind 11, each whose stamp is not kept from that server"
+-- refusals 12 and 14, of a value for read q from server j: "of kind 11, each whose stamp is not kept from that server"
 abbrev pub keptTest : (List ℕ → List ℕ) → Client → ℕ → ℕ → Stamp → Entry → Verdict
 keptTest H s j q x e =
     andThen (awaited (reading (s .phase) && (eqb q (s .reads) && not (hasStamp (rowOf s j .stamps) (used (rowOf s j)) x))))
     (fitTest H e j)
 
 module _ (H : List ℕ → List ℕ) (g : Params) (me : ℕ) where
-  -- 12 and 14, of a frame of operation q from server j. Stamps count only in a write's first part, acks only in its second, each server's first
+  -- refusals 12 and 14, of a frame of operation q from server j. Stamps count only in a write's first part, acks only in its second, each server's first
   unfoldable pub orderTest : Client → ℕ → ℕ → Body → Verdict
   orderTest s j q getStamp = J.Fine
   orderTest s j q ack = awaited (acking (s .phase) && (eqb q (s .writes) && not (heardOf s j)))
@@ -75,7 +75,7 @@ module _ (H : List ℕ → List ℕ) (g : Params) (me : ℕ) where
   orderTest s j q (blockIs z o) = J.Fine
   orderTest s j q (valueIs x e) = keptTest H s j q x e
 
-  -- 11 to 14: from a server 1 to n, of a kind for clients, naming this client
+  -- refusals 11 to 14: from a server 1 to n, of a kind for clients, naming this client
   unfoldable pub messageTest : Client → Party → Message → Verdict
   messageTest s from m =
       pick (fromServer g from && (answers (m .body) && eqb (m .client) me)) (orderTest s (numberIn from) (m .sequence) (m .body)) (refused 11)

@@ -10,7 +10,7 @@ pub enum Phase {
     Reading,
 }
 
-// The stamps kept of one server's values, of four places the first so many. Their entries lie in the rows area.
+// The stamps kept of one server's values: the first count of four places are taken. Their entries lie in the rows area.
 pub struct Row {
     pub count: usize,
     pub stamps: [Stamp; 4],
@@ -28,7 +28,7 @@ pub struct Client {
     pub rows: [Row; 11],
 }
 
-// So many frames were sent; the write has ended; it closed as out of stamps; the read has ended with this stamp, its value is in the result area,
+// Frames were sent, this many; the write has ended; it closed as out of stamps; the read has ended with this stamp, its value is in the result area,
 // and a read-complete went to each server; the read is closed since its blocks disagree, and a read-complete went to each server; or the reason why there
 // is no step.
 pub enum Answer {

@@ -1,4 +1,4 @@
--- The search of the rows in the code's terms: a place, and what stands there. What is found is `firstAgreed` of the client's specification.
+-- The search of the rows in the code's terms: a place, and what is there. What is found is `firstAgreed` of the client's specification.
 -- These are definitions.
 use Prim.Native.Nat.{ℕ, _≤_, _<_}
 use mathlib.Core.Path.{_≡_}
@@ -29,11 +29,11 @@ view g rows a j = placesFrom g a j (getD rows j noRow) 0 (used (getD rows j noRo
 unfoldable pub holdersOf : Params → List ℕ → Hits → ℕ → Hits
 holdersOf g a h p = record { on = flags (sentList g (h .on) (h .at) a (entryAt g a p .digests)) (g .n); at = h .at }
 
--- what stands at place i of server j's row
+-- what is at place i of server j's row
 abbrev pub keptAt : Params → List Row → List ℕ → ℕ → ℕ → Kept
 keptAt g rows a j i = record { stamp = getD (getD rows j noRow .stamps) i zeroStamp; entry = entryAt g a (placeAt j i) }
 
--- what stands where the search stopped
+-- what is where the search stopped
 abbrev pub standing : Params → List Row → List ℕ → Stop → Option Kept
 standing g rows a Nowhere = none
 standing g rows a (At j i) = some (keptAt g rows a j i)
@@ -55,7 +55,7 @@ pub record Regaining (g : Params) (rows : List Row) (a : List ℕ) (x : Stamp) (
   pub held : agreed g (view g rows a) (record { stamp = x; entry = entryAt g a p }) ≡ true
   pub value-room : g .size ≤ result
 
--- what the end asks: what stands at place i of server j's row is in n - t rows, the value has room, and a frame to each server
+-- what the end of a read needs: what is at place i of server j's row is in n - t rows, the value has room, and a frame to each server
 pub record Finishing (g : Params) (rows : List Row) (a : List ℕ) (j i result out to : ℕ) : Type 0 where
   pub searching : Searching g (length a)
   pub server-low : 1 ≤ j

@@ -69,7 +69,7 @@ fn read_answer(agree: bool, x: Stamp) -> Answer
     Answer::Disagreement
 }
 
-// The read ends with what stands at place i of server j's row.
+// The read ends with what is at place i of server j's row.
 pub fn finish(
     s: Client,
     g: Params,

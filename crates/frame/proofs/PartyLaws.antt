@@ -30,7 +30,7 @@ unfolding partyBytes
 length-party (P.Client c) = refl
 length-party (P.Server j) = refl
 
--- they name it, whatever stands behind them
+-- they name it, whatever follows them
 pub party-back : (p : Party) (l : List ℕ) → (partyIn (getD (partyBytes p ++ l) 0 0) (getD (partyBytes p ++ l) 1 0) ≡ p) × (drop 2 (partyBytes p ++ l) ≡ l)
 unfolding partyBytes partyIn pick
 party-back (P.Client c) l = (refl, refl)

@@ -1,4 +1,4 @@
--- Frames of messages within their bounds are no longer than the largest frame, and say how long they are; and the room that is left behind frames.
+-- Frames of messages within their bounds are no longer than the largest frame, and say how long they are; and the room that is left after frames.
 -- Assumes nothing.
 use Prim.Native.Nat.{ℕ, _+_, _*_, _≤_}
 use native.Mathlib.Omega.{arith}
@@ -50,7 +50,7 @@ frames-room g [] f = omega arith
 frames-room g (x ∷ xs) f =
     rw suc-mul (omega (arith, length-append (build (x .says)) (frames xs), build-room g (x .says) (f .0), frames-room g xs (f .1)))
 
--- a frame's length field says how long it is, whatever stands behind it
+-- a frame's length field says how long it is, whatever follows it
 module _ (g : Params) (B : Bounded g) where
   frame-says : (m : Message) → FormedBody g (m .body) → 2 + be2 (build m) 0 ≡ length (build m)
   unfolding build

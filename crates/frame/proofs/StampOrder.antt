@@ -76,7 +76,7 @@ less-not a b e (inr (f, inr (g, h))) = omega (arith, h, ap (λ z. z .sequence) e
 pub less-back : (a b : Stamp) → Less a b → Less b a → ⊥
 less-back a b h k = less-not a a refl (less-trans a b a h k)
 
--- two numbers stand in one of three ways
+-- of two numbers one is smaller, or they are equal
 pub three : (a b : ℕ) → (a < b) ⊎ ((a ≡ b) ⊎ (b < a))
 three a b = go (decLe a b) (decLe b a)
   where
@@ -85,7 +85,7 @@ three a b = go (decLe a b) (decLe b a)
     go (yes h) (no k) = inl (omega arith)
     go (no h) k = inr (inr (omega arith))
 
--- two stamps stand in one of three ways
+-- of two stamps one is older, or they are equal
 pub total : (a b : Stamp) → Less a b ⊎ ((a ≡ b) ⊎ Less b a)
 total a b = go (three (a .time) (b .time)) (three (a .writer) (b .writer)) (three (a .sequence) (b .sequence))
   where

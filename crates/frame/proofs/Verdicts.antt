@@ -1,4 +1,4 @@
--- What a chain of tests tells where nothing spoke against it. Assumes nothing.
+-- What a chain of tests tells where none of them refused. Assumes nothing.
 use mathlib.Core.Path.{_≡_, refl}
 use mathlib.Core.Bool.{Bool, true, false}
 use Rattle.area.specs.Area.{pick}

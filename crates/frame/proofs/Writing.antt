@@ -28,7 +28,7 @@ use Rattle.frame.proofs.Outbox.{wrote-sent, all-sent}
 
 -- ---- one frame
 
--- a store behind another
+-- a store after another
 sets-then : (d : List ℕ) (i j : ℕ) (a b : List ℕ) → j ≡ i + length a → sets (sets d i a) j b ≡ sets d i (a ++ b)
 sets-then d i j a b e = rw e (sym (sets-append d i a b))
 

@@ -30,7 +30,7 @@ entryAt g a p = entry (part a (chunkAt p) (listed g)) (part a (blockPlace p) (wi
 unfoldable pub storeEntry : List ℕ → ℕ → Entry → List ℕ
 storeEntry a p e = sets (sets a (chunkAt p) (e .digests)) (blockPlace p) (e .block)
 
--- stored where the test holds
+-- stored if the test holds
 abbrev pub storeIf : Bool → List ℕ → ℕ → Entry → List ℕ
 storeIf true a p e = storeEntry a p e
 storeIf false a p e = a

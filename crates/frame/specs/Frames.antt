@@ -43,7 +43,7 @@ sequenceAt = 5
 abbrev pub bodyAt : ℕ
 bodyAt = 9
 
--- the place of an offer's entry, behind its time
+-- the place of an offer's entry, after its time
 abbrev pub offerAt : ℕ
 offerAt = 17
 
@@ -117,16 +117,16 @@ frameOf kind client sequence body = headerBytes (7 + length body) kind client se
 unfoldable pub build : Message → List ℕ
 build m = frameOf (kindOf (m .body)) (m .client) (m .sequence) (bodyBytes (m .body))
 
--- ---- opening: 4 to 9 in the order of the numbers
+-- ---- opening: refusals 4 to 9 in the order of the numbers
 
--- 4: the length field counts what follows it
+-- refusal 4: the length field counts what follows it
 unfoldable pub framingTest : List ℕ → Verdict
 framingTest f = pick (ltb (length f) bodyAt) (refused 4) (pick (eqb (be2 f 0 + 2) (length f)) J.Fine (refused 4))
 
 unfoldable pub headerIn : List ℕ → Header
 headerIn f = record { kind = getD f kindAt 0; client = getD f clientAt 0; sequence = be4 f sequenceAt }
 
--- 5 to 7
+-- refusals 5 to 7
 unfoldable pub headerTest : ℕ → Header → Verdict
 headerTest v h =
     pick (eqb v version)
@@ -139,7 +139,7 @@ headerTest v h =
     J.Fine))))))
     (refused 5)
 
--- 8, of a frame of size bytes
+-- refusal 8, of a frame of size bytes
 unfoldable pub bodyTest : Params → ℕ → ℕ → Verdict
 bodyTest g kind size = pick (eqb size (bodyAt + bodyLength g kind)) J.Fine (refused 8)
 
@@ -147,12 +147,12 @@ bodyTest g kind size = pick (eqb size (bodyAt + bodyLength g kind)) J.Fine (refu
 unfoldable pub stampIn : List ℕ → Stamp
 stampIn f = record { time = be8 f bodyAt; writer = getD f writerAt 0; sequence = be4 f writeAt }
 
--- 9, of a value's stamp
+-- refusal 9, of a value's stamp
 unfoldable pub stampTest : Stamp → Verdict
 stampTest s =
     pick (partsAgree (s .time) (s .writer) (s .sequence)) (pick (ltb lastClient (s .writer)) (refused 9) J.Fine) (refused 9)
 
--- 9
+-- refusal 9
 unfoldable pub contentTest : ℕ → List ℕ → Verdict
 contentTest kind f = pick (eqb kind 11) (stampTest (stampIn f)) J.Fine
 
@@ -176,7 +176,7 @@ abbrev pub openingResponse : Opened → Response Header
 openingResponse (O.Frame h) = gives h
 openingResponse (O.Refused r) = turnedDown (numberOf r)
 
--- the same for any parameters: 1 to 3 come first
+-- the same for any parameters: refusals 1 to 3 come first
 unfoldable pub openedUnder : Params → List ℕ → Response Header
 openedUnder g f = answeredBy (andThen (boundsTest g) (frameTest g f)) (headerIn f)
 

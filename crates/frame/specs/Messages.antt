@@ -40,13 +40,13 @@ pub data Stage : Type 0 where
 -- the kinds of document 01's table, "Frames", with what their bodies hold; request F-4: "kinds 3, 4 and 5 carry the time
 -- (8 bytes) before the digest list", "Kinds 6, 7 and 8 are retired"
 pub data Body : Type 0 where
-  -- 1, 9, 10, 12
+  -- kinds 1, 9, 10, 12: nothing
   getStamp ack askRead readComplete : Body
-  -- 2: time
+  -- kind 2: time
   stampIs : ℕ → Body
-  -- 3, 4, 5: time; digest list, block
+  -- kinds 3, 4, 5: time; digest list, block
   blockIs : Stage → Offer → Body
-  -- 11: time, writer and write sequence; digest list, block
+  -- kind 11: time, writer and write sequence; digest list, block
   valueIs : Stamp → Entry → Body
 
 -- the client names the operation's owner

@@ -34,7 +34,7 @@ quota g = max (g .k) (g .t + 1)
 unfoldable pub largestFrame : Params → ℕ
 largestFrame g = 22 + entryLength g
 
--- 10: "frames out need n + 9 largest frames (server)"; request F-4: "The client's largest need is now n frames." Two bytes for the receiver of each.
+-- refusal 10: "frames out need n + 9 largest frames (server)"; request F-4: "The client's largest need is now n frames." Two bytes for the receiver of each.
 abbrev pub serverFrames : Params → ℕ
 serverFrames g = g .n + 9
 
@@ -50,19 +50,19 @@ toRoom m = 2 * m
 
 -- ---- bounds
 
--- 1, the own number: party me of parties 1 to most
+-- refusal 1, of the own number: me is not one of parties 1 to most
 unfoldable pub ownTest : ℕ → ℕ → Verdict
 ownTest me most = pick (ltb me 1) (refused 1) (pick (ltb most me) (refused 1) J.Fine)
 
--- 2 and 3, but for a value's length
+-- refusals 2 and 3, but for a value's length
 unfoldable pub codeTest : Params → Verdict
 codeTest g =
     pick (thresholdFits (g .n) (g .t) (g .k)) (pick (lengthFits (g .size)) J.Fine (refused 3)) (refused 2)
 
--- 1 to 3, without an own number
+-- refusals 1 to 3, without an own number
 unfoldable pub boundsTest : Params → Verdict
 boundsTest g = pick (partiesFit (g .n) (g .t)) (codeTest g) (refused 1)
 
--- 1 to 3, of party me of parties 1 to most
+-- refusals 1 to 3, of party me of parties 1 to most
 unfoldable pub paramsTest : Params → ℕ → ℕ → Verdict
 paramsTest g me most = pick (partiesFit (g .n) (g .t)) (andThen (ownTest me most) (codeTest g)) (refused 1)

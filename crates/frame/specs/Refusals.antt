@@ -70,7 +70,7 @@ abbrev pub answeredBy : {A : Type 0} → Verdict → A → Response A
 answeredBy Fine x = gives x
 answeredBy (Bad r) x = turnedDown (numberOf r)
 
--- two tests, of which the first to speak against it counts
+-- two tests one after the other: the first refusal counts
 abbrev pub andThen : Verdict → Verdict → Verdict
 andThen Fine b = b
 andThen (Bad r) b = Bad r

@@ -14,7 +14,7 @@ older a b =
 unfoldable pub sameStamp : Stamp → Stamp → Bool
 sameStamp a b = eqb (a .time) (b .time) && (eqb (a .writer) (b .writer) && eqb (a .sequence) (b .sequence))
 
--- "A fresh server holds stamp 0, client 0 and sequence 0"; it stands too for what lies past the end of an array of stamps
+-- "A fresh server holds stamp 0, client 0 and sequence 0"; it is also what is read past the end of an array of stamps
 abbrev pub zeroStamp : Stamp
 zeroStamp = record { time = 0; writer = 0; sequence = 0 }
 

@@ -10,7 +10,7 @@ ghost use mathlib.Core.Path.{_≡_};
 ghost use Prim.Native.Nat.{_≤_};
 ghost use Rattle.frame.specs.Params.{Bounded, width, ownTest, codeTest, boundsTest, paramsTest, largestFrame, outRoom, toRoom, quota};
 
-// 1, the own number: party me of parties 1 to most.
+// Refusal 1, of the own number: me is not one of parties 1 to most.
 pub fn own_test(me: usize, most: usize) -> Verdict
     ensures { λ r. ⌜ r ≡ ownTest me most ⌝ }
 {
@@ -23,7 +23,7 @@ pub fn own_test(me: usize, most: usize) -> Verdict
     Verdict::Fine
 }
 
-// 2 and 3, but for a value's length.
+// Refusals 2 and 3, but for a value's length.
 pub fn code_test(g: Params) -> Verdict
     ensures { λ r. ⌜ r ≡ codeTest g ⌝ }
 {
@@ -40,7 +40,7 @@ pub fn code_test(g: Params) -> Verdict
     Verdict::Fine
 }
 
-// 1 to 3, without an own number.
+// Refusals 1 to 3, without an own number.
 pub fn bounds_test(g: Params) -> Verdict
     ensures { λ r. ⌜ r ≡ boundsTest g ⌝ }
 {
@@ -52,7 +52,7 @@ pub fn bounds_test(g: Params) -> Verdict
     code_test(g)
 }
 
-// 1 to 3, of party me of parties 1 to most.
+// Refusals 1 to 3, of party me of parties 1 to most.
 pub fn params_test(g: Params, me: usize, most: usize) -> Verdict
     ensures { λ r. ⌜ r ≡ paramsTest g me most ⌝ }
 {

@@ -20,7 +20,7 @@ pub fn put_entry(area: &mut [u8], p: usize, digests: &[u8], block: &[u8])
     area::put(area, CHUNK_BYTES * p + BLOCK_AT, block);
 }
 
-// Stores the entry that stands in a frame from index i on in chunk p.
+// Stores the entry that a frame has from index i on in chunk p.
 pub fn keep_entry(area: &mut [u8], p: usize, g: Params, f: &[u8], i: usize)
     requires { ⌜ Bounded g × (576 * p + 576 ≤ length (now area)) × (i + entryLength g ≤ length (now f)) ⌝ }
     ensures { λ _. ⌜ now (area .exit) ≡ storeEntry (now (area .entry)) p (entryIn g (now (f .entry)) i) ⌝ }

@@ -1,7 +1,7 @@
 // The bytes of a frame and of the lent areas: the version, and where each part lies.
 pub const VERSION: u8 = 1;
 
-// The fields of a header, and the body behind it.
+// The fields of a header, and the body after it.
 pub const LENGTH_AT: usize = 0;
 
 pub const VERSION_AT: usize = 2;
@@ -14,22 +14,22 @@ pub const SEQUENCE_AT: usize = 5;
 
 pub const BODY_AT: usize = 9;
 
-// The entry of a frame of a write, behind its time.
+// The entry of a frame of a write, after its time.
 pub const OFFER_AT: usize = 17;
 
-// The parts of a value's body behind its time.
+// The parts of a value's body after its time.
 pub const WRITER_AT: usize = 17;
 
 pub const WRITE_AT: usize = 18;
 
 pub const VALUE_AT: usize = 22;
 
-// An entry's chunk, and its block therein, behind the longest digest list.
+// An entry's chunk, and in it the block, after the longest digest list.
 pub const CHUNK_BYTES: usize = 576;
 
 pub const BLOCK_AT: usize = 320;
 
-// The chunks of client c in a server's area end before chunk 21 c + 1: its echoes' lie behind chunk 21 c - 20, its readies' behind chunk 21 c - 10.
+// The chunks of client c in a server's area end before chunk 21 c + 1: its echoes' come after chunk 21 c - 20, its readies' after chunk 21 c - 10.
 pub const CLIENT_CHUNKS: usize = 21;
 
 pub const ECHOES_BACK: usize = 20;

@@ -50,20 +50,20 @@ pub enum Verdict {
     Bad(Refusal),
 }
 
-// What stands before a frame's body, length and version aside. The client is the operation's owner.
+// What comes before a frame's body, without length and version. The client is the operation's owner.
 pub struct Header {
     pub kind: u8,
     pub client: u8,
     pub sequence: u32,
 }
 
-// What opening a frame finds. The parts of the body lie at fixed places behind the header.
+// What opening a frame finds. The parts of the body lie at fixed places after the header.
 pub enum Opened {
     Frame(Header),
     Refused(Refusal),
 }
 
-// Where the next frame goes in the out area, and how many stand before it.
+// Where the next frame goes in the out area, and how many are there already.
 pub struct Place {
     pub at: usize,
     pub count: usize,

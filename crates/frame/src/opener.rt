@@ -25,7 +25,7 @@ ghost use Rattle.frame.specs.Params.{Bounded};
 ghost use Rattle.frame.specs.Frames.{retired, lengthOf, bodyLength, framingTest, headerIn, headerTest};
 ghost use Rattle.frame.specs.Frames.{bodyTest, stampIn, stampTest, contentTest, opened, openingResponse, openedUnder};
 
-// 4: under 9 bytes, or length field wrong.
+// Refusal 4: under 9 bytes, or length field wrong.
 pub fn framing_test(f: &[u8]) -> Verdict
     ensures { λ r. ⌜ r ≡ framingTest (now (f .entry)) ⌝ }
 {
@@ -61,7 +61,7 @@ fn is_retired(kind: u8) -> bool
     kind <= 8
 }
 
-// 5 to 7: version not 1, kind not 1 to 12 or retired, client not 1 to 8 or sequence 0.
+// Refusals 5 to 7: version not 1, kind not 1 to 12 or retired, client not 1 to 8 or sequence 0.
 pub fn header_test(version: u8, h: Header) -> Verdict
     ensures { λ r. ⌜ r ≡ headerTest version h ⌝ }
 {
@@ -120,7 +120,7 @@ pub fn body_length(g: Params, kind: u8) -> usize
     length_of(kind, 32 * g.n + width(g))
 }
 
-// 8: body length wrong for kind.
+// Refusal 8: body length wrong for kind.
 pub fn body_test(g: Params, kind: u8, len: usize) -> Verdict
     requires { ⌜ Bounded g ⌝ }
     ensures { λ r. ⌜ r ≡ bodyTest g kind len ⌝ }
@@ -145,7 +145,7 @@ pub fn stamp_in(f: &[u8]) -> Stamp
     }
 }
 
-// 9: stamp parts mixed, or writer above 8.
+// Refusal 9: stamp parts mixed, or writer above 8.
 pub fn stamp_test(s: Stamp) -> Verdict
     ensures { λ r. ⌜ r ≡ stampTest s ⌝ }
 {
@@ -158,7 +158,7 @@ pub fn stamp_test(s: Stamp) -> Verdict
     Verdict::Fine
 }
 
-// 9, of a frame whose body has its kind's length.
+// Refusal 9, of a frame whose body has its kind's length.
 pub fn content_test(kind: u8, f: &[u8]) -> Verdict
     requires { ⌜ (kind ≡ 11 → 22 ≤ length (now f)) ⌝ }
     ensures { λ r. ⌜ r ≡ contentTest kind (now (f .entry)) ⌝ }
@@ -194,7 +194,7 @@ pub fn open_frame(g: Params, f: &[u8]) -> Opened
     Opened::Frame(h)
 }
 
-// What opening a frame finds, for any parameters: 1 to 9 in the order of the numbers.
+// What opening a frame finds, for any parameters: refusals 1 to 9 in the order of the numbers.
 pub fn opened_under(g: Params, f: &[u8]) -> Opened
     ensures { λ r. ⌜ openingResponse r ≡ openedUnder g (now (f .entry)) ⌝ }
 {

@@ -31,7 +31,7 @@ pub fn number_of(r: Refusal) -> u8
     }
 }
 
-// The second test, unless the first spoke against it.
+// The outcome of the second test, unless the first has a refusal.
 pub fn and_then(a: Verdict, b: Verdict) -> Verdict
     ensures { λ r. ⌜ r ≡ andThen a b ⌝ }
 {

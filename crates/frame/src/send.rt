@@ -86,7 +86,7 @@ fn put_frame(
     area::put(out, list + digests.len(), block);
 }
 
-// Sends one frame, behind those before it.
+// Sends one frame, after those that are there already.
 pub fn deposit(
     out: &mut [u8],
     to: &mut [u8],

@@ -37,7 +37,7 @@ module _ (g : Params) (at a : List ℕ) (B : Bounded g) (w : Within at a) where
   length-blocksIn (j ∷ js) =
       length-append (blockIn g at a j) (blocksIn g at a js) ∙ rw (length-blockIn j, length-blocksIn js, suc-mul) (omega arith)
 
-  -- the block of server js i was stored behind those before it
+  -- the block of server js i was stored after those before it
   pub block-turn : (b : ℕ) (d out js : List ℕ) (i : ℕ) → b ≡ width g → out ≡ sets d 0 (blocksIn g at a (take i js)) → i < length js
       → sets out (i * b) (blockIn g at a (getD js i 0)) ≡ sets d 0 (blocksIn g at a (take (i + 1) js))
   block-turn b d out js i q o h =

@@ -26,7 +26,7 @@ both-false true false true y e = refl
 both-false true false false y e = refl
 both-false false b x y e = refl
 
--- what is left to compare behind the first j servers
+-- what is left to compare after the first j servers
 abbrev pub toCompare : Params → List ℕ → List ℕ → List Bool → List ℕ → List ℕ → ℕ → Bool
 toCompare g at a on v list j = left g at a on v j && same (joined (λ i. digestOf (blockOf (g .k) v i)) (j + 1) (g .n - j)) (drop (32 * j) list)
 

@@ -20,7 +20,7 @@ use Rattle.group_rules.specs.Coded.{digestsOf}
 use Rattle.group.proofs.Lists.{same-split}
 
 module _ (f : ℕ → List ℕ) (sized : (j : ℕ) → length (f j) ≡ 32) where
-  -- f (j + 1) was stored behind f 1 to f j
+  -- f (j + 1) was stored after f 1 to f j
   pub joined-turn : (d out x : List ℕ) (at j : ℕ) → out ≡ sets d at (joined f 1 j) → x ≡ f (j + 1)
       → sets out (at + 32 * j) x ≡ sets d at (joined f 1 (j + 1))
   joined-turn d out x at j o e =

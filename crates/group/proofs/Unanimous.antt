@@ -36,7 +36,7 @@ pub within-at : (at a : List ℕ) → Within at a → (j : ℕ) → chunkAt (get
 unfolding Within
 within-at at a W j = W j
 
--- what is left to compare behind the first j servers
+-- what is left to compare after the first j servers
 abbrev pub left : Params → List ℕ → List ℕ → List Bool → List ℕ → ℕ → Bool
 left g at a on v j = same (blocksOf (g .k) v (chosen (marked on) (j + 1) (g .n - j))) (blocksIn g at a (chosen (marked on) (j + 1) (g .n - j)))
 

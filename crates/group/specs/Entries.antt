@@ -36,7 +36,7 @@ passing p n j = leb 1 j && (leb j n && p j)
 unfoldable pub flags : (ℕ → Bool) → ℕ → List Bool
 flags p n = table 11 (passing p n)
 
--- the chunks of servers that lie one behind the other: server j's is chunk p + j
+-- the chunks of servers that lie one after the other: server j's is chunk p + j
 unfoldable pub placesFrom : ℕ → List ℕ
 placesFrom p = table 11 (λ j. p + j)
 

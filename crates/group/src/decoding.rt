@@ -19,7 +19,7 @@ ghost use Rattle.group.specs.Entries.{marked, Within};
 ghost use Rattle.group.specs.Choice.{lowest, blocksIn, valueFrom, allOf};
 ghost use Rattle.group.specs.Needs.{Collecting, Decoding, Valued};
 
-// Server j as the next number behind the c before it, if it is flagged and these are fewer than k; the answer is how many there are then.
+// Adds server j to the c numbers collected so far, if it is flagged and they are fewer than k; returns how many there are then.
 fn add_number(mark: bool, j: u8, c: usize, k: usize, numbers: &mut [u8; 8]) -> usize
     requires { ⌜ (c ≤ k) × (k ≤ 8) ⌝ }
     ensures { λ r. ⌜ (r ≡ pick (mark && ltb c k) (c + 1) c)

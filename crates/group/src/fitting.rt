@@ -19,7 +19,7 @@ pub fn block_fits(digests: &[u8], block: &[u8], j: usize) -> bool
     area::equal(&own, &digests[from..end])
 }
 
-// 14: a block against the digest at place j of a digest list.
+// Refusal 14: a block against the digest at place j of a digest list.
 pub fn fit_test(digests: &[u8], block: &[u8], j: usize) -> Verdict
     requires { ⌜ (1 ≤ j) × (32 * j ≤ length (now digests)) × (length (now block) ≤ 256) ⌝ }
     ensures { λ r. ⌜ r ≡ fitTest digestOf (entry (now (digests .entry)) (now (block .entry))) j ⌝ }

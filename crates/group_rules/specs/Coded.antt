@@ -74,6 +74,6 @@ module _ (H : List ℕ → List ℕ) (g : Params) where
 unfoldable pub fits : (List ℕ → List ℕ) → Entry → ℕ → Bool
 fits H e j = same (H (e .block)) (part (e .digests) (32 * j - 32) 32)
 
--- 14: "block against its digest"
+-- refusal 14: "block against its digest"
 unfoldable pub fitTest : (List ℕ → List ℕ) → Entry → ℕ → Verdict
 fitTest H e j = pick (fits H e j) J.Fine (refused 14)

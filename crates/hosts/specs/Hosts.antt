@@ -105,14 +105,14 @@ module _ (Z : Setup) (R : Records) where
       let m = writeCall g c v (x .state) out to in
       record { servers = h .servers; clients = put (h .clients) c (record { state = m .state; rows = x .rows; value = keptBy (m .answer) v (x .value) }) }
 
-  -- after a list of calls, which stand latest first
+  -- after a list of calls, latest first
   unfoldable pub hosted : List HostCall → Hosts
   hosted [] = first
   hosted (k ∷ ks) = hostStep (hosted ks) k
 
 -- ---- the run that they make
 
--- a call that is lent a short stamp area is turned down and changes nothing: no call of the run
+-- a call that is lent a short stamp area is turned down and changes nothing: it is not a call of the run
 unfoldable pub callOf : HostCall → List Call
 callOf (serverDeliver i class j f out to) = W.toServer i (senderOf class j) f out to ∷ []
 callOf (clientDeliver c class j f lent result stamp out to) =
@@ -188,7 +188,7 @@ pub record Hosted (Z : Setup) (R : Records) (ks : List HostCall) : Type 0 where
   pub clients : (c : ℕ) → ClientSays (hosted Z R ks .clients c) (run Z (callsOf ks) .clients c)
   -- what the next call tells its host is what the run says
   pub answers : (k : HostCall) → Fit Z k → toldBy Z (hosted Z R ks) k ≡ toldIn Z (run Z (callsOf ks)) k
-  -- and the reads and writes that hosts saw stand in one row
+  -- and the reads and writes that hosts saw are in one row
   pub demand : Demand3 Z (callsOf ks)
 
 -- whatever the false ones send: for every list of exported calls on the honest parties in which a frame named as an honest party's was sent by it

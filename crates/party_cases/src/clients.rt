@@ -1,4 +1,4 @@
-// At a client: 10 for each lent area that is short by one byte, with the same call where it is long enough; and 16, with the last sequences before
+// At a client: refusal 10 for each lent area that is short by one byte, with the same call where it is long enough; and 16, with the last sequences before
 // it. Prints a line for each call. Four servers, one of them false, values of three bytes in blocks of two.
 use blocks::Params;
 use client::begin::begin_read;
@@ -54,7 +54,7 @@ fn print(name: &[u8], a: Answer) {
     io::write_all(1, b"\n");
 }
 
-// Client 1 begins a read, the out and to areas being so long.
+// Client 1 begins a read, with out and to areas of these lengths.
 fn read(name: &[u8], s: Client, out: usize, to: usize) -> Client
     requires { ⌜ (out ≤ 608) × (to ≤ 8) ⌝ }
 {
@@ -105,7 +105,7 @@ fn stamp(name: &[u8], s: Client, rows: usize, result: usize, out: usize, to: usi
     print(name, answer);
 }
 
-// 10.
+// Refusal 10.
 fn rooms(s: Client) {
     read(b"read, out short by one byte", s, OUT - 1, TO);
     read(b"read, to short by one byte", s, OUT, TO - 1);
@@ -141,7 +141,7 @@ fn rooms(s: Client) {
     stamp(b"stamp", w, ROWS, RESULT, OUT, TO);
 }
 
-// A client that has begun so many reads and writes.
+// A client that has begun this many reads and writes.
 fn after(s: Client, count: u32) -> Client {
     let mut y = s;
     y.writes = count;
@@ -149,7 +149,7 @@ fn after(s: Client, count: u32) -> Client {
     y
 }
 
-// 16, and the last sequence before it.
+// Refusal 16, and the last sequence before it.
 fn sequences(s: Client) {
     let last = after(s, LAST_SEQUENCE);
     read(b"read after 4294967295", last, OUT, TO);

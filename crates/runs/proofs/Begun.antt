@@ -1,4 +1,4 @@
--- An honest client's operation that stands in the row was begun by it: a client's number rises where it begins an operation, and nowhere else, and it
+-- An honest client's operation that is in the row was begun by it: a client's number rises where it begins an operation, and nowhere else, and it
 -- sends and ends only what has its number. Assumes nothing.
 use Prim.Native.Nat.{ℕ, _+_, _≤_}
 use native.Mathlib.Omega.{arith}

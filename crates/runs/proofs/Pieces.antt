@@ -110,7 +110,7 @@ module _ (H : List ℕ → List ℕ) (g : Params) (size : (b : List ℕ) → len
       let k : 1 + (j - 1) ≡ j = omega arith in
       ap (λ z. part (joined (λ j. H (blockAt H g v j)) 1 (g .n)) z 32) e ∙ digest-at v 1 (g .n) (j - 1) (omega arith) ∙ ap (λ z. H (blockAt H g v z)) k
 
-  -- blocks of a value, one behind the other
+  -- blocks of a value, one after the other
   pub joined-blocks : (v : List ℕ) (l : List Piece) → ((p : Piece) → List·Memᴰ p l → p .bytes ≡ blockAt H g v (p .number))
       → joinedBytes l ≡ blocksOf (g .k) v (numbers l)
   unfolding blocksOf

@@ -12,7 +12,7 @@ use Rattle.runs.specs.Admissible.{Admissible}
 use Rattle.runs.specs.Events.{Event, At, StopsRead, CompletesRead, OpensRead, OpensWrite}
 use Rattle.client_rules.specs.Rows.{Found}
 
--- what stands at one place of a run is one call
+-- at one place of a run there is one call
 pub at-low : (E : Event) (ks : List Call) (p : ℕ) → At E ks p → p < length ks
 at-low E [] p u = absurd u
 at-low E (k ∷ ks) p (inl u) = omega (arith, u .0)

@@ -199,7 +199,7 @@ module _ (Z : Setup) where
       let w = delivered-does H g d (clientAt ks d) (run Z ks .clients d .area) (lentTo Z (run Z ks) d lent) from f result out to in
       subst (λ z. Finds (put (run Z ks .clients) d h z) x) (sym (u .0)) (subst (λ z. Finds z x) (sym (put-same (run Z ks .clients) d h)) (w .found x (u .2)))
 
-  -- a completed read is behind
+  -- a completed read is over
   Behind : Client → ℕ → Type 0
   Behind s q = (q < s .reads) ⊎ ((q ≡ s .reads) × (rd s ≡ false))
 

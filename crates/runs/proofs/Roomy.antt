@@ -1,4 +1,4 @@
--- A client's rows area that is too short is never looked at, since each delivery with it is turned down (10): for the facts of a run zeros may stand
+-- A client's rows area that is too short is never looked at, since each delivery with it is turned down (10): for the facts of a run zeros may be put
 -- in its place. Assumes nothing.
 use Prim.Native.Nat.{ℕ, _≤_}
 use native.Mathlib.Omega.{arith}

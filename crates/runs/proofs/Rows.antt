@@ -1,4 +1,4 @@
--- The operations of a run stand in one row, by the facts of Known.antt. Assumes nothing.
+-- The operations of a run are in one row, by the facts of Known.antt. Assumes nothing.
 use Prim.Native.Nat.{ℕ, _<_}
 use native.Mathlib.Omega.{arith}
 use mathlib.Core.Bool.{Bool, true, false}

@@ -151,7 +151,7 @@ of-ops (y ∷ l) o m = ⊎-elim
     (λ u. let w = of-ops l o u in (w .0, List·Memᴰ·tail (w .1), w .2))
     (List·Memᴰ·cases-cons m)
 
--- of two operations in the row, the items of which the one stands before the other
+-- of two operations in the row, the items of which the one comes before the other
 pub stands-of : (l : List Item) → Sorted l → (a b : Operation) → Stands (ops l) a b
     → (x y : Item) × Mem x l × Mem y l × (x .op ≡ a) × (y .op ≡ b) × Before x y
 stands-of [] s a b h = absurd h
@@ -162,7 +162,7 @@ stands-of (z ∷ l) s a b (inr h) =
     let (x, y, mx, my, ex, ey, k) = stands-of l (s .1) a b h in
     (x, y, List·Memᴰ·tail mx, List·Memᴰ·tail my, ex, ey, k)
 
--- two items of the row are one, or stand in one of two orders
+-- two items of the row are the same, or one of them comes first
 pub orders : (l : List Item) → Sorted l → (x y : Item) → Mem x l → Mem y l
     → (x ≡ y) ⊎ (Stands (ops l) (x .op) (y .op) ⊎ Before y x)
 orders [] s x y mx my = absurd (List·Memᴰ·not-nil mx)

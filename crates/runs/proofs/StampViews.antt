@@ -49,7 +49,7 @@ module _ (Z : Setup) (G : Assumed Z) (M : Small (Z .g)) where
   abbrev pub clientAt : List Call → ℕ → ClientSide
   clientAt ks c = run Z ks .clients c
 
-  -- what a server among 1 to n shows; one that is none shows the start
+  -- what a server 1 to n shows; for any other number the views show the start
   abbrev pub shown : List Call → ℕ → Stamped
   shown ks j = (serverAt Z G M ks j .server .stamp, presentEntry g (serverAt Z G M ks j .server .stamp) (serverAt Z G M ks j .area) (initialOf Z j) .digests)
 

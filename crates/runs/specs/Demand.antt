@@ -1,4 +1,4 @@
--- Demand 3: the reads and writes of a run stand in one row, as "Runs" in document 01 sets it. These are definitions.
+-- Demand 3: the reads and writes of a run are in one row, as "Runs" in document 01 sets it. These are definitions.
 use Prim.Native.Nat.{ℕ, _<_}
 use mathlib.Core.Bool.{Bool, true, false}
 use mathlib.Core.Path.{_≡_}
@@ -30,7 +30,7 @@ pub record SameOperation (a b : Operation) : Type 0 where
   pub client : a .client ≡ b .client
   pub sequence : a .sequence ≡ b .sequence
 
--- a stands before b in the row
+-- a comes before b in the row
 abbrev pub Stands : List Operation → Operation → Operation → Type 0
 Stands [] a b = ⊥
 Stands (o ∷ l) a b = ((o ≡ a) × List·Memᴰ b l) ⊎ Stands l a b
@@ -38,7 +38,7 @@ Stands (o ∷ l) a b = ((o ≡ a) × List·Memᴰ b l) ⊎ Stands l a b
 abbrev pub NoWrite : List Operation → Type 0
 NoWrite l = (o : Operation) → List·Memᴰ o l → o .reading ≡ true
 
--- the stamp of the last write, behind one more operation with the stamp x
+-- the stamp of the last write, after one more operation with the stamp x
 abbrev pub lastOf : Bool → Stamp → Stamp → Stamp
 lastOf true x s = s
 lastOf false x s = x
@@ -95,7 +95,7 @@ module _ (Z : Setup) (ks : List Call) where
     pub row : List Operation
     pub listed : (o : Operation) → List·Memᴰ o row → Happened o
     pub all : (o : Operation) → Happened o → List·Memᴰ o row
-    -- "A write is a client and sequence that an honest server accepted, listed once"; a read stands there once, too
+    -- "A write is a client and sequence that an honest server accepted, listed once"; a read is there once, too
     pub once : (a b : Operation) → Stands row a b → SameOperation a b → ⊥
     -- "its stamp is the new one there, alike at all of them"
     pub one-stamp : (i j p q : ℕ) (x y : Write) → At (Accepts Z i x) ks p → At (Accepts Z j y) ks q

@@ -1,5 +1,5 @@
 -- A run goes by what the entry points promise: `deliver` of a server and of a client, `begin_read` and `begin_write`, whose promises cite the
--- definitions that are cited here. The party that is called goes on with the state that its call returns; what its answer sends stands in
+-- definitions that are cited here. The party that is called goes on with the state that its call returns; what its answer sends is in
 -- Answers.antt. A write is accepted exactly where its ack goes out, and an operation begins exactly where the call answers that frames were sent.
 -- These are definitions.
 use Prim.Native.Nat.{ℕ}

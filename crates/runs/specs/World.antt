@@ -158,12 +158,12 @@ module _ (Z : Setup) where
         (lentBy (CB.writeTest g c (w .clients c .client) v out to) v (w .clients c .value)));
   }
 
-  -- the world after a list of calls, which stand latest first
+  -- the world after a list of calls, latest first
   unfoldable pub run : List Call → World
   run [] = start
   run (k ∷ ks) = step (run ks) k
 
-  -- what a call's answer sends; it stands in the answer's out and to areas (Answers.antt in proofs)
+  -- what a call's answer sends; it is in the answer's out and to areas (Answers.antt in proofs)
   unfoldable pub sends : World → Call → List Sending
   sends w (toServer i from f out to) = serverEffect w i from f out to .sends
   sends w (toClient c from f lent result out to) = clientEffect w c from f lent result out to .sends

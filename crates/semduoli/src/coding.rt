@@ -37,7 +37,7 @@ pub extern "C" fn semduoli_encode(
     code_answer(done)
 }
 
-// The value of k blocks, which lie end to end in blocks, with their numbers, into the front of out.
+// The value that k to n blocks, which lie end to end in blocks, with their numbers, are all blocks of, into the front of out; 21 if there is none.
 #[no_mangle]
 pub extern "C" fn semduoli_decode(
     n: usize,

@@ -1,4 +1,4 @@
--- How an honest client stands after any calls: what it has sent for its open operation, that what it has counted is not enough yet, and that its earlier writes
+-- An honest client after any calls: what it has sent for its open operation, that what it has counted is not enough yet, and that its earlier writes
 -- ended. Assumes nothing.
 use Prim.Native.Nat.{ℕ, zero, suc, _+_, _≤_, _<_, min}
 use native.Mathlib.Omega.{arith}
@@ -108,7 +108,7 @@ module _ (Z : Setup) (G : Assumed Z) where
   abbrev pub SentBy : List Call → Party → Party → Message → Type 0
   SentBy = SentMessage Z G M
 
-  -- ---- how it stands
+  -- ---- its state
 
   -- client c's write q has ended
   abbrev pub Ended : List Call → ℕ → ℕ → Type 0

@@ -1,4 +1,4 @@
--- How an honest server stands to an honest client's read: who listens asked for it and was told of the present value, and who does not has completed it.
+-- What an honest server has done for an honest client's read: who listens asked for it and was told of the present value, and who does not has completed it.
 -- Assumes nothing.
 use Prim.Native.Nat.{ℕ, _≤_}
 use native.Mathlib.Omega.{arith}

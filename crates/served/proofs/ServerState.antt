@@ -1,4 +1,4 @@
--- How an honest server stands after any calls: nothing is left due, what its flags say has gone out to all, and each sequence that it has passed was accepted,
+-- An honest server after any calls: nothing is left due, what its flags say has gone out to all, and each sequence that it has passed was accepted,
 -- with a ready and an ack. Assumes nothing.
 use Prim.Native.Nat.{ℕ, suc, _+_, _≤_, _<_}
 use native.Mathlib.Omega.{arith}

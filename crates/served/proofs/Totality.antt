@@ -118,7 +118,7 @@ module _ (Z : Setup) (G : Assumed Z) where
 
     -- ---- nothing is left due
 
-    -- so many frames of offers alike o
+    -- this many frames, of offers alike to o
     votes-of : (f : ℕ → Option Offer) (o : Offer) {m : ℕ} → AtLeast (g .n) m (λ i. (p : Offer) × (agreed p ≡ agreed o) × (f i ≡ some p))
         → m ≤ votes R (g .n) (g .t) f o
     unfolding votes

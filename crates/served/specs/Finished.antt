@@ -77,8 +77,8 @@ module _ (Z : Setup) where
 
   -- ---- everybody is served
 
-  -- "no operation begun by an honest client is still open": one is open exactly where the phase is not idle (15). "A write closed as out of stamps counts here
-  -- as ended".
+  -- "no operation begun by an honest client is still open": one is open exactly if the phase is not idle (refusal 15). "A write closed as out of stamps
+  -- counts here as ended".
   abbrev pub Served : List Call → Type 0
   Served ks = (c : ℕ) → Honest Z (P.Client c) → run Z ks .clients c .client .phase ≡ F.Idle
 

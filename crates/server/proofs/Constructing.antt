@@ -48,7 +48,7 @@ module _ (H : List ℕ → List ℕ) (g : Params) (me : ℕ) (v : List ℕ) (are
   unfolding constructTest pick
   all-fine w f l a k i = go-second _ _ p _ e f (rw (eq-eqb _ _ l, le-ltb _ _ a, ← k, le-ltb _ _ i))
 
--- what is known where nothing spoke against it
+-- what is known where no test refused it
 pub record Sound (g : Params) (value area initial : ℕ) : Type 0 where
   pub bounded : Bounded g
   pub value-is : value ≡ g .size

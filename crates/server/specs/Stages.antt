@@ -53,7 +53,7 @@ pub record Left : Type 0 where
 abbrev pub left : Slot → List ℕ → Outbox → Left
 left x a q = record { slot = x; area = a; box = q }
 
--- after a counted frame, whose frames are sent behind those before them
+-- after a counted frame, whose frames are added to those sent before
 unfoldable pub counts : Counting → Outbox → Left
 counts p q = record { slot = p .slot; area = p .area; box = sent q (p .sends) }
 
@@ -71,7 +71,7 @@ unfoldable pub handledBy : Verdict → Slot → List ℕ → Counting → Outbox
 handledBy (J.Bad r) x a p q = record { verdict = J.Bad r; slot = x; area = a; box = q }
 handledBy J.Fine x a p q = record { verdict = J.Fine; slot = p .slot; area = p .area; box = sent q (p .sends) }
 
--- 11, or what v says, of a frame with the body b
+-- refusal 11, or what v says, of a frame with the body b
 unfoldable pub sentBy : Call → Body → Verdict → Verdict
 sentBy k b v = pick (senderRight (k .params) (k .from) (k .header .client) b) v (refused 11)
 
@@ -92,7 +92,7 @@ pub record Progress : Type 0 where
 abbrev pub progress : Server → List ℕ → Outbox → Progress
 progress s a q = record { server = s; area = a; box = q }
 
--- after an effect, whose frames are sent behind those before them
+-- after an effect, whose frames are added to those sent before
 unfoldable pub moved : Effect → Outbox → Progress
 moved x q = record { server = x .server; area = x .area; box = sent q (x .sends) }
 

@@ -34,7 +34,7 @@ ghost use Rattle.server_rules.specs.Tests.{fromOwner, readTest, doneTest, messa
 ghost use Rattle.server_rules.specs.Steps.{sendOnly, onRead, onReadComplete};
 ghost use Rattle.server.specs.Stages.{outcomeIn, answered};
 
-// 11 and 12 of a read.
+// Refusals 11 and 12 of a read.
 fn ask_test(from: Party, h: Header, r: Reader) -> Verdict
     ensures { λ v. ⌜ v ≡ pick (fromOwner from (h .client)) (readTest r (h .sequence)) (refused 11) ⌝ }
 {
@@ -44,7 +44,7 @@ fn ask_test(from: Party, h: Header, r: Reader) -> Verdict
     read_test(r, h.sequence)
 }
 
-// 11 and 12 of a read-complete.
+// Refusals 11 and 12 of a read-complete.
 fn end_test(from: Party, h: Header, r: Reader) -> Verdict
     ensures { λ v. ⌜ v ≡ pick (fromOwner from (h .client)) (doneTest r (h .sequence)) (refused 11) ⌝ }
 {
@@ -54,7 +54,7 @@ fn end_test(from: Party, h: Header, r: Reader) -> Verdict
     done_test(r, h.sequence)
 }
 
-// 1: the present time, of any sequence, always.
+// Kind 1: answered with the present time, whatever the sequence.
 pub fn on_get_stamp(
     s: Scope,
     g: Params,
@@ -82,7 +82,7 @@ pub fn on_get_stamp(
     taken(s, place)
 }
 
-// 10: the reader is noted with the present stamp, and answered the present value.
+// Kind 10: the reader is noted with the present stamp, and answered the present value.
 pub fn on_read<'a>(
     s: Scope,
     g: Params,
@@ -120,7 +120,7 @@ pub fn on_read<'a>(
     taken(scope, place)
 }
 
-// 12: that read and older ones are ended; nothing is sent.
+// Kind 12: that read and older ones are ended; nothing is sent.
 pub fn on_read_complete(s: Scope, g: Params, from: Party, h: Header) -> Taken
     ensures { λ r. ⌜ ((w : Server) → s ≡ scopeOf w (h .client) → (a out to : List ℕ)
         → outcomeIn w (h .client) r a out to

@@ -6,7 +6,7 @@ use server_rules::Scope;
 ghost use mathlib.Core.Path.{_≡_};
 ghost use Rattle.server_rules.specs.declared.Reply.the-variants as Y;
 
-// So many frames as stand before the next place.
+// A step that has sent the frames before this place: how many they are.
 pub fn taken(scope: Scope, p: Place) -> Taken
     ensures { λ r. ⌜ (r .reply ≡ Y.Step (p .count)) × (r .scope ≡ scope) ⌝ }
 {

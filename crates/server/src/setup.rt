@@ -20,7 +20,7 @@ ghost use Rattle.frame.specs.Chunks.{areaBytes};
 ghost use Rattle.sha256.specs.Hash.{digestOf};
 ghost use Rattle.server_rules.specs.Delivery.{constructed, constructTest, construction};
 
-// 1, 2, 3 and 10; of the lent areas only the lengths count.
+// Refusals 1, 2, 3 and 10; the lent areas are given by their lengths.
 pub fn construct_test(g: Params, me: u8, value: &[u8], area: usize, initial: usize) -> Verdict
     ensures { λ r. ⌜ r ≡ constructTest digestOf g me (now (value .entry)) area initial ⌝ }
 {

@@ -1,4 +1,4 @@
-// The parts of a server's state: with one thing counted.
+// The parts of a server's state, and the state with one thing counted.
 use frame::Stamp;
 use server_rules::BlockPart;
 use server_rules::Reader;
@@ -113,7 +113,7 @@ fn either(a: bool, b: bool) -> bool
     b
 }
 
-// The time of the group that was complete first stands.
+// The time of the group that was complete first is kept.
 fn first_time(complete: bool, full: bool, time: u64, kept: u64) -> u64
     ensures { λ r. ⌜ r ≡ pick (not complete && full) time kept ⌝ }
 {

@@ -20,7 +20,7 @@ ghost use Rattle.frame.specs.Params.{Bounded};
 ghost use Rattle.frame.specs.Messages.{numberIn, fromServer};
 ghost use Rattle.server_rules.specs.Tests.{roomTest, fromOwner, openTest, readTest, doneTest};
 
-// 10: whether the lent areas are long enough, of which only the lengths count.
+// Refusal 10: whether the lent areas, given by their lengths, are long enough.
 pub fn room_test(g: Params, area: usize, initial: usize, out: usize, to: usize) -> Verdict
     requires { ⌜ Bounded g ⌝ }
     ensures { λ r. ⌜ r ≡ roomTest g area initial out to ⌝ }
@@ -50,7 +50,7 @@ pub fn from_owner(from: Party, c: u8) -> bool
     }
 }
 
-// 12 and 13 of a frame of the write q, of which one was counted already where again holds.
+// Refusals 12 and 13 of a frame of the write q; again says that one like it was counted already.
 pub fn open_test(x: Slot, q: u32, again: bool) -> Verdict
     ensures { λ r. ⌜ r ≡ openTest x q again ⌝ }
 {
@@ -67,7 +67,7 @@ pub fn open_test(x: Slot, q: u32, again: bool) -> Verdict
     Verdict::Fine
 }
 
-// 12 of a read.
+// Refusal 12 of a read.
 pub fn read_test(r: Reader, q: u32) -> Verdict
     ensures { λ v. ⌜ v ≡ readTest r q ⌝ }
 {
@@ -77,7 +77,7 @@ pub fn read_test(r: Reader, q: u32) -> Verdict
     Verdict::Fine
 }
 
-// 12 of a read-complete.
+// Refusal 12 of a read-complete.
 pub fn done_test(r: Reader, q: u32) -> Verdict
     ensures { λ v. ⌜ v ≡ doneTest r q ⌝ }
 {
@@ -93,7 +93,7 @@ pub fn done_test(r: Reader, q: u32) -> Verdict
     Verdict::Bad(Refusal::Stale)
 }
 
-// 11 to 13 of a frame of the write q that only its owner c sends.
+// Refusals 11 to 13 of a frame of the write q that only its owner c sends.
 pub fn owner_test(from: Party, c: u8, x: Slot, q: u32, again: bool) -> Verdict
     ensures { λ r. ⌜ r ≡ pick (fromOwner from c) (openTest x q again) (refused 11) ⌝ }
 {
@@ -103,7 +103,7 @@ pub fn owner_test(from: Party, c: u8, x: Slot, q: u32, again: bool) -> Verdict
     open_test(x, q, again)
 }
 
-// 11 to 13 of a frame of the write q that only servers send; on says of which one was counted already.
+// Refusals 11 to 13 of a frame of the write q that only servers send; on says from which servers one was counted already.
 pub fn server_test(g: Params, from: Party, x: Slot, q: u32, on: [bool; 11]) -> Verdict
     requires { ⌜ Bounded g ⌝ }
     ensures { λ r. ⌜ r ≡ pick (fromServer g from) (openTest x q (getD on (numberIn from) false)) (refused 11) ⌝ }

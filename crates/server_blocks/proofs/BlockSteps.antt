@@ -82,7 +82,7 @@ module _ (k : Call) (x : Slot) (v : Verdict) where
           fine-then (fromServer (k .params) (k .from)) (openTest x (k .header .sequence) (votedBefore k x)) (fitTest digestOf e (numberIn (k .from))) v w
           tested f (m ∙ ap (fitTest digestOf e) n)
 
-    -- what is known where nothing spoke against a frame
+    -- what is known where no test refused a frame
     pub sent-open : v ≡ sendVerdict k x e → v ≡ J.Fine → x .sequence ≡ k .header .sequence
     unfolding sendVerdict
     sent-open h f =

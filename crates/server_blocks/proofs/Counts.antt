@@ -157,7 +157,7 @@ module _ (H : List ℕ → List ℕ) (g : Params) (a d b : List ℕ) (T c : ℕ)
   unfolding full dueFor fullBy
   full-is = ap₂ (λ u v. leb (quota g + g .t) u && v) ready-votes supports-is
 
--- ---- a comparison on which something hangs can be made
+-- ---- a comparison on which something depends can be made
 
 short : (g : Params) (e r : ℕ) → r < quota g → enoughBy g e r ≡ true → g .n ≤ e + g .t
 unfolding enoughBy

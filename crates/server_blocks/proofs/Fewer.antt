@@ -1,4 +1,4 @@
--- The echoes and readies that have a time and a list are at most those that were counted: where nothing hangs on these, nothing hangs on them. Assumes
+-- The echoes and readies that have a time and a list are at most those that were counted: where nothing depends on these, nothing depends on them. Assumes
 -- nothing.
 use Prim.Native.Nat.{ℕ, _+_, _*_, _-_, _≤_}
 use native.Mathlib.Omega.{arith}
@@ -44,7 +44,7 @@ in-group-le g on ts T at a d B =
     (λ j h. timed-flagged g on ts T at a d j (omega (arith, h .1, B .servers-high))) in
     omega (arith, e, l)
 
--- ---- fewer echoes and readies: nothing more hangs on them
+-- ---- fewer echoes and readies: nothing more depends on them
 
 leb-fewer : (a m n : ℕ) → m ≤ n → leb a n ≡ false → leb a m ≡ false
 leb-fewer a m n h e = let l = leb-false a n e in lt-leb a m (omega (arith, h, l))
@@ -75,7 +75,7 @@ matters-fewer g went complete e r E R h k =
     (and-fewer (not went) (enoughBy g e r) (enoughBy g E R) (enough-fewer g e r E R h k))
     (fewer-and (leb (quota g + g .t) r) (leb (quota g + g .t) R) (not complete) (leb-fewer (quota g + g .t) r R k))
 
--- no list is compared: nothing hangs on the e echoes and r readies that were counted
+-- no list is compared: nothing depends on the e echoes and r readies that were counted
 pub unlisted : (H : List ℕ → List ℕ) (k : Call) (a d b : List ℕ) → Stored (k .params) (k .header .client) (length a) → (T : ℕ) (x : Slot)
     → x .sequence ≡ k .header .sequence → (q : Outbox) (e r : ℕ)
     → e ≡ count (marked (x .blocks .echoes)) (k .params .n)

@@ -78,7 +78,7 @@ nothing k a x d own q h m n =
     (storeIf (n i) a (completeAt (k .header .client)) own)
     (f i)
 
--- ---- nothing hangs on the comparison: went, enough, all, complete, equal
+-- ---- nothing depends on the comparison: went, enough, all, complete, equal
 
 no-ready : (w n l k u : Bool) → (not w && n) || (l && not k) ≡ false → not w && (n && u) ≡ false
 no-ready true n l k u h = refl
@@ -118,7 +118,7 @@ module _ (H : List ℕ → List ℕ) (k : Call) (a d b : List ℕ) (S : Stored (
   abbrev own : Voters → Entry
   own v = entry d (blockOf (k .params .k) (groupValue (k .params) v (k .header .client) a) (k .me))
 
-  -- what the votes v and the comparison u bring forth
+  -- what the votes v and the comparison u lead to
   unfoldable brings : Voters → Bool → Left
   brings v u = counts (answeredBy k a x (dueFor (k .params) (x .blocks .ready) v u T) (own v)) q
 

@@ -56,11 +56,11 @@ voteStage kind = pick (eqb kind 4) echo ready
 unfoldable pub voteCounted : Bool → BlockPart → ℕ → ℕ → BlockPart
 voteCounted echoes b j T = pick echoes (blockEcho b j T) (blockReady b j T)
 
--- server j's, of client c, is kept in the chunk that lies by j behind this one
+-- server j's, of client c, is kept in the chunk that comes j after this one
 unfoldable pub votesFrom : Bool → ℕ → ℕ
 votesFrom echoes c = pick echoes (echoesFrom c) (readiesFrom c)
 
--- ---- 11 to 14
+-- ---- refusals 11 to 14
 
 -- of the frame k, of the stage z and with the offer o, whose write has the slot x
 unfoldable pub verdictOf : Call → Slot → Stage → Offer → Verdict
@@ -87,7 +87,7 @@ voteVerdict k x e =
 abbrev pub readiesOf : Call → Offer → List Sending
 readiesOf k own = toAll (k .params) (λ j. message (k .header .client) (k .header .sequence) (blockIs ready own))
 
--- What is due is known: readies of the own entry go out with the time, and both are the completed ones, unless there are some. (The decoded values are left
+-- What is due is known: readies of the own entry go out with the time, and both become the completed ones if there are none. (The decoded values are left
 -- out.)
 unfoldable pub answeredBy : Call → List ℕ → Slot → Due → Entry → Counting
 answeredBy k a x d own = record {

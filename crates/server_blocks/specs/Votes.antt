@@ -16,7 +16,7 @@ use Rattle.server_blocks.specs.declared.Due.{Due}
 unfoldable pub enoughBy : Params → ℕ → ℕ → Bool
 enoughBy g e r = leb (g .n) (e + g .t) || leb (quota g) r
 
--- whether a ready or the completion hangs on the comparison; went and complete say whether they were before
+-- whether a ready or the completion depends on the comparison; went and complete say whether each has happened before
 unfoldable pub mattersBy : Params → Bool → Bool → ℕ → ℕ → Bool
 mattersBy g went complete e r = (not went && enoughBy g e r) || (leb (quota g + g .t) r && not complete)
 
@@ -37,7 +37,7 @@ votersOf g a c b T d =
     let rs = flags (sentList g (timed (b .readies) (b .readied) T) (placesFrom (readiesFrom c)) a d) (g .n) in
     record { echoes = es; readies = rs; echoed = count (marked es) (g .n); readied = count (marked rs) (g .n) }
 
--- what the votes v for the time T bring forth; went says whether a ready went out before
+-- what the votes v for the time T lead to; went says whether a ready went out before
 unfoldable pub dueFor : Params → Bool → Voters → Bool → ℕ → Due
 dueFor g went v supported T = record {
   ready = dueBy g went supported (v .echoed) (v .readied);

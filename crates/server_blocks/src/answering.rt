@@ -1,4 +1,4 @@
-// What a counted echo or ready brings forth, what is due being known: readies, the completed entry, and the marks of both.
+// Does what is due after a counted echo or ready: readies, the completed entry, and the marks of both.
 use crate::Due;
 use crate::votes::both;
 use frame::Broadcast;

@@ -36,14 +36,14 @@ pub struct Group {
     pub at: [usize; 11],
 }
 
-// What a counted echo or ready brings forth: readies to all servers, the completed entry; and the time of both.
+// What a counted echo or ready leads to: readies to all servers, the completed entry; and the time of both.
 pub struct Due {
     pub ready: bool,
     pub complete: bool,
     pub time: u64,
 }
 
-// The votes for the time and the list are enough for a comparison, and something hangs on it.
+// The votes for the time and the list are enough for a comparison, and something depends on it.
 fn compare_blocks(
     x: Slot,
     k: Call,
@@ -70,7 +70,7 @@ fn compare_blocks(
     answer(x, k, d, list, &block[..w], area, out, to)
 }
 
-// An echo or a ready was counted, and something may hang on it: the kept echoes and readies that have its time and its list decide.
+// An echo or a ready was counted, and something may depend on it: the kept echoes and readies that have its time and its list decide.
 fn voted_group(
     x: Slot,
     k: Call,
@@ -96,7 +96,7 @@ fn voted_group(
 }
 
 // An echo or a ready of a time and a digest list was counted in the slot x of the write that k names, and kept in the state area.
-// The counted echoes and readies, whatever they say, are at least those that have both: where nothing hangs on their numbers, no list is compared.
+// The counted echoes and readies, whatever they say, are at least those that have both: where nothing depends on their numbers, no list is compared.
 pub fn voted_block(
     x: Slot,
     k: Call,

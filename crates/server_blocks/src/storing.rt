@@ -30,7 +30,7 @@ ghost use Rattle.frame.specs.Params.{Bounded};
 ghost use Rattle.server_rules.specs.State.{withBlocks};
 ghost use Rattle.server_blocks.specs.Stage.{Carried, Own, RoomFor, LentFor, voteStage, voteCounted, votesFrom, sendVerdict, voteVerdict, BlockHandled};
 
-// 11 to 14 of the owner's frame.
+// Refusals 11 to 14 of the owner's frame.
 fn send_test(x: Slot, k: Call, list: &[u8], block: &[u8]) -> Verdict
     requires { ⌜ Own (k .params) (k .me) × Carried (k .params) (length (now list)) (length (now block)) ⌝ }
     ensures { λ r. ⌜ r ≡ sendVerdict k x (entry (now (list .entry)) (now (block .entry))) ⌝ }
@@ -55,7 +55,7 @@ fn flags_of(echo: bool, echoes: [bool; 11], readies: [bool; 11]) -> [bool; 11]
     readies
 }
 
-// 11 to 14 of a server's echo or ready.
+// Refusals 11 to 14 of a server's echo or ready.
 fn vote_test(x: Slot, k: Call, list: &[u8], block: &[u8]) -> Verdict
     requires { ⌜ Bounded (k .params) × Carried (k .params) (length (now list)) (length (now block)) ⌝ }
     ensures { λ r. ⌜ r ≡ voteVerdict k x (entry (now (list .entry)) (now (block .entry))) ⌝ }
@@ -75,7 +75,7 @@ fn vote_test(x: Slot, k: Call, list: &[u8], block: &[u8]) -> Verdict
     fit_test(list, block, j)
 }
 
-// 3: the owner's time, digest list and block, echoed to all.
+// Kind 3: the owner's time, digest list and block, echoed to all.
 pub fn on_block_send(
     x: Slot,
     k: Call,
@@ -125,7 +125,7 @@ fn count_vote(x: Slot, echo: bool, j: usize, time: u64) -> Slot
     block_ready(x, j, time)
 }
 
-// The chunk behind which client c's echoes or readies are kept.
+// The chunk after which client c's echoes or readies are kept.
 fn votes_from(echo: bool, c: u8) -> usize
     requires { ⌜ (1 ≤ c) × (c ≤ 8) ⌝ }
     ensures { λ r. ⌜ (r ≡ votesFrom echo c) × (r ≤ 158) ⌝ }
@@ -137,7 +137,7 @@ fn votes_from(echo: bool, c: u8) -> usize
     CLIENT_CHUNKS * i - READIES_BACK
 }
 
-// 4 and 5: a server's echo or ready, kept.
+// Kinds 4 and 5: a server's echo or ready, kept.
 pub fn on_block_vote(
     x: Slot,
     k: Call,

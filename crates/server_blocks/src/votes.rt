@@ -106,7 +106,7 @@ fn enough(g: Params, e: usize, r: usize) -> bool
     quota(g) <= r
 }
 
-// Whether anything hangs on the comparison of a group that e echoes and r readies have.
+// Whether anything depends on comparing a group of e echoes and r readies.
 pub fn matters(g: Params, went: bool, complete: bool, e: usize, r: usize) -> bool
     requires { ⌜ Bounded g × (e ≤ 10) ⌝ }
     ensures { λ b. ⌜ b ≡ mattersBy g went complete e r ⌝ }

@@ -35,7 +35,7 @@ use Rattle.server_rules.proofs.Casts.{all-mem}
 
 -- ---- frames of a write
 
--- n - t echoes, or the few readies, bring forth a ready, if none went out and the payload is supported
+-- on n - t echoes, or on the few readies, a ready is sent, if none went out and the payload is supported
 pub due-of : {P : Type 0} (R : Rules P) (n t : ℕ) (w : Part P) (x : P) → w .ready ≡ false
     → (n ≤ votes R n t (w .echoes) x + t) ⊎ (R .few ≤ votes R n t (w .readies) x) → R .supports (w .echoes) (w .readies) x ≡ true → due R n t w x ≡ true
 unfolding due enough
@@ -51,7 +51,7 @@ module _ (H : List ℕ → List ℕ) (g : Params) where
   unfolding quota
   all-reached L = omega (arith, L .faults-high, L .blocks-high)
 
-  -- of the readies that complete a write, those that bring forth a ready are of honest servers
+  -- of the readies that complete a write, those on which a ready is sent are of honest servers
   pub few-honest : blockRules H g .few + g .t ≤ blockRules H g .all
   few-honest = omega arith
 
@@ -70,7 +70,7 @@ module _ (H : List ℕ → List ℕ) (g : Params) where
   unfolding S.onBlock toAll
   send-echoed me a c x j o i is = all-mem (λ i. message c (x .sequence) (blockIs echo o)) 1 (g .n) i (is .0) (omega (arith, is .1))
 
--- ---- 13
+-- ---- refusal 13
 
 abbrev Ahead : Verdict → Type 0
 Ahead v = v ≡ J.Bad R.Ahead

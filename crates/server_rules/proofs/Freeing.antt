@@ -1,4 +1,4 @@
--- What is accepted behind a counted frame: which writes, and what that leaves of slots, blocks, readers and the present value, and sends. Assumes nothing.
+-- What is accepted after a counted frame: which writes, and what that leaves of slots, blocks, readers and the present value, and sends. Assumes nothing.
 use Prim.Native.Nat.{ℕ, _+_, _≤_}
 use native.Mathlib.Omega.{arith}
 use native.Mathlib.Decide.{ℕ-discrete}

@@ -26,7 +26,7 @@ use Rattle.server_rules.proofs.Shapes.{Shape, idle, answers, notes, end
 alone : {n : ℕ} (x : Sending) → Rising n 0 (x ∷ [])
 alone x = next 0 x (omega arith) done
 
--- what goes to servers j to j + m - 1 stands before what has the places behind n
+-- what goes to servers j to j + m - 1 comes before what has the places after n
 to-rising : (n : ℕ) (f : ℕ → Message) (j m k : ℕ) (ys : List Sending) → k ≤ j → j + m ≤ suc n → Rising n (suc n) ys → Rising n k (toFrom f j m ++ ys)
 unfolding toFrom
 to-rising n f j zero k ys l h r = rising-from k (omega (arith, l, h)) r

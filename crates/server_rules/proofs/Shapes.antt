@@ -39,7 +39,7 @@ pub record Ripe (g : Params) (s : Server) (a : List ℕ) (w : S.Write) : Type 0 
   pub complete : blockView g a (w .client) (slotOf s (w .client)) .done ≡ some (offerOf w)
   pub below : w .time < lastTime
 
--- what a server accepts behind a counted frame of client c: nothing, or a write of c
+-- what a server accepts after a counted frame of client c: nothing, or a write of c
 pub data Freed (g : Params) (s : Server) (a : List ℕ) (c : ℕ) : S.Effect → Type 0 where
   nothing : Freed g s a c (S.sendOnly s a [])
   accepts : (w : S.Write) → w .client ≡ c → Ripe g s a w → Freed g s a c (S.accept s a w)

@@ -20,7 +20,7 @@ use Rattle.server_rules.proofs.Counting.{said}
 use Rattle.server_rules.proofs.Freeing.{freed-mem, freed-few}
 use Rattle.server_rules.proofs.Shapes.{Freed, Counted, Casts, counted-casts, Shape, idle, answers, notes, ends, settles}
 
--- what an acceptance sends is none
+-- an acceptance sends no frame of a broadcast
 pub freed-none : {g : Params} {s : Server} {a : List ℕ} {c : ℕ} {r : S.Effect} → Freed g s a c r → (y : Sending) → List·Memᴰ y (r .sends)
     → IsCast (y .says .body) → ⊥
 freed-none f y u h = ⊎-elim

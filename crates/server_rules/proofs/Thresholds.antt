@@ -25,7 +25,7 @@ either m a k b e = ⊎-elim (λ h. inl (leb-true m a h)) (λ h. inr (leb-true k 
 -- ---- for any payload
 
 module _ {P : Type 0} (R : Rules P) (n t : ℕ) (w : Part P) (x : P) where
-  -- a ready follows n - t echoes, or the few readies that bring forth one
+  -- a ready follows n - t echoes, or the few readies on which one is sent
   pub due-votes : due R n t w x ≡ true → (n - t ≤ votes R n t (w .echoes) x) ⊎ (R .few ≤ votes R n t (w .readies) x)
   unfolding due enough
   due-votes e = ⊎-elim (λ h. inl (omega (arith, h))) (λ h. inr h)

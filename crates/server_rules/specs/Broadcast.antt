@@ -8,7 +8,7 @@ use Rattle.quorum.specs.Quorum.{count}
 pub use Rattle.area.specs.Area.{kept}
 
 -- What a broadcast asks: which payloads are equal, whether the kept ones support a payload, what server i then says itself, how many readies
--- bring forth a ready, and how many the delivery.
+-- lead to a ready, and how many to the delivery.
 pub record Rules (P : Type 0) : Type 0 where
   pub alike : P → P → Bool
   pub supports : (ℕ → Option P) → (ℕ → Option P) → P → Bool
@@ -49,6 +49,6 @@ module _ {P : Type 0} (R : Rules P) (n t : ℕ) where
   unfoldable pub full : Part P → P → Bool
   full s x = leb (R .all) (votes (s .readies) x) && R .supports (s .echoes) (s .readies) x
 
-  -- whether a ready or the delivery hangs on x being supported
+  -- whether a ready or the delivery depends on x being supported
   unfoldable pub matters : Part P → P → Bool
   matters s x = (not (s .ready) && enough s x) || (leb (R .all) (votes (s .readies) x) && undone (s .done))

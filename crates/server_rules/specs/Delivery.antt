@@ -94,7 +94,7 @@ abbrev pub constructed : Served → List ℕ → List ℕ → Constructed
 constructed r area initial = record { reply = replyResponse (r .reply); server = r .server; area = area; initial = initial }
 
 module _ (H : List ℕ → List ℕ) (g : Params) (me : ℕ) where
-  -- 1, 2, 3, 10
+  -- refusals 1, 2, 3, 10
   unfoldable pub constructTest : List ℕ → ℕ → ℕ → Verdict
   constructTest v area initial =
       andThen (paramsTest g me (g .n))

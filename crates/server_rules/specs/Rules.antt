@@ -44,7 +44,7 @@ unanimousOf g es rs o = unanimous g (atTime es (o .time)) (atTime rs (o .time)) 
 module _ (H : List ℕ → List ℕ) (g : Params) where
   -- Offers are equal if their times and their digest lists are. Where the blocks agree, "encode afresh with zero padding and compare all n digests; if equal,
   -- send ready with the server's own block of that encoding"; where they disagree, the comparison is not equal (request F-7).
-  -- q readies bring forth a ready, "if there are then q + t readies" the write is complete.
+  -- On q readies a ready is sent; "if there are then q + t readies" the write is complete.
   abbrev pub blockRules : Rules Offer
   blockRules = record {
     alike = λ x y. eqb (x .time) (y .time) && same (x .entry .digests) (y .entry .digests);

@@ -132,7 +132,7 @@ blockReady b j T = record {
   readied = set (b .readied) j T;
 }
 
--- where r, a ready goes out; where f, the write is complete with the time T, unless it was before
+-- if r, a ready goes out; if f, the write is complete with the time T, unless it was complete before
 abbrev pub blockMarks : BlockPart → Bool → Bool → ℕ → BlockPart
 blockMarks b r f T = record {
   sent = b .sent;

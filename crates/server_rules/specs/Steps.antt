@@ -59,7 +59,7 @@ module _ (H : List ℕ → List ℕ) (g : Params) (me : ℕ) where
 
   -- An echo or a ready of o was counted in client c's slot x and kept in a and x. "At each counted echo or ready whose" time and "digest list then has n - t
   -- echoes or q readies, decode .., encode afresh .. and compare all n digests; if equal, send ready .. once for the write. If there are then q + t readies,
-  -- and that comparison is equal," the write "is complete for good", with the time of the group (request F-4). A comparison on which nothing hangs is not
+  -- and that comparison is equal," the write "is complete for good", with the time of the group (request F-4). A comparison on which nothing depends is not
   -- made, so it decodes nothing; nor does one whose blocks disagree.
   unfoldable pub votedBlock : List ℕ → ℕ → Slot → Offer → Counting
   votedBlock a c x o =
@@ -137,13 +137,13 @@ free g s a c = freeBy (ripe g s a c) s a
 
 -- ---- a frame of a write: count, speak, accept
 
--- what is accepted behind a frame of client c's write: the client's own frame completes nothing, an echo or a ready may
+-- what is accepted after a frame of client c's write: the client's own frame completes nothing, an echo or a ready may
 unfoldable pub freed : Params → Stage → Server → List ℕ → ℕ → Effect
 freed g send s a c = sendOnly s a []
 freed g echo s a c = free g s a c
 freed g ready s a c = free g s a c
 
--- an acceptance behind what the step has decoded and sent before: values "follow any ready frames of that step" (request F-1)
+-- an acceptance after what the step has decoded and sent before: values "follow any ready frames of that step" (request F-1)
 abbrev pub behind : Counting → Effect → Effect
 behind p r = record { server = r .server; area = r .area; sends = p .sends ++ r .sends; accepted = r .accepted; decodes = p .decodes }
 

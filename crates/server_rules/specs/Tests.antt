@@ -25,7 +25,7 @@ use Rattle.server_rules.specs.declared.Reader.{Reader}
 use Rattle.server_rules.specs.declared.Server.{Server}
 use Rattle.server_rules.specs.State.{slotOf, readerOf}
 
--- 10, of the lengths of the lent areas: "frames out need n + 9 largest frames (server) ..; others their full content"
+-- refusal 10, of the lengths of the lent areas: "frames out need n + 9 largest frames (server) ..; others their full content"
 unfoldable pub roomTest : Params → ℕ → ℕ → ℕ → ℕ → Verdict
 roomTest g area initial out to =
     pick (ltb area areaBytes) (refused 10)
@@ -34,7 +34,7 @@ roomTest g area initial out to =
     (pick (ltb to (toRoom (serverFrames g))) (refused 10)
     J.Fine)))
 
--- ---- 11: "sender or receiver not the kind's or, where a client, not the owner; a server not 1 to n"
+-- ---- refusal 11: "sender or receiver not the kind's or, where a client, not the owner; a server not 1 to n"
 
 abbrev pub fromOwner : Party → ℕ → Bool
 fromOwner (P.Client d) c = eqb d c
@@ -52,7 +52,7 @@ senderRight g from c (blockIs echo o) = fromServer g from
 senderRight g from c (blockIs ready o) = fromServer g from
 senderRight g from c (valueIs s e) = false
 
--- ---- 12 and 13
+-- ---- refusals 12 and 13
 
 -- "Only the first valid frame of a kind, from a sender, for an operation counts": whether the slot x has counted one from party j
 unfoldable pub counted : Slot → ℕ → Body → Bool
@@ -85,7 +85,7 @@ doneTest r q =
     (pick (eqb q (r .sequence) && not (r .listening)) (refused 12)
     J.Fine)
 
--- ---- 12 to 14
+-- ---- refusals 12 to 14
 
 -- the place in the digest list of the block that party j sends to server me
 abbrev pub placeIn : ℕ → Stage → ℕ → ℕ
@@ -108,7 +108,7 @@ module _ (H : List ℕ → List ℕ) (g : Params) (me : ℕ) where
   orderTest s j c q (blockIs z o) = blockTest (slotOf s c) j q z o
   orderTest s j c q (valueIs x e) = J.Fine
 
-  -- 11 to 14
+  -- refusals 11 to 14
   unfoldable pub messageTest : Server → Party → Message → Verdict
   messageTest s from m =
       pick (senderRight g from (m .client) (m .body)) (orderTest s (numberIn from) (m .client) (m .sequence) (m .body)) (refused 11)

@@ -23,7 +23,7 @@ pub struct BlockPart {
     pub readied: [u64; 11],
 }
 
-// A client's open write; the sequence 4294967296 stands for none.
+// A client's open write; the sequence 4294967296 means none.
 pub struct Slot {
     pub sequence: u64,
     pub blocks: BlockPart,
@@ -45,7 +45,7 @@ pub struct Server {
 impl Server {
     pub const CLIENTS: usize = layout::CLIENTS;
 
-    // Slots and readers stand at their client's number; place 0 is nobody's.
+    // Slots and readers are at their client's number; place 0 is nobody's.
     pub const PLACES: usize = layout::CLIENTS + 1;
 
     pub const LAST_TIME: u64 = layout::LAST_TIME;
@@ -74,7 +74,7 @@ pub struct Scope {
     pub reader: Reader,
 }
 
-// A step that sent so many frames, or the reason why there is none.
+// A step, with the number of frames that it sent, or the reason why there is none.
 pub enum Reply {
     Step(usize),
     Refused(Refusal),

@@ -119,7 +119,7 @@ kept-count m a j c x w = at-least-count (λ i. leb i m) (at-least-map (λ i _ k.
 -- ---- it is finished
 
 module _ (e r : ℕ) (N : Counts e r) where
-  -- the ready that a kept frames of an open sequence bring forth
+  -- the ready that is sent on the kept frames of an open sequence
   ready-out : (m a j c x : ℕ) → 2 ≤ a → (a ≤ count (λ i. leb i m) 4 → 3 ≤ r) → Among 4 j × (falseServer j ≡ false) → AtLeast 4 a (λ i. Kept m j c i x)
       → (y : ℕ) × ((j ≤ r) × Said c (current j c) y)
   ready-out m a j c x l d h w =

@@ -10,7 +10,7 @@ use Rattle.quorum.proofs.Quorums.{AtLeast}
 use Rattle.broadcast.specs.Laws.{Views}
 use Rattle.broadcast.proofs.Agreement.{Invariant}
 
--- The broadcast at hand: its views, n servers of which t may be false, the readies that bring forth a ready, those that bring forth a delivery, and who is
+-- The broadcast at hand: its views, n servers of which t may be false, how many readies lead to a ready, how many to a delivery, and who is
 -- false.
 pub record Protocol (K P : Type 0) : Type 1 where
   pub views : Views K P
@@ -25,7 +25,7 @@ module _ {K P : Type 0} (Q : Protocol K P) where
   open Protocol Q using (n, t, few, all, faultyServer, faultyClient)
   open Views (Q .views) using (sequence, KeptEcho, KeptReady, SentEcho, SentReady, Accepted, ClientSent)
 
-  -- of all readies few are honest servers', and the honest servers, n - t, are all
+  -- few is at least 1; of all readies at least few are of honest servers; and the n - t honest servers are enough for all
   pub record Thresholds : Type 0 where
     pub some : 1 ≤ few
     pub reach : few + t ≤ all
@@ -50,7 +50,7 @@ module _ {K P : Type 0} (Q : Protocol K P) where
       pub below : rank i c s y accepted < r
       pub has : A c s y
 
-    -- Free j x says that server j may accept x as it stands: each honest server may, or each may that accepted a certain write of a rank below r.
+    -- Free j x says that server j may accept x in its present state: each honest server may, or each may that accepted a certain write of a rank below r.
     abbrev pub Freed : (ℕ → P → Type 0) → ℕ → P → Type 0
     Freed Free r x = ((j : ℕ) → Correct j → Free j x) ⊎ Earlier r (λ c s y. (j : ℕ) → Correct j → Accepted ks j c s y → Free j x)
 
@@ -58,7 +58,7 @@ module _ {K P : Type 0} (Q : Protocol K P) where
 
   -- C is what else may have happened: two blocks with one digest.
   pub record Final (ks : List K) (C : Type 0) : Type 1 where
-    -- c is a client; x is of a value; x is of those that can be accepted; server j may accept x as it stands
+    -- c is a client; x is of a value; x is of those that can be accepted; server j may accept x in its present state
     pub Client : ℕ → Type 0
     pub Backed : P → Type 0
     pub Below : P → Type 0

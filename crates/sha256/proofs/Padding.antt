@@ -96,7 +96,7 @@ blockCount-bound : (n : ℕ) → n ≤ 256 → blockCount n * 64 ≤ 320
 unfolding blockCount
 blockCount-bound n h = omega arith
 
--- what the code stores is the padded message with zeros behind it
+-- what the code stores is the padded message with zeros after it
 laid-padded : (m : List ℕ) → length m ≤ 256 → laid m ≡ padded m ++ replicate (320 - blockCount (length m) * 64) 0
 unfolding laid padded
 laid-padded m h =

@@ -1,4 +1,4 @@
--- The message schedule in an array that is filled from the front: after the words so far stand zeros. Assumes nothing.
+-- The message schedule in an array that is filled from the front: after the words so far there are zeros. Assumes nothing.
 use mathlib.Core.Path.{_≡_, sym, ap, _∙_}
 use mathlib.Core.List.{List, _∷_, _++_}
 use Prim.Native.Nat.{ℕ, zero, suc, _+_, _-_, _*_, _≤_, _<_}
@@ -52,7 +52,7 @@ unfolding extended longer
 length-extended zero v e = e
 length-extended (suc n) v e = length-append (extended n v) _ ∙ rw (length-extended n v e) (omega arith)
 
--- the next word does not depend on what stands behind
+-- the next word does not depend on what follows
 next-front : (w z : List ℕ) (u : ℕ) → length w ≡ 16 + u → nextWord (w ++ z) (16 + u) ≡ nextWord w (length w)
 unfolding nextWord
 next-front w z u e =

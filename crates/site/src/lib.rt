@@ -30,7 +30,7 @@ pub fn deliver(
     stepped.answer
 }
 
-// The same for a record by value, which is lent for the call. Callers of this function need no walk of their own.
+// The same for a record by value, which is lent for the call, so that callers need no proof by hand about the reference.
 pub fn lend(
     s: Client,
     g: Params,

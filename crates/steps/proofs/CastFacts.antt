@@ -44,7 +44,7 @@ use Rattle.steps.proofs.ServerFits.{ServerShape, counted-shape}
 abbrev pub partAt : Params → Server → List ℕ → ℕ → Part Offer
 partAt g s a c = blockView g a c (slotOf s c)
 
--- and behind the count of p for client c: that of client d
+-- and after the count of p for client c: that of client d
 abbrev pub partOf : Params → Server → ℕ → S.Counting → ℕ → Part Offer
 partOf g s c p d = partAt g (withSlot s c (p .slot)) (p .area) d
 

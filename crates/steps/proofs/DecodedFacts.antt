@@ -40,7 +40,7 @@ module _ (H : List ℕ → List ℕ) (g : Params) (L : Bounded g) (me : ℕ) (s 
     took = λ k u. absurd (List·Memᴰ·not-nil (subst (List·Memᴰ k) n u));
   }
 
-  -- client d's part behind the count of a frame of client c
+  -- client d's part after the count of a frame of client c
   counted-decoded : (from : Party) (c : ℕ) → Among 8 c → {b : Body} → SizedIn g b → ST.senderRight g from c b ≡ true
       → {p : S.Counting} → Counted H g me s a initial (numberIn from) c b p → {r : S.Effect} → Behind H g s a c p r
       → (d : ℕ) → Among 8 d → (y : Offer) → partOf g s c p d .done ≡ some y

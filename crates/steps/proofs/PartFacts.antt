@@ -1,5 +1,5 @@
 -- What a counted frame does to a server's part in a broadcast, for any payload: an echo follows the client's own frame, a ready follows n - t echoes or the few
--- readies that bring forth one, and a delivery all that it asks for. Assumes nothing.
+-- readies on which one is sent, and a delivery all that it asks for. Assumes nothing.
 use Prim.Native.Nat.{ℕ, _-_, _≤_}
 use mathlib.Core.Bool.{Bool, true, false}
 use mathlib.Core.Path.{_≡_, refl, ap, sym, _∙_}

@@ -141,7 +141,7 @@ module _ (H : List ℕ → List ℕ) (g : Params) (L : Bounded g) (me : ℕ) (s 
   abbrev j : ℕ
   j = numberIn from
 
-  -- ---- behind a counted frame
+  -- ---- after a counted frame
 
   module _ (c q : ℕ) (b : Body) (f : Formed g (message c q b)) (o : ST.orderTest H g me s j c q b ≡ J.Fine) {p : S.Counting}
       (k : Counted H g me s a initial j c b p)

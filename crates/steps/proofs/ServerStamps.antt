@@ -85,7 +85,7 @@ module _ (H : List ℕ → List ℕ) (g : Params) where
     renamed : {d n : ℕ} → d ≡ c → n ≡ q → (b : Body) → from ≡ A.Client c → (from ≡ A.Client d) × (message c q b ≡ message d n b)
     renamed ec en b e = (e ∙ ap A.Client (sym ec), λ i. message (sym ec i) (sym en i) b)
 
-    -- ---- behind a counted frame
+    -- ---- after a counted frame
 
     module _ (b : Body) (f : Formed g (message c q b)) (Q : SizedIn g b) (h : ST.senderRight g from c b ≡ true)
         (o : ST.orderTest H g me s (numberIn from) c q b ≡ J.Fine)
@@ -97,7 +97,7 @@ module _ (H : List ℕ → List ℕ) (g : Params) where
       bounds : (w : S.Write) → List·Memᴰ w (r .accepted) → StampInBounds (S.stampOf w)
       bounds w m = write-stamp-in-bounds g w (freed-in-bounds H g L me s B a initial F from c q b f o k x w m)
 
-      -- a word to a client is behind an acceptance
+      -- a message to a client follows an acceptance
       behind : (y : Sending) → (IsCast (y .says .body) → ⊥) → List·Memᴰ y (S.behind p r .sends)
           → (w : S.Write) × List·Memᴰ w (r .accepted) × (key (S.stampOf w) ≤ key (r .server .stamp))
           × (((d : ℕ) × (1 ≤ d) × (d ≤ 8) × Told (s .readers) (S.stampOf w) (w .entry) d y) ⊎ (y ≡ ackOf w))

@@ -53,7 +53,7 @@ module _ (H : List ℕ → List ℕ) (g : Params) (me : ℕ) (s : Server) (from 
         ⊎ ((w : S.Write) × List·Memᴰ w (r .accepted) × (r .server .stamp ≡ S.stampOf w) × (entryAt g (r .area) presentAt ≡ w .entry)
         × (older (s .stamp) (S.stampOf w) ≡ true))
 
-    -- behind a counted frame
+    -- after a counted frame
     freed-presents : {s₁ : Server} {a₁ : List ℕ} {c : ℕ} {r : S.Effect} → Freed g s₁ a₁ c r → s₁ .stamp ≡ s .stamp
         → entryAt g a₁ presentAt ≡ entryAt g a presentAt → areaBytes ≤ length a₁ → Among 8 c → Presents r
     unfolding S.accept pick

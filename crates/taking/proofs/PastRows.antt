@@ -27,7 +27,7 @@ at l i = getD l i zeroStamp
 abbrev pub RowPast : Row → Stamp → Type 0
 RowPast r x = (hasStamp (r .stamps) (used r) x ≡ true) ⊎ ((4 ≤ r .count) × ((i : ℕ) → i < 4 → Less x (at (r .stamps) i)))
 
--- ---- where a stamp stands
+-- ---- where a stamp is
 
 pub has-place : (l : List Stamp) (m : ℕ) (x : Stamp) → hasStamp l m x ≡ true → (i : ℕ) × (i < m) × (at l i ≡ x)
 unfolding hasStamp
@@ -116,11 +116,11 @@ module _ (r : Row) (many : length (r .stamps) ≡ 4) where
 
   -- ---- another one that is kept
 
-  -- what stood elsewhere stays
+  -- what was elsewhere stays
   stays-at : (y : Stamp) (i j : ℕ) → (j ≡ i → ⊥) → at (set (r .stamps) i y) j ≡ at (r .stamps) j
   stays-at y i j ne = getD-set-other (r .stamps) i j y zeroStamp ne
 
-  -- x stood at the place of the smallest, where y goes
+  -- x was at the place of the smallest, where y goes
   replaced : (x y : Stamp) → 4 ≤ r .count → Less (at (r .stamps) (smallest (r .stamps) 3)) y → at (r .stamps) (smallest (r .stamps) 3) ≡ x
       → (m : ℕ) → m ≤ 4 → ((j : ℕ) × (j < m) × (at (set (r .stamps) (smallest (r .stamps) 3) y) j ≡ x))
       ⊎ ((j : ℕ) → j < m → Less x (at (set (r .stamps) (smallest (r .stamps) 3) y) j))

@@ -44,7 +44,7 @@ use Rattle.taking.proofs.Quiet.{Unripe, Uncounted}
 
 -- ---- acceptance
 
--- behind a frame of stage z of client c's write: nothing, since it was the client's own frame or the write cannot be accepted; or the write
+-- after a frame of stage z of client c's write: nothing, since it was the client's own frame or the write cannot be accepted; or the write
 pub data Freeing (H : List ℕ → List ℕ) (g : Params) (z : Stage) (s : Server) (a : List ℕ) (c : ℕ) : S.Effect → Type 0 where
   rests : (z ≡ send) ⊎ Unripe H g (partAt g s a c) → Freeing H g z s a c (S.sendOnly s a [])
   accepts : (w : S.Write) → w .client ≡ c → Ripe g s a w → Freeing H g z s a c (S.accept s a w)

@@ -169,7 +169,7 @@ completes = inl (refl, (stops-by Z exact told (valueFrom 2 4) 3 1 found refl (co
 
 -- ---- the row
 
--- of two operations in a row one stands before the other
+-- of two operations in a row one comes before the other
 either : (l : List Operation) (a b : Operation) → (a ≡ b → ⊥) → List·Memᴰ a l → List·Memᴰ b l → Stands l a b ⊎ Stands l b a
 either [] a b n u v = absurd (List·Memᴰ·not-nil u)
 either (o ∷ l) a b n u v = ⊎-elim

@@ -191,5 +191,5 @@ pub record Shown : Type 0 where
   pub larger : At (Accepts Z 1 (write 2)) calls 42
   pub smaller : At (Accepts Z 1 (write 1)) calls 45
   pub completes : At (CompletesRead Z 3 1 found) calls 52
-  -- in the row client 1's write stands before client 2's, and the read behind both
+  -- in the row client 1's write comes before client 2's, and the read after both
   pub in-order : (D : Demand3 Z calls) → Stands (D .row) (writing 1) (writing 2) × Stands (D .row) (writing 2) reading

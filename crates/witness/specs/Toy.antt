@@ -12,7 +12,7 @@ use Rattle.frame.specs.Frames.{build}
 use Rattle.frame.specs.Chunks.{areaBytes, rowsBytes}
 use Rattle.runs.specs.World.{Setup, Call, toServer, toClient, beginRead, beginWrite}
 
--- the first 32 bytes of a block with zeros behind it
+-- the first 32 bytes of a block followed by zeros
 unfoldable pub toy : List ℕ → List ℕ
 toy b = take 32 (b ++ replicate 32 0)
 

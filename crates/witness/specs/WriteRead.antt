@@ -124,5 +124,5 @@ pub record Shown : Type 0 where
   -- then client 2's read 1 begins, and it returns what was written, with the write's stamp
   pub opens : At (OpensRead Z 2 1) calls 20
   pub completes : At (CompletesRead Z 2 1 found) calls 25
-  -- the write stands before the read in the row
+  -- the write comes before the read in the row
   pub in-order : (D : Demand3 Z calls) → Stands (D .row) write read

@@ -1,4 +1,4 @@
--- Two stores of two bytes, one behind the other. Assumes nothing.
+-- Two stores of two bytes, one after the other. Assumes nothing.
 use Prim.Native.Nat.{_/_, _%_}
 use mathlib.Core.Path.{_∙_}
 use Rattle.area.specs.Numbers.{bytes2, bytes4}

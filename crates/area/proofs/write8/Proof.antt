@@ -1,4 +1,4 @@
--- Two stores of four bytes, one behind the other. Assumes nothing.
+-- Two stores of four bytes, one after the other. Assumes nothing.
 use Prim.Native.Nat.{_/_, _%_}
 use mathlib.Core.Path.{_∙_}
 use Rattle.area.specs.Numbers.{bytes4, bytes8}

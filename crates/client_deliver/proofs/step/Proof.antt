@@ -1,4 +1,4 @@
--- By the kind: a stamp, an ack, a value, or none that is for clients. Assumes nothing.
+-- By the kind: a stamp, an ack, a value, or a kind that is not for clients. Assumes nothing.
 use Rattle.client_deliver.proofs.Deliveries.{of-stamp, of-ack, of-value, of-others, stamp-long, value-long}
 use borrow.Author.Needs.{needs}
 use Rattle.client_deliver.proofs.step.Statement.{statement}

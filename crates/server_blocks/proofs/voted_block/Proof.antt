@@ -1,4 +1,4 @@
--- No list is compared where nothing hangs on the counted echoes and readies. Assumes nothing.
+-- No list is compared where nothing depends on the counted echoes and readies. Assumes nothing.
 use Rattle.server_blocks.proofs.Counts.{stored}
 use Rattle.server_blocks.proofs.Fewer.{unlisted}
 use Rattle.server_blocks.proofs.Rooms.{room-before}

@@ -1,4 +1,4 @@
--- The comparison is made where something hangs on it. Assumes nothing.
+-- The comparison is made where something depends on it. Assumes nothing.
 use Rattle.server_blocks.proofs.Counts.{voters-few, stored}
 use Rattle.server_blocks.proofs.Voting.{skipped}
 use Rattle.server_blocks.proofs.Rooms.{room-before}

@@ -1,4 +1,4 @@
--- Four stores of four bytes, one behind the other. Assumes nothing.
+-- Four stores of four bytes, one after the other. Assumes nothing.
 use borrow.Author.Needs.{needs}
 use Rattle.sha256.proofs.Bytes.{four-words}
 use Rattle.sha256.proofs.put_words.Statement.{statement}

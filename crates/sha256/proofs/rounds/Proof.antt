@@ -1,4 +1,4 @@
--- After j turns x has the first 4j rounds behind it. Assumes nothing.
+-- After j turns the first 4j rounds of x are done. Assumes nothing.
 use Prim.Native.Nat.{_≤_, _-_, _*_}
 use mathlib.Core.Path.{_≡_, refl, _∙_}
 use native.Mathlib.Omega.{arith}

@@ -1,4 +1,4 @@
--- The first loop stores the block's words one by one, the second the other words four at a time; behind the words so far stand zeros. Assumes nothing.
+-- The first loop stores the block's words one by one, the second the other words four at a time; after the words so far there are zeros. Assumes nothing.
 use lib.Seq.{sets}
 use lib.ListN.{replicate}
 use Prim.Native.Nat.{_≤_, _-_, _+_, _*_}

@@ -1,4 +1,4 @@
--- After i turns the first i rows stand. Assumes nothing.
+-- After i turns the first i rows are stored. Assumes nothing.
 use mathlib.Core.Path.{_≡_, refl, _∙_}
 use Prim.Native.Nat.{ℕ, _-_, _≤_}
 use lib.ListN.{length}

@@ -1,4 +1,4 @@
--- The group's value stands in the front of a buffer. Assumes nothing.
+-- The group's value is at the front of a buffer. Assumes nothing.
 use mathlib.Core.Path.{sym, _∙_}
 use lib.Seq.{length-take-le, length-front}
 use Rattle.sha256.specs.Hash.{digestOf}

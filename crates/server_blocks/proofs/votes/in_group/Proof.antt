@@ -1,4 +1,4 @@
--- The chunks lie one behind the other. Assumes nothing.
+-- The chunks lie one after the other. Assumes nothing.
 use Rattle.server_blocks.proofs.Counts.{comparing, flags-at}
 use borrow.Author.Needs.{needs}
 use Rattle.server_blocks.proofs.votes.in_group.Statement.{statement}

@@ -1,4 +1,4 @@
--- Client c's echoes lie in the chunks behind its completed entry, its readies behind those. Assumes nothing.
+-- Client c's echoes lie in the chunks after its completed entry, its readies after those. Assumes nothing.
 use Rattle.server_blocks.proofs.Counts.{voters-are}
 use borrow.Author.Needs.{needs}
 use Rattle.server_blocks.proofs.votes.voters_of.Statement.{statement}

@@ -90,8 +90,7 @@ impl Places {
         if same >= PLACES_AN_ADDRESS * nodes.max(1) {
             return Entry::TurnAway;
         }
-        let others: Vec<usize> =
-            (0..inside.len()).filter(|at| !self.listed.contains_key(&inside[*at])).collect();
+        let others: Vec<usize> = (0..inside.len()).filter(|at| !self.listed.contains_key(&inside[*at])).collect();
         if nodes == 0 && others.len() >= PLACES_OF_OTHERS {
             return Entry::Instead(others[random % others.len()]);
         }
@@ -139,12 +138,7 @@ pub struct Ways {
 }
 
 impl Door {
-    pub fn new(
-        tls: SslContext,
-        partners: Vec<Partner>,
-        listener: Option<TcpListener>,
-        ways: Ways,
-    ) -> io::Result<Door> {
+    pub fn new(tls: SslContext, partners: Vec<Partner>, listener: Option<TcpListener>, ways: Ways) -> io::Result<Door> {
         if let Some(l) = &listener {
             l.set_nonblocking(true)?;
         }
@@ -257,8 +251,7 @@ impl Door {
     fn let_in(&mut self) {
         while self.places.has_token() {
             let Some(Ok((tcp, address))) = self.listener.as_ref().map(|l| l.accept()) else { return };
-            let at: Vec<usize> =
-                (0..self.shaking.len()).filter(|at| self.shaking[*at].called.is_none()).collect();
+            let at: Vec<usize> = (0..self.shaking.len()).filter(|at| self.shaking[*at].called.is_none()).collect();
             let inside: Vec<IpAddr> = at.iter().map(|at| self.shaking[*at].address.ip()).collect();
             match self.places.entry(address.ip(), &inside, random()) {
                 Entry::Enter => {}
@@ -310,12 +303,9 @@ impl Door {
 
     fn shaken(&mut self, s: Shaking, end: Result<(), String>) {
         let print = keys::partner(s.stream.ssl());
-        let known =
-            print.and_then(|print| self.partners.iter().position(|p| p.fingerprints.contains(&print)));
+        let known = print.and_then(|print| self.partners.iter().position(|p| p.fingerprints.contains(&print)));
         let node = end.and_then(|()| match (s.called, known) {
-            (Some(called), Some(node)) if called != node => {
-                Err("another node than the one that was called".into())
-            }
+            (Some(called), Some(node)) if called != node => Err("another node than the one that was called".into()),
             (_, Some(node)) => Ok(node),
             (_, None) => Err("unknown certificate".into()),
         });

@@ -9,8 +9,7 @@ use openssl::hash::MessageDigest;
 use openssl::nid::Nid;
 use openssl::pkey::PKey;
 use openssl::ssl::{
-    SslContext, SslContextBuilder, SslFiletype, SslMethod, SslMode, SslOptions, SslRef, SslSessionCacheMode,
-    SslVerifyMode, SslVersion,
+    SslContext, SslContextBuilder, SslFiletype, SslMethod, SslMode, SslOptions, SslRef, SslSessionCacheMode, SslVerifyMode, SslVersion,
 };
 use openssl::x509::X509;
 use std::fs::{self, DirBuilder, File, OpenOptions};
@@ -79,12 +78,8 @@ fn print_of(certificate: &X509) -> Option<Fingerprint> {
 /// The fingerprint of the folder's certificate.
 pub fn fingerprint(folder: &Path) -> Result<Fingerprint, String> {
     let path = folder.join(CERTIFICATE);
-    let pem =
-        fs::read(&path).map_err(|e| format!("{}: {e}; `semduoli keygen` makes a key", path.display()))?;
-    X509::from_pem(&pem)
-        .ok()
-        .and_then(|x| print_of(&x))
-        .ok_or_else(|| format!("{}: no certificate", path.display()))
+    let pem = fs::read(&path).map_err(|e| format!("{}: {e}; `semduoli keygen` makes a key", path.display()))?;
+    X509::from_pem(&pem).ok().and_then(|x| print_of(&x)).ok_or_else(|| format!("{}: no certificate", path.display()))
 }
 
 /// TLS for the node whose key the folder has; its partners have these fingerprints, and the own one is no partner's.

@@ -1,0 +1,7 @@
+//! `semduoli`: a node of a register between machines, and the commands around it.
+mod door;
+mod keys;
+mod link;
+mod wake;
+
+fn main() {}

@@ -108,7 +108,6 @@ pub fn context(folder: &Path, partners: Vec<Fingerprint>) -> Result<SslContext, 
 fn settings(c: &mut SslContextBuilder) -> Result<(), ErrorStack> {
     c.set_min_proto_version(Some(SslVersion::TLS1_3))?;
     c.set_options(SslOptions::NO_TICKET);
-    c.set_num_tickets(0)?;
     c.set_session_cache_mode(SslSessionCacheMode::OFF);
     c.set_mode(SslMode::ENABLE_PARTIAL_WRITE | SslMode::ACCEPT_MOVING_WRITE_BUFFER | SslMode::RELEASE_BUFFERS);
     Ok(())

@@ -40,7 +40,7 @@ pub enum Order {
 
 /// To the loop.
 pub enum Knock {
-    Up { node: usize, stream: SslStream<TcpStream>, address: SocketAddr },
+    Up { node: usize, stream: SslStream<TcpStream>, address: SocketAddr, dialed: bool },
     CallFailed { node: usize, why: String },
     TurnedAway { address: SocketAddr, why: String },
 }
@@ -112,14 +112,22 @@ struct Shaking {
     until: Instant,
 }
 
+/// A partner whose last link is too young.
+struct Waiting {
+    since: Instant,
+    stream: SslStream<TcpStream>,
+    address: SocketAddr,
+    dialed: bool,
+}
+
 pub struct Door {
     tls: SslContext,
     partners: Vec<Partner>,
     listener: Option<TcpListener>,
     places: Places,
     shaking: Vec<Shaking>,
-    /// Streams of partners whose last link is too young, and since when each may be handed over.
-    waiting: BTreeMap<usize, (Instant, SslStream<TcpStream>, SocketAddr)>,
+    /// By node; each may be handed over at its time.
+    waiting: BTreeMap<usize, Waiting>,
     last: BTreeMap<usize, Instant>,
     orders: Receiver<Order>,
     own_orders: Sender<Order>,
@@ -191,7 +199,7 @@ impl Door {
         fds.extend(listens.map(|l| PollFd::new(l.as_raw_fd(), PollFlags::POLLIN)));
         let listening = fds.len() > 1 + self.shaking.len();
         let mut wait = LONGEST_WAIT;
-        let ends = self.shaking.iter().map(|s| s.until).chain(self.waiting.values().map(|w| w.0));
+        let ends = self.shaking.iter().map(|s| s.until).chain(self.waiting.values().map(|w| w.since));
         for end in ends {
             wait = wait.min(end.saturating_duration_since(now));
         }
@@ -312,7 +320,11 @@ impl Door {
         match (node, s.called) {
             (Ok(node), _) => {
                 let since = self.last.get(&node).map_or(Instant::now(), |l| *l + BETWEEN_LINKS);
-                self.waiting.insert(node, (since, s.stream, s.address));
+                let dialed = s.called.is_some();
+                let older = self.waiting.insert(node, Waiting { since, stream: s.stream, address: s.address, dialed });
+                if older.is_some_and(|o| o.dialed) {
+                    self.tell(Knock::CallFailed { node, why: "a newer connection came".into() });
+                }
             }
             (Err(why), Some(node)) => self.tell(Knock::CallFailed { node, why }),
             (Err(why), None) => self.turn_away(s.address, why),
@@ -321,11 +333,11 @@ impl Door {
 
     fn hand_over(&mut self) {
         let now = Instant::now();
-        let due: Vec<usize> = self.waiting.iter().filter(|(_, w)| w.0 <= now).map(|(node, _)| *node).collect();
+        let due: Vec<usize> = self.waiting.iter().filter(|(_, w)| w.since <= now).map(|(node, _)| *node).collect();
         for node in due {
-            if let Some((_, stream, address)) = self.waiting.remove(&node) {
+            if let Some(Waiting { stream, address, dialed, .. }) = self.waiting.remove(&node) {
                 self.last.insert(node, now);
-                self.tell(Knock::Up { node, stream, address });
+                self.tell(Knock::Up { node, stream, address, dialed });
             }
         }
     }

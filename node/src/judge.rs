@@ -87,7 +87,7 @@ pub fn history(lines: &[Line], progress: &mut dyn FnMut(u64, u64)) -> Verdict {
             // line numbers count from 1
             let place = |line: u8| window.get((line as usize).wrapping_sub(1)).copied().unwrap_or(first[0]);
             match sem::judge(text.as_bytes()) {
-                Ok(Judged::Order(_)) => progress(windows, all),
+                Ok(Judged::Ordered(_)) => progress(windows, all),
                 Ok(Judged::Offending { earlier, later }) => return Verdict::Offending { earlier: place(earlier), later: place(later) },
                 Err(number) => return Verdict::Refused { number, near: first[0] },
             }

@@ -1,5 +1,16 @@
 //! A node of the register. The core (`core` and what it uses) is pure: events in, actions out. The program around it has the sockets and files.
 #![deny(unsafe_code)]
 
+pub mod bytes;
+pub mod cluster;
 pub mod events;
+pub mod log;
+pub mod messages;
+pub mod random;
+pub mod records;
+pub mod sem;
+pub mod settings;
+pub mod snapshot;
+pub mod state;
 pub mod status;
+pub mod streams;

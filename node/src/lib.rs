@@ -4,6 +4,7 @@
 pub mod bytes;
 pub mod cluster;
 pub mod events;
+pub mod judge;
 pub mod log;
 pub mod messages;
 pub mod random;

@@ -80,8 +80,14 @@ pub fn trace(node: &NodeFolder, file: &Path, as_json: bool) -> Result<(), Failur
     }
 }
 
+/// How many entries a trace has, up to the first that is not whole.
+fn entries(trace: &[u8]) -> usize {
+    let mut rest = Reader(trace);
+    std::iter::from_fn(|| rest.frame()).count()
+}
+
 fn playback(p: &Parameters, server: u8, initial: &[u8], trace: &[u8]) -> Result<Played, Failure> {
-    sem::playback(p, server, initial, trace).map_err(|number| {
+    sem::playback(p, server, initial, trace, entries(trace)).map_err(|number| {
         let why = if number == 10 { "the trace is too long for this machine's memory" } else { "no server of this register" };
         Failure::new(code::REFUSED, format!("refused {number}: {why}"))
     })
@@ -89,8 +95,8 @@ fn playback(p: &Parameters, server: u8, initial: &[u8], trace: &[u8]) -> Result<
 
 /// The stamp that a played server holds, and the digest of its record.
 fn end_of(played: &Played) -> (Value, String) {
-    let stamp = sem::record_stamp(&played.state);
-    (json!([stamp.time, stamp.writer, stamp.sequence]), hex(&openssl::sha::sha256(&played.state)))
+    let stamp = played.server.stamp();
+    (json!([stamp.time, stamp.writer, stamp.sequence]), hex(&openssl::sha::sha256(&played.server.state)))
 }
 
 pub fn play(file: &Path, cluster: &Path, server: u8, as_json: bool) -> Result<(), Failure> {

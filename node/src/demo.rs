@@ -213,9 +213,7 @@ impl Demo {
         let mut lines = self.history.clone();
         judge::add_writes(&mut lines);
         match judge::history(&lines, &mut |_, _| {}) {
-            Verdict::Order { .. } => {
-                self.say(&format!("the proved judge: these {} reads and writes stand in one order", self.history.len()))
-            }
+            Verdict::Order { .. } => self.say(&format!("the proved judge: these {} reads and writes stand in one order", self.history.len())),
             other => Err(Failure::new(code::NO_ORDER, format!("the reads and writes have no order: {other:?}"))),
         }
     }

@@ -9,7 +9,6 @@ pub mod code {
     pub const OPEN: u8 = 5;
     pub const NO_VALUE: u8 = 6;
     pub const NO_ORDER: u8 = 7;
-    pub const DAMAGED: u8 = semduoli::events::exit::DAMAGED;
     pub const DISK: u8 = semduoli::events::exit::DISK;
 }
 

@@ -165,7 +165,17 @@ mod tests {
     fn lines_are_read_as_they_are_written() {
         let line = read(7, 3);
         assert_eq!(Line::parse(&line.to_string()), Some(line));
-        for wrong in ["", "R", "X 1 2 3 4 5 6", "R 01 2 3 4 5 6", "R 1 2 3 4 5", "R 1 2 3 4 5 6 7", "R 1 2 3 4 5 +6", "R  1 2 3 4 5 6", "R 4294967296 2 3 4 5 6"] {
+        for wrong in [
+            "",
+            "R",
+            "X 1 2 3 4 5 6",
+            "R 01 2 3 4 5 6",
+            "R 1 2 3 4 5",
+            "R 1 2 3 4 5 6 7",
+            "R 1 2 3 4 5 +6",
+            "R  1 2 3 4 5 6",
+            "R 4294967296 2 3 4 5 6",
+        ] {
             assert_eq!(Line::parse(wrong), None, "{wrong}");
         }
     }

@@ -30,11 +30,6 @@ impl Progress {
         let _ = if self.terminal { write!(err, "\r\x1b[K{}", line()) } else { writeln!(err, "{}", line()) };
         let _ = err.flush();
     }
-
-    /// Whether lines are shown often: on a terminal.
-    pub fn is_live(&self) -> bool {
-        self.terminal
-    }
 }
 
 impl Drop for Progress {

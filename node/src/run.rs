@@ -359,8 +359,7 @@ impl Host {
     }
 
     fn flush(&mut self) {
-        let broken: Vec<(LinkId, String)> =
-            self.links.iter_mut().filter_map(|(id, (_, link))| link.flush().err().map(|why| (*id, why))).collect();
+        let broken: Vec<(LinkId, String)> = self.links.iter_mut().filter_map(|(id, (_, link))| link.flush().err().map(|why| (*id, why))).collect();
         for (id, why) in broken {
             self.down(id, why);
         }

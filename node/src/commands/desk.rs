@@ -6,7 +6,7 @@ use crate::local::{Caller, Request};
 use crate::out;
 use crate::progress::Progress;
 use semduoli::bytes::{hex, unhex};
-use serde_json::{json, Value};
+use serde_json::Value;
 use std::fs::OpenOptions;
 use std::io::{Read, Write};
 use std::path::Path;
@@ -17,9 +17,7 @@ const LOOK: Duration = Duration::from_millis(500);
 const VALUE_MOST: u64 = 256;
 
 pub fn connect(folder: &Path) -> Result<Caller, Failure> {
-    Caller::new(folder).map_err(|e| {
-        Failure::new(code::NO_NODE, format!("no node answers in {}: {e}; `semduoli serve` starts it", folder.display()))
-    })
+    Caller::new(folder).map_err(|e| Failure::new(code::NO_NODE, format!("no node answers in {}: {e}; `semduoli serve` starts it", folder.display())))
 }
 
 fn gone(e: std::io::Error) -> Failure {
@@ -159,8 +157,7 @@ fn awaited(folder: &Path, client: u8) -> String {
     let Ok(status) = ask_once(folder, &Request::Status) else { return "waiting".into() };
     let desks = status["status"]["desks"].as_array();
     let desk = desks.into_iter().flatten().find(|d| d["client"] == client);
-    let servers: Vec<String> =
-        desk.and_then(|d| d["awaited"].as_array()).into_iter().flatten().map(|s| s.to_string()).collect();
+    let servers: Vec<String> = desk.and_then(|d| d["awaited"].as_array()).into_iter().flatten().map(|s| s.to_string()).collect();
     match (servers.is_empty(), status["status"]["open"].as_bool()) {
         (_, Some(false)) => "waiting until enough servers have greeted this node".into(),
         (true, _) => "waiting".into(),
@@ -212,6 +209,7 @@ pub fn text(value: &[u8]) -> String {
 #[cfg(test)]
 mod tests {
     use super::*;
+    use serde_json::json;
 
     #[test]
     fn values_are_shown_as_text_where_they_are_text() {

@@ -51,7 +51,7 @@ fn segments(folder: &Path) -> Result<Vec<(u32, String)>, Failure> {
 /// Where reading begins: at the log's start, or at the first batch that is there still.
 fn beginning(log: &LogId, first: u32, bytes: &[u8]) -> Place {
     match batch_at(&log.id, bytes, BLOCK as usize) {
-        Some(b) if first > 1 => Place { segment: first, at: BLOCK, number: b.number, before: b.before },
+        Some(b) if first > 1 => Place { segment: first, number: b.number, before: b.before, ..Place::first() },
         _ => Place { segment: first, ..Place::first() },
     }
 }

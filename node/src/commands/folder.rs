@@ -40,9 +40,7 @@ pub fn check_config(file: &Path, as_json: bool) -> Result<(), Failure> {
     if as_json {
         let nodes = c.nodes.iter().map(|n| json!({ "name": n.name, "address": n.address, "server": n.server, "clients": n.clients }));
         let nodes: Vec<_> = nodes.collect();
-        return out::line(
-            json!({ "cluster": c.name, "generation": c.generation, "n": p.n, "t": p.t, "k": p.k, "length": p.size, "nodes": nodes }),
-        );
+        return out::line(json!({ "cluster": c.name, "generation": c.generation, "n": p.n, "t": p.t, "k": p.k, "length": p.size, "nodes": nodes }));
     }
     out::line(format!("{}: good. {} servers, of which {} may be false; any {} rebuild a value of {} bytes.", c.name, p.n, p.t, p.k, p.size))?;
     for n in &c.nodes {

@@ -9,7 +9,7 @@ use crate::progress::Progress;
 use semduoli::events::Stamp;
 use semduoli::judge::{self, Line, Verdict, NO_END};
 use semduoli::records::{self, outcome, Record};
-use semduoli::sem::{self, Judged};
+use semduoli::sem;
 use serde_json::json;
 use std::collections::{BTreeMap, BTreeSet};
 use std::path::PathBuf;
@@ -152,14 +152,9 @@ pub fn sheet(node: &NodeFolder, last: usize, as_json: bool) -> Result<(), Failur
     }
 }
 
-fn no_order(lines: &[Line], pair: Judged) -> Failure {
+fn no_order(lines: &[Line], (earlier, later): (u8, u8)) -> Failure {
     let shown = |at: u8| lines.get((at as usize).wrapping_sub(1)).map_or_else(String::new, |l| format!("`{l}`"));
-    match pair {
-        Judged::Offending { earlier, later } => {
-            Failure::new(code::NO_ORDER, format!("no order: {} precedes {}", shown(earlier), shown(later)))
-        }
-        Judged::Ordered(_) => Failure::new(code::NO_ORDER, "no order"),
-    }
+    Failure::new(code::NO_ORDER, format!("no order: {} precedes {}", shown(earlier), shown(later)))
 }
 
 #[cfg(test)]

@@ -12,7 +12,8 @@ use crate::failure::{code, Failure};
 use clap::{Args, Parser, Subcommand, ValueEnum};
 use std::path::PathBuf;
 
-const EXIT_CODES: &str = "Exit codes: 0 done; 1 wrong use; 2 cluster file, key or folder; 3 no node answers; 4 refused, by the number that is printed; \
+const EXIT_CODES: &str =
+    "Exit codes: 0 done; 1 wrong use; 2 cluster file, key or folder; 3 no node answers; 4 refused, by the number that is printed; \
 5 still open after --wait (it goes on); 6 a read without a value, or out of stamps; 7 a history without an order; 10 log damaged; 11 disk full or \
 failing; 12 state lost; 13 log of another version or register.";
 

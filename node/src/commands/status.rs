@@ -60,7 +60,10 @@ fn words(status: &Value, program: &Value) -> String {
     for s in list(&status["servers"]) {
         let (stamp, sequences) = (&s["stamp"], numbers(&s["sequences"]));
         let held = format!("stamp {}.{}.{}", stamp[0], stamp[1], stamp[2]);
-        lines.push(format!("  server {}, register {}: {held} (time.client.write); open writes of clients 1 to 8: {sequences}", s["number"], s["register"]));
+        lines.push(format!(
+            "  server {}, register {}: {held} (time.client.write); open writes of clients 1 to 8: {sequences}",
+            s["number"], s["register"]
+        ));
     }
     for d in list(&status["desks"]) {
         let open = match d["open"].as_str() {
@@ -118,8 +121,13 @@ mod tests {
         });
         let text = words(&status, &json!({"strangers": ["192.0.2.9:5: no certificate"]}));
         for part in [
-            "WAITS until", "south say that", "ALARM: no space", "stamp 3.1.2", "read 7 open for 5 s, awaits servers 2, 3; 1 wait",
-            "partner south: NO LINK (refused); owed 4 frames, 900 bytes, for 2 h; 1 of its frames are held; refused 12: 5 times", "no certificate",
+            "WAITS until",
+            "south say that",
+            "ALARM: no space",
+            "stamp 3.1.2",
+            "read 7 open for 5 s, awaits servers 2, 3; 1 wait",
+            "partner south: NO LINK (refused); owed 4 frames, 900 bytes, for 2 h; 1 of its frames are held; refused 12: 5 times",
+            "no certificate",
         ] {
             assert!(text.contains(part), "{part}: {text}");
         }

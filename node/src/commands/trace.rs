@@ -106,14 +106,13 @@ pub fn play(file: &Path, cluster: &Path, server: u8, as_json: bool) -> Result<()
     let (stamp, record) = end_of(&played);
     if played.closed != TRACE_WHOLE {
         let how = if played.closed == 23 { "ends inside an entry" } else { "has an entry of another form" };
-        return Err(Failure::new(
-            code::REFUSED,
-            format!("refused {}: {} {how}, behind {} entries", played.closed, file.display(), played.entries),
-        ));
+        return Err(Failure::new(code::REFUSED, format!("refused {}: {} {how}, behind {} entries", played.closed, file.display(), played.entries)));
     }
     match as_json {
         true => out::line(json!({ "server": server, "entries": played.entries, "stamp": stamp, "record": record })),
-        false => out::line(format!("{} entries played; server {server} then holds stamp {stamp} (time, client, write), record {record}", played.entries)),
+        false => {
+            out::line(format!("{} entries played; server {server} then holds stamp {stamp} (time, client, write), record {record}", played.entries))
+        }
     }
 }
 

@@ -15,3 +15,4 @@ pub mod snapshot;
 pub mod state;
 pub mod status;
 pub mod streams;
+pub mod core;

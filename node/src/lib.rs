@@ -15,4 +15,3 @@ pub mod snapshot;
 pub mod state;
 pub mod status;
 pub mod streams;
-pub mod core;

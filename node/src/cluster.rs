@@ -98,9 +98,7 @@ impl Cluster {
             Ok(_) => Ok(()),
             Err(1) => Err(format!("n = {}, t = {}: n is 4 to 10, t at least 1, and n above 3t (refused 1)", p.n, p.t)),
             Err(2) => Err(format!("k = {}: k is 1 to n - 2t (refused 2)", p.k)),
-            Err(_) if (1..=256).contains(&p.size) => {
-                Err(format!("initial has {} bytes, and length is {} (refused 3)", self.initial.len(), p.size))
-            }
+            Err(_) if (1..=256).contains(&p.size) => Err(format!("initial has {} bytes, and length is {} (refused 3)", self.initial.len(), p.size)),
             Err(number) => Err(format!("length = {}: 1 to 256 (refused {number})", p.size)),
         }
     }

@@ -3,15 +3,20 @@
 
 pub mod bytes;
 pub mod cluster;
+pub mod core;
+pub mod desk;
 pub mod events;
 pub mod judge;
+pub mod links;
 pub mod log;
 pub mod messages;
 pub mod random;
 pub mod records;
+pub mod recovery;
 pub mod sem;
 pub mod settings;
 pub mod snapshot;
 pub mod state;
 pub mod status;
 pub mod streams;
+pub mod writer;

@@ -72,11 +72,7 @@ pub fn write(out: &mut Vec<u8>, message: &Message) {
                 lines.extend_from_slice(&l.acked.to_be_bytes());
             }
             let marks = [h.own.batch.to_be_bytes(), h.seen.batch.to_be_bytes()];
-            put(
-                out,
-                b'H',
-                &[MAGIC, &h.version.to_be_bytes(), &h.register, &h.members, &marks[0], &h.own.hash, &marks[1], &h.seen.hash, &lines],
-            );
+            put(out, b'H', &[MAGIC, &h.version.to_be_bytes(), &h.register, &h.members, &marks[0], &h.own.hash, &marks[1], &h.seen.hash, &lines]);
         }
         Message::Data { stream, number, frame } => put(out, b'D', &[&stream.bytes(), &number.to_be_bytes(), frame]),
         Message::Ack { stream, next } => put(out, b'A', &[&stream.bytes(), &next.to_be_bytes()]),
@@ -94,9 +90,7 @@ fn hello(b: &mut Reader) -> Option<Hello> {
         return None;
     }
     let (version, register, members, own, seen) = (b.u16()?, b.array()?, b.array()?, mark(b)?, mark(b)?);
-    let lines = (0..b.u16()?)
-        .map(|_| Some(Line { stream: StreamId::read(b)?, next: b.u64()?, acked: b.u64()? }))
-        .collect::<Option<Vec<Line>>>()?;
+    let lines = (0..b.u16()?).map(|_| Some(Line { stream: StreamId::read(b)?, next: b.u64()?, acked: b.u64()? })).collect::<Option<Vec<Line>>>()?;
     Some(Hello { version, register, members, own, seen, lines })
 }
 

@@ -83,14 +83,7 @@ fn body(kind: u8, b: &mut Reader<'_>) -> Option<Record<'static>> {
         PLACE => Record::Place { stream: StreamId::read(b)?, next: b.u64()? },
         ACKED => Record::Acked { stream: StreamId::read(b)?, next: b.u64()? },
         SEEN => Record::Seen { node: b.u8()?, batch: b.u64()?, hash: b.array()? },
-        ENDED => Record::Ended {
-            client: b.u8()?,
-            register: b.u8()?,
-            tick: b.u32()?,
-            wall: b.u64()?,
-            outcome: b.u8()?,
-            stamp: b.array()?,
-        },
+        ENDED => Record::Ended { client: b.u8()?, register: b.u8()?, tick: b.u32()?, wall: b.u64()?, outcome: b.u8()?, stamp: b.array()? },
         _ => return None,
     })
 }
@@ -252,8 +245,7 @@ mod tests {
     fn what_a_step_sends_is_read_as_it_was_written() {
         let frame = |b: u8| -> std::rc::Rc<[u8]> { vec![0, 2, b, b].into() };
         let to = |number| Party::server(number);
-        let sent: Vec<sem::Sent> =
-            [(1, 5), (2, 5), (3, 6), (1, 5)].iter().map(|(n, b)| sem::Sent { to: to(*n), frame: frame(*b) }).collect();
+        let sent: Vec<sem::Sent> = [(1, 5), (2, 5), (3, 6), (1, 5)].iter().map(|(n, b)| sem::Sent { to: to(*n), frame: frame(*b) }).collect();
         let numbers = [10, 20, 30, 11];
         let bytes = sent_bytes(&sent, &numbers);
         assert_eq!(bytes[0], 3, "three groups");

@@ -33,7 +33,10 @@ pub enum Next {
     /// Carry these out, in this order, and hand all their answers in.
     Ask(Vec<DiskOp>),
     Done(Box<Recovered>),
-    Stop { code: u8, line: String },
+    Stop {
+        code: u8,
+        line: String,
+    },
 }
 
 enum Stage {
@@ -226,7 +229,9 @@ impl Recovery {
             None if self.snapshots.is_empty() && !self.has_last => self.fresh(),
             None => stop(exit::DAMAGED, "the log's segments are missing"),
             Some((1, _)) => self.read_last(),
-            Some((number, _)) => stop(exit::DAMAGED, format!("{} is the first segment, and no snapshot covers those before it", segment_name(*number))),
+            Some((number, _)) => {
+                stop(exit::DAMAGED, format!("{} is the first segment, and no snapshot covers those before it", segment_name(*number)))
+            }
         }
     }
 
@@ -365,8 +370,7 @@ impl Recovery {
 /// The batch in front of where a snapshot ends is in the log.
 fn snapshot_agrees(scan: &Scan, bytes: &[u8]) -> bool {
     let place = &scan.place;
-    place.last == 0
-        || batch_at(&scan.log.id, bytes, place.last as usize).is_some_and(|b| b.number + 1 == place.number && b.hash == place.before)
+    place.last == 0 || batch_at(&scan.log.id, bytes, place.last as usize).is_some_and(|b| b.number + 1 == place.number && b.hash == place.before)
 }
 
 fn first_bytes(answers: Vec<DiskAnswer>) -> Vec<u8> {

@@ -47,12 +47,7 @@ mod raw {
             to: *mut u8,
             to_length: usize,
         ) -> u64;
-        pub fn semduoli_server_stamp(
-            state: *const u8,
-            state_length: usize,
-            stamp: *mut u8,
-            stamp_length: usize,
-        ) -> u64;
+        pub fn semduoli_server_stamp(state: *const u8, state_length: usize, stamp: *mut u8, stamp_length: usize) -> u64;
         pub fn semduoli_server_open(client: usize, state: *const u8, state_length: usize) -> u64;
         pub fn semduoli_playback(
             n: usize,
@@ -268,9 +263,7 @@ pub fn sequence(frame: &[u8]) -> u64 {
 /// The stamp that a write's own frames (kind 3) will have.
 pub fn write_stamp(frame: &[u8], me: u8) -> Option<Stamp> {
     match head(frame) {
-        Some((KIND_SEND, _, sequence)) => {
-            Some(Stamp { time: eight(frame.get(BODY..BODY + 8)?).wrapping_add(1), writer: me, sequence })
-        }
+        Some((KIND_SEND, _, sequence)) => Some(Stamp { time: eight(frame.get(BODY..BODY + 8)?).wrapping_add(1), writer: me, sequence }),
         _ => None,
     }
 }
@@ -431,9 +424,7 @@ impl Server {
     pub fn stamp(&self) -> Stamp {
         let mut stamp = [0; STAMP];
         // SAFETY: as in `fresh`.
-        unsafe {
-            raw::semduoli_server_stamp(self.state.as_ptr(), self.state.len(), stamp.as_mut_ptr(), STAMP)
-        };
+        unsafe { raw::semduoli_server_stamp(self.state.as_ptr(), self.state.len(), stamp.as_mut_ptr(), STAMP) };
         stamp_of(&stamp)
     }
 
@@ -495,8 +486,7 @@ pub struct Client {
 
 impl Client {
     pub fn fresh(me: u8) -> Client {
-        let mut c =
-            Client { me, state: vec![0; CLIENT_RECORD], rows: vec![0; CLIENT_ROWS], value: vec![] };
+        let mut c = Client { me, state: vec![0; CLIENT_RECORD], rows: vec![0; CLIENT_ROWS], value: vec![] };
         // SAFETY: as in `Server::fresh`. It can't be refused: the area has its size.
         unsafe { raw::semduoli_client_fresh(c.state.as_mut_ptr(), c.state.len()) };
         c
@@ -517,24 +507,8 @@ impl Client {
         // SAFETY: as in `Server::fresh`.
         let answer = unsafe {
             match value {
-                None => raw::semduoli_begin_read(
-                    p.n, p.t, p.k, p.size, me, state, length, out, out_length, to, to_length,
-                ),
-                Some(v) => raw::semduoli_begin_write(
-                    p.n,
-                    p.t,
-                    p.k,
-                    p.size,
-                    me,
-                    state,
-                    length,
-                    v.as_ptr(),
-                    v.len(),
-                    out,
-                    out_length,
-                    to,
-                    to_length,
-                ),
+                None => raw::semduoli_begin_read(p.n, p.t, p.k, p.size, me, state, length, out, out_length, to, to_length),
+                Some(v) => raw::semduoli_begin_write(p.n, p.t, p.k, p.size, me, state, length, v.as_ptr(), v.len(), out, out_length, to, to_length),
             }
         };
         let step = room.step(answer)?;
@@ -597,8 +571,7 @@ pub enum Judged {
 pub fn judge(text: &[u8]) -> Result<Judged, u8> {
     let mut lines = [0; LINES];
     // SAFETY: as in `Server::fresh`.
-    let answer =
-        unsafe { raw::semduoli_judge(text.as_ptr(), text.len(), lines.as_mut_ptr(), lines.len()) };
+    let answer = unsafe { raw::semduoli_judge(text.as_ptr(), text.len(), lines.as_mut_ptr(), lines.len()) };
     judged(answer, &lines)
 }
 

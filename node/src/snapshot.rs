@@ -200,4 +200,3 @@ pub fn read(bytes: &[u8], mut state: State, register: &[u8; 32]) -> Option<(Stat
     read_streams(&mut b, &mut state)?;
     b.is_empty().then_some((state, log, place))
 }
-

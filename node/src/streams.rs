@@ -68,8 +68,7 @@ impl Out {
     /// Of more values for the read of the last frame than a client keeps, the one with the smallest stamp goes.
     fn drop_small_value(&mut self) {
         let Some(last) = self.owed.back() else { return };
-        let peers: Vec<usize> =
-            (0..self.owed.len()).filter(|i| sem::older(&self.owed[*i].frame, &last.frame) == Older::Peer).collect();
+        let peers: Vec<usize> = (0..self.owed.len()).filter(|i| sem::older(&self.owed[*i].frame, &last.frame) == Older::Peer).collect();
         if peers.len() > VALUES_MOST {
             if let Some(smallest) = peers.into_iter().min_by_key(|i| sem::value_stamp(&self.owed[*i].frame)) {
                 self.owed.remove(smallest);

@@ -127,7 +127,7 @@ impl Demo {
 
     fn status(&self, at: usize) -> Option<Value> {
         let mut caller = Caller::new(&self.banks[at].folder).ok()?;
-        caller.ask(&Request::Status).ok()?;
+        caller.ask(&Request::Status {}).ok()?;
         let answer = caller.answer(&mut vec![], Some(ANSWERING)).ok()??;
         Some(answer["status"].clone())
     }

@@ -29,8 +29,8 @@ pub enum Request {
     Read { client: u8, register: u8 },
     Write { client: u8, register: u8, value: String },
     Wait { client: u8, register: u8, operation: u64 },
-    Status,
-    Snapshot,
+    Status {},
+    Snapshot {},
 }
 
 impl Request {
@@ -42,8 +42,8 @@ impl Request {
                 Ask::Write { client, register, value }
             }
             Request::Wait { client, register, operation } => Ask::Wait { client, register, operation },
-            Request::Status => Ask::Status,
-            Request::Snapshot => Ask::Snapshot,
+            Request::Status {} => Ask::Status,
+            Request::Snapshot {} => Ask::Snapshot,
         })
     }
 }
@@ -309,7 +309,7 @@ mod tests {
         let mut caller = Caller::new(&folder).unwrap();
         let mut line = vec![];
         caller.ask(&Request::Read { client: 1, register: 0 }).unwrap();
-        caller.ask(&Request::Status).unwrap();
+        caller.ask(&Request::Status {}).unwrap();
         caller.0.get_mut().write_all(b"{\"ask\":\"dance\"}\n").unwrap();
         assert_eq!(turn(&mut local), []);
         let Asked::Ask(id, Ask::Read { client: 1, register: 0 }) = turn(&mut local)[0] else { panic!() };

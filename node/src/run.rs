@@ -122,6 +122,8 @@ impl Host {
         let partners = partners(&setup.cluster);
         let prints = partners.iter().flat_map(|p| p.fingerprints.clone()).collect();
         let tls = keys::context(&setup.folder, prints).map_err(|e| Failure::new(code::CLUSTER, e))?;
+        let name = &setup.cluster.nodes[setup.me].name;
+        note(Level::Notice, &format!("node {name} of {}, version {}", setup.cluster.name, env!("CARGO_PKG_VERSION")));
         let disk = Disk::start(&setup.folder, setup.fault, done, waker.clone());
         let disk = disk.map_err(|e| Failure::new(code::DISK, format!("no thread for the disk: {e}")))?;
         Ok(Host {

@@ -48,7 +48,7 @@ fn client(desk: &Desk) -> Result<u8, Failure> {
     if let Some(client) = desk.client {
         return Ok(client);
     }
-    let status = ask_once(&desk.folder, &Request::Status)?;
+    let status = ask_once(&desk.folder, &Request::Status {})?;
     let mut clients: Vec<u64> = status["status"]["desks"].as_array().into_iter().flatten().filter_map(|d| d["client"].as_u64()).collect();
     clients.dedup();
     match clients[..] {
@@ -75,7 +75,7 @@ pub fn write(desk: &Desk, value: Option<String>, as_hex: bool, file: Option<&Pat
         (None, None) => return Err(use_error("no value")),
     };
     if pad {
-        let status = ask_once(&desk.folder, &Request::Status)?;
+        let status = ask_once(&desk.folder, &Request::Status {})?;
         let length = status["program"]["length"].as_u64().unwrap_or(0) as usize;
         bytes.resize(bytes.len().max(length), b' ');
     }
@@ -154,7 +154,7 @@ fn still_open(desk: &Desk, client: u8, begun: Option<u64>) -> Failure {
 
 /// Whom the client's open operation waits for, in words.
 fn awaited(folder: &Path, client: u8) -> String {
-    let Ok(status) = ask_once(folder, &Request::Status) else { return "waiting".into() };
+    let Ok(status) = ask_once(folder, &Request::Status {}) else { return "waiting".into() };
     let desks = status["status"]["desks"].as_array();
     let desk = desks.into_iter().flatten().find(|d| d["client"] == client);
     let servers: Vec<String> = desk.and_then(|d| d["awaited"].as_array()).into_iter().flatten().map(|s| s.to_string()).collect();

@@ -105,7 +105,6 @@ pub fn serve(folder: PathBuf, cluster: Option<PathBuf>) -> Failure {
             let line = format!("{}: {} MiB are free on its disk, and a node needs {}", folder.display(), free >> 20, SPACE_LEAST >> 20);
             return Err(Failure::new(code::DISK, line));
         }
-        note(Level::Notice, &format!("node {} of {}, version {}", cluster.nodes[me].name, cluster.name, env!("CARGO_PKG_VERSION")));
         Ok((Setup { folder: folder.clone(), cluster, me, settings: settings(), fault: fault()? }, lock))
     })();
     match prepared {

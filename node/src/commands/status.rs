@@ -8,7 +8,7 @@ use serde_json::{json, Value};
 use std::path::Path;
 
 pub fn snapshot(folder: &Path, as_json: bool) -> Result<(), Failure> {
-    let answer = ask_once(folder, &Request::Snapshot)?;
+    let answer = ask_once(folder, &Request::Snapshot {})?;
     match as_json {
         true => out::line(json!({ "batch": answer["batch"] })),
         false => out::line(format!("snapshot made; the log goes on from batch {}", answer["batch"])),
@@ -16,7 +16,7 @@ pub fn snapshot(folder: &Path, as_json: bool) -> Result<(), Failure> {
 }
 
 pub fn status(folder: &Path, as_json: bool) -> Result<(), Failure> {
-    let answer = ask_once(folder, &Request::Status)?;
+    let answer = ask_once(folder, &Request::Status {})?;
     if as_json {
         return out::line(json!({ "status": answer["status"], "program": answer["program"] }));
     }

@@ -136,7 +136,7 @@ pub fn verify(node: &NodeFolder, as_json: bool) -> Result<(), Failure> {
     let (cluster, me) = read_own(&node.folder, node.cluster.as_deref())?;
     let server = cluster.nodes[me].server;
     // before the log is read: a node that is at rest has the same afterwards
-    let live = ask_once(&node.folder, &Request::Status).ok();
+    let live = ask_once(&node.folder, &Request::Status {}).ok();
     let kept = kept(node, &cluster, server, true)?;
     let damaged = |line: String| Failure::new(exit::DAMAGED, line);
     let mut compared = "no node runs here, so its state was not compared";

@@ -21,8 +21,10 @@ const HANDSHAKE: Duration = Duration::from_secs(5);
 const CALL: Duration = Duration::from_secs(5);
 /// Callers let in, for a second, and at most at once.
 const CALLERS_A_SECOND: f64 = 50.0;
-/// A partner gets a new link once in this time; a newer one waits at the door, and replaces one that waits.
-const BETWEEN_LINKS: Duration = Duration::from_secs(1);
+/// A partner that calls gets one new link a second, after a few at any speed, as restarts need; one that is too early waits at the door, and a newer one
+/// replaces it.
+const LINKS_A_SECOND: f64 = 1.0;
+const LINKS_AT_ONCE: f64 = 4.0;
 const LONGEST_WAIT: Duration = Duration::from_secs(10);
 
 /// What the door knows of a node of the cluster file.
@@ -45,11 +47,41 @@ pub enum Knock {
     TurnedAway { address: SocketAddr, why: String },
 }
 
+/// So many things a second, after some at any speed.
+struct Bucket {
+    tokens: f64,
+    most: f64,
+    a_second: f64,
+    filled: Instant,
+}
+
+impl Bucket {
+    fn new(most: f64, a_second: f64, now: Instant) -> Bucket {
+        Bucket { tokens: most, most, a_second, filled: now }
+    }
+
+    fn fill(&mut self, now: Instant) {
+        let passed = now.saturating_duration_since(self.filled).as_secs_f64();
+        self.tokens = (self.tokens + passed * self.a_second).min(self.most);
+        self.filled = now;
+    }
+
+    fn has_token(&self) -> bool {
+        self.tokens >= 1.0
+    }
+
+    /// Takes a token, and says how long it takes until it is there.
+    fn take(&mut self, now: Instant) -> Duration {
+        self.fill(now);
+        self.tokens -= 1.0;
+        Duration::from_secs_f64((-self.tokens).max(0.0) / self.a_second)
+    }
+}
+
 /// Who may begin a handshake.
 struct Places {
     listed: BTreeMap<IpAddr, usize>,
-    tokens: f64,
-    filled: Instant,
+    callers: Bucket,
 }
 
 #[derive(PartialEq, Debug)]
@@ -69,22 +101,12 @@ impl Places {
                 *listed.entry(ip).or_insert(0) += 1;
             }
         }
-        Places { listed, tokens: CALLERS_A_SECOND, filled: now }
-    }
-
-    fn fill(&mut self, now: Instant) {
-        let passed = now.saturating_duration_since(self.filled).as_secs_f64();
-        self.tokens = (self.tokens + passed * CALLERS_A_SECOND).min(CALLERS_A_SECOND);
-        self.filled = now;
-    }
-
-    fn has_token(&self) -> bool {
-        self.tokens >= 1.0
+        Places { listed, callers: Bucket::new(CALLERS_A_SECOND, CALLERS_A_SECOND, now) }
     }
 
     /// Whether a caller gets a place beside those who have one; `random` chooses who loses it.
     fn entry(&mut self, caller: IpAddr, inside: &[IpAddr], random: usize) -> Entry {
-        self.tokens -= 1.0;
+        self.callers.tokens -= 1.0;
         let nodes = self.listed.get(&caller).copied().unwrap_or(0);
         let same = inside.iter().filter(|ip| **ip == caller).count();
         if same >= PLACES_AN_ADDRESS * nodes.max(1) {
@@ -128,7 +150,7 @@ pub struct Door {
     shaking: Vec<Shaking>,
     /// By node; each may be handed over at its time.
     waiting: BTreeMap<usize, Waiting>,
-    last: BTreeMap<usize, Instant>,
+    links: BTreeMap<usize, Bucket>,
     orders: Receiver<Order>,
     own_orders: Sender<Order>,
     own_waker: Waker,
@@ -157,7 +179,7 @@ impl Door {
             listener,
             shaking: vec![],
             waiting: BTreeMap::new(),
-            last: BTreeMap::new(),
+            links: BTreeMap::new(),
             orders: ways.orders,
             own_orders: ways.own_orders,
             own_waker: ways.own_waker,
@@ -189,13 +211,13 @@ impl Door {
     /// Waits until something can go on: which handshakes (by their places), and whether somebody calls.
     fn wait(&mut self, sleeper: &Sleeper) -> (Vec<bool>, bool) {
         let now = Instant::now();
-        self.places.fill(now);
+        self.places.callers.fill(now);
         let mut fds = vec![PollFd::new(sleeper.fd(), PollFlags::POLLIN)];
         for s in &self.shaking {
             let events = if s.wants_write { PollFlags::POLLOUT } else { PollFlags::POLLIN };
             fds.push(PollFd::new(s.stream.get_ref().as_raw_fd(), events));
         }
-        let listens = self.listener.as_ref().filter(|_| self.places.has_token());
+        let listens = self.listener.as_ref().filter(|_| self.places.callers.has_token());
         fds.extend(listens.map(|l| PollFd::new(l.as_raw_fd(), PollFlags::POLLIN)));
         let listening = fds.len() > 1 + self.shaking.len();
         let mut wait = LONGEST_WAIT;
@@ -257,7 +279,7 @@ impl Door {
     }
 
     fn let_in(&mut self) {
-        while self.places.has_token() {
+        while self.places.callers.has_token() {
             let Some(Ok((tcp, address))) = self.listener.as_ref().map(|l| l.accept()) else { return };
             let at: Vec<usize> = (0..self.shaking.len()).filter(|at| self.shaking[*at].called.is_none()).collect();
             let inside: Vec<IpAddr> = at.iter().map(|at| self.shaking[*at].address.ip()).collect();
@@ -319,8 +341,14 @@ impl Door {
         });
         match (node, s.called) {
             (Ok(node), _) => {
-                let since = self.last.get(&node).map_or(Instant::now(), |l| *l + BETWEEN_LINKS);
-                let dialed = s.called.is_some();
+                let (now, dialed) = (Instant::now(), s.called.is_some());
+                let links = self.links.entry(node).or_insert_with(|| Bucket::new(LINKS_AT_ONCE, LINKS_A_SECOND, now));
+                let since = match self.waiting.get(&node) {
+                    // it has the turn of the one that it replaces
+                    Some(older) => older.since,
+                    None if dialed => now,
+                    None => now + links.take(now),
+                };
                 let older = self.waiting.insert(node, Waiting { since, stream: s.stream, address: s.address, dialed });
                 if older.is_some_and(|o| o.dialed) {
                     self.tell(Knock::CallFailed { node, why: "a newer connection came".into() });
@@ -336,7 +364,6 @@ impl Door {
         let due: Vec<usize> = self.waiting.iter().filter(|(_, w)| w.since <= now).map(|(node, _)| *node).collect();
         for node in due {
             if let Some(Waiting { stream, address, dialed, .. }) = self.waiting.remove(&node) {
-                self.last.insert(node, now);
                 self.tell(Knock::Up { node, stream, address, dialed });
             }
         }
@@ -419,17 +446,29 @@ mod tests {
     #[test]
     fn callers_are_let_in_fifty_a_second() {
         let mut p = places();
-        let start = p.filled;
+        let start = p.callers.filled;
         for i in 0..CALLERS_A_SECOND as usize {
-            assert!(p.has_token(), "caller {i}");
+            assert!(p.callers.has_token(), "caller {i}");
             p.entry(ip(9), &[], 0);
         }
-        assert!(!p.has_token());
-        p.fill(start + Duration::from_millis(10));
-        assert!(!p.has_token());
-        p.fill(start + Duration::from_millis(21));
-        assert!(p.has_token());
-        p.fill(start + Duration::from_secs(60));
-        assert_eq!(p.tokens, CALLERS_A_SECOND);
+        assert!(!p.callers.has_token());
+        p.callers.fill(start + Duration::from_millis(10));
+        assert!(!p.callers.has_token());
+        p.callers.fill(start + Duration::from_millis(21));
+        assert!(p.callers.has_token());
+        p.callers.fill(start + Duration::from_secs(60));
+        assert_eq!(p.callers.tokens, CALLERS_A_SECOND);
+    }
+
+    #[test]
+    fn a_partner_gets_one_link_a_second_after_a_few() {
+        let now = Instant::now();
+        let mut links = Bucket::new(LINKS_AT_ONCE, LINKS_A_SECOND, now);
+        for _ in 0..4 {
+            assert_eq!(links.take(now), Duration::ZERO);
+        }
+        assert_eq!(links.take(now), Duration::from_secs(1));
+        assert_eq!(links.take(now + Duration::from_secs(1)), Duration::from_secs(1));
+        assert_eq!(links.take(now + Duration::from_secs(60)), Duration::ZERO);
     }
 }

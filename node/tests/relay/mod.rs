@@ -8,6 +8,7 @@ use std::time::{Duration, Instant};
 #[derive(Clone, Copy)]
 struct Trouble {
     cut_until: Instant,
+    slow_until: Instant,
     delay: Duration,
 }
 
@@ -16,6 +17,7 @@ pub struct Relay {
     trouble: Arc<Mutex<Trouble>>,
 }
 
+const SLOW: Duration = Duration::from_secs(1);
 const LOOK: Duration = Duration::from_millis(50);
 
 impl Relay {
@@ -23,7 +25,7 @@ impl Relay {
     pub fn new(to: u16) -> Relay {
         let listener = TcpListener::bind("127.0.0.1:0").expect("a port");
         let port = listener.local_addr().expect("an address").port();
-        let trouble = Arc::new(Mutex::new(Trouble { cut_until: Instant::now(), delay: Duration::ZERO }));
+        let trouble = Arc::new(Mutex::new(Trouble { cut_until: Instant::now(), slow_until: Instant::now(), delay: Duration::ZERO }));
         let shared = trouble.clone();
         std::thread::spawn(move || {
             for caller in listener.incoming().flatten() {
@@ -37,9 +39,10 @@ impl Relay {
         Relay { port, trouble }
     }
 
-    /// Cuts all connections for a while, and slows what comes afterwards.
+    /// Cuts all connections for a while, and slows those that come for a second more.
     pub fn disturb(&self, cut: Duration, delay: Duration) {
-        *self.trouble.lock().expect("a lock") = Trouble { cut_until: Instant::now() + cut, delay };
+        let cut_until = Instant::now() + cut;
+        *self.trouble.lock().expect("a lock") = Trouble { cut_until, slow_until: cut_until + SLOW, delay };
     }
 }
 
@@ -48,14 +51,16 @@ fn pass(mut from: TcpStream, mut into: TcpStream, trouble: &Mutex<Trouble>) {
     let _ = from.set_read_timeout(Some(LOOK));
     loop {
         let got = from.read(&mut room);
-        let Trouble { cut_until, delay } = *trouble.lock().expect("a lock");
-        if Instant::now() < cut_until {
+        let (now, Trouble { cut_until, slow_until, delay }) = (Instant::now(), *trouble.lock().expect("a lock"));
+        if now < cut_until {
             break;
         }
         match got {
             Ok(0) => break,
             Ok(n) => {
-                std::thread::sleep(delay);
+                if now < slow_until {
+                    std::thread::sleep(delay);
+                }
                 if into.write_all(&room[..n]).is_err() {
                     break;
                 }

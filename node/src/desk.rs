@@ -136,7 +136,7 @@ impl Core {
             open: self.open,
             signs: self.signs.iter().map(|n| self.cluster.nodes[*n].name.clone()).collect(),
             alarm: self.alarm.clone(),
-            servers: self.state.servers.values().map(|s| server_status(s)).collect(),
+            servers: self.state.servers.values().map(server_status).collect(),
             desks: self.state.desks.keys().map(|c| self.desk_status(*c, now)).collect(),
             partners: (0..self.partners.len()).filter(|n| *n != self.me).map(|n| self.partner_status(n, now)).collect(),
             log: LogStatus {

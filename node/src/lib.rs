@@ -20,3 +20,5 @@ pub mod state;
 pub mod status;
 pub mod streams;
 pub mod writer;
+#[cfg(feature = "sim")]
+pub mod sim;

@@ -1,6 +1,7 @@
 //! The door: one thread makes all TLS handshakes, of those who call this node and of those it calls, and hands the loop streams of known partners only.
 //! Strangers can spend places at the door, and nothing else.
 
+use crate::bucket::Bucket;
 use crate::keys::{self, Fingerprint};
 use crate::wake::{Sleeper, Waker};
 use nix::poll::{poll, PollFd, PollFlags};
@@ -47,37 +48,6 @@ pub enum Knock {
     TurnedAway { address: SocketAddr, why: String },
 }
 
-/// So many things a second, after some at any speed.
-struct Bucket {
-    tokens: f64,
-    most: f64,
-    a_second: f64,
-    filled: Instant,
-}
-
-impl Bucket {
-    fn new(most: f64, a_second: f64, now: Instant) -> Bucket {
-        Bucket { tokens: most, most, a_second, filled: now }
-    }
-
-    fn fill(&mut self, now: Instant) {
-        let passed = now.saturating_duration_since(self.filled).as_secs_f64();
-        self.tokens = (self.tokens + passed * self.a_second).min(self.most);
-        self.filled = now;
-    }
-
-    fn has_token(&self) -> bool {
-        self.tokens >= 1.0
-    }
-
-    /// Takes a token, and says how long it takes until it is there.
-    fn take(&mut self, now: Instant) -> Duration {
-        self.fill(now);
-        self.tokens -= 1.0;
-        Duration::from_secs_f64((-self.tokens).max(0.0) / self.a_second)
-    }
-}
-
 /// Who may begin a handshake.
 struct Places {
     listed: BTreeMap<IpAddr, usize>,
@@ -106,7 +76,7 @@ impl Places {
 
     /// Whether a caller gets a place beside those who have one; `random` chooses who loses it.
     fn entry(&mut self, caller: IpAddr, inside: &[IpAddr], random: usize) -> Entry {
-        self.callers.tokens -= 1.0;
+        self.callers.spend(1.0);
         let nodes = self.listed.get(&caller).copied().unwrap_or(0);
         let same = inside.iter().filter(|ip| **ip == caller).count();
         if same >= PLACES_AN_ADDRESS * nodes.max(1) {
@@ -445,30 +415,17 @@ mod tests {
 
     #[test]
     fn callers_are_let_in_fifty_a_second() {
-        let mut p = places();
-        let start = p.callers.filled;
+        let (mut p, start) = (places(), Instant::now());
         for i in 0..CALLERS_A_SECOND as usize {
             assert!(p.callers.has_token(), "caller {i}");
             p.entry(ip(9), &[], 0);
         }
         assert!(!p.callers.has_token());
-        p.callers.fill(start + Duration::from_millis(10));
+        p.callers.fill(start);
         assert!(!p.callers.has_token());
-        p.callers.fill(start + Duration::from_millis(21));
+        p.callers.fill(start + Duration::from_millis(25));
         assert!(p.callers.has_token());
         p.callers.fill(start + Duration::from_secs(60));
-        assert_eq!(p.callers.tokens, CALLERS_A_SECOND);
-    }
-
-    #[test]
-    fn a_partner_gets_one_link_a_second_after_a_few() {
-        let now = Instant::now();
-        let mut links = Bucket::new(LINKS_AT_ONCE, LINKS_A_SECOND, now);
-        for _ in 0..4 {
-            assert_eq!(links.take(now), Duration::ZERO);
-        }
-        assert_eq!(links.take(now), Duration::from_secs(1));
-        assert_eq!(links.take(now + Duration::from_secs(1)), Duration::from_secs(1));
-        assert_eq!(links.take(now + Duration::from_secs(60)), Duration::ZERO);
+        assert!(p.callers.has_token());
     }
 }

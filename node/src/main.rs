@@ -1,4 +1,5 @@
 //! `semduoli`: a node of a register between machines, and the commands around it.
+mod bucket;
 mod commands;
 mod demo;
 mod disk;
@@ -10,6 +11,7 @@ mod local;
 mod note;
 mod out;
 mod progress;
+mod rate;
 mod run;
 mod wake;
 

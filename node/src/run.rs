@@ -8,6 +8,7 @@ use crate::keys;
 use crate::link::Link;
 use crate::local::{Asked, Local};
 use crate::note::{self, note};
+use crate::rate::Rate;
 use crate::wake::{self, Sleeper, Waker};
 use nix::poll::{poll, PollFd, PollFlags};
 use nix::time::{clock_gettime, ClockId};
@@ -35,6 +36,8 @@ pub struct Setup {
     pub cluster: Cluster,
     pub me: NodeId,
     pub settings: Settings,
+    /// Frames a second that are taken from a node with desks alone.
+    pub rate: f64,
     pub fault: Option<Fault>,
 }
 
@@ -70,6 +73,8 @@ struct Host {
     /// Bytes of a value.
     length: usize,
     links: BTreeMap<LinkId, (NodeId, Link)>,
+    /// Of nodes with desks alone.
+    rates: BTreeMap<NodeId, Rate>,
     closing: Vec<Closing>,
     next_link: LinkId,
     disk: Disk,
@@ -124,6 +129,8 @@ impl Host {
         let tls = keys::context(&setup.folder, prints).map_err(|e| Failure::new(code::CLUSTER, e))?;
         let name = &setup.cluster.nodes[setup.me].name;
         note(Level::Notice, &format!("node {name} of {}, version {}", setup.cluster.name, env!("CARGO_PKG_VERSION")));
+        let desks = setup.cluster.nodes.iter().enumerate().filter(|(_, n)| n.server.is_none());
+        let rates = desks.map(|(node, _)| (node, Rate::new(setup.rate, Instant::now()))).collect();
         let disk = Disk::start(&setup.folder, setup.fault, done, waker.clone());
         let disk = disk.map_err(|e| Failure::new(code::DISK, format!("no thread for the disk: {e}")))?;
         Ok(Host {
@@ -135,6 +142,7 @@ impl Host {
             tls,
             partners,
             links: BTreeMap::new(),
+            rates,
             closing: vec![],
             next_link: 0,
             disk,
@@ -194,19 +202,28 @@ impl Host {
         Ok(())
     }
 
-    fn wait(&self, sleeper: &Sleeper, taking: bool, at_once: bool) -> Ready {
-        let read_write = |link: &Link| {
+    fn wait(&mut self, sleeper: &Sleeper, taking: bool, at_once: bool) -> Ready {
+        let paused: BTreeMap<NodeId, Duration> = self.rates.iter_mut().map(|(node, rate)| (*node, rate.pause(Instant::now()))).collect();
+        let is_paused = |node: &NodeId| paused.get(node).is_some_and(|p| !p.is_zero());
+        let read_write = |link: &Link, reading: bool| {
             let mut flags = PollFlags::empty();
-            flags.set(PollFlags::POLLIN, taking && !link.is_full());
+            flags.set(PollFlags::POLLIN, reading && !link.is_full());
             flags.set(PollFlags::POLLOUT, link.wants_write());
             flags
         };
         let mut fds = vec![(sleeper.fd(), PollFlags::POLLIN)];
         fds.extend(self.local.iter().flat_map(|l| l.interests(taking)));
         let links_at = fds.len();
-        fds.extend(self.links.values().map(|(_, link)| (link.fd(), read_write(link))));
-        fds.extend(self.closing.iter().map(|c| (c.link.fd(), read_write(&c.link))));
+        // one that nothing is wanted of is not looked at: its end would wake the loop again and again
+        let watched: Vec<(LinkId, RawFd, PollFlags)> =
+            self.links.iter().map(|(id, (node, l))| (*id, l.fd(), read_write(l, taking && !is_paused(node)))).collect();
+        let watched: Vec<_> = watched.into_iter().filter(|w| !w.2.is_empty()).collect();
+        fds.extend(watched.iter().map(|(_, fd, flags)| (*fd, *flags)));
+        fds.extend(self.closing.iter().map(|c| (c.link.fd(), read_write(&c.link, true))));
         let mut wait = LONGEST_WAIT;
+        for pause in paused.values().filter(|p| !p.is_zero()) {
+            wait = wait.min(pause.as_millis() as u64 + 1);
+        }
         if let Some(at) = self.core.wake() {
             wait = wait.min(at.saturating_sub(now().boot));
         }
@@ -215,7 +232,7 @@ impl Host {
         }
         let flags = poll_all(&fds, if at_once { 0 } else { wait });
         let is_ready = |flags: &PollFlags| flags.intersects(!PollFlags::POLLOUT);
-        let links = self.links.keys().zip(&flags[links_at..]).filter(|(_, f)| is_ready(f)).map(|(id, _)| *id).collect();
+        let links = watched.iter().zip(&flags[links_at..]).filter(|(_, f)| is_ready(f)).map(|((id, ..), _)| *id).collect();
         Ready { local: flags[1..links_at].to_vec(), links }
     }
 
@@ -322,6 +339,9 @@ impl Host {
             Knock::Up { node, stream, address, dialed } => match Link::new(stream) {
                 Ok(link) => {
                     self.next_link += 1;
+                    if let Some(rate) = self.rates.get_mut(&node) {
+                        rate.begin();
+                    }
                     self.links.insert(self.next_link, (node, link));
                     note(Level::Info, &format!("link to {} at {address}", self.names[node]));
                     self.hand_in(Event::LinkUp { link: self.next_link, node, dialed })?;
@@ -342,8 +362,15 @@ impl Host {
 
     /// Takes what a link has, and hands it in; whether there may be more.
     fn take(&mut self, id: LinkId) -> Result<bool, End> {
-        let Some((_, link)) = self.links.get_mut(&id).filter(|(_, l)| !l.is_full()) else { return Ok(false) };
+        let Some((node, link)) = self.links.get_mut(&id).filter(|(_, l)| !l.is_full()) else { return Ok(false) };
+        let mut rate = self.rates.get_mut(node);
+        if rate.as_mut().is_some_and(|r| !r.pause(Instant::now()).is_zero()) {
+            return Ok(false);
+        }
         let taken = link.take();
+        if let Some(rate) = rate {
+            rate.count(&taken.bytes);
+        }
         if !taken.bytes.is_empty() {
             self.hand_in(Event::Bytes { link: id, bytes: taken.bytes })?;
         }

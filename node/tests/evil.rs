@@ -102,7 +102,7 @@ impl Evil {
     }
 
     /// Whether the server closes the link, and not only goes on sending.
-    fn is_closed(mut self) -> bool {
+    fn sees_its_end(mut self) -> bool {
         let until = Instant::now() + PATIENCE;
         let mut room = [0; 16 * 1024];
         while Instant::now() < until {
@@ -265,17 +265,18 @@ fn what_no_node_may_say_ends_its_link() {
     for (what, message) in wrong {
         let mut evil = patient(|_| {});
         evil.send(&message).expect("sent");
-        assert!(evil.is_closed(), "{what}");
+        assert!(evil.sees_its_end(), "{what}");
     }
     for bytes in [&b"Z\0\0\0"[..], b"D\xff\xff\xff", b"D\0\0\x01x", b"H\0\0\0"] {
         let mut evil = patient(|_| {});
         evil.stream.write_all(bytes).expect("sent");
-        assert!(evil.is_closed(), "{bytes:?}");
+        assert!(evil.sees_its_end(), "{bytes:?}");
     }
-    let lies: [(&str, fn(&mut Hello)); 3] =
+    type Lie = fn(&mut Hello);
+    let lies: [(&str, Lie); 3] =
         [("another register", |h| h.register[0] ^= 1), ("other members", |h| h.members[0] ^= 1), ("another version of links", |h| h.version += 1)];
     for (what, lie) in lies {
-        assert!(patient(lie).is_closed(), "{what}");
+        assert!(patient(lie).sees_its_end(), "{what}");
     }
     // it can say that a node lost state; alone it does not stop it
     let mut evil = patient(|h| h.seen.batch += 1 << 30);

@@ -97,7 +97,7 @@ fn fault() -> Result<Option<Fault>, Failure> {
 }
 
 /// Runs the node; comes back only when it ends.
-pub fn serve(folder: PathBuf, cluster: Option<PathBuf>) -> Failure {
+pub fn serve(folder: PathBuf, cluster: Option<PathBuf>, rate: u32) -> Failure {
     let prepared = (|| {
         let (cluster, me) = read_own(&folder, cluster.as_deref())?;
         let lock = lock(&folder)?;
@@ -105,7 +105,7 @@ pub fn serve(folder: PathBuf, cluster: Option<PathBuf>) -> Failure {
             let line = format!("{}: {} MiB are free on its disk, and a node needs {}", folder.display(), free >> 20, SPACE_LEAST >> 20);
             return Err(Failure::new(code::DISK, line));
         }
-        Ok((Setup { folder: folder.clone(), cluster, me, settings: settings(), fault: fault()? }, lock))
+        Ok((Setup { folder: folder.clone(), cluster, me, settings: settings(), rate: rate.max(1).into(), fault: fault()? }, lock))
     })();
     match prepared {
         Ok((setup, _lock)) => run::run(setup),

@@ -40,6 +40,9 @@ enum Command {
         /// The cluster file [default: cluster.toml in the folder]
         #[arg(long)]
         cluster: Option<PathBuf>,
+        /// Frames a second that are taken from a partner with desks alone, after 10,000 at any speed; a write is two, a read two
+        #[arg(long, default_value_t = 500)]
+        rate: u32,
     },
     /// Read the register by a desk of this node
     Read {
@@ -187,7 +190,7 @@ pub fn carry_out(arguments: Arguments) -> Result<(), Failure> {
     match arguments.command {
         Command::Keygen { folder } => folder::keygen(&folder, json),
         Command::CheckConfig { file } => folder::check_config(&file, json),
-        Command::Serve { folder, cluster } => Err(folder::serve(folder, cluster)),
+        Command::Serve { folder, cluster, rate } => Err(folder::serve(folder, cluster, rate)),
         Command::Read { desk, hex, file } => desk::read(&desk, hex, file.as_deref(), json),
         Command::Write { desk, value, hex, file, pad } => desk::write(&desk, value, hex, file.as_deref(), pad, json),
         Command::Wait { desk, operation, hex } => desk::wait(&desk, operation, hex, json),

@@ -62,7 +62,7 @@ mod tests {
         for i in 0..12_000u32 {
             let length = i % 300;
             bytes.extend_from_slice(&(u32::from(if i % 2 == 0 { DATA } else { b'A' }) << 24 | length).to_be_bytes());
-            bytes.extend(std::iter::repeat(DATA).take(length as usize));
+            bytes.extend(std::iter::repeat_n(DATA, length as usize));
         }
         let now = Instant::now();
         for piece in [1, 3, 7, 1000, bytes.len()] {

@@ -124,8 +124,14 @@ impl Core {
             Event::AskGone { id } => self.ask_gone(id),
             Event::Tick => {}
         }
-        if matches!(self.phase, Phase::Running) {
-            self.go_on(now, out);
+        if self.retry_at.is_some_and(|at| now.boot >= at) {
+            self.retry_at = None;
+        }
+        match self.phase {
+            Phase::Running => self.go_on(now, out),
+            // the batch with the start's record may wait for a segment
+            Phase::Starting => self.commit(now, out),
+            _ => {}
         }
         for (link, bytes) in std::mem::take(&mut self.outgoing) {
             out.push(Action::Send { link, bytes });
@@ -141,6 +147,7 @@ impl Core {
     pub fn wake(&self) -> Option<u64> {
         match self.phase {
             Phase::Running => self.writer.wake(&self.settings).into_iter().chain(self.links_wake()).chain(self.retry_at).min(),
+            Phase::Starting => self.retry_at,
             _ => None,
         }
     }
@@ -156,9 +163,6 @@ impl Core {
         self.count_refusals();
         self.tend_links(now, out);
         self.dial(now, out);
-        if self.retry_at.is_some_and(|at| now.boot >= at) {
-            self.retry_at = None;
-        }
         self.commit(now, out);
         if self.settings.is(Mutant::SendEarly) || self.settings.is(Mutant::AckEarly) {
             self.mark_dirty_early();

@@ -19,6 +19,7 @@ pub mod snapshot;
 pub mod state;
 pub mod status;
 pub mod streams;
-pub mod writer;
+
 #[cfg(feature = "sim")]
 pub mod sim;
+pub mod writer;

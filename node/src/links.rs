@@ -27,7 +27,8 @@ pub struct Partner {
     pub link: Option<LinkId>,
     pub dialing: bool,
     pub dial_at: u64,
-    pub dial_wait: u64,
+    /// Calls since the last greeting.
+    pub calls: u32,
     /// Why there is no link.
     pub why: String,
     /// Streams that something may leave by, and streams that are to be acknowledged.
@@ -66,12 +67,13 @@ impl Core {
         }
     }
 
-    /// The next call to a node waits, longer each time.
+    /// The next call to a node waits: shortly for some calls, since most partners that go come back soon, then longer each time.
     fn back_off(&mut self, node: NodeId, now: Now) {
         let (first, most) = (self.settings.call_first, self.settings.call_most);
         let p = &mut self.partners[node];
-        p.dial_wait = (p.dial_wait * 2).clamp(first, most);
-        p.dial_at = now.boot + p.dial_wait;
+        p.calls += 1;
+        let doubled = p.calls.saturating_sub(self.settings.calls_short).min(20);
+        p.dial_at = now.boot + (first << doubled).min(most);
     }
 
     pub(crate) fn link_up(&mut self, link: LinkId, node: NodeId, dialed: bool, now: Now, out: &mut Vec<Action>) {
@@ -143,7 +145,7 @@ impl Core {
         for stream in ends {
             if let Some(i) = self.state.streams.ins.get_mut(&stream) {
                 i.told = i.durable;
-                lines.push(Line { stream, next: i.durable, acked: 0 });
+                lines.push(Line { stream, next: i.durable, acked: i.next });
             }
         }
         Hello {
@@ -313,7 +315,7 @@ impl Core {
             l.greeted = true;
         }
         let p = &mut self.partners[node];
-        (p.dial_wait, p.why) = (0, String::new());
+        (p.calls, p.why) = (0, String::new());
         if !found.lost && self.cluster.nodes[node].server.is_some() {
             self.greetings.insert(node);
             self.open_gate(now, out);
@@ -339,7 +341,7 @@ impl Core {
         for (stream, line) in &told {
             if self.cluster.node_of(stream.from) == Some(self.me) {
                 let durable = self.state.streams.outs.get(stream).map_or(0, |o| o.durable);
-                found.lost |= line.next > durable;
+                found.lost |= line.next.max(line.acked) > durable;
             } else {
                 let durable = self.state.streams.ins.get(stream).map_or(0, |i| i.durable);
                 found.lost |= line.acked > durable;

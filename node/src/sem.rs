@@ -290,7 +290,8 @@ pub fn older(older: &[u8], newer: &[u8]) -> Older {
                 Older::Keep
             }
         }
-        (Some((x @ (KIND_STAMP | KIND_ACK), a, s)), Some((y, b, r))) if x == y && a == b && s <= r => Older::Stale,
+        // a client's sequences rise: only a false one is answered a smaller one later, and it may lose the larger
+        (Some((x @ (KIND_STAMP | KIND_ACK), a, _)), Some((y, b, _))) if x == y && a == b => Older::Stale,
         _ => Older::Keep,
     }
 }

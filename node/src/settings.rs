@@ -28,6 +28,8 @@ pub struct Settings {
     pub call_first: u64,
     pub call_most: u64,
     pub full_wait: u64,
+    /// Calls to a node that wait no longer than the first.
+    pub calls_short: u32,
     /// Wrong nodes that the simulation must find.
     #[cfg(feature = "sim")]
     pub mutant: Option<Mutant>,
@@ -50,6 +52,7 @@ impl Default for Settings {
             call_first: 200,
             call_most: 10_000,
             full_wait: 1_000,
+            calls_short: 10,
             #[cfg(feature = "sim")]
             mutant: None,
         }

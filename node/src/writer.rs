@@ -49,6 +49,8 @@ pub struct Writer {
     /// Since when a place has waited.
     pub place_since: Option<u64>,
     marks: BTreeMap<u64, Hash>,
+    /// A batch waits for the next segment: time alone changes nothing.
+    blocked: bool,
     pub first_segment: u32,
     pub last_segment: u32,
     pub bytes: u64,
@@ -73,6 +75,7 @@ impl Writer {
             fenced: false,
             place_since: None,
             marks: BTreeMap::new(),
+            blocked: false,
             first_segment: r.first_segment,
             last_segment: r.last_segment,
             bytes: 0,
@@ -105,7 +108,7 @@ impl Writer {
 
     /// When `is_due` may come true by time alone.
     pub fn wake(&self, settings: &Settings) -> Option<u64> {
-        if self.in_flight.is_some() {
+        if self.in_flight.is_some() || self.blocked {
             return None;
         }
         let place = self.place_since.map(|since| since + settings.place_wait);
@@ -136,10 +139,11 @@ impl Writer {
         self.close_records(state);
         let space = log::batch_space(self.fx.batch.len());
         let mut place = self.place;
+        self.blocked = place.at + space > settings.segment && self.last_segment <= place.segment;
+        if self.blocked {
+            return None;
+        }
         if place.at + space > settings.segment {
-            if self.last_segment <= place.segment {
-                return None;
-            }
             (place.segment, place.at) = (place.segment + 1, BLOCK);
         }
         let payload = std::mem::take(&mut self.fx.batch);

@@ -29,12 +29,15 @@ fn main() {
     let mutant = words.get(2).map(|name| MUTANTS.iter().find(|m| m.0 == name).map_or_else(|| usage(), |m| m.1));
     let begun = Instant::now();
     let (mut failed, mut events, mut operations, mut crashes, mut torn, mut hash) = (0, 0, 0, 0, 0, 0);
+    let (mut rolled, mut caught) = (0, 0);
     for (done, seed) in (first..first.saturating_add(count)).enumerate() {
         let report = sim::run(seed, mutant);
         events += report.events;
         operations += report.operations;
         crashes += report.crashes;
         torn += report.torn;
+        rolled += report.rolled;
+        caught += report.caught;
         hash ^= report.hash.rotate_left((seed % 64) as u32);
         if !report.failures.is_empty() {
             failed += 1;
@@ -50,7 +53,7 @@ fn main() {
         }
     }
     println!(
-        "{count} seeds from {first}: {failed} failed; {events} events, {operations} operations, {crashes} crashes, {torn} torn batches, hash {hash:016x}"
+        "{count} seeds from {first}: {failed} failed; {events} events, {operations} operations, {crashes} crashes, {torn} torn batches, {caught} of {rolled} old folders caught, hash {hash:016x}"
     );
     std::process::exit(i32::from((failed > 0) != mutant.is_some()));
 }

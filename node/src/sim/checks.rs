@@ -36,10 +36,8 @@ fn read_log(disk: &Disk, register: [u8; 32]) -> Result<Told, String> {
                 none.insert(Scan::new(LogId { id, register }, Place::first()))
             }
         };
-        s.segment(number, bytes, &mut |batch| {
-            records::read(batch.payload).try_for_each(|r| tell(&mut told, &r.map_err(|_| "no record")?))
-        })
-        .map_err(|f| f.to_string())?;
+        s.segment(number, bytes, &mut |batch| records::read(batch.payload).try_for_each(|r| tell(&mut told, &r.map_err(|_| "no record")?)))
+            .map_err(|f| f.to_string())?;
     }
     Ok(told)
 }

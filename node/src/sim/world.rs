@@ -9,12 +9,16 @@ use crate::events::{exit, Action, Ask, DiskId, DiskOp, Ended, Event, Lane, Level
 use crate::messages::{self, Front, Message, MESSAGE_MOST};
 use crate::random::Random;
 use crate::streams::StreamId;
-use std::collections::{BTreeMap, VecDeque};
+use std::collections::{BTreeMap, BTreeSet, VecDeque};
 
 const MS: u64 = 1000;
 /// Faults fall until here, in microseconds; then all is mended, and this long is left.
 const CHAOS: u64 = 12_000 * MS;
 const MENDED: u64 = 120_000 * MS;
+/// The refusal of a write after one that closed as out of stamps.
+const OUT_OF_STAMPS: u8 = 17;
+/// A run with more events than this goes round in a circle.
+const EVENTS_MOST: u64 = 600_000;
 
 #[derive(Clone, Debug)]
 pub enum Will {
@@ -52,6 +56,10 @@ pub struct Slot {
     pub evil: Option<Evil>,
     /// An exit that the faults of this run explain.
     pub excused: bool,
+    /// It was put back from an older copy of its folder: if nobody notices, it counts among the false.
+    pub rolled: bool,
+    /// A frame that it sent with a number that another frame had: none may be there if it noticed.
+    conflict: Option<String>,
     old_disk: Option<Disk>,
 }
 
@@ -88,10 +96,14 @@ pub struct World {
     events: u64,
     crashes: u64,
     torn: u64,
+    rolled: u64,
+    caught: u64,
     asks: BTreeMap<u64, (u8, u64, u64)>,
     pub operations: BTreeMap<(u8, u64), Seen>,
     left: BTreeMap<u8, u64>,
     asking: BTreeMap<u8, u64>,
+    /// Clients that can't write any more.
+    readers: BTreeSet<u8>,
     /// Every frame that an honest node put on a link, by its stream and number.
     pub wire: BTreeMap<(StreamId, u64), Vec<u8>>,
     pub failures: Vec<String>,
@@ -116,6 +128,8 @@ impl World {
                 exited: None,
                 evil: plan.evil.contains(&node).then(|| Evil::new(&plan.cluster, node)),
                 excused: false,
+                rolled: false,
+                conflict: None,
                 old_disk: None,
             })
             .collect();
@@ -132,10 +146,13 @@ impl World {
             events: 0,
             crashes: 0,
             torn: 0,
+            rolled: 0,
+            caught: 0,
             asks: BTreeMap::new(),
             operations: BTreeMap::new(),
             left: BTreeMap::new(),
             asking: BTreeMap::new(),
+            readers: BTreeSet::new(),
             wire: BTreeMap::new(),
             failures: vec![],
             wall_jump: 0,
@@ -180,12 +197,15 @@ impl World {
             self.now = at;
             self.events += 1;
             let text = format!("{at} {will:?}");
+            if self.verbose && self.events > EVENTS_MOST - 60 {
+                eprintln!("{text}");
+            }
             self.mix(text.as_bytes());
             self.happen(will);
             if self.mended && (self.events.is_multiple_of(64) && self.is_quiet() || at > CHAOS + MENDED) {
                 break;
             }
-            if self.failures.len() > 4 {
+            if self.failures.len() > 4 || self.events > EVENTS_MOST {
                 break;
             }
         }
@@ -197,7 +217,7 @@ impl World {
 
     /// Nodes that must be served in the end: honest, and not stopped by a fault that explains it.
     pub fn healthy(&self) -> Vec<usize> {
-        self.honest().into_iter().filter(|n| self.slots[*n].exited.is_none()).collect()
+        self.honest().into_iter().filter(|n| self.slots[*n].exited.is_none() && !self.slots[*n].rolled).collect()
     }
 
     /// Nothing is open, owed to a healthy node, or held.
@@ -219,7 +239,11 @@ impl World {
             for (stream, o) in &core.state.streams.outs {
                 let to = self.plan.cluster.node_of(stream.to);
                 if !o.owed.is_empty() && to.is_some_and(|to| healthy.contains(&to)) {
-                    return Some(format!("n{node} owes {} frames by {stream:?}", o.owed.len()));
+                    let (next, durable, acked, sent) = (o.next, o.durable, o.acked, o.sent);
+                    return Some(format!(
+                        "n{node} owes n{to:?} {} frames by {stream:?}: next {next}, durable {durable}, acked {acked}, sent {sent}",
+                        o.owed.len()
+                    ));
                 }
             }
             for (stream, i) in &core.state.streams.ins {
@@ -236,7 +260,7 @@ impl World {
         match will {
             Will::Start { node } => self.start(node),
             Will::Disk { node, epoch, lane } => self.disk_step(node, epoch, lane),
-            Will::Tick { node, epoch } if self.slots[node].epoch == epoch => {
+            Will::Tick { node, epoch } if self.slots[node].epoch == epoch && self.slots[node].tick_at == Some(self.now) => {
                 self.slots[node].tick_at = None;
                 self.hand(node, Event::Tick);
             }
@@ -357,7 +381,7 @@ impl World {
             self.slots[node].disk.full = false;
             return self.later(500 * MS, Will::Start { node });
         }
-        if code == exit::DISK && excused && !self.slots[node].lost() {
+        if code == exit::DISK && excused {
             // the staff restart the machine
             self.slots[node].excused = false;
             self.slots[node].boots += 1;
@@ -367,8 +391,12 @@ impl World {
             self.later(50 * MS, Will::Start { node });
             return;
         }
-        if !(code == exit::LOST && excused) {
+        if !(code == exit::LOST && self.slots[node].rolled) {
             self.failures.push(format!("4: n{node} exits {code}: {line}"));
+        } else if let Some(what) = self.slots[node].conflict.take() {
+            self.failures.push(format!("{what}, before it sees that its state was lost"));
+        } else {
+            self.caught += 1;
         }
         self.slots[node].exited = Some((code, line));
     }
@@ -472,15 +500,7 @@ impl World {
         }
         self.order += 1;
         let id = self.order;
-        let pipe = Pipe {
-            lower: to,
-            upper: from,
-            up: VecDeque::new(),
-            down: VecDeque::new(),
-            lower_there: false,
-            upper_there: false,
-            dead: false,
-        };
+        let pipe = Pipe { lower: to, upper: from, up: VecDeque::new(), down: VecDeque::new(), lower_there: false, upper_there: false, dead: false };
         self.pipes.insert(id, pipe);
         self.later(wait, Will::Up { pipe: id, upper: true });
         let further = self.delay();
@@ -589,7 +609,12 @@ impl World {
             if let Message::Data { stream, number, frame } = message {
                 let first = self.wire.entry((stream, number)).or_insert_with(|| frame.to_vec());
                 if *first != frame {
-                    self.failures.push(format!("2: n{node} sends another frame as number {number} of {stream:?}"));
+                    let what = format!("2: n{node} sends another frame as number {number} of {stream:?}");
+                    if self.slots[node].rolled {
+                        self.slots[node].conflict = Some(what);
+                    } else {
+                        self.failures.push(what);
+                    }
                 }
             }
             rest = &rest[length..];
@@ -657,7 +682,8 @@ impl World {
             None if self.now < 4_000 * MS => self.slots[node].old_disk = Some(self.slots[node].disk.clone()),
             None => {}
             Some(old) => {
-                self.slots[node].excused = true;
+                (self.slots[node].excused, self.slots[node].rolled) = (true, true);
+                self.rolled += 1;
                 self.slots[node].disk = old;
                 self.stop(node);
                 self.later(100 * MS, Will::Start { node });
@@ -699,7 +725,7 @@ impl World {
         let id = self.order;
         self.asks.insert(id, (client, node as u64, self.events));
         self.asking.insert(client, id);
-        let ask = if self.r.one_in(2) {
+        let ask = if self.readers.contains(&client) || self.r.one_in(2) {
             Ask::Read { client, register: 0 }
         } else {
             let mut value = self.r.bytes(self.plan.cluster.parameters.size);
@@ -726,8 +752,15 @@ impl World {
                 self.later(wait, Will::Ask { node: node as usize, client });
             }
             Response::Refused { number, why } => {
-                self.failures.push(format!("an ask of client {client} was refused {number}: {why}"));
+                // a false server can close a client's writes, by the largest time there is
+                if number == OUT_OF_STAMPS && !self.plan.evil.is_empty() {
+                    self.readers.insert(client);
+                } else {
+                    self.failures.push(format!("an ask of client {client} was refused {number}: {why}"));
+                }
+                self.asks.remove(&id);
                 self.asking.remove(&client);
+                self.later(MS, Will::Ask { node: node as usize, client });
             }
             Response::Status(_) | Response::SnapshotDone { .. } => {}
         }
@@ -783,17 +816,13 @@ impl World {
             operations: self.operations.len(),
             crashes: self.crashes,
             torn: self.torn,
+            rolled: self.rolled,
+            caught: self.caught,
             failures: self.failures,
         }
     }
 
     pub fn now_events(&self) -> u64 {
         self.events
-    }
-}
-
-impl Slot {
-    fn lost(&self) -> bool {
-        self.disk.read_all().contains_key(crate::recovery::LOST)
     }
 }

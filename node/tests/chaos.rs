@@ -137,7 +137,7 @@ impl Chaos {
         self.hooks.remove(name);
         if self.random.below(2) == 0 {
             let hook = HOOKS[self.random.below(4) as usize];
-            environment.push(("SEMDUOLI_TEST_FAULT", format!("{hook}:{}", 5 + self.random.below(300))));
+            environment.push(("SEMDUOLI_TEST_FAULT", format!("{hook}:{}", 5 + self.random.below(150))));
             self.hooks.insert(name.into(), hook);
         }
         self.nodes.start_with(name, &environment);
@@ -207,6 +207,8 @@ fn chaos(name: &str, (n, t, k): (usize, usize, usize), seconds: u64) {
     while start.elapsed() < Duration::from_secs(seconds) {
         chaos.raise();
         chaos.disturb();
+        // time in which enough servers are there for operations to end
+        std::thread::sleep(Duration::from_millis(chaos.random.below(250)));
     }
     // now all run undisturbed
     for name in chaos.nodes.names() {

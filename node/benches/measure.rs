@@ -11,6 +11,8 @@ const LENGTH: usize = 256;
 const SIZES: [(usize, usize, usize); 2] = [(4, 1, 2), (10, 3, 4)];
 const CLIENTS: [u8; 2] = [1, 8];
 const SPAN: Duration = Duration::from_secs(5);
+/// More frames a second than there can be: what is measured is not the limit.
+const NO_LIMIT: [&str; 2] = ["--rate", "1000000"];
 
 /// What all nodes have sent by links and put into their logs since their start.
 struct Sums {
@@ -68,6 +70,7 @@ fn operate(nodes: &Nodes, clients: u8, write: bool) -> (Vec<Duration>, f64) {
 
 fn measure(n: usize, t: usize, k: usize) {
     let mut nodes = Nodes::new("measure", (n, t, k, LENGTH));
+    nodes.words = NO_LIMIT.map(str::to_string).into();
     nodes.start_all();
     for write in [true, false] {
         for clients in CLIENTS {

@@ -18,7 +18,8 @@ use std::sync::Arc;
 use std::time::{Duration, Instant};
 
 const LENGTH: usize = 32;
-const HOOKS: [&str; 4] = ["lost", "torn", "written", "synced"];
+/// Torn tails are the rarest by themselves, since a write takes the least time.
+const HOOKS: [&str; 6] = ["torn", "torn", "torn", "lost", "written", "synced"];
 
 fn setting(name: &str, usual: u64) -> u64 {
     std::env::var(name).ok().and_then(|v| v.parse().ok()).unwrap_or(usual)
@@ -136,7 +137,7 @@ impl Chaos {
         let mut environment = vec![("SEMDUOLI_TEST_SNAPSHOT", (100_000 << self.random.below(6)).to_string())];
         self.hooks.remove(name);
         if self.random.below(2) == 0 {
-            let hook = HOOKS[self.random.below(4) as usize];
+            let hook = HOOKS[self.random.below(HOOKS.len() as u64) as usize];
             environment.push(("SEMDUOLI_TEST_FAULT", format!("{hook}:{}", 5 + self.random.below(150))));
             self.hooks.insert(name.into(), hook);
         }

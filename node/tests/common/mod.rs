@@ -45,16 +45,18 @@ pub struct Nodes {
     pub n: usize,
     pub length: usize,
     pub ports: Vec<u16>,
+    /// Further words of `serve`.
+    pub words: Vec<String>,
     processes: BTreeMap<String, Child>,
 }
 
 impl Nodes {
-    /// Keys and cluster files; `through` may put other addresses of the servers into the files than the ones they open.
+    /// Keys and cluster files.
     pub fn new(name: &str, (n, t, k, length): (usize, usize, usize, usize)) -> Nodes {
         let folder = temporary(name);
         let held: Vec<TcpListener> = (0..n).map(|_| TcpListener::bind("127.0.0.1:0").expect("a port")).collect();
         let ports = held.iter().map(|l| l.local_addr().expect("an address").port()).collect();
-        let mut nodes = Nodes { folder, n, length, ports, processes: BTreeMap::new() };
+        let mut nodes = Nodes { folder, n, length, ports, words: vec![], processes: BTreeMap::new() };
         for name in nodes.names() {
             let made = semduoli(&["keygen", nodes.at(&name).to_str().expect("text")]);
             assert_eq!(code(&made), 0, "{}", said(&made));
@@ -103,7 +105,7 @@ impl Nodes {
     pub fn start_with(&mut self, name: &str, environment: &[(&str, String)]) {
         let notes = File::options().create(true).append(true).open(self.at(name).join("notes")).expect("notes");
         let mut command = Command::new(PROGRAM);
-        command.arg("serve").arg(self.at(name)).stdin(Stdio::null()).stdout(Stdio::null()).stderr(notes);
+        command.arg("serve").arg(self.at(name)).args(&self.words).stdin(Stdio::null()).stdout(Stdio::null()).stderr(notes);
         for (key, value) in environment {
             command.env(key, value);
         }

@@ -231,6 +231,9 @@ impl World {
             let Some(core) = self.slots[*node].core.as_ref().filter(|_| self.slots[*node].ready) else {
                 return Some(format!("n{node} is not up"));
             };
+            if !core.writer.fenced {
+                return Some(format!("n{node} has not rested"));
+            }
             for (client, desk) in &core.state.desks {
                 if desk.open.is_some() || self.left.get(client).is_some_and(|l| *l > 0) || self.asking.contains_key(client) {
                     return Some(format!("client {client} has an operation open"));

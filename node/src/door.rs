@@ -1,6 +1,7 @@
 //! The door: one thread makes all TLS handshakes, of those who call this node and of those it calls, and hands the loop streams of known partners only.
 //! Strangers can spend places at the door, and nothing else.
 
+use crate::bucket::Bucket;
 use crate::keys::{self, Fingerprint};
 use crate::wake::{Sleeper, Waker};
 use nix::poll::{poll, PollFd, PollFlags};
@@ -21,8 +22,10 @@ const HANDSHAKE: Duration = Duration::from_secs(5);
 const CALL: Duration = Duration::from_secs(5);
 /// Callers let in, for a second, and at most at once.
 const CALLERS_A_SECOND: f64 = 50.0;
-/// A partner gets a new link once in this time; a newer one waits at the door, and replaces one that waits.
-const BETWEEN_LINKS: Duration = Duration::from_secs(1);
+/// A partner that calls gets one new link a second, after a few at any speed, as restarts need; one that is too early waits at the door, and a newer one
+/// replaces it.
+const LINKS_A_SECOND: f64 = 1.0;
+const LINKS_AT_ONCE: f64 = 4.0;
 const LONGEST_WAIT: Duration = Duration::from_secs(10);
 
 /// What the door knows of a node of the cluster file.
@@ -40,7 +43,7 @@ pub enum Order {
 
 /// To the loop.
 pub enum Knock {
-    Up { node: usize, stream: SslStream<TcpStream>, address: SocketAddr },
+    Up { node: usize, stream: SslStream<TcpStream>, address: SocketAddr, dialed: bool },
     CallFailed { node: usize, why: String },
     TurnedAway { address: SocketAddr, why: String },
 }
@@ -48,8 +51,7 @@ pub enum Knock {
 /// Who may begin a handshake.
 struct Places {
     listed: BTreeMap<IpAddr, usize>,
-    tokens: f64,
-    filled: Instant,
+    callers: Bucket,
 }
 
 #[derive(PartialEq, Debug)]
@@ -69,22 +71,12 @@ impl Places {
                 *listed.entry(ip).or_insert(0) += 1;
             }
         }
-        Places { listed, tokens: CALLERS_A_SECOND, filled: now }
-    }
-
-    fn fill(&mut self, now: Instant) {
-        let passed = now.saturating_duration_since(self.filled).as_secs_f64();
-        self.tokens = (self.tokens + passed * CALLERS_A_SECOND).min(CALLERS_A_SECOND);
-        self.filled = now;
-    }
-
-    fn has_token(&self) -> bool {
-        self.tokens >= 1.0
+        Places { listed, callers: Bucket::new(CALLERS_A_SECOND, CALLERS_A_SECOND, now) }
     }
 
     /// Whether a caller gets a place beside those who have one; `random` chooses who loses it.
     fn entry(&mut self, caller: IpAddr, inside: &[IpAddr], random: usize) -> Entry {
-        self.tokens -= 1.0;
+        self.callers.spend(1.0);
         let nodes = self.listed.get(&caller).copied().unwrap_or(0);
         let same = inside.iter().filter(|ip| **ip == caller).count();
         if same >= PLACES_AN_ADDRESS * nodes.max(1) {
@@ -112,15 +104,23 @@ struct Shaking {
     until: Instant,
 }
 
+/// A partner whose last link is too young.
+struct Waiting {
+    since: Instant,
+    stream: SslStream<TcpStream>,
+    address: SocketAddr,
+    dialed: bool,
+}
+
 pub struct Door {
     tls: SslContext,
     partners: Vec<Partner>,
     listener: Option<TcpListener>,
     places: Places,
     shaking: Vec<Shaking>,
-    /// Streams of partners whose last link is too young, and since when each may be handed over.
-    waiting: BTreeMap<usize, (Instant, SslStream<TcpStream>, SocketAddr)>,
-    last: BTreeMap<usize, Instant>,
+    /// By node; each may be handed over at its time.
+    waiting: BTreeMap<usize, Waiting>,
+    links: BTreeMap<usize, Bucket>,
     orders: Receiver<Order>,
     own_orders: Sender<Order>,
     own_waker: Waker,
@@ -149,7 +149,7 @@ impl Door {
             listener,
             shaking: vec![],
             waiting: BTreeMap::new(),
-            last: BTreeMap::new(),
+            links: BTreeMap::new(),
             orders: ways.orders,
             own_orders: ways.own_orders,
             own_waker: ways.own_waker,
@@ -181,17 +181,17 @@ impl Door {
     /// Waits until something can go on: which handshakes (by their places), and whether somebody calls.
     fn wait(&mut self, sleeper: &Sleeper) -> (Vec<bool>, bool) {
         let now = Instant::now();
-        self.places.fill(now);
+        self.places.callers.fill(now);
         let mut fds = vec![PollFd::new(sleeper.fd(), PollFlags::POLLIN)];
         for s in &self.shaking {
             let events = if s.wants_write { PollFlags::POLLOUT } else { PollFlags::POLLIN };
             fds.push(PollFd::new(s.stream.get_ref().as_raw_fd(), events));
         }
-        let listens = self.listener.as_ref().filter(|_| self.places.has_token());
+        let listens = self.listener.as_ref().filter(|_| self.places.callers.has_token());
         fds.extend(listens.map(|l| PollFd::new(l.as_raw_fd(), PollFlags::POLLIN)));
         let listening = fds.len() > 1 + self.shaking.len();
         let mut wait = LONGEST_WAIT;
-        let ends = self.shaking.iter().map(|s| s.until).chain(self.waiting.values().map(|w| w.0));
+        let ends = self.shaking.iter().map(|s| s.until).chain(self.waiting.values().map(|w| w.since));
         for end in ends {
             wait = wait.min(end.saturating_duration_since(now));
         }
@@ -249,7 +249,7 @@ impl Door {
     }
 
     fn let_in(&mut self) {
-        while self.places.has_token() {
+        while self.places.callers.has_token() {
             let Some(Ok((tcp, address))) = self.listener.as_ref().map(|l| l.accept()) else { return };
             let at: Vec<usize> = (0..self.shaking.len()).filter(|at| self.shaking[*at].called.is_none()).collect();
             let inside: Vec<IpAddr> = at.iter().map(|at| self.shaking[*at].address.ip()).collect();
@@ -311,8 +311,18 @@ impl Door {
         });
         match (node, s.called) {
             (Ok(node), _) => {
-                let since = self.last.get(&node).map_or(Instant::now(), |l| *l + BETWEEN_LINKS);
-                self.waiting.insert(node, (since, s.stream, s.address));
+                let (now, dialed) = (Instant::now(), s.called.is_some());
+                let links = self.links.entry(node).or_insert_with(|| Bucket::new(LINKS_AT_ONCE, LINKS_A_SECOND, now));
+                let since = match self.waiting.get(&node) {
+                    // it has the turn of the one that it replaces
+                    Some(older) => older.since,
+                    None if dialed => now,
+                    None => now + links.take(now),
+                };
+                let older = self.waiting.insert(node, Waiting { since, stream: s.stream, address: s.address, dialed });
+                if older.is_some_and(|o| o.dialed) {
+                    self.tell(Knock::CallFailed { node, why: "a newer connection came".into() });
+                }
             }
             (Err(why), Some(node)) => self.tell(Knock::CallFailed { node, why }),
             (Err(why), None) => self.turn_away(s.address, why),
@@ -321,11 +331,10 @@ impl Door {
 
     fn hand_over(&mut self) {
         let now = Instant::now();
-        let due: Vec<usize> = self.waiting.iter().filter(|(_, w)| w.0 <= now).map(|(node, _)| *node).collect();
+        let due: Vec<usize> = self.waiting.iter().filter(|(_, w)| w.since <= now).map(|(node, _)| *node).collect();
         for node in due {
-            if let Some((_, stream, address)) = self.waiting.remove(&node) {
-                self.last.insert(node, now);
-                self.tell(Knock::Up { node, stream, address });
+            if let Some(Waiting { stream, address, dialed, .. }) = self.waiting.remove(&node) {
+                self.tell(Knock::Up { node, stream, address, dialed });
             }
         }
     }
@@ -406,18 +415,17 @@ mod tests {
 
     #[test]
     fn callers_are_let_in_fifty_a_second() {
-        let mut p = places();
-        let start = p.filled;
+        let (mut p, start) = (places(), Instant::now());
         for i in 0..CALLERS_A_SECOND as usize {
-            assert!(p.has_token(), "caller {i}");
+            assert!(p.callers.has_token(), "caller {i}");
             p.entry(ip(9), &[], 0);
         }
-        assert!(!p.has_token());
-        p.fill(start + Duration::from_millis(10));
-        assert!(!p.has_token());
-        p.fill(start + Duration::from_millis(21));
-        assert!(p.has_token());
-        p.fill(start + Duration::from_secs(60));
-        assert_eq!(p.tokens, CALLERS_A_SECOND);
+        assert!(!p.callers.has_token());
+        p.callers.fill(start);
+        assert!(!p.callers.has_token());
+        p.callers.fill(start + Duration::from_millis(25));
+        assert!(p.callers.has_token());
+        p.callers.fill(start + Duration::from_secs(60));
+        assert!(p.callers.has_token());
     }
 }

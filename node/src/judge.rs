@@ -87,7 +87,7 @@ pub fn history(lines: &[Line], progress: &mut dyn FnMut(u64, u64)) -> Verdict {
             // line numbers count from 1
             let place = |line: u8| window.get((line as usize).wrapping_sub(1)).copied().unwrap_or(first[0]);
             match sem::judge(text.as_bytes()) {
-                Ok(Judged::Order(_)) => progress(windows, all),
+                Ok(Judged::Ordered(_)) => progress(windows, all),
                 Ok(Judged::Offending { earlier, later }) => return Verdict::Offending { earlier: place(earlier), later: place(later) },
                 Err(number) => return Verdict::Refused { number, near: first[0] },
             }
@@ -165,7 +165,17 @@ mod tests {
     fn lines_are_read_as_they_are_written() {
         let line = read(7, 3);
         assert_eq!(Line::parse(&line.to_string()), Some(line));
-        for wrong in ["", "R", "X 1 2 3 4 5 6", "R 01 2 3 4 5 6", "R 1 2 3 4 5", "R 1 2 3 4 5 6 7", "R 1 2 3 4 5 +6", "R  1 2 3 4 5 6", "R 4294967296 2 3 4 5 6"] {
+        for wrong in [
+            "",
+            "R",
+            "X 1 2 3 4 5 6",
+            "R 01 2 3 4 5 6",
+            "R 1 2 3 4 5",
+            "R 1 2 3 4 5 6 7",
+            "R 1 2 3 4 5 +6",
+            "R  1 2 3 4 5 6",
+            "R 4294967296 2 3 4 5 6",
+        ] {
             assert_eq!(Line::parse(wrong), None, "{wrong}");
         }
     }

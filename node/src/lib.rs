@@ -6,6 +6,7 @@ pub mod cluster;
 pub mod core;
 pub mod desk;
 pub mod events;
+pub mod judge;
 pub mod links;
 pub mod log;
 pub mod messages;

@@ -9,10 +9,8 @@ use std::os::unix::io::{AsRawFd, RawFd};
 const RECORD: usize = 16 * 1024;
 /// A round takes at most so many bytes from a link, so that nobody waits for a flood.
 const ROUND: usize = 256 * 1024;
-/// A partner that does not take what it is sent is not read any more while so much waits for it ..
+/// A partner that does not take what it is sent is not read while so much waits for it.
 const OUTPUT_FULL: usize = 1024 * 1024;
-/// .. and is closed at so much.
-const OUTPUT_MOST: usize = 64 * 1024 * 1024;
 
 pub struct Link {
     stream: SslStream<TcpStream>,
@@ -58,7 +56,12 @@ impl Link {
 
     /// Whether so much waits to be sent that nothing more is to be taken.
     pub fn is_full(&self) -> bool {
-        self.output.len() - self.written > OUTPUT_FULL
+        self.waiting() > OUTPUT_FULL
+    }
+
+    /// Bytes that wait to be sent.
+    pub fn waiting(&self) -> usize {
+        self.output.len() - self.written
     }
 
     pub fn take(&mut self) -> Taken {
@@ -108,15 +111,12 @@ impl Link {
             self.output.drain(..self.written);
             self.written = 0;
         }
-        if self.output.len() - self.written > OUTPUT_MOST {
-            return Err("does not take what it is sent".into());
-        }
         Ok(())
     }
 
-    /// Says good-bye in TLS; what does not leave at once is lost.
-    pub fn close(mut self) {
-        let _ = self.flush();
+    /// Says that nothing more comes. What the partner has sent is to be read, or what was sent last may not reach it.
+    pub fn finish(&mut self) {
         let _ = self.stream.shutdown();
+        let _ = self.stream.get_ref().shutdown(std::net::Shutdown::Write);
     }
 }

@@ -352,7 +352,12 @@ impl World {
 
     fn act(&mut self, node: usize, action: Action) {
         match action {
-            Action::Ready => self.slots[node].ready = true,
+            Action::Ready => {
+                self.slots[node].ready = true;
+                if self.slots[node].rolled {
+                    self.ask_at_once(node);
+                }
+            }
             Action::Send { link, bytes } => {
                 self.watch(node, &bytes);
                 self.send(node, link, bytes);
@@ -670,7 +675,8 @@ impl World {
             self.slots[node].excused = true;
         }
         if self.plan.rollback && self.plan.evil.is_empty() {
-            self.roll_back(node);
+            let desks = self.r.one_in(2);
+            self.roll_back(if desks { self.plan.cluster.parameters.n } else { node });
         }
         let wait = 100 * MS + self.r.below(800) * MS;
         self.later(wait, Will::Fault);
@@ -691,6 +697,14 @@ impl World {
                 self.stop(node);
                 self.later(100 * MS, Will::Start { node });
             }
+        }
+    }
+
+    /// A node that was put back is asked at once: what it begins then must not leave before its partners have greeted it.
+    fn ask_at_once(&mut self, node: usize) {
+        for client in self.plan.cluster.nodes[node].clients.clone() {
+            *self.left.entry(client).or_default() += 1;
+            self.later(1, Will::Ask { node, client });
         }
     }
 

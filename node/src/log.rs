@@ -335,5 +335,10 @@ mod tests {
         bytes[BLOCK as usize + 100] ^= 1;
         let (result, found, s) = scan(&bytes);
         assert_eq!((result, found.len(), s.torn.is_some()), (Ok(()), 0, true));
+        // a wrong node, for which anything that looks like a batch is one, takes the torn batch for a damaged one
+        let mut weak = Scan::new(LOG, Place::first());
+        weak.weaken();
+        let damaged = Fault::Damaged { segment: 1, at: BLOCK, what: "a batch is damaged, and good ones follow it" };
+        assert_eq!(weak.segment(1, &bytes, &mut |_| Ok(())), Err(damaged));
     }
 }

@@ -9,6 +9,7 @@ use crate::sem::{self, Party, SERVER};
 use crate::snapshot;
 use crate::streams::StreamId;
 use std::collections::{BTreeMap, BTreeSet, VecDeque};
+use std::hash::{DefaultHasher, Hash, Hasher};
 
 /// What a surviving log says.
 #[derive(Default)]
@@ -191,7 +192,7 @@ fn bounds(w: &World, failures: &mut Vec<String>) {
 }
 
 /// A start from a disk, with nothing around it: how it ended, and the state and the files.
-fn start_alone(w: &World, node: usize, mut disk: Disk) -> (Option<u8>, Vec<u8>, Disk) {
+fn start_alone(w: &World, node: usize, mut disk: Disk) -> (Option<u8>, Vec<u8>, Disk, u64) {
     let mut core = Core::new(w.plan.cluster.clone(), node, w.plan.settings.clone());
     let start = Start { random: [1; 16], boot_id: "alone".into(), pid: 1, version: "sim".into() };
     let mut events: VecDeque<Event> = [Event::Start(start)].into();
@@ -211,13 +212,25 @@ fn start_alone(w: &World, node: usize, mut disk: Disk) -> (Option<u8>, Vec<u8>, 
                     }
                     events.push_back(Event::Disk { id, result });
                 }
-                Action::Exit { code, .. } => return (Some(code), vec![], disk),
-                Action::Ready => return (None, state_bytes(w, &core), disk),
+                Action::Exit { code, .. } => return (Some(code), vec![], disk, 0),
+                Action::Ready => return (None, state_bytes(w, &core), disk, essence(&core)),
                 _ => {}
             }
         }
     }
-    (Some(0), vec![], disk)
+    (Some(0), vec![], disk, 0)
+}
+
+/// A hash of the state without what may be missing in the log: acknowledgements that came, and what was seen of partners' logs.
+fn essence(core: &Core) -> u64 {
+    let mut h = DefaultHasher::new();
+    let s = &core.state;
+    s.servers.values().for_each(|s| (&s.state, &s.area, &s.initial).hash(&mut h));
+    s.clients.values().for_each(|c| (&c.state, &c.rows, &c.value).hash(&mut h));
+    format!("{:?} {}", s.desks, s.tick).hash(&mut h);
+    s.streams.ins.iter().filter(|(_, i)| i.next > 0).for_each(|(k, i)| (k.bytes(), i.next).hash(&mut h));
+    s.streams.outs.iter().filter(|(_, o)| o.next > 0).for_each(|(k, o)| (k.bytes(), o.next).hash(&mut h));
+    h.finish()
 }
 
 fn state_bytes(w: &World, core: &Core) -> Vec<u8> {
@@ -253,7 +266,7 @@ fn rot(w: &mut World, node: usize, failures: &mut Vec<String>) {
         let mut disk = w.slots[node].disk.clone();
         disk.rot(name, at, bit);
         let found = start_alone(w, node, disk);
-        if found.0 != Some(exit::DAMAGED) && found.0 != Some(exit::OTHER_LOG) && found.1 != good.1 {
+        if found.0 != Some(exit::DAMAGED) && found.0 != Some(exit::OTHER_LOG) && found.3 != good.3 {
             failures.push(format!("5: bit {bit} of byte {at} of {name} of n{node} was turned, and nobody saw it: {:?}", found.0));
         }
     }

@@ -3,7 +3,7 @@
 use crate::cluster::Cluster;
 use crate::messages::{self, Front, Hello, Line, Mark, Message, LINK_VERSION, MESSAGE_MOST};
 use crate::random::Random;
-use crate::sem::{self, Client, Party, Room, Sent, CLIENT, SERVER};
+use crate::sem::{self, Client, Parameters, Party, Room, Sent, CLIENT, SERVER};
 use crate::streams::StreamId;
 use std::collections::{BTreeMap, BTreeSet};
 
@@ -266,22 +266,25 @@ impl Evil {
         let time = r.below(30);
         let mut made = [vec![], vec![]];
         for (writer, made) in writers.iter_mut().zip(&mut made) {
-            let mut fresh = Client { value: vec![], ..writer.clone() };
-            let value = r.bytes(p.size);
-            let Ok(begun) = fresh.begin(&p, &mut room, Some(&value)) else { return };
-            let sequence = begun.sent.first().map_or(0, |s| sem::sequence(&s.frame)) as u32;
-            for server in 1..=p.n as u8 {
-                let stamp = Evil::head(2, client, sequence, &time.to_be_bytes());
-                if let Ok(step) = fresh.deliver(&p, &mut room, Party::server(server), &stamp) {
-                    made.extend(step.sent);
-                }
-            }
-            for server in 1..=p.n as u8 {
-                let ack = Evil::head(9, client, sequence, &[]);
-                let _ = fresh.deliver(&p, &mut room, Party::server(server), &ack);
-            }
-            *writer = fresh;
+            *made = sends(&p, &mut room, writer, &r.bytes(p.size), time);
         }
         self.writes.insert(client, made);
     }
+}
+
+/// The sends of a client's next write, with a time of its choice: it is told made-up stamps, and then made-up acks.
+pub fn sends(p: &Parameters, room: &mut Room, client: &mut Client, value: &[u8], time: u64) -> Vec<Sent> {
+    let (me, mut made) = (client.me, vec![]);
+    let Ok(begun) = client.begin(p, room, Some(value)) else { return made };
+    let sequence = begun.sent.first().map_or(0, |s| sem::sequence(&s.frame)) as u32;
+    let stamp = Evil::head(2, me, sequence, &time.to_be_bytes());
+    let ack = Evil::head(9, me, sequence, &[]);
+    for frame in [stamp, ack] {
+        for server in 1..=p.n as u8 {
+            if let Ok(step) = client.deliver(p, room, Party::server(server), &frame) {
+                made.extend(step.sent);
+            }
+        }
+    }
+    made
 }

@@ -3,6 +3,7 @@
 pub mod checks;
 pub mod disk;
 pub mod evil;
+pub mod laid;
 pub mod plan;
 pub mod world;
 

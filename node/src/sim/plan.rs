@@ -82,7 +82,7 @@ impl Plan {
             full: r.one_in(6),
             fail_sync: r.one_in(6),
             clock: r.one_in(3),
-            rollback: r.one_in(8),
+            rollback: r.one_in(5),
             operations: 2 + r.below(8),
             random: r,
             cluster,

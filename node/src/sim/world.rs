@@ -231,6 +231,9 @@ impl World {
             let Some(core) = self.slots[*node].core.as_ref().filter(|_| self.slots[*node].ready) else {
                 return Some(format!("n{node} is not up"));
             };
+            if !core.writer.fenced {
+                return Some(format!("n{node} has not rested"));
+            }
             for (client, desk) in &core.state.desks {
                 if desk.open.is_some() || self.left.get(client).is_some_and(|l| *l > 0) || self.asking.contains_key(client) {
                     return Some(format!("client {client} has an operation open"));
@@ -349,7 +352,12 @@ impl World {
 
     fn act(&mut self, node: usize, action: Action) {
         match action {
-            Action::Ready => self.slots[node].ready = true,
+            Action::Ready => {
+                self.slots[node].ready = true;
+                if self.slots[node].rolled {
+                    self.ask_at_once(node);
+                }
+            }
             Action::Send { link, bytes } => {
                 self.watch(node, &bytes);
                 self.send(node, link, bytes);
@@ -667,7 +675,8 @@ impl World {
             self.slots[node].excused = true;
         }
         if self.plan.rollback && self.plan.evil.is_empty() {
-            self.roll_back(node);
+            let desks = self.r.one_in(2);
+            self.roll_back(if desks { self.plan.cluster.parameters.n } else { node });
         }
         let wait = 100 * MS + self.r.below(800) * MS;
         self.later(wait, Will::Fault);
@@ -688,6 +697,14 @@ impl World {
                 self.stop(node);
                 self.later(100 * MS, Will::Start { node });
             }
+        }
+    }
+
+    /// A node that was put back is asked at once: what it begins then must not leave before its partners have greeted it.
+    fn ask_at_once(&mut self, node: usize) {
+        for client in self.plan.cluster.nodes[node].clients.clone() {
+            *self.left.entry(client).or_default() += 1;
+            self.later(1, Will::Ask { node, client });
         }
     }
 

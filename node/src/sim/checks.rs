@@ -1,11 +1,14 @@
 //! What must hold of every run, looked at when it is over: of the logs as they are on the disks, of the nodes, and of what the desks saw.
 use super::disk::{micros, Disk};
 use super::world::World;
+use crate::cluster::Cluster;
 use crate::core::Core;
 use crate::events::{exit, Action, Event, Now, Stamp, Start};
+use crate::judge::{self, Line, Verdict};
 use crate::log::{segment_number, segment_read, LogId, Place, Scan};
 use crate::records::{self, outcome, Record};
 use crate::sem::{self, Party, SERVER};
+use crate::settings::Settings;
 use crate::snapshot;
 use crate::streams::StreamId;
 use std::collections::{BTreeMap, BTreeSet, VecDeque};
@@ -147,33 +150,18 @@ fn served(w: &World, failures: &mut Vec<String>) {
 
 /// Check 7: the operations of honest desks have an order, by the world's clock.
 fn order(w: &World, logs: &BTreeMap<usize, Told>, failures: &mut Vec<String>) {
-    let (mut lines, mut written, mut read) = (vec![], BTreeSet::new(), BTreeSet::new());
+    let mut lines = vec![];
     let healthy = w.healthy();
     for ((client, operation), (write, ended)) in logs.iter().filter(|l| healthy.contains(l.0)).flat_map(|l| &l.1.operations) {
-        let Some((code, stamp)) = ended else { continue };
-        if !matches!(*code, outcome::WRITTEN | outcome::VALUE) {
-            continue;
-        }
+        let Some((outcome::WRITTEN | outcome::VALUE, stamp)) = ended else { continue };
         let seen = w.operations.get(&(*client, *operation)).cloned().unwrap_or_default();
-        let end = seen.ended.unwrap_or(w.now_events());
-        let kind = if *write { 'W' } else { 'R' };
-        if *write {
-            written.insert(*stamp);
-        } else if *stamp != Stamp::default() {
-            read.insert(*stamp);
-        }
-        lines.push(format!("{kind} {} {end} {} {} {} {client}\n", seen.asked, stamp.time, stamp.writer, stamp.sequence));
+        let (start, end) = (seen.asked as u32, seen.ended.unwrap_or(w.now_events()) as u32);
+        lines.push(Line { write: *write, start, end, stamp: *stamp, caller: *client });
     }
-    for s in read.difference(&written) {
-        lines.push(format!("W 0 4294967295 {} {} {} 0\n", s.time, s.writer, s.sequence));
-    }
-    if lines.len() > 64 {
-        failures.push(format!("7: {} lines are too many for one judgement", lines.len()));
-        return;
-    }
-    match sem::judge(lines.concat().as_bytes()) {
-        Ok(sem::Judged::Ordered(_)) => {}
-        other => failures.push(format!("7: {other:?} of\n{}", lines.concat())),
+    judge::add_writes(&mut lines);
+    match judge::history(&lines, &mut |_, _| ()) {
+        Verdict::Order { .. } => {}
+        other => failures.push(format!("7: {other:?} of {lines:?}")),
     }
 }
 
@@ -195,9 +183,18 @@ fn bounds(w: &World, failures: &mut Vec<String>) {
     }
 }
 
-/// A start from a disk, with nothing around it: how it ended, and the state and the files.
-fn start_alone(w: &World, node: usize, mut disk: Disk) -> (Option<u8>, Vec<u8>, Disk, u64) {
-    let mut core = Core::new(w.plan.cluster.clone(), node, w.plan.settings.clone());
+/// What a start came to.
+pub struct Started {
+    /// The exit code, if it ended.
+    pub code: Option<u8>,
+    state: Vec<u8>,
+    essence: u64,
+    disk: Disk,
+}
+
+/// A start from a disk, with nothing around it.
+pub fn start_alone(cluster: &Cluster, settings: &Settings, node: usize, mut disk: Disk) -> Started {
+    let mut core = Core::new(cluster.clone(), node, settings.clone());
     let start = Start { random: [1; 16], boot_id: "alone".into(), pid: 1, version: "sim".into() };
     let mut events: VecDeque<Event> = [Event::Start(start)].into();
     let now = Now { boot: 1, wall: 1 };
@@ -216,13 +213,13 @@ fn start_alone(w: &World, node: usize, mut disk: Disk) -> (Option<u8>, Vec<u8>, 
                     }
                     events.push_back(Event::Disk { id, result });
                 }
-                Action::Exit { code, .. } => return (Some(code), vec![], disk, 0),
-                Action::Ready => return (None, state_bytes(w, &core), disk, essence(&core)),
+                Action::Exit { code, .. } => return Started { code: Some(code), state: vec![], essence: 0, disk },
+                Action::Ready => return Started { code: None, state: state_bytes(cluster, &core), essence: essence(&core), disk },
                 _ => {}
             }
         }
     }
-    (Some(0), vec![], disk, 0)
+    Started { code: Some(0), state: vec![], essence: 0, disk }
 }
 
 /// A hash of the state without what may be missing in the log: acknowledgements that came, and what was seen of partners' logs.
@@ -237,41 +234,44 @@ fn essence(core: &Core) -> u64 {
     h.finish()
 }
 
-fn state_bytes(w: &World, core: &Core) -> Vec<u8> {
-    let log = LogId { id: [0; 16], register: w.plan.cluster.register_digest() };
+fn state_bytes(cluster: &Cluster, core: &Core) -> Vec<u8> {
+    let log = LogId { id: [0; 16], register: cluster.register_digest() };
     snapshot::write(&core.state, &log, &Place::default())
 }
 
 /// Check 9: recovery of the same disk gives the same state and the same files.
 fn recovery_twice(w: &World, node: usize, failures: &mut Vec<String>) {
-    let disk = &w.slots[node].disk;
-    let (a, b) = (start_alone(w, node, disk.clone()), start_alone(w, node, disk.clone()));
-    if a.0.is_some() {
-        failures.push(format!("9: n{node} does not start from its own disk: exit {:?}", a.0));
+    let start = || start_alone(&w.plan.cluster, &w.plan.settings, node, w.slots[node].disk.clone());
+    let (a, b) = (start(), start());
+    if let Some(code) = a.code {
+        failures.push(format!("9: n{node} does not start from its own disk: exit {code}"));
     }
-    if a.1 != b.1 || a.2.read_all() != b.2.read_all() {
+    if a.state != b.state || a.disk.read_all() != b.disk.read_all() {
         failures.push(format!("9: n{node} recovers in two ways"));
     }
 }
 
-/// Check 5: a bit turned anywhere in the log is seen, or makes no difference.
+/// Check 5: a bit turned anywhere in the log is seen, or makes no difference; one in the newest snapshot makes none.
 fn rot(w: &mut World, node: usize, failures: &mut Vec<String>) {
-    let good = start_alone(w, node, w.slots[node].disk.clone());
-    let names: Vec<(String, usize)> = w.slots[node]
-        .disk
-        .read_all()
-        .into_iter()
-        .filter(|(name, _)| segment_number(name).is_some())
-        .map(|(name, bytes)| (name, bytes.iter().rposition(|b| *b != 0).unwrap_or(0)))
-        .collect();
-    for _ in 0..2 {
-        let (name, used) = &names[w.r.below(names.len() as u64) as usize];
-        let (at, bit) = (w.r.below(*used as u64 + 1) as usize, w.r.below(8));
+    let (cluster, settings) = (w.plan.cluster.clone(), w.plan.settings.clone());
+    let good = start_alone(&cluster, &settings, node, w.slots[node].disk.clone());
+    let files = w.slots[node].disk.read_all();
+    let used = |name: &String| files.get(name).and_then(|b| b.iter().rposition(|b| *b != 0)).unwrap_or(0) as u64;
+    let segments: Vec<&String> = files.keys().filter(|name| segment_number(name).is_some()).collect();
+    let snapshot = files.keys().rfind(|name| snapshot::batch_of(name).is_some());
+    for turn in 0..3 {
+        let (name, in_log) = match snapshot {
+            Some(name) if turn == 2 => (name, false),
+            _ => (segments[w.r.below(segments.len() as u64) as usize], true),
+        };
+        let (at, bit) = (w.r.below(used(name) + 1) as usize, w.r.below(8));
         let mut disk = w.slots[node].disk.clone();
         disk.rot(name, at, bit);
-        let found = start_alone(w, node, disk);
-        if found.0 != Some(exit::DAMAGED) && found.0 != Some(exit::OTHER_LOG) && found.3 != good.3 {
-            failures.push(format!("5: bit {bit} of byte {at} of {name} of n{node} was turned, and nobody saw it: {:?}", found.0));
+        let found = start_alone(&cluster, &settings, node, disk);
+        let seen = in_log && matches!(found.code, Some(exit::DAMAGED | exit::OTHER_LOG));
+        if !seen && (found.code.is_some() || found.essence != good.essence) {
+            let code = found.code;
+            failures.push(format!("5: bit {bit} of byte {at} of {name} of n{node} was turned, and nobody saw it: {code:?}"));
         }
     }
 }

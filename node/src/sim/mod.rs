@@ -35,6 +35,7 @@ pub fn run(seed: u64, mutant: Option<Mutant>) -> Report {
 #[cfg(test)]
 mod tests {
     use super::*;
+    use crate::events::exit;
 
     #[test]
     fn the_same_seed_gives_the_same_run() {
@@ -42,5 +43,42 @@ mod tests {
             let (a, b) = (run(seed, None), run(seed, None));
             assert_eq!((a.hash, a.events), (b.hash, b.events), "seed {seed}");
         }
+    }
+
+    /// Every wrong node that the seeds find falls at a seed that is known; the others have tests of their own (`laid`, `log`).
+    #[test]
+    fn wrong_nodes_fall() {
+        for (mutant, seed) in FALLS {
+            assert!(!run(seed, Some(mutant)).failures.is_empty(), "{mutant:?} passes seed {seed}");
+            assert_eq!(run(seed, None).failures, Vec::<String>::new(), "seed {seed}");
+        }
+    }
+
+    const FALLS: [(Mutant, u64); 7] = [
+        (Mutant::SendEarly, 16),
+        (Mutant::AckEarly, 4),
+        (Mutant::NoSettle, 29),
+        (Mutant::SnapshotAhead, 876),
+        (Mutant::NumbersLost, 2),
+        (Mutant::NoWait, 64),
+        (Mutant::SenderByFrame, 6),
+    ];
+
+    /// A log is read with a cluster file that was changed: a further client makes no difference, one that is gone and another register are said.
+    #[test]
+    fn a_changed_cluster_file_is_taken_or_told() {
+        let mut world = world::World::new(plan::Plan::draw(3, None));
+        world.run();
+        let node = world.plan.cluster.parameters.n;
+        let start = |change: &dyn Fn(&mut crate::cluster::Cluster)| {
+            let mut cluster = world.plan.cluster.clone();
+            change(&mut cluster);
+            checks::start_alone(&cluster, &world.plan.settings, node, world.slots[node].disk.clone()).code
+        };
+        assert_eq!(start(&|_| ()), None);
+        assert_eq!(start(&|c| c.nodes[node].clients.push(8)), None);
+        assert_eq!(start(&|c| c.nodes[node].clients.clear()), Some(exit::CLUSTER));
+        assert_eq!(start(&|c| c.initial[0] ^= 1), Some(exit::OTHER_LOG));
+        assert_eq!(start(&|c| c.generation += 1), Some(exit::OTHER_LOG));
     }
 }

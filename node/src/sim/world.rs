@@ -234,7 +234,7 @@ impl World {
             let Some(core) = self.slots[*node].core.as_ref().filter(|_| self.slots[*node].ready) else {
                 return Some(format!("n{node} is not up"));
             };
-            if !core.writer.fenced {
+            if !core.writer.fenced || core.writer.in_flight.is_some() || core.writer.fx.stepped {
                 return Some(format!("n{node} has not rested"));
             }
             for (client, desk) in &core.state.desks {

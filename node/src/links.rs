@@ -145,7 +145,7 @@ impl Core {
         for stream in ends {
             if let Some(i) = self.state.streams.ins.get_mut(&stream) {
                 i.told = i.durable;
-                lines.push(Line { stream, next: i.durable, acked: i.next });
+                lines.push(Line { stream, next: i.durable, acked: i.expected() });
             }
         }
         Hello {

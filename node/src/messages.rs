@@ -20,7 +20,7 @@ pub struct Mark {
 }
 
 /// One stream between two nodes, as one of them sees it. From the one who greets: the number of its next frame, and from where on the partner has not
-/// acknowledged. To the one who greets: the first number it has not answered for good on its disk, and the first it has not answered for good.
+/// acknowledged. To the one who greets: the first number that it has not answered for good, on its disk, and the first that has not come.
 #[derive(Clone, Copy, Debug, PartialEq, Eq)]
 pub struct Line {
     pub stream: StreamId,

@@ -123,8 +123,13 @@ pub enum Offer {
 }
 
 impl In {
+    /// The first number that has not come.
+    pub fn expected(&self) -> u64 {
+        self.held.back().map_or(self.next, |h| h.0 + 1)
+    }
+
     pub fn offer(&mut self, to: Party, number: u64, frame: &[u8], window: usize) -> Offer {
-        let expected = self.held.back().map_or(self.next, |h| h.0 + 1);
+        let expected = self.expected();
         if number < expected {
             self.told = self.told.min(number);
             return Offer::Again;

@@ -11,6 +11,9 @@ use crate::streams::StreamId;
 use std::collections::{BTreeMap, BTreeSet, VecDeque};
 use std::hash::{DefaultHasher, Hash, Hasher};
 
+/// An operation as a log tells it: whether it is a write, and its outcome and stamp if it has ended.
+type Operation = (bool, Option<(u8, Stamp)>);
+
 /// What a surviving log says.
 #[derive(Default)]
 struct Told {
@@ -20,8 +23,8 @@ struct Told {
     taken: Vec<(StreamId, u64, Vec<u8>)>,
     /// Traces of the node's servers, and how many entries each has.
     traces: BTreeMap<u8, (Vec<u8>, usize)>,
-    /// Operations of the node's desks: whether a write, and how it ended.
-    operations: BTreeMap<(u8, u64), (bool, Option<(u8, Stamp)>)>,
+    /// Operations of the node's desks, by client and number.
+    operations: BTreeMap<(u8, u64), Operation>,
 }
 
 fn read_log(disk: &Disk, register: [u8; 32]) -> Result<Told, String> {

@@ -119,7 +119,7 @@ pub fn honest_write_ends(one_stream: bool) -> bool {
         let sent = sends(&P, &mut room, c, value, 0);
         laid.put(Party::client(c.me), &sent);
     }
-    laid.drain(&|s, f| !slow(s) && !(s.to == server(3) && kind(f) == READY));
+    laid.drain(&|s, f| !(slow(s) || s.to == server(3) && kind(f) == READY));
     // at once they write again: server 1 gets client 1's second write, server 2 client 2's
     let mut rest = vec![];
     for (c, value) in clients.iter_mut().zip([b"cccc", b"dddd"]) {

@@ -17,7 +17,7 @@ pub struct Report {
     pub operations: usize,
     pub crashes: u64,
     pub torn: u64,
-    /// Nodes that were put back from an older copy of their folder, and those of them that saw it and stopped.
+    /// Nodes that were put back from an older and shorter copy of their folder, and those of them that saw it and stopped.
     pub rolled: u64,
     pub caught: u64,
     /// Which checks failed, and how; none if the run is as it should be.

@@ -58,8 +58,8 @@ pub struct Slot {
     pub excused: bool,
     /// It was put back from an older copy of its folder: if nobody notices, it counts among the false.
     pub rolled: bool,
-    /// A frame that it sent with a number that another frame had: none may be there if it noticed.
-    conflict: Option<String>,
+    /// Frames that it let out since: none, if it notices.
+    let_out: u64,
     old_disk: Option<Disk>,
 }
 
@@ -129,7 +129,7 @@ impl World {
                 evil: plan.evil.contains(&node).then(|| Evil::new(&plan.cluster, node)),
                 excused: false,
                 rolled: false,
-                conflict: None,
+                let_out: 0,
                 old_disk: None,
             })
             .collect();
@@ -401,8 +401,8 @@ impl World {
         }
         if !(code == exit::LOST && self.slots[node].rolled) {
             self.failures.push(format!("4: n{node} exits {code}: {line}"));
-        } else if let Some(what) = self.slots[node].conflict.take() {
-            self.failures.push(format!("{what}, before it sees that its state was lost"));
+        } else if self.slots[node].let_out > 0 {
+            self.failures.push(format!("2: n{node} lets frames out before it sees that its state was lost"));
         } else {
             self.caught += 1;
         }
@@ -615,12 +615,11 @@ impl World {
         let mut rest = bytes;
         while let Front::Whole(message, length) = messages::read(rest, MESSAGE_MOST) {
             if let Message::Data { stream, number, frame } = message {
+                self.slots[node].let_out += u64::from(self.slots[node].rolled);
                 let first = self.wire.entry((stream, number)).or_insert_with(|| frame.to_vec());
                 if *first != frame {
                     let what = format!("2: n{node} sends another frame as number {number} of {stream:?}");
-                    if self.slots[node].rolled {
-                        self.slots[node].conflict = Some(what);
-                    } else {
+                    if !self.slots[node].rolled {
                         self.failures.push(what);
                     }
                 }
@@ -692,7 +691,8 @@ impl World {
             None => {}
             Some(old) => {
                 (self.slots[node].excused, self.slots[node].rolled) = (true, true);
-                self.rolled += 1;
+                let written = |d: &Disk| d.read_all().values().flatten().filter(|b| **b != 0).count();
+                self.rolled += u64::from(written(&old) < written(&self.slots[node].disk));
                 self.slots[node].disk = old;
                 self.stop(node);
                 self.later(100 * MS, Will::Start { node });

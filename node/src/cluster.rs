@@ -131,6 +131,9 @@ impl Cluster {
                 return wrong("an earlier node has this fingerprint".into());
             }
         }
+        if node.parties().next().is_none() {
+            return wrong("has neither a server nor clients".into());
+        }
         for party in node.parties() {
             let most = if party.class == crate::sem::SERVER { self.parameters.n } else { CLIENTS.into() };
             if party.number == 0 || usize::from(party.number) > most {
@@ -212,7 +215,8 @@ initial = "000000"
             ("\"000000\"", "\"0000+1\"", "not hexadecimal"),
             ("server = 2", "server = 1", "server 1 is listed twice"),
             ("server = 4", "server = 5", "numbers are 1 to 4"),
-            ("server = 4", "", "server 4 of n = 4 is under no node"),
+            ("server = 4", "", "has neither a server nor clients"),
+            ("server = 4", "clients = [3]", "server 4 of n = 4 is under no node"),
             ("clients = [1, 2]", "clients = [0]", "numbers are 1 to 8"),
             ("clients = [1, 2]", "clients = [2, 2]", "client 2 is listed twice"),
             ("\"s2\"", "\"s1\"", "an earlier node has this name"),

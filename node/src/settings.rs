@@ -17,8 +17,6 @@ pub struct Settings {
     pub window_owner: usize,
     /// Asks of a desk that may wait their turn.
     pub asks_most: usize,
-    /// Whether all segments stay, as the trace; else those in front of the older of two snapshots go.
-    pub keep_all: bool,
     /// Milliseconds: how long a place waits for a batch; rest after which an empty batch is committed; between pings; after which a silent link is
     /// closed; between calls, at first and at most; until no space is looked at again.
     pub place_wait: u64,
@@ -44,7 +42,6 @@ impl Default for Settings {
             window: 32,
             window_owner: 8,
             asks_most: 64,
-            keep_all: true,
             place_wait: 10,
             fence_wait: 100,
             ping_every: 10_000,

@@ -83,7 +83,7 @@ fn tell_sent(told: &mut Told, from: Party, sent: &[u8]) -> Result<(), &'static s
 pub fn all(w: &mut World) {
     let mut failures = vec![];
     let mut logs = BTreeMap::new();
-    for node in w.honest() {
+    for node in w.honest().into_iter().filter(|n| !w.slots[*n].lied) {
         match read_log(&w.slots[node].disk, w.plan.cluster.register_digest()) {
             Ok(told) => drop(logs.insert(node, told)),
             Err(e) => failures.push(format!("4: the log of n{node} can't be read: {e}")),
@@ -148,7 +148,8 @@ fn served(w: &World, failures: &mut Vec<String>) {
 /// Check 7: the operations of honest desks have an order, by the world's clock.
 fn order(w: &World, logs: &BTreeMap<usize, Told>, failures: &mut Vec<String>) {
     let (mut lines, mut written, mut read) = (vec![], BTreeSet::new(), BTreeSet::new());
-    for ((client, operation), (write, ended)) in logs.values().flat_map(|l| &l.operations) {
+    let healthy = w.healthy();
+    for ((client, operation), (write, ended)) in logs.iter().filter(|l| healthy.contains(l.0)).flat_map(|l| &l.1.operations) {
         let Some((code, stamp)) = ended else { continue };
         if !matches!(*code, outcome::WRITTEN | outcome::VALUE) {
             continue;

@@ -23,6 +23,8 @@ pub struct Plan {
     pub clock: bool,
     /// A node is put back from an older copy of its folder.
     pub rollback: bool,
+    /// A node's disk says that it has synced, and has not.
+    pub lying: bool,
     /// Operations that each desk asks for.
     pub operations: u64,
 }
@@ -83,6 +85,7 @@ impl Plan {
             fail_sync: r.one_in(6),
             clock: r.one_in(3),
             rollback: r.one_in(5),
+            lying: r.one_in(8),
             operations: 2 + r.below(8),
             random: r,
             cluster,

@@ -58,6 +58,8 @@ pub struct Slot {
     pub excused: bool,
     /// It was put back from an older copy of its folder: if nobody notices, it counts among the false.
     pub rolled: bool,
+    /// Its disk lied: it may end in any way, and counts among the false.
+    pub lied: bool,
     /// Frames that it let out since: none, if it notices.
     let_out: u64,
     old_disk: Option<Disk>,
@@ -129,6 +131,7 @@ impl World {
                 evil: plan.evil.contains(&node).then(|| Evil::new(&plan.cluster, node)),
                 excused: false,
                 rolled: false,
+                lied: false,
                 let_out: 0,
                 old_disk: None,
             })
@@ -399,7 +402,9 @@ impl World {
             self.later(50 * MS, Will::Start { node });
             return;
         }
-        if !(code == exit::LOST && self.slots[node].rolled) {
+        if self.slots[node].lied {
+            // whatever it says, it does not go on
+        } else if !(code == exit::LOST && self.slots[node].rolled) {
             self.failures.push(format!("4: n{node} exits {code}: {line}"));
         } else if self.slots[node].let_out > 0 {
             self.failures.push(format!("2: n{node} lets frames out before it sees that its state was lost"));
@@ -673,6 +678,11 @@ impl World {
             self.slots[node].disk.fail_sync = true;
             self.slots[node].excused = true;
         }
+        let none_rolled = self.plan.evil.is_empty() && self.slots.iter().all(|s| !s.excused && !s.rolled);
+        if self.plan.lying && !self.plan.rollback && none_rolled && self.slots[node].ready && self.r.one_in(3) {
+            let slot = &mut self.slots[node];
+            (slot.disk.lying, slot.lied, slot.rolled, slot.excused) = (true, true, true, true);
+        }
         if self.plan.rollback && self.plan.evil.is_empty() {
             let desks = self.r.one_in(2);
             self.roll_back(if desks { self.plan.cluster.parameters.n } else { node });
@@ -712,8 +722,8 @@ impl World {
         self.mended = true;
         self.cuts.clear();
         for node in 0..self.slots.len() {
-            self.slots[node].disk.full = false;
-            self.slots[node].disk.fail_sync = false;
+            let disk = &mut self.slots[node].disk;
+            (disk.full, disk.fail_sync, disk.lying) = (false, false, false);
             if self.slots[node].evil.is_some() {
                 // false nodes fall silent: while they make others send there is no rest
                 self.stop(node);

@@ -80,11 +80,11 @@ fn measure(n: usize, t: usize, k: usize) {
             let after = sums(&nodes);
             let ms = |part: f64| times[((times.len() as f64 * part) as usize).min(times.len() - 1)].as_secs_f64() * 1e3;
             let count = times.len() as f64;
-            println!(
-                "n {n} t {t} k {k}, {} of {LENGTH} bytes, {clients} clients: {:.0} a second; ms p50 {:.2} p90 {:.2} p99 {:.2} most {:.2}; bytes an operation: {:.0} on the wire, {:.0} of log; load {}",
-                if write { "writes" } else { "reads" }, count / span, ms(0.5), ms(0.9), ms(0.99), ms(1.0),
-                (after.wire - before.wire) as f64 / count, (after.log - before.log) as f64 / count, load()
-            );
+            let kind = if write { "writes" } else { "reads" };
+            print!("n {n} t {t} k {k}, {kind} of {LENGTH} bytes, {clients} clients: {:.0} a second; ", count / span);
+            print!("ms p50 {:.2} p90 {:.2} p99 {:.2} most {:.2}; ", ms(0.5), ms(0.9), ms(0.99), ms(1.0));
+            let (wire, log) = ((after.wire - before.wire) as f64 / count, (after.log - before.log) as f64 / count);
+            println!("bytes an operation: {wire:.0} on the wire, {log:.0} of log; load {}", load());
         }
     }
     println!("n {n}: memory of server 1: {:.1} MB, of the desk: {:.1} MB", memory(&nodes, "s1"), memory(&nodes, "desk"));

@@ -96,6 +96,8 @@ pub struct Local {
     listener: UnixListener,
     connections: BTreeMap<u64, Connection>,
     askers: BTreeMap<AskId, u64>,
+    /// The connections in the order of the last `interests`; some may have gone since.
+    polled: Vec<u64>,
     next: u64,
 }
 
@@ -117,11 +119,12 @@ impl Local {
         let listener = UnixListener::bind(address(&File::open(folder)?))?;
         fs::set_permissions(&path, Permissions::from_mode(0o660))?;
         listener.set_nonblocking(true)?;
-        Ok(Local { listener, connections: BTreeMap::new(), askers: BTreeMap::new(), next: 0 })
+        Ok(Local { listener, connections: BTreeMap::new(), askers: BTreeMap::new(), polled: vec![], next: 0 })
     }
 
     /// What `poll` is to look at: the listener first, then the connections. Lines are read only while the node takes them.
-    pub fn interests(&self, taking: bool) -> Vec<(RawFd, PollFlags)> {
+    pub fn interests(&mut self, taking: bool) -> Vec<(RawFd, PollFlags)> {
+        self.polled = self.connections.keys().copied().collect();
         let mut all = vec![(self.listener.as_raw_fd(), PollFlags::POLLIN)];
         for c in self.connections.values() {
             let mut flags = PollFlags::empty();
@@ -132,11 +135,10 @@ impl Local {
         all
     }
 
-    /// Goes on with those that are ready, in the order of `interests`.
+    /// Goes on with those that are ready, in the order of the last `interests`.
     pub fn take(&mut self, ready: &[PollFlags]) -> Vec<Asked> {
         let mut asked = vec![];
-        let ids: Vec<u64> = self.connections.keys().copied().collect();
-        for (id, flags) in ids.into_iter().zip(ready.iter().skip(1)) {
+        for (id, flags) in std::mem::take(&mut self.polled).into_iter().zip(ready.iter().skip(1)) {
             if !flags.is_empty() {
                 self.go_on(id, *flags, &mut asked);
             }

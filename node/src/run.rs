@@ -15,7 +15,7 @@ use nix::time::{clock_gettime, ClockId};
 use openssl::ssl::SslContext;
 use semduoli::cluster::Cluster;
 use semduoli::core::Core;
-use semduoli::events::{Action, Event, Level, LinkId, NodeId, Now, Start, SEND_MOST};
+use semduoli::events::{Action, AskId, Event, Level, LinkId, NodeId, Now, Response, Start, SEND_MOST};
 use semduoli::settings::Settings;
 use serde_json::{json, Value};
 use std::collections::{BTreeMap, VecDeque};
@@ -212,7 +212,7 @@ impl Host {
             flags
         };
         let mut fds = vec![(sleeper.fd(), PollFlags::POLLIN)];
-        fds.extend(self.local.iter().flat_map(|l| l.interests(taking)));
+        fds.extend(self.local.iter_mut().flat_map(|l| l.interests(taking)));
         let links_at = fds.len();
         // one that nothing is wanted of is not looked at: its end would wake the loop again and again
         let watched: Vec<(LinkId, RawFd, PollFlags)> =
@@ -256,43 +256,49 @@ impl Host {
     fn carry_out(&mut self, action: Action) -> Result<(), End> {
         match action {
             Action::Ready => self.open().map_err(End)?,
-            Action::Send { link, bytes } => {
-                if let Some((_, l)) = self.links.get_mut(&link) {
-                    l.put(&bytes);
-                    if l.waiting() > SEND_MOST {
-                        self.down(link, "it does not take what it is sent".into());
-                    }
-                }
-            }
-            Action::Close { link, reason } => {
-                if let Some((node, link)) = self.links.remove(&link) {
-                    note(Level::Info, &format!("link to {} closed: {reason}", self.names[node]));
-                    let mut closing = Closing { link, finished: false, until: Instant::now() + CLOSING };
-                    if closing.go_on() {
-                        self.closing.push(closing);
-                    }
-                }
-            }
-            Action::Dial { node } => match &self.door {
-                Some((orders, waker)) => {
-                    let _ = orders.send(Order::Call { node });
-                    waker.wake();
-                }
-                None => self.events.push_back(Event::LinkDown { link: None, node, why: "the door is not open yet".into() }),
-            },
+            Action::Send { link, bytes } => self.send(link, &bytes),
+            Action::Close { link, reason } => self.close(link, &reason),
+            Action::Dial { node } => self.call(node),
             Action::Disk { id, lane, op } => self.disk.order(id, lane, op),
-            Action::Answer { id, response } => {
-                let more = self.program();
-                if let Some(mut local) = self.local.take() {
-                    let asked = local.answer(id, response, || more);
-                    self.local = Some(local);
-                    self.asked(asked);
-                }
-            }
+            Action::Answer { id, response } => self.answer(id, response),
             Action::Note { level, line } => note(level, &line),
             Action::Exit { code, line } => return Err(End(Failure::new(code, line))),
         }
         Ok(())
+    }
+
+    fn send(&mut self, link: LinkId, bytes: &[u8]) {
+        let Some((_, l)) = self.links.get_mut(&link) else { return };
+        l.put(bytes);
+        if l.waiting() > SEND_MOST {
+            self.down(link, "it does not take what it is sent".into());
+        }
+    }
+
+    fn close(&mut self, link: LinkId, reason: &str) {
+        let Some((node, link)) = self.links.remove(&link) else { return };
+        note(Level::Info, &format!("link to {} closed: {reason}", self.names[node]));
+        let mut closing = Closing { link, finished: false, until: Instant::now() + CLOSING };
+        if closing.go_on() {
+            self.closing.push(closing);
+        }
+    }
+
+    fn call(&mut self, node: NodeId) {
+        match &self.door {
+            Some((orders, waker)) => {
+                let _ = orders.send(Order::Call { node });
+                waker.wake();
+            }
+            None => self.events.push_back(Event::LinkDown { link: None, node, why: "the door is not open yet".into() }),
+        }
+    }
+
+    fn answer(&mut self, id: AskId, response: Response) {
+        let Some(mut local) = self.local.take() else { return };
+        let asked = local.answer(id, response, || self.program());
+        self.local = Some(local);
+        self.asked(asked);
     }
 
     /// What `status` shows of the program itself.

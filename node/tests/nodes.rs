@@ -23,6 +23,18 @@ fn writes(nodes: &Nodes, count: u8) {
     }
 }
 
+/// Starts a node that fails at a later commit, and writes until it has.
+fn fail(nodes: &mut Nodes, name: &str, fault: &str) -> i32 {
+    nodes.start_with(name, &[("SEMDUOLI_TEST_FAULT", format!("{fault}:30"))]);
+    for _ in 0..50 {
+        writes(nodes, 10);
+        if nodes.has_ended(name) {
+            break;
+        }
+    }
+    nodes.exit_code(name)
+}
+
 fn copy(from: &Path, to: &Path) {
     fs::create_dir_all(to).expect("a folder");
     for entry in fs::read_dir(from).expect("a folder").map(|e| e.expect("an entry")) {
@@ -76,9 +88,7 @@ fn a_failed_sync_ends_the_node_and_is_not_tried_again() {
     let mut nodes = Nodes::new("sync", SIZE);
     nodes.start_all();
     nodes.kill("s2");
-    nodes.start_with("s2", &[("SEMDUOLI_TEST_FAULT", "sync-fails:10".into())]);
-    writes(&nodes, 20);
-    assert_eq!(nodes.exit_code("s2"), DISK, "{}", nodes.notes("s2"));
+    assert_eq!(fail(&mut nodes, "s2", "sync-fails"), DISK, "{}", nodes.notes("s2"));
     nodes.start("s2");
     assert_eq!(nodes.exit_code("s2"), DISK, "{}", nodes.notes("s2"));
     let last = nodes.notes("s2").lines().last().unwrap_or_default().to_string();
@@ -91,9 +101,7 @@ fn a_full_disk_ends_the_node_and_nothing_is_lost() {
     let mut nodes = Nodes::new("full", SIZE);
     nodes.start_all();
     nodes.kill("s2");
-    nodes.start_with("s2", &[("SEMDUOLI_TEST_FAULT", "full:10".into())]);
-    writes(&nodes, 20);
-    assert_eq!(nodes.exit_code("s2"), DISK, "{}", nodes.notes("s2"));
+    assert_eq!(fail(&mut nodes, "s2", "full"), DISK, "{}", nodes.notes("s2"));
     nodes.start("s2");
     nodes.wait_for_rest();
 }

@@ -1,0 +1,302 @@
+//! What happens to a node and its folder, with real processes: a partner away, failing disks, torn and damaged logs, folders from a backup, a key used
+//! twice, traces.
+mod common;
+
+use common::{code, printed, said, semduoli, Nodes};
+use semduoli::log::{batch_at, segment_read, BATCH_HEAD};
+use semduoli::settings::BLOCK;
+use serde_json::Value;
+use std::fs;
+use std::path::Path;
+use std::process::Command;
+
+const SIZE: (usize, usize, usize, usize) = (4, 1, 2, 32);
+const DAMAGED: i32 = 10;
+const DISK: i32 = 11;
+const LOST: i32 = 12;
+
+fn writes(nodes: &Nodes, count: u8) {
+    let mut desk = nodes.desk();
+    for i in 0..count {
+        let answer = desk.write(1 + i % 8, &[i; 32]);
+        assert_eq!(answer["outcome"], "written", "{answer}");
+    }
+}
+
+/// Starts a node that fails at a later commit, and writes until it has.
+fn fail(nodes: &mut Nodes, name: &str, fault: &str) -> i32 {
+    nodes.start_with(name, &[("SEMDUOLI_TEST_FAULT", format!("{fault}:30"))]);
+    for _ in 0..50 {
+        writes(nodes, 10);
+        if nodes.has_ended(name) {
+            break;
+        }
+    }
+    nodes.exit_code(name)
+}
+
+fn copy(from: &Path, to: &Path) {
+    fs::create_dir_all(to).expect("a folder");
+    for entry in fs::read_dir(from).expect("a folder").map(|e| e.expect("an entry")) {
+        if entry.file_type().expect("a type").is_file() {
+            fs::copy(entry.path(), to.join(entry.file_name())).expect("a copy");
+        }
+    }
+}
+
+#[test]
+fn a_partner_that_was_away_catches_up() {
+    let mut nodes = Nodes::new("away", SIZE);
+    nodes.start_all();
+    writes(&nodes, 5);
+    nodes.kill("s4");
+    writes(&nodes, 100);
+    let owed = nodes.wait_until("s1", "owes", |s| {
+        let partners = s["partners"].as_array().expect("partners");
+        partners.iter().any(|p| p["name"] == "s4" && p["linked"] == false && p["owed_frames"].as_u64() > Some(100))
+    });
+    assert_eq!(owed["servers"][0]["stamp"][0], 105);
+    nodes.start("s4");
+    let all = nodes.wait_for_rest();
+    assert_eq!(all[3]["servers"][0]["stamp"], all[0]["servers"][0]["stamp"]);
+}
+
+#[test]
+fn an_operation_outlives_its_node_and_who_asked() {
+    let mut nodes = Nodes::new("outlives", SIZE);
+    nodes.start_all();
+    writes(&nodes, 1);
+    nodes.kill("s1");
+    nodes.kill("s2");
+    let desk = nodes.path("desk");
+    let waited = semduoli(&["write", "--folder", &desk, "--client", "2", "--wait", "1", "--hex", &"ab".repeat(32)]);
+    assert_eq!(code(&waited), 5, "{}", said(&waited));
+    assert!(said(&waited).contains("semduoli wait 1 --client 2"), "{}", said(&waited));
+    nodes.kill("desk");
+    nodes.start("desk");
+    nodes.start("s1");
+    nodes.start("s2");
+    nodes.wait_until("desk", "is open", |s| s["open"] == true);
+    let ended = semduoli(&["wait", "--folder", &desk, "--client", "2", "1"]);
+    assert_eq!((code(&ended), printed(&ended).starts_with("written")), (0, true), "{}", said(&ended));
+    let read = semduoli(&["read", "--folder", &desk, "--client", "3", "--hex"]);
+    assert_eq!(printed(&read).trim(), "ab".repeat(32), "{}", said(&read));
+}
+
+#[test]
+fn a_failed_sync_ends_the_node_and_is_not_tried_again() {
+    let mut nodes = Nodes::new("sync", SIZE);
+    nodes.start_all();
+    nodes.kill("s2");
+    assert_eq!(fail(&mut nodes, "s2", "sync-fails"), DISK, "{}", nodes.notes("s2"));
+    nodes.start("s2");
+    assert_eq!(nodes.exit_code("s2"), DISK, "{}", nodes.notes("s2"));
+    let last = nodes.notes("s2").lines().last().unwrap_or_default().to_string();
+    assert!(last.contains("restart the machine"), "{last}");
+    writes(&nodes, 5);
+}
+
+#[test]
+fn a_full_disk_ends_the_node_and_nothing_is_lost() {
+    let mut nodes = Nodes::new("full", SIZE);
+    nodes.start_all();
+    nodes.kill("s2");
+    assert_eq!(fail(&mut nodes, "s2", "full"), DISK, "{}", nodes.notes("s2"));
+    nodes.start("s2");
+    nodes.wait_for_rest();
+}
+
+#[test]
+fn a_folder_from_a_backup_is_recognized() {
+    let mut nodes = Nodes::new("backup", SIZE);
+    nodes.start_all();
+    writes(&nodes, 10);
+    nodes.wait_for_rest();
+    nodes.kill("s3");
+    let (folder, backup) = (nodes.at("s3"), nodes.folder.join("backup"));
+    copy(&folder, &backup);
+    nodes.start("s3");
+    nodes.wait_until("s3", "is open", |s| s["open"] == true);
+    writes(&nodes, 10);
+    nodes.wait_for_rest();
+    nodes.kill("s3");
+    fs::remove_dir_all(&folder).expect("removed");
+    copy(&backup, &folder);
+    for _ in 0..2 {
+        nodes.start("s3");
+        assert_eq!(nodes.exit_code("s3"), LOST, "{}", nodes.notes("s3"));
+    }
+    writes(&nodes, 5);
+}
+
+#[test]
+fn a_key_used_twice_is_recognized() {
+    let mut nodes = Nodes::new("twice", SIZE);
+    nodes.start_all();
+    writes(&nodes, 10);
+    nodes.wait_for_rest();
+    let twin = nodes.at("twin");
+    fs::create_dir_all(&twin).expect("a folder");
+    for file in ["node.key", "node.crt"] {
+        fs::copy(nodes.at("s4").join(file), twin.join(file)).expect("a copy");
+    }
+    // the twin opens another port
+    let text = fs::read_to_string(nodes.at("s4").join("cluster.toml")).expect("a cluster file");
+    let own = format!("127.0.0.1:{}", nodes.ports[3]);
+    assert!(text.contains(&own));
+    fs::write(twin.join("cluster.toml"), text.replace(&own, "127.0.0.1:0")).expect("written");
+    nodes.start("twin");
+    assert_eq!(nodes.exit_code("twin"), LOST, "{}", nodes.notes("twin"));
+    writes(&nodes, 10);
+    nodes.wait_for_rest();
+}
+
+/// Where each batch of a segment begins, and its bytes without the zeros behind it.
+fn batches(segment: &[u8]) -> Vec<(usize, usize)> {
+    let log = segment_read(segment, 1).expect("a segment");
+    let mut found = vec![];
+    let mut at = BLOCK as usize;
+    while let Some(batch) = batch_at(&log.id, segment, at) {
+        found.push((at, BATCH_HEAD + batch.payload.len()));
+        at += batch.bytes.len();
+    }
+    found
+}
+
+#[test]
+fn a_torn_log_is_cut_and_a_damaged_one_stops_the_node() {
+    let mut nodes = Nodes::new("torn", SIZE);
+    nodes.start_all();
+    writes(&nodes, 10);
+    nodes.wait_for_rest();
+    // the node is tried alone: its partners would see that it goes back
+    nodes.names().iter().for_each(|name| nodes.kill(name));
+    let (folder, kept) = (nodes.at("s2"), nodes.folder.join("kept"));
+    copy(&folder, &kept);
+    let segment = fs::read(kept.join("log-00000001")).expect("a segment");
+    let found = batches(&segment);
+    assert!(found.len() > 10, "{} batches", found.len());
+    let put_back = |segment: &[u8]| {
+        fs::remove_dir_all(&folder).expect("removed");
+        copy(&kept, &folder);
+        fs::write(folder.join("log-00000001"), segment).expect("written");
+    };
+    // a batch of which some bytes came to the disk stands behind the last whole one
+    let ((earlier, length), (last, _)) = (found[found.len() / 2], found[found.len() - 1]);
+    for part in (1..length).step_by(length / 20 + 1) {
+        let mut torn = segment.clone();
+        let behind = last + BLOCK as usize;
+        torn[behind..behind + part].copy_from_slice(&segment[earlier..earlier + part]);
+        put_back(&torn);
+        nodes.start("s2");
+        nodes.wait_until("s2", "is ready", |_| true);
+        nodes.kill("s2");
+    }
+    for (i, (at, length)) in found.iter().enumerate().take(found.len() - 1).step_by(3) {
+        let mut damaged = segment.clone();
+        damaged[at + (i * 37) % length] ^= 1 << (i % 8);
+        put_back(&damaged);
+        nodes.start("s2");
+        assert_eq!(nodes.exit_code("s2"), DAMAGED, "batch {i}: {}", nodes.notes("s2"));
+        let checked = semduoli(&["verify", "--folder", &nodes.path("s2")]);
+        assert_eq!(code(&checked), DAMAGED, "{}", said(&checked));
+    }
+    put_back(&segment);
+    nodes.start_all();
+    nodes.wait_for_rest();
+}
+
+#[test]
+fn a_trace_is_played_back_to_the_servers_state() {
+    let mut nodes = Nodes::new("trace", SIZE);
+    nodes.start_all();
+    writes(&nodes, 30);
+    let status = nodes.wait_for_rest();
+    let (own, file) = (nodes.path("s1"), nodes.folder.join("trace"));
+    let path = file.to_str().expect("text");
+    let cluster = nodes.at("s1").join("cluster.toml");
+    let made = semduoli(&["trace", "--folder", &own, path]);
+    assert_eq!(code(&made), 0, "{}", said(&made));
+    let play = |path: &str| semduoli(&["play", path, "--cluster", cluster.to_str().expect("text"), "--server", "1", "--json"]);
+    let played: Value = serde_json::from_str(&printed(&play(path))).expect("an object");
+    let server = &status[0]["servers"][0];
+    assert_eq!((&played["stamp"], &played["record"]), (&server["stamp"], &server["record"]));
+    let again = semduoli(&["trace", "--folder", &own, path]);
+    assert_eq!(code(&again), 1, "{}", said(&again));
+    let bytes = fs::read(&file).expect("a trace");
+    fs::write(&file, &bytes[..bytes.len() - 1]).expect("written");
+    assert_eq!(code(&play(path)), 4);
+    let sheet = semduoli(&["sheet", "--folder", &nodes.path("desk")]);
+    assert_eq!((code(&sheet), printed(&sheet).lines().count()), (0, 60), "{}", said(&sheet));
+    let history = nodes.folder.join("history");
+    for clock in ["local", "wall"] {
+        let lines = semduoli(&["history", "--folder", &nodes.path("desk"), "--clock", clock]);
+        fs::write(&history, printed(&lines)).expect("written");
+        let judged = semduoli(&["judge", history.to_str().expect("text")]);
+        assert!(printed(&judged).starts_with("30 operations have an order"), "{clock}: {}", said(&judged));
+    }
+}
+
+/// A folder on a small disk of its own, in memory; none where this user may not mount one.
+struct SmallDisk(std::path::PathBuf);
+
+impl SmallDisk {
+    fn new(folder: &Path, mib: u32) -> Option<SmallDisk> {
+        fs::create_dir_all(folder).expect("a folder");
+        let size = format!("size={mib}m");
+        let mounted = Command::new("mount").args(["-t", "tmpfs", "-o", &size, "none"]).arg(folder).status();
+        mounted.is_ok_and(|s| s.success()).then(|| SmallDisk(folder.to_path_buf()))
+    }
+}
+
+impl Drop for SmallDisk {
+    fn drop(&mut self) {
+        let _ = Command::new("umount").args(["-l"]).arg(&self.0).status();
+    }
+}
+
+#[test]
+fn a_disk_with_no_space_stops_taking_and_goes_on_after_room_is_made() {
+    let mut nodes = Nodes::new("space", SIZE);
+    let own = nodes.at("s4");
+    let kept = nodes.folder.join("kept");
+    copy(&own, &kept);
+    let Some(_disk) = SmallDisk::new(&own, 60) else {
+        println!("not tried: this user may not mount a small disk");
+        return;
+    };
+    copy(&kept, &own);
+    nodes.start("s4");
+    assert_eq!(nodes.exit_code("s4"), DISK, "{}", nodes.notes("s4"));
+    assert!(nodes.notes("s4").contains("MiB are free"), "{}", nodes.notes("s4"));
+    let grown = Command::new("mount").args(["-o", "remount,size=100m"]).arg(&own).status();
+    assert!(grown.expect("mount runs").success());
+    nodes.start_all();
+    writes(&nodes, 3);
+    nodes.wait_for_rest();
+    // the first segment and the one made ahead are there; nothing is left for a third
+    let filler = own.join("filler");
+    let mut left = free_space(&own);
+    let mut bytes = vec![];
+    while left > 0 {
+        bytes.resize(bytes.len() + left as usize, 1);
+        fs::write(&filler, &bytes).unwrap_or_default();
+        left = free_space(&own);
+    }
+    for _ in 0..12 {
+        writes(&nodes, 250);
+        if nodes.status("s4").is_some_and(|s| !s["alarm"].is_null()) {
+            break;
+        }
+    }
+    let alarmed = nodes.wait_until("s4", "says that there is no space", |s| !s["alarm"].is_null());
+    println!("alarm: {}", alarmed["alarm"]);
+    fs::remove_file(&filler).expect("removed");
+    nodes.wait_until("s4", "goes on", |s| s["alarm"].is_null());
+    nodes.wait_for_rest();
+}
+
+fn free_space(folder: &Path) -> u64 {
+    let s = nix::sys::statvfs::statvfs(folder).expect("a disk");
+    s.blocks_available() * s.fragment_size()
+}

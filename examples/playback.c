@@ -239,8 +239,11 @@ static void print_hex(const uint8_t *bytes, size_t length)
 
 static void print_header(unsigned kind, unsigned client, unsigned long long sequence)
 {
-    static const char *const kinds[] = {NULL,  "get-stamp", "stamp", "send", "echo",  "ready",        NULL,
-                                        NULL, NULL,        "ack",   "read", "value", "read-complete"};
+    static const char *const kinds[] = {
+        [SEMDUOLI_KIND_GET_STAMP] = "get-stamp", [SEMDUOLI_KIND_STAMP] = "stamp", [SEMDUOLI_KIND_SEND] = "send",
+        [SEMDUOLI_KIND_ECHO] = "echo",           [SEMDUOLI_KIND_READY] = "ready", [SEMDUOLI_KIND_ACK] = "ack",
+        [SEMDUOLI_KIND_READ] = "read",           [SEMDUOLI_KIND_VALUE] = "value", [SEMDUOLI_KIND_READ_COMPLETE] = "read-complete",
+    };
     if (kind < sizeof kinds / sizeof *kinds && kinds[kind])
         printf("%s", kinds[kind]);
     else

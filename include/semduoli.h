@@ -47,7 +47,7 @@
  *    brings it the ones that it missed. A server to which they were dropped lags for good and counts as one of the t false ones. (What is
  *    proved of operations that end takes it that every frame arrives; that these are not needed follows from the steps, and is not proved.)
  *
- * examples/first.c is a small host, and examples/bank.c one that does all of this.
+ * For hosts in Rust semduoli.rs declares the same calls and numbers. examples/first.c is a small host, and examples/bank.c one that does all of this.
  */
 #ifndef SEMDUOLI_H
 #define SEMDUOLI_H

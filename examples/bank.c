@@ -16,7 +16,7 @@ enum { N = 4, T = 1, K = 2, SIZE = 8, SLOW = 3, FALSE_SERVER = 4, CLIENTS = 2, K
 
 /* a frame, with its sender and its receiver */
 struct parcel {
-    uint8_t from[2], to[2], frame[SEMDUOLI_FRAME(N, K, SIZE)];
+    uint8_t from[SEMDUOLI_RECEIVER], to[SEMDUOLI_RECEIVER], frame[SEMDUOLI_FRAME(N, K, SIZE)];
     size_t length;
 };
 
@@ -130,7 +130,7 @@ static void add_sent(struct party *p, uint64_t answer, const uint8_t *out, const
         struct parcel *q = &p->unsent[p->unsent_count++];
         q->from[0] = p->class_;
         q->from[1] = p->number;
-        memcpy(q->to, to + 2 * i, 2);
+        memcpy(q->to, to + SEMDUOLI_RECEIVER * i, SEMDUOLI_RECEIVER);
         q->length = semduoli_frame_length(out);
         memcpy(q->frame, out, q->length);
         out += q->length;
@@ -143,7 +143,7 @@ static int is_needless(const struct party *p, const struct parcel *q)
     unsigned kind = kind_of(q), open;
     if (q->to[0] == SEMDUOLI_CLASS_CLIENT) { /* from a server: a later one of its kind goes there */
         for (const struct parcel *later = q + 1; later < p->unsent + p->unsent_count; later++)
-            if (!memcmp(later->to, q->to, 2) && kind_of(later) == kind && sequence_of(later) + (kind != SEMDUOLI_KIND_VALUE) > sequence_of(q))
+            if (!memcmp(later->to, q->to, sizeof q->to) && kind_of(later) == kind && sequence_of(later) + (kind != SEMDUOLI_KIND_VALUE) > sequence_of(q))
                 return 1;
         return 0;
     }
@@ -228,7 +228,7 @@ static void note_write(struct party *c)
 {
     const struct parcel *q = &c->unsent[c->unsent_count - 1];
     uint8_t time[SEMDUOLI_TIME];
-    if (semduoli_frame_time(N, T, K, SIZE, q->frame, q->length, time, sizeof time) >> 8 != SEMDUOLI_HAS_TIME)
+    if (SEMDUOLI_OUTCOME(semduoli_frame_time(N, T, K, SIZE, q->frame, q->length, time, sizeof time)) != SEMDUOLI_HAS_TIME)
         stop("write", "a frame without a time");
     c->stamp.time = semduoli_stamp_time(time) + 1;
     c->stamp.writer = c->number;

@@ -39,7 +39,8 @@ static void show_sent(uint64_t answer, const uint8_t *out, const uint8_t *to)
     size_t at = 0;
     for (unsigned i = 0; i < SEMDUOLI_COUNT(answer); i++) {
         size_t length = semduoli_frame_length(out + at);
-        printf("to %s %u", to[2 * i] ? "server" : "client", to[2 * i + 1]);
+        const uint8_t *receiver = to + SEMDUOLI_RECEIVER * i;
+        printf("to %s %u", receiver[0] == SEMDUOLI_CLASS_SERVER ? "server" : "client", receiver[1]);
         show(":", out + at, length);
         at += length;
     }
@@ -167,7 +168,7 @@ struct client {
 };
 
 struct parcel {
-    uint8_t from[2], to[2], frame[SEMDUOLI_FRAME(N, K, SIZE)];
+    uint8_t from[SEMDUOLI_RECEIVER], to[SEMDUOLI_RECEIVER], frame[SEMDUOLI_FRAME(N, K, SIZE)];
     size_t length;
 };
 
@@ -184,7 +185,7 @@ static void add_sent(uint8_t sender_class, uint8_t sender, uint64_t answer, cons
         struct parcel *p = &waiting[added++ % WAITING];
         p->from[0] = sender_class;
         p->from[1] = sender;
-        memcpy(p->to, to + 2 * i, 2);
+        memcpy(p->to, to + SEMDUOLI_RECEIVER * i, SEMDUOLI_RECEIVER);
         p->length = semduoli_frame_length(out + at);
         memcpy(p->frame, out + at, p->length);
         at += p->length;

@@ -16,16 +16,22 @@ enum { N = 4, T = 1, K = 2, SIZE = 8, SLOW = 3, FALSE_SERVER = 4, CLIENTS = 2, K
 
 /* a frame, with its sender and its receiver */
 struct parcel {
-    uint8_t from[2], to[2], frame[SEMDUOLI_FRAME(N, K, SIZE)];
+    uint8_t from[SEMDUOLI_RECEIVER], to[SEMDUOLI_RECEIVER], frame[SEMDUOLI_FRAME(N, K, SIZE)];
     size_t length;
+};
+
+struct stamp {
+    uint64_t time, sequence;
+    unsigned writer;
 };
 
 /* all that belongs to a party: record and areas; of a client's open operation the value, its kind, when it began, and its stamp; the frames that a
  * server answered 13, at most KEPT for each sender and client; what was sent and nobody has confirmed, which has no bound (in a file it comes last) */
 struct party {
     uint8_t class_, number;
-    uint8_t state[SEMDUOLI_SERVER], area[SEMDUOLI_AREA], initial[SEMDUOLI_INITIAL(K, SIZE)], value[SIZE], stamp[SEMDUOLI_STAMP];
+    uint8_t state[SEMDUOLI_SERVER], area[SEMDUOLI_AREA], initial[SEMDUOLI_INITIAL(K, SIZE)], value[SIZE];
     char kind;
+    struct stamp stamp;
     uint32_t start;
     struct parcel early[CLIENTS + 1][N + 1][KEPT];
     size_t early_count[CLIENTS + 1][N + 1], unsent_count, unsent_room;
@@ -124,7 +130,7 @@ static void add_sent(struct party *p, uint64_t answer, const uint8_t *out, const
         struct parcel *q = &p->unsent[p->unsent_count++];
         q->from[0] = p->class_;
         q->from[1] = p->number;
-        memcpy(q->to, to + 2 * i, 2);
+        memcpy(q->to, to + SEMDUOLI_RECEIVER * i, SEMDUOLI_RECEIVER);
         q->length = semduoli_frame_length(out);
         memcpy(q->frame, out, q->length);
         out += q->length;
@@ -137,7 +143,7 @@ static int is_needless(const struct party *p, const struct parcel *q)
     unsigned kind = kind_of(q), open;
     if (q->to[0] == SEMDUOLI_CLASS_CLIENT) { /* from a server: a later one of its kind goes there */
         for (const struct parcel *later = q + 1; later < p->unsent + p->unsent_count; later++)
-            if (!memcmp(later->to, q->to, 2) && kind_of(later) == kind && sequence_of(later) + (kind != SEMDUOLI_KIND_VALUE) > sequence_of(q))
+            if (!memcmp(later->to, q->to, sizeof q->to) && kind_of(later) == kind && sequence_of(later) + (kind != SEMDUOLI_KIND_VALUE) > sequence_of(q))
                 return 1;
         return 0;
     }
@@ -211,25 +217,29 @@ static void hand_early(struct party *s)
 static void note(const struct party *c)
 {
     size_t length = strlen(history), room = sizeof history - length;
-    int added = snprintf(history + length, room, "%c %u %u %llu %u %u %u\n", c->kind, c->start, ++now, (unsigned long long)semduoli_stamp_time(c->stamp),
-                         semduoli_stamp_writer(c->stamp), (unsigned)semduoli_stamp_sequence(c->stamp), c->number);
+    int added = snprintf(history + length, room, "%c %u %u %llu %u %llu %u\n", c->kind, c->start, ++now, (unsigned long long)c->stamp.time,
+                         c->stamp.writer, (unsigned long long)c->stamp.sequence, c->number);
     if (added < 0 || (size_t)added >= room)
         stop("history", "too long");
 }
 
 /* The stamp of a write: one above the time in the frames of the step that sends it out, the client's number, and the sequence. */
-static void note_stamp(struct party *c)
+static void note_write(struct party *c)
 {
     const struct parcel *q = &c->unsent[c->unsent_count - 1];
-    uint64_t sequence = sequence_of(q);
-    uint8_t *stamp = c->stamp;
-    if (semduoli_frame_time(N, T, K, SIZE, q->frame, q->length, stamp, SEMDUOLI_TIME) >> 8 != SEMDUOLI_HAS_TIME)
+    uint8_t time[SEMDUOLI_TIME];
+    if (SEMDUOLI_OUTCOME(semduoli_frame_time(N, T, K, SIZE, q->frame, q->length, time, sizeof time)) != SEMDUOLI_HAS_TIME)
         stop("write", "a frame without a time");
-    for (int i = SEMDUOLI_TIME - 1; i >= 0 && ++stamp[i] == 0; i--)
-        ;
-    stamp[SEMDUOLI_TIME] = c->number;
-    for (int i = SEMDUOLI_STAMP - 1; i > (int)SEMDUOLI_TIME; i--, sequence >>= 8)
-        stamp[i] = (uint8_t)sequence;
+    c->stamp.time = semduoli_stamp_time(time) + 1;
+    c->stamp.writer = c->number;
+    c->stamp.sequence = sequence_of(q);
+}
+
+static void note_read(struct party *c, const uint8_t *stamp)
+{
+    c->stamp.time = semduoli_stamp_time(stamp);
+    c->stamp.writer = semduoli_stamp_writer(stamp);
+    c->stamp.sequence = semduoli_stamp_sequence(stamp);
 }
 
 /* What has ended is told, and noted where it has a stamp: a write that closed and a read whose blocks disagree are no lines of the history. */
@@ -250,16 +260,18 @@ static void tell(const struct party *c, unsigned outcome, const uint8_t *result)
 /* hands a frame to a client; whether it is confirmed */
 static int to_client(struct party *c, const struct parcel *q)
 {
-    uint8_t out[SEMDUOLI_CLIENT_OUT(N, K, SIZE)], to[SEMDUOLI_CLIENT_TO(N)], result[SIZE];
+    uint8_t out[SEMDUOLI_CLIENT_OUT(N, K, SIZE)], to[SEMDUOLI_CLIENT_TO(N)], result[SIZE], stamp[SEMDUOLI_STAMP];
     uint64_t answer = semduoli_client_deliver(N, T, K, SIZE, c->number, q->from[0], q->from[1], c->value, SIZE, q->frame, q->length, c->area,
-                                              sizeof c->area, result, SIZE, c->stamp, SEMDUOLI_STAMP, c->state, SEMDUOLI_CLIENT, out,
-                                              sizeof out, to, sizeof to);
+                                              sizeof c->area, result, SIZE, stamp, SEMDUOLI_STAMP, c->state, SEMDUOLI_CLIENT, out, sizeof out,
+                                              to, sizeof to);
     handed_in++;
     if (SEMDUOLI_REFUSAL(answer))
         return SEMDUOLI_REFUSAL(answer) != SEMDUOLI_REFUSED_ROOM;
     add_sent(c, answer, out, to);
     if (SEMDUOLI_OUTCOME(answer) == SEMDUOLI_SENT && SEMDUOLI_COUNT(answer) == N)
-        note_stamp(c);
+        note_write(c);
+    if (SEMDUOLI_OUTCOME(answer) == SEMDUOLI_VALUE)
+        note_read(c, stamp);
     store(c);
     tell(c, SEMDUOLI_OUTCOME(answer), result);
     return 1;

@@ -9,7 +9,7 @@ enum { SIZE = 12, CLIENTS = 2, WAITING = 2048 };
 
 static struct { uint8_t state[SEMDUOLI_SERVER], area[SEMDUOLI_AREA], initial[SIZE]; } servers[SEMDUOLI_SERVERS_MOST + 1];
 static struct { uint8_t state[SEMDUOLI_CLIENT], rows[SEMDUOLI_ROWS]; } clients[CLIENTS + 1];
-static struct parcel { uint8_t from[2], to[2], frame[SEMDUOLI_FRAME_MOST]; size_t length; } waiting[WAITING];
+static struct parcel { uint8_t from[SEMDUOLI_RECEIVER], to[SEMDUOLI_RECEIVER], frame[SEMDUOLI_FRAME_MOST]; size_t length; } waiting[WAITING];
 static size_t n, t, k, taken, added, refused;
 static uint8_t out[SEMDUOLI_OUT_MOST], to[SEMDUOLI_TO_MOST], result[SIZE], stamp[SEMDUOLI_STAMP];
 static const uint8_t *value;
@@ -26,7 +26,7 @@ static void send_frames(uint8_t sender_class, uint8_t sender, uint64_t answer)
         struct parcel *p = &waiting[added++ % WAITING];
         p->from[0] = sender_class;
         p->from[1] = sender;
-        memcpy(p->to, to + 2 * i, 2);
+        memcpy(p->to, to + SEMDUOLI_RECEIVER * i, SEMDUOLI_RECEIVER);
         p->length = semduoli_frame_length(frame);
         memcpy(p->frame, frame, p->length);
         frame += p->length;

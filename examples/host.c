@@ -26,7 +26,9 @@ static void show_sizes(void)
               IS_SIZE(SEMDUOLI_SERVER_TO(n)) && IS_SIZE(SEMDUOLI_CLIENT_OUT(n, k, size)) && IS_SIZE(SEMDUOLI_CLIENT_TO(n)) &&
               IS_SIZE(SEMDUOLI_OUT_MOST) && IS_SIZE(SEMDUOLI_TO_MOST) && IS_SIZE(SEMDUOLI_SHEET(size)) && IS_SIZE(SEMDUOLI_DIGEST) &&
               IS_SIZE(SEMDUOLI_SERVER) && IS_SIZE(SEMDUOLI_CLIENT) && IS_SIZE(SEMDUOLI_AREA) && IS_SIZE(SEMDUOLI_ROWS) && IS_SIZE(SEMDUOLI_STAMP) &&
-              IS_SIZE(SEMDUOLI_LINES) && IS_SIZE(SEMDUOLI_PAGE) && IS_SIZE(SEMDUOLI_INDEX) && IS_SIZE(SEMDUOLI_PLAYBACK_OUT(n, k, size, entries));
+              IS_SIZE(SEMDUOLI_LINES) && IS_SIZE(SEMDUOLI_PAGE) && IS_SIZE(SEMDUOLI_INDEX) && IS_SIZE(SEMDUOLI_PLAYBACK_OUT(n, k, size, entries)) &&
+              IS_SIZE(SEMDUOLI_TIME) && IS_SIZE(SEMDUOLI_ENTRY_HEAD) && IS_SIZE(SEMDUOLI_ENTRY(size)) && IS_SIZE(SEMDUOLI_ENTRY_FRAME_MOST) &&
+              IS_SIZE(SEMDUOLI_RECEIVER) && IS_SIZE(SEMDUOLI_REPLY_HEAD);
     printf("%sout of %d entries played back: %llu bytes\n", all ? "" : "a size is no size_t; ", entries,
            (unsigned long long)SEMDUOLI_PLAYBACK_OUT(n, k, size, entries));
 }
@@ -37,7 +39,8 @@ static void show_sent(uint64_t answer, const uint8_t *out, const uint8_t *to)
     size_t at = 0;
     for (unsigned i = 0; i < SEMDUOLI_COUNT(answer); i++) {
         size_t length = semduoli_frame_length(out + at);
-        printf("to %s %u", to[2 * i] ? "server" : "client", to[2 * i + 1]);
+        const uint8_t *receiver = to + SEMDUOLI_RECEIVER * i;
+        printf("to %s %u", receiver[0] == SEMDUOLI_CLASS_SERVER ? "server" : "client", receiver[1]);
         show(":", out + at, length);
         at += length;
     }
@@ -165,7 +168,7 @@ struct client {
 };
 
 struct parcel {
-    uint8_t from[2], to[2], frame[SEMDUOLI_FRAME(N, K, SIZE)];
+    uint8_t from[SEMDUOLI_RECEIVER], to[SEMDUOLI_RECEIVER], frame[SEMDUOLI_FRAME(N, K, SIZE)];
     size_t length;
 };
 
@@ -182,7 +185,7 @@ static void add_sent(uint8_t sender_class, uint8_t sender, uint64_t answer, cons
         struct parcel *p = &waiting[added++ % WAITING];
         p->from[0] = sender_class;
         p->from[1] = sender;
-        memcpy(p->to, to + 2 * i, 2);
+        memcpy(p->to, to + SEMDUOLI_RECEIVER * i, SEMDUOLI_RECEIVER);
         p->length = semduoli_frame_length(out + at);
         memcpy(p->frame, out + at, p->length);
         at += p->length;
@@ -310,8 +313,9 @@ static void play_back(size_t trace_length, size_t short_by)
     uint64_t answer = semduoli_playback(N, T, K, SIZE, 3, (const uint8_t *)"first", SIZE, trace, trace_length, s->area, sizeof s->area, s->initial,
                                         sizeof s->initial, s->state, sizeof s->state, out, sizeof out - short_by);
     printf("playback: refusal %u, closed by %u, entries %u\n", SEMDUOLI_REFUSAL(answer), SEMDUOLI_OUTCOME(answer), (unsigned)SEMDUOLI_ENTRIES(answer));
+    size_t first = SEMDUOLI_REPLY_HEAD + SEMDUOLI_RECEIVER; /* one frame was sent, to the first entry */
     if (!SEMDUOLI_REFUSAL(answer))
-        show("replies:", out, 22 + 3);
+        show("replies:", out, first + semduoli_frame_length(out + first) + SEMDUOLI_REPLY_HEAD);
 }
 
 int main(void)

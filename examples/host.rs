@@ -1,63 +1,16 @@
-// A host in Rust: the same calls as host.c. The declarations are those of include/semduoli.h; each wrapper passes a slice as its pointer and length.
+// A host in Rust: the same calls as host.c. include/semduoli.rs declares them; each wrapper passes a slice as its pointer and length.
 use std::collections::VecDeque;
 
+#[path = "../include/semduoli.rs"]
+mod raw;
+
+#[link(name = "semduoli", kind = "static")]
+extern "C" {}
+
 mod semduoli {
-    mod raw {
-        #[link(name = "semduoli", kind = "static")]
-        extern "C" {
-            pub fn semduoli_digest(m: *const u8, m_len: usize, out: *mut u8, out_len: usize) -> u64;
-            pub fn semduoli_encode(n: usize, t: usize, k: usize, size: usize, v: *const u8, v_len: usize, out: *mut u8, out_len: usize) -> u64;
-            pub fn semduoli_decode(
-                n: usize, t: usize, k: usize, size: usize, js: *const u8, js_len: usize, bs: *const u8, bs_len: usize, out: *mut u8, out_len: usize,
-            ) -> u64;
-            pub fn semduoli_judge(text: *const u8, text_len: usize, lines: *mut u8, lines_len: usize) -> u64;
-            pub fn semduoli_sheet(text: *const u8, text_len: usize, out: *mut u8, out_len: usize) -> u64;
-            pub fn semduoli_index_fresh(index: *mut u8, index_len: usize) -> u64;
-            pub fn semduoli_index_insert(v: *const u8, v_len: usize, index: *mut u8, index_len: usize) -> u64;
-            pub fn semduoli_index_search(number: u64, index: *const u8, index_len: usize) -> u64;
-            pub fn semduoli_server_fresh(
-                n: usize, t: usize, k: usize, size: usize, me: usize, v: *const u8, v_len: usize, area: *mut u8, area_len: usize, initial: *mut u8,
-                initial_len: usize, state: *mut u8, state_len: usize,
-            ) -> u64;
-            pub fn semduoli_server_deliver(
-                n: usize, t: usize, k: usize, size: usize, me: usize, class: usize, sender: usize, f: *const u8, f_len: usize, area: *mut u8,
-                area_len: usize, initial: *const u8, initial_len: usize, state: *mut u8, state_len: usize, out: *mut u8, out_len: usize, to: *mut u8,
-                to_len: usize,
-            ) -> u64;
-            pub fn semduoli_playback(
-                n: usize, t: usize, k: usize, size: usize, me: usize, v: *const u8, v_len: usize, trace: *const u8, trace_len: usize, area: *mut u8,
-                area_len: usize, initial: *mut u8, initial_len: usize, state: *mut u8, state_len: usize, out: *mut u8, out_len: usize,
-            ) -> u64;
-            pub fn semduoli_frame_header(n: usize, t: usize, k: usize, size: usize, f: *const u8, f_len: usize) -> u64;
-            pub fn semduoli_frame_time(
-                n: usize, t: usize, k: usize, size: usize, f: *const u8, f_len: usize, time: *mut u8, time_len: usize,
-            ) -> u64;
-            pub fn semduoli_entry_write(class: usize, sender: usize, f: *const u8, f_len: usize, out: *mut u8, out_len: usize) -> u64;
-            pub fn semduoli_entry_read(trace: *const u8, trace_len: usize) -> u64;
-            pub fn semduoli_server_block(
-                n: usize, t: usize, k: usize, size: usize, area: *const u8, area_len: usize, initial: *const u8, initial_len: usize, state: *const u8,
-                state_len: usize, block: *mut u8, block_len: usize,
-            ) -> u64;
-            pub fn semduoli_version() -> u64;
-            pub fn semduoli_server_stamp(state: *const u8, state_len: usize, stamp: *mut u8, stamp_len: usize) -> u64;
-            pub fn semduoli_server_open(client: usize, state: *const u8, state_len: usize) -> u64;
-            pub fn semduoli_client_open(state: *const u8, state_len: usize) -> u64;
-            pub fn semduoli_client_fresh(state: *mut u8, state_len: usize) -> u64;
-            pub fn semduoli_begin_read(
-                n: usize, t: usize, k: usize, size: usize, me: usize, state: *mut u8, state_len: usize, out: *mut u8, out_len: usize, to: *mut u8,
-                to_len: usize,
-            ) -> u64;
-            pub fn semduoli_begin_write(
-                n: usize, t: usize, k: usize, size: usize, me: usize, state: *mut u8, state_len: usize, v: *const u8, v_len: usize, out: *mut u8,
-                out_len: usize, to: *mut u8, to_len: usize,
-            ) -> u64;
-            pub fn semduoli_client_deliver(
-                n: usize, t: usize, k: usize, size: usize, me: usize, class: usize, sender: usize, v: *const u8, v_len: usize, f: *const u8, f_len: usize,
-                rows: *mut u8, rows_len: usize, result: *mut u8, result_len: usize, stamp: *mut u8, stamp_len: usize, state: *mut u8, state_len: usize,
-                out: *mut u8, out_len: usize, to: *mut u8, to_len: usize,
-            ) -> u64;
-        }
-    }
+    use crate::raw;
+    pub use crate::raw::{AREA, CLIENT, DIGEST, ENTRY_HEAD, HAS_TIME, INDEX, LINES, ORDERED, PAGE, RECEIVER, REFUSED_AHEAD, REPLY_HEAD, ROWS, SENT};
+    pub use crate::raw::{SERVER, STAMP, TIME, TRACE_WHOLE, VALUE, VERSION, WRITTEN};
 
     pub struct Params {
         pub n: usize,
@@ -68,16 +21,16 @@ mod semduoli {
 
     impl Params {
         pub fn block(&self) -> usize {
-            (self.size + self.k - 1) / self.k
+            self.size.div_ceil(self.k)
         }
 
         pub fn frame(&self) -> usize {
-            22 + 32 * self.n + self.block()
+            22 + DIGEST * self.n + self.block()
         }
 
         // The out area of so many entries played back.
         pub fn playback_out(&self, entries: usize) -> usize {
-            entries * (3 + (self.n + 9) * (self.frame() + 2))
+            entries * (REPLY_HEAD + (self.n + 9) * (self.frame() + RECEIVER))
         }
     }
 
@@ -85,41 +38,30 @@ mod semduoli {
     #[derive(Clone, Copy)]
     pub struct Party(pub usize, pub usize);
 
-    pub const CLASS_CLIENT: usize = 0;
-    pub const CLASS_SERVER: usize = 1;
+    pub const CLASS_CLIENT: usize = raw::CLASS_CLIENT as usize;
+    pub const CLASS_SERVER: usize = raw::CLASS_SERVER as usize;
 
-    pub const DIGEST: usize = 32;
-    pub const SERVER: usize = 2128;
-    pub const CLIENT: usize = 769;
-    pub const AREA: usize = 97344;
-    pub const ROWS: usize = 23040;
-    pub const LINES: usize = 64;
-    pub const PAGE: usize = 4380;
-    pub const INDEX: usize = 577;
-    pub const STAMP: usize = 13;
-    pub const TIME: usize = 8;
-    pub const ENTRY_HEAD: usize = 5;
-    pub const VERSION: u64 = 3;
+    // The length of a frame, by the two bytes that it begins with.
+    pub fn frame_length(frame: &[u8]) -> usize {
+        2 + 256 * frame[0] as usize + frame[1] as usize
+    }
 
-    // Whether a frame carries a time, and what is at the front of a trace.
-    pub const HAS_TIME: u64 = 1;
-    pub const TRACE_WHOLE: u64 = 0;
-
-    // What happened at a client.
-    pub const SENT: u64 = 0;
-    pub const WRITTEN: u64 = 1;
-    pub const VALUE: u64 = 3;
+    // The parts of a stamp: time, writer and sequence.
+    pub fn stamp_parts(stamp: &[u8; STAMP]) -> (u64, u8, u64) {
+        let number = |bytes: &[u8]| bytes.iter().fold(0, |sum, byte| sum << 8 | u64::from(*byte));
+        (number(&stamp[..TIME]), stamp[TIME], number(&stamp[TIME + 1..]))
+    }
 
     // The parts of an answer: a refusal's number or 0, what happened, and how many.
     pub struct Answer(pub u64);
 
     impl Answer {
-        pub fn refusal(&self) -> u64 {
-            self.0 & 0xff
+        pub fn refusal(&self) -> u8 {
+            self.0 as u8
         }
 
-        pub fn outcome(&self) -> u64 {
-            self.0 >> 8 & 0xff
+        pub fn outcome(&self) -> u8 {
+            (self.0 >> 8) as u8
         }
 
         pub fn count(&self) -> usize {
@@ -130,8 +72,13 @@ mod semduoli {
             self.0 >> 16
         }
 
+        // The entries that were played back.
+        pub fn entries(&self) -> u64 {
+            self.0 >> 24
+        }
+
         // The kind of a frame, the client that it names, and its sequence.
-        pub fn header(&self) -> (u64, u64, u64) {
+        pub fn header(&self) -> (u8, u64, u64) {
             (self.outcome(), self.0 >> 16 & 0xff, self.0 >> 24 & 0xffffffff)
         }
 
@@ -297,17 +244,12 @@ fn show(name: &str, bytes: &[u8]) {
     println!("{name}{text}");
 }
 
-// The length of a frame.
-fn length_of(frame: &[u8]) -> usize {
-    2 + 256 * frame[0] as usize + frame[1] as usize
-}
-
 // The frames of an answer, each with its receiver.
 fn show_sent(answer: &semduoli::Answer, out: &[u8], to: &[u8]) {
     let mut at = 0;
-    for i in 0..answer.count() {
-        let length = length_of(&out[at..]);
-        print!("to {} {}", if to[2 * i] == 0 { "client" } else { "server" }, to[2 * i + 1]);
+    for receiver in to.chunks_exact(semduoli::RECEIVER).take(answer.count()) {
+        let length = semduoli::frame_length(&out[at..]);
+        print!("to {} {}", if receiver[0] == 0 { "client" } else { "server" }, receiver[1]);
         show(":", &out[at..at + length]);
         at += length;
     }
@@ -371,7 +313,7 @@ fn judge(text: &str) {
     let answer = semduoli::judge(text.as_bytes(), &mut lines);
     if answer.refusal() != 0 {
         println!("history: refused {}", answer.refusal());
-    } else if answer.outcome() == 0 {
+    } else if answer.outcome() == semduoli::ORDERED {
         show("history:", &lines[..answer.count()]);
     } else {
         let (earlier, later) = answer.pair();
@@ -385,7 +327,7 @@ fn lay(text: &str, room: usize) {
     let answer = semduoli::sheet(text.as_bytes(), &mut sheet[..room]);
     if answer.refusal() != 0 {
         println!("sheet: refused {}", answer.refusal());
-    } else if answer.outcome() == 0 {
+    } else if answer.outcome() == semduoli::ORDERED {
         let (line, number) = (String::from_utf8_lossy(&sheet[..63]), sheet[semduoli::PAGE - 2] as char);
         println!("sheet: pages {}, {line}, page {number}", answer.count());
     } else {
@@ -453,8 +395,7 @@ impl Run {
         let client = |_| Client { state: vec![0; semduoli::CLIENT], rows: vec![0; semduoli::ROWS], value: vec![] };
         let mut servers: Vec<Server> = (0..=g.n).map(server).collect();
         let mut clients: Vec<Client> = (0..=clients).map(client).collect();
-        for j in 1..servers.len() {
-            let s = &mut servers[j];
+        for (j, s) in servers.iter_mut().enumerate().skip(1) {
             let answer = semduoli::server_fresh(&g, j, initial, &mut s.area, &mut s.initial, &mut s.state);
             println!("server {j} afresh: {}", answer.0);
         }
@@ -466,15 +407,16 @@ impl Run {
 
     // Areas for the frames of a step, and for their receivers.
     fn areas(&self, frames: usize) -> (Vec<u8>, Vec<u8>) {
-        (vec![0; frames * self.g.frame()], vec![0; 2 * frames])
+        (vec![0; frames * self.g.frame()], vec![0; semduoli::RECEIVER * frames])
     }
 
     // Puts the frames that a party sent after those that wait.
     fn add_sent(&mut self, from: semduoli::Party, answer: &semduoli::Answer, out: &[u8], to: &[u8]) {
         let mut at = 0;
-        for i in 0..answer.count() {
-            let length = length_of(&out[at..]);
-            self.waiting.push_back(Parcel { from, to: semduoli::Party(to[2 * i] as usize, to[2 * i + 1] as usize), frame: out[at..at + length].to_vec() });
+        for receiver in to.chunks_exact(semduoli::RECEIVER).take(answer.count()) {
+            let length = semduoli::frame_length(&out[at..]);
+            let to = semduoli::Party(receiver[0].into(), receiver[1].into());
+            self.waiting.push_back(Parcel { from, to, frame: out[at..at + length].to_vec() });
             at += length;
         }
     }
@@ -496,11 +438,11 @@ impl Run {
         );
         self.add_sent(p.to, &answer, &out, &to);
         match answer.outcome() {
-            semduoli::SENT if answer.count() > 0 => show_frame(&self.g, "a write goes out", &out[..length_of(&out)]),
+            semduoli::SENT if answer.count() > 0 => show_frame(&self.g, "a write goes out", &out[..semduoli::frame_length(&out)]),
             semduoli::WRITTEN => println!("client {} has written", p.to.1),
             semduoli::VALUE => {
-                let (time, sequence) = (u64::from_be_bytes(stamp[..8].try_into().unwrap()), u32::from_be_bytes(stamp[9..].try_into().unwrap()));
-                println!("client {me} has read {}, stamp {time} {} {sequence}", String::from_utf8_lossy(&result), stamp[8]);
+                let (time, writer, sequence) = semduoli::stamp_parts(&stamp);
+                println!("client {me} has read {}, stamp {time} {writer} {sequence}", String::from_utf8_lossy(&result));
             }
             _ => {}
         }
@@ -515,7 +457,7 @@ impl Run {
             if answer.refusal() != 0 {
                 self.refused += 1;
             }
-            if answer.refusal() == 13 {
+            if answer.refusal() == semduoli::REFUSED_AHEAD {
                 self.waiting.push_back(p);
             }
         }
@@ -575,9 +517,10 @@ impl Run {
         let (mut out, s) = (vec![0; room], &mut self.servers[3]);
         let lent = &mut out[..room - short_by];
         let answer = semduoli::playback(&self.g, 3, b"first", &whole[..trace], &mut s.area, &mut s.initial, &mut s.state, lent);
-        println!("playback: refusal {}, closed by {}, entries {}", answer.refusal(), answer.outcome(), answer.0 >> 24);
+        println!("playback: refusal {}, closed by {}, entries {}", answer.refusal(), answer.outcome(), answer.entries());
+        let first = semduoli::REPLY_HEAD + semduoli::RECEIVER; // one frame was sent, to the first entry
         if answer.refusal() == 0 {
-            show("replies:", &out[..22 + 3]);
+            show("replies:", &out[..first + semduoli::frame_length(&out[first..]) + semduoli::REPLY_HEAD]);
         }
     }
 }
@@ -623,8 +566,8 @@ fn main() {
     keep_trace();
 
     let mut state = [0xff; semduoli::CLIENT];
-    let mut out = [0; 4 * (22 + 32 * 4 + 3)];
-    let mut to = [0; 8];
+    let mut out = vec![0; g.n * g.frame()];
+    let mut to = vec![0; semduoli::RECEIVER * g.n];
     println!("fresh: {}", semduoli::client_fresh(&mut state).0);
     let answer = semduoli::begin_write(&g, 3, &mut state, value, &mut out, &mut to);
     println!("write: refusal {}, outcome {}, frames {}", answer.refusal(), answer.outcome(), answer.count());

@@ -16,10 +16,8 @@
 #include "semduoli.h"
 
 enum { WHOLE = 0, CLOSED = 1, FAILED = 2, REFUSED = 3 };
-/* the bytes before a frame in an entry, before the frames of an entry in the out area, and before each of these */
-enum { HEAD = 5, REPLY = 3, RECEIVER = 2 };
-/* a frame's bytes before its body; the chunk of the present value has its block from this byte on */
-enum { HEADER = 9, BLOCK_AT = 320 };
+/* where a frame that does not open has what it gives as its kind, its client and its sequence, and how many bytes it must have for that */
+enum { CLAIMED_KIND = 3, CLAIMED_CLIENT = 4, CLAIMED_SEQUENCE = 5, CLAIMS = 9 };
 /* progress is told of traces with more entries, every so many seconds */
 enum { LONG = 1000, PAUSE = 2 };
 
@@ -121,13 +119,6 @@ static size_t number(const char *text, const char *name)
     return (size_t)value;
 }
 
-/* the bytes of the entry that begins here, or 0 where no whole one does by its length; whether it is malformed is the library's to say */
-static size_t entry_length(const uint8_t *trace, size_t left)
-{
-    size_t length = left < 2 ? 0 : 2 + 256 * (size_t)trace[0] + trace[1];
-    return HEAD <= length && length <= left ? length : 0;
-}
-
 /* ---- what is played */
 
 static struct {
@@ -177,11 +168,18 @@ static struct bytes room_for(size_t entries)
     return b;
 }
 
+/* the bytes of the entry at this place of the trace, or 0 where it ends or closes */
+static size_t entry_length(size_t at)
+{
+    uint64_t read = semduoli_entry_read(play.trace.at + at, play.trace.length - at);
+    return SEMDUOLI_ENTRY_READ(read);
+}
+
 /* Plays the whole trace. Of a long one the first entries are played by themselves before, to tell how long it will take. */
 static uint64_t play_all(void)
 {
     size_t entries = 0, first = 0;
-    for (size_t at = 0, length; (length = entry_length(play.trace.at + at, play.trace.length - at)); at += length, entries++)
+    for (size_t at = 0, length; (length = entry_length(at)); at += length, entries++)
         if (entries == LONG)
             first = at;
     play.out = room_for(entries);
@@ -228,7 +226,7 @@ static const char *plural(unsigned long long count)
     return count == 1 ? "" : "s";
 }
 
-static const char *class_name(uint8_t class_)
+static const char *class_name(unsigned class_)
 {
     return class_ == SEMDUOLI_CLASS_SERVER ? "server" : "client";
 }
@@ -239,39 +237,53 @@ static void print_hex(const uint8_t *bytes, size_t length)
         printf("%02x", *bytes++);
 }
 
-/* a frame's kind, client and sequence, as far as it has them */
+static void print_header(unsigned kind, unsigned client, unsigned long long sequence)
+{
+    static const char *const kinds[] = {
+        [SEMDUOLI_KIND_GET_STAMP] = "get-stamp", [SEMDUOLI_KIND_STAMP] = "stamp", [SEMDUOLI_KIND_SEND] = "send",
+        [SEMDUOLI_KIND_ECHO] = "echo",           [SEMDUOLI_KIND_READY] = "ready", [SEMDUOLI_KIND_ACK] = "ack",
+        [SEMDUOLI_KIND_READ] = "read",           [SEMDUOLI_KIND_VALUE] = "value", [SEMDUOLI_KIND_READ_COMPLETE] = "read-complete",
+    };
+    if (kind < sizeof kinds / sizeof *kinds && kinds[kind])
+        printf("%s", kinds[kind]);
+    else
+        printf("kind %u", kind);
+    printf(" of client %u, sequence %llu", client, sequence);
+}
+
+/* a frame's kind, client and sequence. Of one that does not open the library says none of these: what its bytes give is printed, if there are enough. */
 static void print_frame(const uint8_t *frame, size_t length)
 {
-    static const char *const kinds[] = {NULL,  "get-stamp", "stamp", "send", "echo",  "ready",        NULL,
-                                        NULL, NULL,        "ack",   "read", "value", "read-complete"};
-    if (length < HEADER) {
+    uint64_t header = semduoli_frame_header(play.n, play.t, play.k, play.size, frame, length), sequence = 0;
+    if (!SEMDUOLI_REFUSAL(header)) {
+        print_header(SEMDUOLI_HEADER_KIND(header), SEMDUOLI_HEADER_CLIENT(header), SEMDUOLI_HEADER_SEQUENCE(header));
+    } else if (length < CLAIMS) {
         printf("%zu bytes", length);
-        return;
+    } else {
+        for (int i = CLAIMED_SEQUENCE; i < CLAIMS; i++)
+            sequence = sequence << 8 | frame[i];
+        print_header(frame[CLAIMED_KIND], frame[CLAIMED_CLIENT], sequence);
     }
-    if (frame[3] < sizeof kinds / sizeof *kinds && kinds[frame[3]])
-        printf("%s", kinds[frame[3]]);
-    else
-        printf("kind %u", frame[3]);
-    unsigned long sequence = (unsigned long)frame[5] << 24 | (unsigned long)frame[6] << 16 | (unsigned long)frame[7] << 8 | frame[8];
-    printf(" of client %u, sequence %lu", frame[4], sequence);
 }
 
 /* Prints an entry and the reply to it; where the next reply begins. */
-static const uint8_t *print_entry(uint64_t i, const uint8_t *entry, size_t length, const uint8_t *reply, int frames_too)
+static const uint8_t *print_entry(uint64_t i, size_t at, const uint8_t *reply, int frames_too)
 {
-    unsigned answer = reply[0], count = 256u * reply[1] + reply[2];
-    printf("%llu: %s %u, ", (unsigned long long)i, class_name(entry[3]), entry[4]);
-    print_frame(entry + HEAD, length - HEAD);
+    const uint8_t *entry = play.trace.at + at;
+    uint64_t read = semduoli_entry_read(entry, play.trace.length - at);
+    unsigned answer = semduoli_reply_number(reply), count = semduoli_reply_count(reply);
+    printf("%llu: %s %u, ", (unsigned long long)i, class_name(SEMDUOLI_ENTRY_CLASS(read)), SEMDUOLI_ENTRY_SENDER(read));
+    print_frame(entry + SEMDUOLI_ENTRY_HEAD, SEMDUOLI_ENTRY_READ(read) - SEMDUOLI_ENTRY_HEAD);
     if (answer)
         printf(": refused %u, %s\n", answer, refusal(answer));
     else
         printf(": step, %u frame%s\n", count, plural(count));
-    reply += REPLY;
+    reply += SEMDUOLI_REPLY_HEAD;
     for (unsigned j = 0; j < count; j++) {
-        const uint8_t *frame = reply + RECEIVER;
-        size_t bytes = 2 + 256 * (size_t)frame[0] + frame[1];
+        const uint8_t *to = reply, *frame = reply + SEMDUOLI_RECEIVER;
+        size_t bytes = semduoli_frame_length(frame);
         if (frames_too) {
-            printf("  > %s %u, ", class_name(reply[0]), reply[1]);
+            printf("  > %s %u, ", class_name(to[0]), to[1]);
             print_frame(frame, bytes);
             printf(": ");
             print_hex(frame, bytes);
@@ -284,8 +296,10 @@ static const uint8_t *print_entry(uint64_t i, const uint8_t *entry, size_t lengt
 
 static void print_end(uint64_t played, unsigned closing)
 {
-    uint8_t stamp[SEMDUOLI_STAMP];
+    uint8_t stamp[SEMDUOLI_STAMP] = {0}, block[SEMDUOLI_SIZE_MOST] = {0};
     semduoli_server_stamp(play.state, sizeof play.state, stamp, sizeof stamp);
+    semduoli_server_block(play.n, play.t, play.k, play.size, play.area, sizeof play.area, play.initial, sizeof play.initial, play.state,
+                          sizeof play.state, block, sizeof block);
     if (closing)
         printf("closed %u at entry %llu, %s\n", closing, (unsigned long long)(played + 1),
                closing == SEMDUOLI_TRACE_MALFORMED ? "entry malformed" : "the trace ends inside this entry");
@@ -293,21 +307,21 @@ static void print_end(uint64_t played, unsigned closing)
         printf("whole\n");
     printf("stamp %llu %u %lu\nblock ", (unsigned long long)semduoli_stamp_time(stamp), semduoli_stamp_writer(stamp),
            (unsigned long)semduoli_stamp_sequence(stamp));
-    print_hex(semduoli_stamp_time(stamp) ? play.area + BLOCK_AT : play.initial, SEMDUOLI_BLOCK(play.k, play.size));
+    print_hex(block, SEMDUOLI_BLOCK(play.k, play.size));
     printf("\n");
 }
 
 static void print_all(uint64_t played, unsigned closing, int frames_too)
 {
-    const uint8_t *entry = play.trace.at, *reply = play.out.at;
+    const uint8_t *reply = play.out.at;
+    size_t at = 0;
     unsigned long long answers[256] = {0}, frames = 0;
     double told = seconds();
     for (uint64_t i = 1; i <= played; i++) {
-        size_t length = entry_length(entry, play.trace.length - (size_t)(entry - play.trace.at));
-        answers[reply[0]]++;
-        frames += 256u * reply[1] + reply[2];
-        reply = print_entry(i, entry, length, reply, frames_too);
-        entry += length;
+        answers[semduoli_reply_number(reply)]++;
+        frames += semduoli_reply_count(reply);
+        reply = print_entry(i, at, reply, frames_too);
+        at += entry_length(at);
         if (i % LONG == 0 && seconds() > told + PAUSE) {
             told = seconds();
             fprintf(stderr, "playback: %llu of %llu entries printed\n", (unsigned long long)i, (unsigned long long)played);

@@ -47,7 +47,7 @@
  *    brings it the ones that it missed. A server to which they were dropped lags for good and counts as one of the t false ones. (What is
  *    proved of operations that end takes it that every frame arrives; that these are not needed follows from the steps, and is not proved.)
  *
- * examples/first.c is a small host, and examples/bank.c one that does all of this.
+ * For hosts in Rust semduoli.rs declares the same calls and numbers. examples/first.c is a small host, and examples/bank.c one that does all of this.
  */
 #ifndef SEMDUOLI_H
 #define SEMDUOLI_H
@@ -88,15 +88,19 @@ extern "C" {
 /* the largest frame of a register, and of any */
 #define SEMDUOLI_FRAME(n, k, size) (22 + 32 * (size_t)(n) + SEMDUOLI_BLOCK(k, size))
 #define SEMDUOLI_FRAME_MOST SEMDUOLI_FRAME(SEMDUOLI_SERVERS_MOST, 1, SEMDUOLI_SIZE_MOST)
-/* the areas out and to: n + 9 largest frames of a server's call, n of a client's, and two bytes for the receiver of each */
+/* the receiver of a frame: its class, and its number */
+#define SEMDUOLI_RECEIVER ((size_t)2)
+/* the areas out and to: n + 9 largest frames of a server's call, n of a client's, and the receiver of each */
 #define SEMDUOLI_SERVER_OUT(n, k, size) (((size_t)(n) + 9) * SEMDUOLI_FRAME(n, k, size))
-#define SEMDUOLI_SERVER_TO(n) (2 * ((size_t)(n) + 9))
+#define SEMDUOLI_SERVER_TO(n) (SEMDUOLI_RECEIVER * ((size_t)(n) + 9))
 #define SEMDUOLI_CLIENT_OUT(n, k, size) ((size_t)(n) * SEMDUOLI_FRAME(n, k, size))
-#define SEMDUOLI_CLIENT_TO(n) (2 * (size_t)(n))
+#define SEMDUOLI_CLIENT_TO(n) (SEMDUOLI_RECEIVER * (size_t)(n))
 #define SEMDUOLI_OUT_MOST SEMDUOLI_SERVER_OUT(SEMDUOLI_SERVERS_MOST, 1, SEMDUOLI_SIZE_MOST)
 #define SEMDUOLI_TO_MOST SEMDUOLI_SERVER_TO(SEMDUOLI_SERVERS_MOST)
-/* the area out of a playback of so many entries: 3 bytes for each, and a server's areas out and to */
-#define SEMDUOLI_PLAYBACK_OUT(n, k, size, entries) ((size_t)(entries) * (3 + SEMDUOLI_SERVER_OUT(n, k, size) + SEMDUOLI_SERVER_TO(n)))
+/* a reply of a playback before its frames; the area out of a playback of so many entries: that for each, and a server's areas out and to */
+#define SEMDUOLI_REPLY_HEAD ((size_t)3)
+#define SEMDUOLI_PLAYBACK_OUT(n, k, size, entries) \
+    ((size_t)(entries) * (SEMDUOLI_REPLY_HEAD + SEMDUOLI_SERVER_OUT(n, k, size) + SEMDUOLI_SERVER_TO(n)))
 /* a stamp: time (8), writer (1) and write sequence (4), high byte first; the time of a frame, which is laid down likewise */
 #define SEMDUOLI_STAMP ((size_t)13)
 #define SEMDUOLI_TIME ((size_t)8)
@@ -245,6 +249,17 @@ static inline size_t semduoli_frame_length(const uint8_t *frame)
     return 2 + 256 * (size_t)frame[0] + frame[1];
 }
 
+/* A reply of a playback: the number of its answer, and how many frames were sent. These follow after SEMDUOLI_REPLY_HEAD bytes, each after its receiver. */
+static inline unsigned semduoli_reply_number(const uint8_t *reply)
+{
+    return reply[0];
+}
+
+static inline unsigned semduoli_reply_count(const uint8_t *reply)
+{
+    return 256u * reply[1] + reply[2];
+}
+
 /* The version of the library: SEMDUOLI_VERSION where this header is its own. */
 uint64_t semduoli_version(void);
 
@@ -357,8 +372,8 @@ uint64_t semduoli_entry_read(const uint8_t *trace, size_t trace_length);
 
 /* Plays back what server me was handed: makes it afresh, as semduoli_server_fresh does, and hands it the frames of a trace in their order.
  * The outcome is SEMDUOLI_TRACE_WHOLE, or where the trace closes before its end SEMDUOLI_TRACE_MALFORMED or .._CUT; SEMDUOLI_ENTRIES(answer) says how
- * many entries were played, and it closed at the next one. From the start of out each of them has the number of its answer (1 byte, 0 for a step), the
- * count of frames sent (2, high byte first), and each frame after its receiver's class and number; what follows stays as lent. A frame that is
+ * many entries were played, and it closed at the next one. From the start of out each of them has a reply: the number of its answer (1 byte, 0 for a
+ * step), the count of frames sent (2, high byte first), and each frame after its receiver's class and number; what follows stays as lent. A frame that is
  * turned down does not end the playback. Record, area and initial block are then those of a server that took these steps; out has
  * SEMDUOLI_PLAYBACK_OUT bytes at least for the entries that are played, whatever they send. Refusals: 1, 2, 3, 10. */
 uint64_t semduoli_playback(size_t n, size_t t, size_t k, size_t size, size_t me, const uint8_t *value, size_t value_length, const uint8_t *trace,

@@ -4,6 +4,7 @@ import tempfile
 import unittest
 from pathlib import Path
 
+from bindings import binding_faults
 from cites import cite_faults
 from counts import crate_faults, layer_faults, line_faults, number_faults, reading_faults, reference_faults
 from tree import Tree
@@ -76,6 +77,32 @@ From `low/src/lib.rt`: `double`.
 | 1, 4 | c |
 """,
     "docs/PROTOCOL.md": "# Protocol\n\nDecision 3; DECISIONS 3 to 5.\n\n## 10. Requests\n\n| request | what |\n|---|---|\n| F-1 | d |\n",
+    "include/semduoli.h": """/* uint64_t semduoli_gone(void); */
+#define SEMDUOLI_SIZE ((size_t)13)
+#define SEMDUOLI_TWICE(n) (2 * (size_t)(n))
+#define SEMDUOLI_KIND 2 /* of a frame */
+enum refusal {
+    SEMDUOLI_ACCEPTED = 0, /* none */
+    SEMDUOLI_REFUSED = 9
+};
+static inline size_t semduoli_length(const uint8_t *frame);
+uint64_t semduoli_version(void);
+uint64_t semduoli_open(size_t client, const uint8_t *state,
+                       size_t state_length, uint8_t *out, size_t out_length);
+""",
+    "include/semduoli.rs": """//! Not semduoli_gone.
+pub const SIZE: usize = 13;
+pub const KIND: u8 = 2;
+pub const ACCEPTED: u8 = 0;
+pub const REFUSED: u8 = 9;
+extern "C" {
+    pub fn semduoli_version() -> u64;
+    pub fn semduoli_open(
+        client: usize, state: *const u8, state_length: usize, out: *mut u8, out_length: usize,
+    ) -> u64;
+}
+""",
+    "node/src/sem.rs": "pub fn version() -> u64 {\n    unsafe { raw::semduoli_version() }\n}\n",
 }
 
 
@@ -95,7 +122,8 @@ class Text(unittest.TestCase):
         return self.faults(check, {name: SOUND[name].replace(old, new, 1)})
 
     def test_a_sound_tree_has_no_faults(self):
-        for check in [cite_faults, reading_faults, layer_faults, number_faults, reference_faults, line_faults, lambda tree: crate_faults(tree, 0)]:
+        checks = [cite_faults, reading_faults, layer_faults, number_faults, reference_faults, line_faults, binding_faults]
+        for check in checks + [lambda tree: crate_faults(tree, 0)]:
             self.assertEqual(self.faults(check), [])
 
     def test_a_path_that_is_not_there(self):
@@ -170,6 +198,41 @@ class Text(unittest.TestCase):
     def test_lines_and_links(self):
         self.assertEqual(self.changed(line_faults, "compare/README.md", "Nothing", "long " * 33), ["a line of 166 characters"])
         self.assertEqual(self.changed(line_faults, "README.md", "(#two)", "(#three)"), ["no heading is called three"])
+
+    def test_a_call_that_one_side_lacks(self):
+        call = "uint64_t semduoli_version(void);\n"
+        self.assertEqual(self.changed(binding_faults, "include/semduoli.h", call, ""), ["the header has no call semduoli_version"])
+        call = "    pub fn semduoli_version() -> u64;\n"
+        self.assertEqual(self.changed(binding_faults, "include/semduoli.rs", call, ""), ["the call semduoli_version of the header is missing"])
+
+    def test_a_call_with_other_arguments(self):
+        fewer = self.changed(binding_faults, "include/semduoli.rs", ", out_length: usize", "")
+        self.assertEqual(fewer, ["semduoli_open has 4 arguments, in the header 5"])
+        more = self.changed(binding_faults, "include/semduoli.h", "version(void)", "version(size_t which)")
+        self.assertEqual(more, ["semduoli_version has 0 arguments, in the header 1"])
+        renamed = self.changed(binding_faults, "include/semduoli.rs", "client: usize", "server: usize")
+        self.assertEqual(renamed, ["semduoli_open has server: usize, in the header it is client: usize"])
+
+    def test_a_call_with_other_types(self):
+        written = self.changed(binding_faults, "include/semduoli.h", "const uint8_t *state,", "uint8_t *state,")
+        self.assertEqual(written, ["semduoli_open has state: *const u8, in the header it is state: *mut u8"])
+        shorter = self.changed(binding_faults, "include/semduoli.rs", "client: usize", "client: u32")
+        self.assertEqual(shorter, ["semduoli_open has client: u32, in the header it is client: usize"])
+        answer = self.changed(binding_faults, "include/semduoli.rs", "version() -> u64", "version() -> u32")
+        self.assertEqual(answer, ["semduoli_version has -> u32, in the header it is -> u64"])
+
+    def test_numbers_of_the_bindings(self):
+        other = self.changed(binding_faults, "include/semduoli.rs", "usize = 13", "usize = 12")
+        self.assertEqual(other, ["SIZE is 12, in the header 13"])
+        self.assertEqual(self.changed(binding_faults, "include/semduoli.h", "REFUSED = 9", "REFUSED = 8"), ["REFUSED is 9, in the header 8"])
+        missing = self.changed(binding_faults, "include/semduoli.rs", "pub const KIND: u8 = 2;\n", "")
+        self.assertEqual(missing, ["the number KIND of the header is missing"])
+        foreign = self.changed(binding_faults, "include/semduoli.h", "SEMDUOLI_KIND 2", "SEMDUOLI_SORT 2")
+        self.assertEqual(foreign, ["the header has no number KIND", "the number SORT of the header is missing"])
+
+    def test_a_call_that_is_declared_elsewhere(self):
+        elsewhere = self.changed(binding_faults, "node/src/sem.rs", "pub fn", 'extern "C" {\n    fn semduoli_version() -> u64;\n}\npub fn')
+        self.assertEqual(elsewhere, ["declares semduoli_version: include/semduoli.rs does"])
 
 
 if __name__ == "__main__":

@@ -1,161 +1,31 @@
-//! The proved library: the only unsafe code. Each wrapper passes a slice as its pointer and length and reads the answer's parts; sizes, and the
-//! few bytes of a frame that a host looks at, stand here alone.
+//! The proved library: the only unsafe code. Each wrapper passes a slice as its pointer and length and reads the answer's parts; the calls and numbers of
+//! include/semduoli.rs, and the few bytes of a frame that a host looks at, are used here alone.
 #![allow(unsafe_code)]
 use crate::events::Stamp;
 use std::rc::Rc;
 
-/// The calls as include/semduoli.h declares them.
-mod raw {
-    #[link(name = "semduoli", kind = "static")]
-    extern "C" {
-        pub fn semduoli_version() -> u64;
-        pub fn semduoli_judge(text: *const u8, text_length: usize, lines: *mut u8, lines_length: usize) -> u64;
-        pub fn semduoli_sheet(text: *const u8, text_length: usize, out: *mut u8, out_length: usize) -> u64;
-        pub fn semduoli_server_fresh(
-            n: usize,
-            t: usize,
-            k: usize,
-            size: usize,
-            me: usize,
-            value: *const u8,
-            value_length: usize,
-            area: *mut u8,
-            area_length: usize,
-            initial: *mut u8,
-            initial_length: usize,
-            state: *mut u8,
-            state_length: usize,
-        ) -> u64;
-        pub fn semduoli_server_deliver(
-            n: usize,
-            t: usize,
-            k: usize,
-            size: usize,
-            me: usize,
-            sender_class: usize,
-            sender: usize,
-            frame: *const u8,
-            frame_length: usize,
-            area: *mut u8,
-            area_length: usize,
-            initial: *const u8,
-            initial_length: usize,
-            state: *mut u8,
-            state_length: usize,
-            out: *mut u8,
-            out_length: usize,
-            to: *mut u8,
-            to_length: usize,
-        ) -> u64;
-        pub fn semduoli_server_stamp(state: *const u8, state_length: usize, stamp: *mut u8, stamp_length: usize) -> u64;
-        pub fn semduoli_server_open(client: usize, state: *const u8, state_length: usize) -> u64;
-        pub fn semduoli_playback(
-            n: usize,
-            t: usize,
-            k: usize,
-            size: usize,
-            me: usize,
-            value: *const u8,
-            value_length: usize,
-            trace: *const u8,
-            trace_length: usize,
-            area: *mut u8,
-            area_length: usize,
-            initial: *mut u8,
-            initial_length: usize,
-            state: *mut u8,
-            state_length: usize,
-            out: *mut u8,
-            out_length: usize,
-        ) -> u64;
-        pub fn semduoli_client_fresh(state: *mut u8, state_length: usize) -> u64;
-        pub fn semduoli_client_open(state: *const u8, state_length: usize) -> u64;
-        pub fn semduoli_begin_read(
-            n: usize,
-            t: usize,
-            k: usize,
-            size: usize,
-            me: usize,
-            state: *mut u8,
-            state_length: usize,
-            out: *mut u8,
-            out_length: usize,
-            to: *mut u8,
-            to_length: usize,
-        ) -> u64;
-        pub fn semduoli_begin_write(
-            n: usize,
-            t: usize,
-            k: usize,
-            size: usize,
-            me: usize,
-            state: *mut u8,
-            state_length: usize,
-            value: *const u8,
-            value_length: usize,
-            out: *mut u8,
-            out_length: usize,
-            to: *mut u8,
-            to_length: usize,
-        ) -> u64;
-        pub fn semduoli_client_deliver(
-            n: usize,
-            t: usize,
-            k: usize,
-            size: usize,
-            me: usize,
-            sender_class: usize,
-            sender: usize,
-            value: *const u8,
-            value_length: usize,
-            frame: *const u8,
-            frame_length: usize,
-            rows: *mut u8,
-            rows_length: usize,
-            result: *mut u8,
-            result_length: usize,
-            stamp: *mut u8,
-            stamp_length: usize,
-            state: *mut u8,
-            state_length: usize,
-            out: *mut u8,
-            out_length: usize,
-            to: *mut u8,
-            to_length: usize,
-        ) -> u64;
-    }
-}
+#[rustfmt::skip]
+#[path = "../../include/semduoli.rs"]
+mod raw;
+use raw::{DIGEST, KIND_ACK, KIND_READY, KIND_SEND, KIND_STAMP, KIND_VALUE, LINES, OUT_OF_STAMPS, SENT, VALUE, WRITTEN};
 
-pub const CLIENT: u8 = 0;
-pub const SERVER: u8 = 1;
+pub const CLIENT: u8 = raw::CLASS_CLIENT;
+pub const SERVER: u8 = raw::CLASS_SERVER;
 /// Clients of every register.
-pub const CLIENTS: u8 = 8;
-pub const STAMP: usize = 13;
-const DIGEST: usize = 32;
-const SERVER_RECORD: usize = 2128;
-const SERVER_AREA: usize = 97344;
-const CLIENT_RECORD: usize = 769;
-const CLIENT_ROWS: usize = 23040;
+pub const CLIENTS: u8 = raw::CLIENTS_MOST as u8;
+pub const STAMP: usize = raw::STAMP;
+const SERVER_RECORD: usize = raw::SERVER;
+const SERVER_AREA: usize = raw::AREA;
+const CLIENT_RECORD: usize = raw::CLIENT;
+const CLIENT_ROWS: usize = raw::ROWS;
 /// Frames beside n that a server's step may send: a value to each client, and an ack.
 const SERVER_FURTHER: usize = 9;
-const LINES: usize = 64;
-const PAGES_MOST: usize = 2 * 4380;
+const PAGES_MOST: usize = 2 * raw::PAGE;
 
 /// The refusal of a party that there is not.
-pub const NOBODY: u8 = 1;
+pub const NOBODY: u8 = raw::REFUSED_PARTIES;
 /// The refusal of a frame whose sequence has not come.
-pub const AHEAD: u8 = 13;
-
-const SENT: u8 = 0;
-const WRITTEN: u8 = 1;
-const OUT_OF_STAMPS: u8 = 2;
-const VALUE: u8 = 3;
-
-const KIND_STAMP: u8 = 2;
-const KIND_SEND: u8 = 3;
-const KIND_READY: u8 = 5;
-const KIND_ACK: u8 = 9;
-const KIND_VALUE: u8 = 11;
+pub const AHEAD: u8 = raw::REFUSED_AHEAD;
 /// Where a frame's body begins.
 const BODY: usize = 9;
 

@@ -1,5 +1,6 @@
 //! What a host may ask of a frame and of an entry of a trace, with anything in the calls.
 
+use crate::calls::raw::{ENTRY_FRAME_MOST as LONGEST, ENTRY_HEAD as HEAD, TIME};
 use crate::calls::Sender;
 use crate::{calls, pattern, same_answer, same_bytes, Difference, Seen};
 use register::any::{bounds, client_call, server_call};
@@ -8,11 +9,6 @@ use register::playback::{entries, write_entry, Entry};
 use register::random::Random;
 use register::traces::playback_call;
 use register::Party;
-
-const TIME: usize = 8;
-/// The bytes of an entry before its frame, and the longest frame that an entry can have.
-const HEAD: usize = 5;
-const LONGEST: usize = 65_532;
 
 fn time_of(body: &Body) -> Option<u64> {
     match *body {

@@ -1,6 +1,6 @@
 //! Single calls with anything in them, against the second implementation on lent areas.
 
-use crate::calls::Sender;
+use crate::calls::{raw::VERSION, Sender};
 use crate::{bits, calls, pattern, same_answer, same_bytes, Difference, Seen};
 use register::any::{bounds, client_call, server_call, ClientAct, ClientCall};
 use register::flat::{self, Done, Operation, Outcome, STATE_AREA};
@@ -11,9 +11,6 @@ use register::layout::{
 use register::random::Random;
 use register::{Party, Refusal};
 use std::sync::LazyLock;
-
-/// SEMDUOLI_VERSION of include/semduoli.h.
-const VERSION: u64 = 3;
 
 /// How long the record's area is: sometimes short, sometimes longer.
 fn record_length(size: usize, random: &mut Random) -> usize {

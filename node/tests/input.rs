@@ -45,10 +45,9 @@ fn wrong_words_are_wrong_use() {
 }
 
 #[test]
-fn wrong_folders_keys_and_cluster_files_are_told_apart() {
+fn wrong_folders_and_files_are_told_apart() {
     let nodes = Nodes::new("input", SMALL);
     let (own, cluster) = (nodes.path("s1"), nodes.at("s1").join("cluster.toml"));
-    let good = fs::read_to_string(&cluster).expect("a cluster file");
     let file = cluster.to_str().expect("text");
     assert_eq!(code(&semduoli(&["check-config", file])), 0);
 
@@ -66,7 +65,14 @@ fn wrong_folders_keys_and_cluster_files_are_told_apart() {
     fails(&["play", "/nonexistent", "--cluster", file, "--server", "1"], 1, "No such file");
     fails(&["trace", "--folder", &nodes.path("desk"), "/tmp/none"], 1, "has no server");
     assert_eq!(contents(&nodes.folder), before, "nothing is altered");
+}
 
+#[test]
+fn wrong_cluster_files_are_told_apart() {
+    let nodes = Nodes::new("clusters", SMALL);
+    let (own, cluster) = (nodes.path("s1"), nodes.at("s1").join("cluster.toml"));
+    let good = fs::read_to_string(&cluster).expect("a cluster file");
+    let file = cluster.to_str().expect("text");
     for (old, new, says) in [
         ("n = 4", "n = 5", "server 5 of n = 5"),
         ("n = 4", "n = 3", "refused 1"),
@@ -79,8 +85,13 @@ fn wrong_folders_keys_and_cluster_files_are_told_apart() {
     }
     fs::write(&cluster, [0xff, 0xfe, 0]).expect("written");
     fails(&["check-config", file], 2, "UTF-8");
-    fs::write(&cluster, &good).expect("written");
+}
 
+#[test]
+fn wrong_keys_are_told_apart() {
+    let nodes = Nodes::new("keys", SMALL);
+    let (own, cluster) = (nodes.path("s1"), nodes.at("s1").join("cluster.toml"));
+    let file = cluster.to_str().expect("text");
     let certificate = fs::read(nodes.at("s1").join("node.crt")).expect("a certificate");
     fs::write(nodes.at("s1").join("node.crt"), fs::read(nodes.at("s2").join("node.crt")).expect("another")).expect("written");
     fails(&["serve", &own], 2, "is not the key of");

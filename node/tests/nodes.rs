@@ -163,6 +163,13 @@ fn batches(segment: &[u8]) -> Vec<(usize, usize)> {
     found
 }
 
+/// A segment with the front of a batch behind its last whole one, as if some of its bytes came to the disk.
+fn torn(segment: &[u8], last: usize, part: &[u8]) -> Vec<u8> {
+    let (mut torn, behind) = (segment.to_vec(), last + BLOCK as usize);
+    torn[behind..behind + part.len()].copy_from_slice(part);
+    torn
+}
+
 #[test]
 fn a_torn_log_is_cut_and_a_damaged_one_stops_the_node() {
     let mut nodes = Nodes::new("torn", SIZE);
@@ -181,13 +188,9 @@ fn a_torn_log_is_cut_and_a_damaged_one_stops_the_node() {
         copy(&kept, &folder);
         fs::write(folder.join("log-00000001"), segment).expect("written");
     };
-    // a batch of which some bytes came to the disk stands behind the last whole one
     let ((earlier, length), (last, _)) = (found[found.len() / 2], found[found.len() - 1]);
     for part in (1..length).step_by(length / 20 + 1) {
-        let mut torn = segment.clone();
-        let behind = last + BLOCK as usize;
-        torn[behind..behind + part].copy_from_slice(&segment[earlier..earlier + part]);
-        put_back(&torn);
+        put_back(&torn(&segment, last, &segment[earlier..earlier + part]));
         nodes.start("s2");
         nodes.wait_until("s2", "is ready", |_| true);
         nodes.kill("s2");

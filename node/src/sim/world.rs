@@ -113,35 +113,38 @@ pub struct World {
     pub verbose: bool,
 }
 
+impl Slot {
+    /// A node that has not run yet.
+    fn new(evil: Option<Evil>) -> Slot {
+        Slot {
+            core: None,
+            disk: Disk::default(),
+            epoch: 0,
+            boots: 1,
+            lanes: BTreeMap::new(),
+            tick_at: None,
+            backlog: VecDeque::new(),
+            ready: false,
+            exited: None,
+            evil,
+            excused: false,
+            rolled: false,
+            lied: false,
+            let_out: 0,
+            old_disk: None,
+        }
+    }
+}
+
 impl World {
     pub fn new(plan: Plan) -> World {
-        let r = plan.random.clone();
-        let nodes = plan.cluster.nodes.len();
-        let slots = (0..nodes)
-            .map(|node| Slot {
-                core: None,
-                disk: Disk::default(),
-                epoch: 0,
-                boots: 1,
-                lanes: BTreeMap::new(),
-                tick_at: None,
-                backlog: VecDeque::new(),
-                ready: false,
-                exited: None,
-                evil: plan.evil.contains(&node).then(|| Evil::new(&plan.cluster, node)),
-                excused: false,
-                rolled: false,
-                lied: false,
-                let_out: 0,
-                old_disk: None,
-            })
-            .collect();
+        let evil = |node: usize| plan.evil.contains(&node).then(|| Evil::new(&plan.cluster, node));
         let mut w = World {
-            r,
+            r: plan.random.clone(),
             now: 0,
             row: BTreeMap::new(),
             order: 0,
-            slots,
+            slots: (0..plan.cluster.nodes.len()).map(|node| Slot::new(evil(node))).collect(),
             pipes: BTreeMap::new(),
             cuts: vec![],
             mended: false,
@@ -162,22 +165,27 @@ impl World {
             verbose: std::env::var_os("SIM_VERBOSE").is_some(),
             plan,
         };
-        for node in 0..nodes {
-            let evil = w.slots[node].evil.is_some();
-            let wait = w.r.below(500 * MS);
-            w.later(wait, if evil { Will::Evil { node } } else { Will::Start { node } });
-            for client in w.plan.cluster.nodes[node].clients.clone() {
+        w.set_going();
+        w
+    }
+
+    /// What happens by itself: nodes start, desks ask, faults fall, and in the end all is mended.
+    fn set_going(&mut self) {
+        for node in 0..self.slots.len() {
+            let evil = self.slots[node].evil.is_some();
+            let wait = self.r.below(500 * MS);
+            self.later(wait, if evil { Will::Evil { node } } else { Will::Start { node } });
+            for client in self.plan.cluster.nodes[node].clients.clone() {
                 if !evil {
-                    w.left.insert(client, w.plan.operations);
-                    let at = 500 * MS + w.r.below(3000) * MS;
-                    w.later(at, Will::Ask { node, client });
+                    self.left.insert(client, self.plan.operations);
+                    let at = 500 * MS + self.r.below(3000) * MS;
+                    self.later(at, Will::Ask { node, client });
                 }
             }
         }
-        w.later(200 * MS, Will::Cut);
-        w.later(300 * MS, Will::Fault);
-        w.later(CHAOS, Will::Mend);
-        w
+        self.later(200 * MS, Will::Cut);
+        self.later(300 * MS, Will::Fault);
+        self.later(CHAOS, Will::Mend);
     }
 
     fn later(&mut self, wait: u64, will: Will) {

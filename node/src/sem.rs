@@ -11,6 +11,9 @@ mod raw {
         pub fn semduoli_version() -> u64;
         pub fn semduoli_judge(text: *const u8, text_length: usize, lines: *mut u8, lines_length: usize) -> u64;
         pub fn semduoli_sheet(text: *const u8, text_length: usize, out: *mut u8, out_length: usize) -> u64;
+        pub fn semduoli_index_fresh(index: *mut u8, index_length: usize) -> u64;
+        pub fn semduoli_index_insert(value: *const u8, value_length: usize, index: *mut u8, index_length: usize) -> u64;
+        pub fn semduoli_index_search(number: u64, index: *const u8, index_length: usize) -> u64;
         pub fn semduoli_server_fresh(
             n: usize,
             t: usize,
@@ -140,6 +143,9 @@ const CLIENT_ROWS: usize = 23040;
 const SERVER_FURTHER: usize = 9;
 const LINES: usize = 64;
 const PAGES_MOST: usize = 2 * 4380;
+const INDEX: usize = 577;
+/// Values that an index takes.
+pub const INDEX_VALUES: usize = 64;
 
 /// The refusal of a party that there is not.
 pub const NOBODY: u8 = 1;
@@ -596,4 +602,33 @@ pub fn sheet(text: &[u8]) -> Result<Result<Vec<u8>, (u8, u8)>, u8> {
         }
         Judged::Offending { earlier, later } => Err((earlier, later)),
     })
+}
+
+/// The index of accession numbers: a value's number is its first eight bytes, its place is counted from 1 by insertion.
+pub struct Index([u8; INDEX]);
+
+impl Index {
+    pub fn fresh() -> Index {
+        let mut index = [0; INDEX];
+        // SAFETY: as in `Server::fresh`. It can't be refused: the area has its size.
+        unsafe { raw::semduoli_index_fresh(index.as_mut_ptr(), INDEX) };
+        Index(index)
+    }
+
+    /// Inserts a value and says its place.
+    pub fn insert(&mut self, value: &[u8]) -> Result<usize, u8> {
+        // SAFETY: as in `Server::fresh`.
+        let answer = unsafe { raw::semduoli_index_insert(value.as_ptr(), value.len(), self.0.as_mut_ptr(), INDEX) };
+        match answer as u8 {
+            0 => Ok((answer >> 16 & 0xffff) as usize),
+            refusal => Err(refusal),
+        }
+    }
+
+    /// The place of the last inserted value that has the number.
+    pub fn search(&self, number: u64) -> Option<usize> {
+        // SAFETY: as in `Server::fresh`. It can't be refused: the area has its size.
+        let answer = unsafe { raw::semduoli_index_search(number, self.0.as_ptr(), INDEX) };
+        Some((answer >> 16 & 0xffff) as usize).filter(|place| *place > 0)
+    }
 }

@@ -34,7 +34,7 @@ fn contents(folder: &Path) -> Vec<(String, Vec<u8>)> {
 
 #[test]
 fn wrong_words_are_wrong_use() {
-    for words in [&[][..], &["dance"], &["serve"], &["write"], &["read", "--client", "x"], &["judge"], &["wait", "--client", "1", "x"]] {
+    for words in [&[][..], &["dance"], &["serve"], &["write"], &["read", "--client", "x"], &["judge"], &["find"], &["wait", "--client", "1", "x"]] {
         let output = semduoli(words);
         assert_eq!(code(&output), 1, "{words:?}: {}", said(&output));
         assert!(said(&output).contains("--help") || said(&output).contains("Usage"), "{words:?}: {}", said(&output));
@@ -61,6 +61,9 @@ fn wrong_folders_and_files_are_told_apart() {
     fails(&["status", "--folder", "/nonexistent"], 3, "no node answers");
     fails(&["history", "--folder", &own], 2, "has not run yet");
     fails(&["verify", "--folder", &own], 2, "has not run yet");
+    fails(&["find", "--folder", &own, "1"], 2, "has no desk");
+    fails(&["find", "--folder", &nodes.path("desk"), "1"], 2, "has not run yet");
+    fails(&["find", "--folder", "/nonexistent", "1"], 2, "no such folder");
     fails(&["judge", "/nonexistent"], 1, "No such file");
     fails(&["play", "/nonexistent", "--cluster", file, "--server", "1"], 1, "No such file");
     fails(&["trace", "--folder", &nodes.path("desk"), "/tmp/none"], 1, "has no server");
@@ -122,6 +125,19 @@ fn wrong_histories_and_traces_are_told_apart() {
     judged("W 5 2 1 1 1 1\n");
     fails(&["judge", path], 4, "refused 18");
     fs::remove_dir_all(&folder).expect("removed");
+}
+
+#[test]
+fn wrong_accession_numbers_are_told_apart() {
+    let nodes = Nodes::new("numbers", (4, 1, 2, 7));
+    let desk = nodes.path("desk");
+    for word in ["x", "", "+1", "1.0", "18446744073709551616", "\n"] {
+        fails(&["find", "--folder", &desk, word], 1, "a number from 0 to 18446744073709551615 is wanted");
+    }
+    for word in ["lot 471", "lot 47110", ""] {
+        fails(&["find", "--folder", &desk, "--text", word], 1, "the 8 bytes that a value begins with");
+    }
+    fails(&["find", "--folder", &desk, "1"], 4, "refused 26: a value of this register has 7 bytes");
 }
 
 #[test]

@@ -15,6 +15,8 @@ const MS: u64 = 1000;
 /// Faults fall until here, in microseconds; then all is mended, and this long is left.
 const CHAOS: u64 = 12_000 * MS;
 const MENDED: u64 = 120_000 * MS;
+/// The wall clocks when a run begins, in milliseconds.
+pub const WALL: u64 = 1_700_000_000_000;
 /// The refusal of a write after one that closed as out of stamps.
 const OUT_OF_STAMPS: u8 = 17;
 /// A run with more events than this goes round in a circle.
@@ -109,6 +111,8 @@ pub struct World {
     /// Every frame that an honest node put on a link, by its stream and number.
     pub wire: BTreeMap<(StreamId, u64), Vec<u8>>,
     pub failures: Vec<String>,
+    /// A node's wall clock, by its number and the clock that never steps; both in milliseconds.
+    pub wall: fn(usize, u64) -> u64,
     wall_jump: u64,
     pub verbose: bool,
 }
@@ -161,6 +165,7 @@ impl World {
             readers: BTreeSet::new(),
             wire: BTreeMap::new(),
             failures: vec![],
+            wall: |_, boot| WALL + boot,
             wall_jump: 0,
             verbose: std::env::var_os("SIM_VERBOSE").is_some(),
             plan,
@@ -199,8 +204,9 @@ impl World {
         }
     }
 
-    pub fn clock(&self) -> Now {
-        Now { boot: self.now / MS, wall: 1_700_000_000_000 + self.now / MS + self.wall_jump }
+    fn clock(&self, node: usize) -> Now {
+        let boot = self.now / MS;
+        Now { boot, wall: (self.wall)(node, boot).saturating_add(self.wall_jump) }
     }
 
     pub fn run(&mut self) {
@@ -312,7 +318,7 @@ impl World {
 
     /// Hands an event to a node and carries its actions out.
     fn hand(&mut self, node: usize, event: Event) {
-        let now = self.clock();
+        let now = self.clock(node);
         let wants_room = matches!(event, Event::Bytes { .. } | Event::Ask { .. });
         let slot = &mut self.slots[node];
         let Some(core) = slot.core.as_mut() else { return };

@@ -256,7 +256,11 @@ fn values_that_were_read_are_found_by_their_accession_numbers() {
     nodes.start_all();
     let value = |number: u64, rest: u8| [&number.to_be_bytes()[..], &[rest; 24]].concat();
     // an index takes 64 values; the first four numbers come twice
-    let reads: Vec<Value> = (0..70).map(|i| write_and_read(&nodes, &value(u64::from(i) % 66, i))).collect();
+    let mut reads: Vec<Value> = (0..35).map(|i| write_and_read(&nodes, &value(i.into(), i))).collect();
+    nodes.kill("desk");
+    nodes.start("desk");
+    nodes.wait_until("desk", "is open", |s| s["open"] == true);
+    reads.extend((35..70).map(|i| write_and_read(&nodes, &value(u64::from(i) % 66, i))));
     assert_eq!(nodes.desk().write(3, &value(999, 1))["outcome"], "written");
     let path = nodes.path("desk");
     let find = |words: &[&str]| semduoli(&[&["find", "--folder", &path], words].concat());
@@ -282,6 +286,10 @@ fn values_that_were_read_are_found_by_their_accession_numbers() {
     // the log has it all, whether the node runs or not
     nodes.kill("desk");
     all();
+    fs::remove_file(nodes.at("desk").join("log-00000001")).expect("removed");
+    let cut = find(&["3"]);
+    assert_eq!(code(&cut), 1, "{}", said(&cut));
+    assert!(said(&cut).contains("first segments were removed"), "{}", said(&cut));
 }
 
 #[test]

@@ -11,6 +11,7 @@ use crate::out;
 use semduoli::bytes::hex;
 use semduoli::cluster::Cluster;
 use semduoli::events::Stamp;
+use semduoli::log::Place;
 use semduoli::records::{self, outcome, Record};
 use semduoli::sem::{self, Client, End, Index, Parameters, Room, CLIENT, INDEX_VALUES};
 use serde_json::json;
@@ -125,7 +126,11 @@ fn number_of(word: &str, as_text: bool) -> Result<u64, Failure> {
 
 fn search(node: &NodeFolder, cluster: &Cluster, number: u64) -> Result<Option<Value>, Failure> {
     let (mut search, mut clients) = (Search::new(number), Clients::new(cluster.parameters));
+    let mut from_start = None;
     let whole = read_log(&node.folder, cluster.register_digest(), &mut |batch| {
+        if !*from_start.get_or_insert(batch.number == Place::first().number) {
+            return Ok(());
+        }
         for record in records::read(batch.payload) {
             if let Some(value) = clients.take(&record.map_err(|_| "the batch has bytes that are no record")?)? {
                 search.insert(value).map_err(|_| "a value of the log is refused now")?;

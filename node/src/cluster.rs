@@ -105,42 +105,56 @@ impl Cluster {
 
     fn check_node(&mut self, at: usize) -> Result<(), String> {
         let node = self.nodes[at].clone();
-        let wrong = |what: String| Err(format!("node {} (\"{}\"): {what}", at + 1, node.name));
+        let checked = self.check_name(at, &node).and_then(|()| self.check_fingerprints(at, &node)).and_then(|()| self.list_parties(at, &node));
+        checked.map_err(|what| format!("node {} (\"{}\"): {what}", at + 1, node.name))
+    }
+
+    /// What the node is called, and where it is called.
+    fn check_name(&self, at: usize, node: &Node) -> Result<(), String> {
         if !is_name(&node.name) {
-            return wrong("a name of 1 to 64 letters, digits, '-', '_' and '.' is wanted".into());
+            return Err("a name of 1 to 64 letters, digits, '-', '_' and '.' is wanted".into());
         }
         if self.nodes[..at].iter().any(|n| n.name == node.name) {
-            return wrong("an earlier node has this name".into());
+            return Err("an earlier node has this name".into());
         }
         if let Some(address) = &node.address {
             if address.parse::<std::net::SocketAddr>().is_err() {
-                return wrong(format!("address \"{address}\": a number and a port are wanted, as 192.0.2.1:7070"));
+                return Err(format!("address \"{address}\": a number and a port are wanted, as 192.0.2.1:7070"));
             }
         }
         if node.address.is_none() && self.nodes[at + 1..].iter().any(|n| n.server.is_some()) {
-            return wrong("has no address, and servers that stand behind it could not call it: put it last".into());
+            return Err("has no address, and servers that stand behind it could not call it: put it last".into());
         }
+        Ok(())
+    }
+
+    fn check_fingerprints(&self, at: usize, node: &Node) -> Result<(), String> {
         if !(1..=2).contains(&node.fingerprints.len()) {
-            return wrong("one fingerprint is wanted, or two while a key is changed".into());
+            return Err("one fingerprint is wanted, or two while a key is changed".into());
         }
         for print in &node.fingerprints {
             if print.len() != FINGERPRINT || !print.bytes().all(|b| b.is_ascii_digit() || (b'a'..=b'f').contains(&b)) {
-                return wrong(format!("fingerprint \"{print}\": 64 hexadecimal digits in lower case are wanted"));
+                return Err(format!("fingerprint \"{print}\": 64 hexadecimal digits in lower case are wanted"));
             }
             if self.nodes[..at].iter().any(|n| n.fingerprints.contains(print)) {
-                return wrong("an earlier node has this fingerprint".into());
+                return Err("an earlier node has this fingerprint".into());
             }
         }
+        Ok(())
+    }
+
+    /// Each party is under one node.
+    fn list_parties(&mut self, at: usize, node: &Node) -> Result<(), String> {
         if node.parties().next().is_none() {
-            return wrong("has neither a server nor clients".into());
+            return Err("has neither a server nor clients".into());
         }
         for party in node.parties() {
             let most = if party.class == crate::sem::SERVER { self.parameters.n } else { CLIENTS.into() };
             if party.number == 0 || usize::from(party.number) > most {
-                return wrong(format!("{party}: numbers are 1 to {most}"));
+                return Err(format!("{party}: numbers are 1 to {most}"));
             }
             if self.places.insert(party, at).is_some() {
-                return wrong(format!("{party} is listed twice"));
+                return Err(format!("{party} is listed twice"));
             }
         }
         Ok(())

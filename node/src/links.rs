@@ -280,16 +280,7 @@ impl Core {
     }
 
     fn greeted(&mut self, link: LinkId, node: NodeId, hello: &Hello, now: Now, out: &mut Vec<Action>) -> Result<(), Wrong> {
-        let differs = |what: &str| Err(Wrong(Reason::Differs, what.to_string()));
-        if hello.version != LINK_VERSION {
-            return differs(&format!("link version {} here and {} there", LINK_VERSION, hello.version));
-        }
-        if hello.register != self.cluster.register_digest() {
-            return differs("the cluster files differ in cluster, generation, n, t, k, length or initial, or the programs in their format");
-        }
-        if hello.members != self.cluster.members_digest() {
-            return differs("the cluster files differ in the nodes' order, names or parties");
-        }
+        self.agree(hello)?;
         let found = self.compare(node, hello)?;
         let name = self.cluster.nodes[node].name.clone();
         if found.lost {
@@ -300,6 +291,36 @@ impl Core {
             return Err(Wrong(Reason::WentBack, format!("{name} has gone back behind what it told before: its state was lost")));
         }
         self.saw(node, hello.own);
+        self.resume(node, hello);
+        if let Some(l) = self.links.get_mut(&link) {
+            l.greeted = true;
+        }
+        let p = &mut self.partners[node];
+        (p.calls, p.why) = (0, String::new());
+        if !found.lost && self.cluster.nodes[node].server.is_some() {
+            self.greetings.insert(node);
+            self.open_gate(now, out);
+        }
+        Ok(())
+    }
+
+    /// What both nodes must say alike before anything else is looked at.
+    fn agree(&self, hello: &Hello) -> Result<(), Wrong> {
+        let differs = |what: &str| Err(Wrong(Reason::Differs, what.to_string()));
+        if hello.version != LINK_VERSION {
+            return differs(&format!("link version {} here and {} there", LINK_VERSION, hello.version));
+        }
+        if hello.register != self.cluster.register_digest() {
+            return differs("the cluster files differ in cluster, generation, n, t, k, length or initial, or the programs in their format");
+        }
+        if hello.members != self.cluster.members_digest() {
+            return differs("the cluster files differ in the nodes' order, names or parties");
+        }
+        Ok(())
+    }
+
+    /// The streams to a partner go on behind what it has.
+    fn resume(&mut self, node: NodeId, hello: &Hello) {
         for (stream, o) in &mut self.state.streams.outs {
             if self.cluster.node_of(stream.to) != Some(node) || self.cluster.node_of(stream.from) != Some(self.me) {
                 continue;
@@ -311,16 +332,6 @@ impl Core {
             o.sent = o.acked;
             self.partners[node].to_send.insert(*stream);
         }
-        if let Some(l) = self.links.get_mut(&link) {
-            l.greeted = true;
-        }
-        let p = &mut self.partners[node];
-        (p.calls, p.why) = (0, String::new());
-        if !found.lost && self.cluster.nodes[node].server.is_some() {
-            self.greetings.insert(node);
-            self.open_gate(now, out);
-        }
-        Ok(())
     }
 
     /// Compares what a partner tells of the streams between us, and of both logs, with what is on the disk here.

@@ -78,7 +78,7 @@ fn faulty(fault: &Fault) -> Next {
         Fault::Damaged { .. } => exit::DAMAGED,
         Fault::Other { .. } => exit::OTHER_LOG,
     };
-    stop(code, format!("{fault}. Nothing was altered; see the page of instructions before doing anything"))
+    stop(code, format!("{fault}. Nothing was altered: keep the folder as it is, and read docs/NODE.md, section 4"))
 }
 
 impl Recovery {

@@ -21,6 +21,9 @@ const CLIENT_ROWS: usize = raw::ROWS;
 /// Frames beside n that a server's step may send: a value to each client, and an ack.
 const SERVER_FURTHER: usize = 9;
 const PAGES_MOST: usize = 2 * raw::PAGE;
+const INDEX: usize = raw::INDEX;
+/// Values that an index takes.
+pub const INDEX_VALUES: usize = raw::INDEX_VALUES;
 
 /// The refusal of a party that there is not.
 pub const NOBODY: u8 = raw::REFUSED_PARTIES;
@@ -466,4 +469,33 @@ pub fn sheet(text: &[u8]) -> Result<Result<Vec<u8>, (u8, u8)>, u8> {
         }
         Judged::Offending { earlier, later } => Err((earlier, later)),
     })
+}
+
+/// The index of accession numbers: a value's number is its first eight bytes, its place is counted from 1 by insertion.
+pub struct Index([u8; INDEX]);
+
+impl Index {
+    pub fn fresh() -> Index {
+        let mut index = [0; INDEX];
+        // SAFETY: as in `Server::fresh`. It can't be refused: the area has its size.
+        unsafe { raw::semduoli_index_fresh(index.as_mut_ptr(), INDEX) };
+        Index(index)
+    }
+
+    /// Inserts a value and says its place.
+    pub fn insert(&mut self, value: &[u8]) -> Result<usize, u8> {
+        // SAFETY: as in `Server::fresh`.
+        let answer = unsafe { raw::semduoli_index_insert(value.as_ptr(), value.len(), self.0.as_mut_ptr(), INDEX) };
+        match answer as u8 {
+            0 => Ok((answer >> 16 & 0xffff) as usize),
+            refusal => Err(refusal),
+        }
+    }
+
+    /// The place of the last inserted value that has the number.
+    pub fn search(&self, number: u64) -> Option<usize> {
+        // SAFETY: as in `Server::fresh`. It can't be refused: the area has its size.
+        let answer = unsafe { raw::semduoli_index_search(number, self.0.as_ptr(), INDEX) };
+        Some((answer >> 16 & 0xffff) as usize).filter(|place| *place > 0)
+    }
 }

@@ -201,59 +201,75 @@ mod tests {
         vec![0, 7, 1, kind, 1, 0, 0, 0, sequence].into()
     }
 
-    /// A sender and a receiver over links that lose what is on the way when they break; both may crash back to what is durable.
+    const FRAMES: u64 = 60;
+
+    /// A sender and a receiver over links that lose what is on the way when they break; the receiver may crash back to what is durable.
+    #[derive(Default)]
+    struct Pair {
+        o: Out,
+        i: In,
+        wire: VecDeque<(u64, Rc<[u8]>)>,
+        /// What the receiver was handed in, and what its log has of the stream.
+        taken: Vec<u8>,
+        log: In,
+    }
+
+    impl Pair {
+        fn step(&mut self, r: &mut Random) {
+            match r.below(8) {
+                0 if self.o.next < FRAMES => {
+                    self.o.push(to(1), vec![self.o.next as u8].into(), 0);
+                }
+                1 => self.o.durable = self.o.next,
+                2 => self.wire.extend(self.o.leave(4, self.o.durable)),
+                3 => {
+                    if let Some((number, frame)) = self.wire.pop_front() {
+                        assert_ne!(self.i.offer(to(1), number, &frame, 4), Offer::Outside);
+                    }
+                }
+                4 => {
+                    if let Some((number, frame)) = self.i.held.pop_front() {
+                        self.taken.push(frame[0]);
+                        self.i.next = number + 1;
+                    }
+                }
+                5 => self.sync_and_ack(),
+                6 if r.one_in(4) => self.link_breaks(),
+                7 if r.one_in(10) => self.receiver_crashes(),
+                _ => {}
+            }
+        }
+
+        fn sync_and_ack(&mut self) {
+            self.i.durable = self.i.next;
+            self.log = self.i.clone();
+            self.o.ack(self.i.durable);
+        }
+
+        fn link_breaks(&mut self) {
+            self.wire.clear();
+            self.o.ack(self.i.durable);
+            self.o.sent = self.o.acked;
+            self.i.held.clear();
+        }
+
+        /// What was handed in and not synced has left no trace.
+        fn receiver_crashes(&mut self) {
+            self.wire.clear();
+            self.i = In { held: VecDeque::new(), ..self.log.clone() };
+            self.taken.truncate(self.i.next as usize);
+            self.o.sent = self.o.acked;
+        }
+    }
+
     #[test]
     fn every_frame_is_handed_in_once_and_in_order() {
         for seed in 0..200 {
-            let mut r = Random::new(seed);
-            let (mut o, mut i, mut wire) = (Out::default(), In::default(), VecDeque::new());
-            let (mut taken, mut log_in, total) = (vec![], In::default(), 60);
-            for _ in 0..4000 {
-                match r.below(8) {
-                    0 if o.next < total => {
-                        o.push(to(1), vec![o.next as u8].into(), 0);
-                    }
-                    1 => o.durable = o.next,
-                    2 => {
-                        if let Some(sent) = o.leave(4, o.durable) {
-                            wire.push_back(sent);
-                        }
-                    }
-                    3 => {
-                        if let Some((number, frame)) = wire.pop_front() {
-                            assert_ne!(i.offer(to(1), number, &frame, 4), Offer::Outside);
-                        }
-                    }
-                    4 => {
-                        if let Some((number, frame)) = i.held.pop_front() {
-                            taken.push(frame[0]);
-                            i.next = number + 1;
-                        }
-                    }
-                    5 => {
-                        // the receiver's log is synced, and it acknowledges
-                        i.durable = i.next;
-                        log_in = i.clone();
-                        o.ack(i.durable);
-                    }
-                    6 if r.one_in(4) => {
-                        wire.clear();
-                        o.ack(i.durable);
-                        o.sent = o.acked;
-                        i.held.clear();
-                    }
-                    7 if r.one_in(10) => {
-                        // the receiver crashes: what was handed in and not synced has left no trace
-                        wire.clear();
-                        i = In { held: VecDeque::new(), ..log_in.clone() };
-                        taken.truncate(i.next as usize);
-                        o.sent = o.acked;
-                    }
-                    _ => {}
-                }
-            }
+            let (mut r, mut pair) = (Random::new(seed), Pair::default());
+            (0..4000).for_each(|_| pair.step(&mut r));
+            let taken = pair.taken;
             assert_eq!(taken, (0..taken.len() as u8).collect::<Vec<_>>(), "seed {seed}");
-            assert!(taken.len() as u64 > total / 2, "seed {seed}: {}", taken.len());
+            assert!(taken.len() as u64 > FRAMES / 2, "seed {seed}: {}", taken.len());
         }
     }
 

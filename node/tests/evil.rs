@@ -192,6 +192,33 @@ fn three_and_a_desk(name: &str) -> Nodes {
     nodes
 }
 
+/// The false node's attack on all servers: messages that left, and links that were made.
+struct Attack<'a> {
+    nodes: &'a Nodes,
+    random: Random,
+    messages: u64,
+    links: u64,
+}
+
+impl Attack<'_> {
+    fn go_on(&mut self, long: Duration) {
+        let until = Instant::now() + long;
+        while Instant::now() < until {
+            let server = 1 + self.random.below(3) as u8;
+            if let Some(mut evil) = Evil::new(self.nodes, server, |_| {}) {
+                self.links += 1;
+                self.messages += burst(&mut evil, &mut self.random);
+            }
+        }
+    }
+}
+
+/// How many frames of the false node a server has refused.
+fn refused(status: &Value) -> u64 {
+    let partner = status["partners"].as_array().into_iter().flatten().find(|p| p["name"] == "s4").cloned().unwrap_or_default();
+    partner["refused"].as_array().into_iter().flatten().filter_map(|r| r[1].as_u64()).sum()
+}
+
 #[test]
 fn a_false_node_costs_no_memory_and_no_order() {
     let nodes = three_and_a_desk("evil");
@@ -202,67 +229,59 @@ fn a_false_node_costs_no_memory_and_no_order() {
             std::thread::spawn(move || client(&folder, number, start, &stop))
         })
         .into();
-    let mut random = Random::new(5);
-    let (mut messages, mut links) = (0, 0);
-    let attack = |until: Instant, random: &mut Random, messages: &mut u64, links: &mut u64| {
-        while Instant::now() < until {
-            let server = 1 + random.below(3) as u8;
-            if let Some(mut evil) = Evil::new(&nodes, server, |_| {}) {
-                *links += 1;
-                *messages += burst(&mut evil, random);
-            }
-        }
-    };
+    let mut attack = Attack { nodes: &nodes, random: Random::new(5), messages: 0, links: 0 };
     // what a first attack costs is buffers; a second must cost nothing more
-    attack(Instant::now() + ATTACK / 2, &mut random, &mut messages, &mut links);
+    attack.go_on(ATTACK / 2);
     let before: Vec<u64> = ["s1", "s2", "s3"].map(|name| memory(&nodes, name)).into();
-    attack(Instant::now() + ATTACK, &mut random, &mut messages, &mut links);
+    attack.go_on(ATTACK);
     for (name, before) in ["s1", "s2", "s3"].iter().zip(before) {
         let after = memory(&nodes, name);
         assert!(after < before + MEMORY_MOST, "{name}: {before} bytes before, {after} after");
     }
     stop.store(true, Ordering::Relaxed);
     let mut lines: Vec<Line> = clients.into_iter().flat_map(|c| c.join().expect("a client")).collect();
+    let (messages, links) = (attack.messages, attack.links);
     println!("{messages} messages by {links} links; {} operations beside them", lines.len());
     assert!(messages > 10_000 && lines.len() > 50, "too little happened: {messages}, {}", lines.len());
     judge::add_writes(&mut lines);
     assert!(matches!(judge::history(&lines, &mut |_, _| {}), Verdict::Order { .. }));
-    let counted = |s: &Value| -> u64 {
-        let partner = s["partners"].as_array().into_iter().flatten().find(|p| p["name"] == "s4").cloned().unwrap_or_default();
-        partner["refused"].as_array().into_iter().flatten().filter_map(|r| r[1].as_u64()).sum()
-    };
-    let refused = nodes.wait_until("s1", "has refused frames", |s| counted(s) > 1000);
-    println!("{} of them refused by s1", counted(&refused));
-    assert!(refused["signs"].as_array().is_some_and(|s| s.is_empty()), "{refused}");
+    let status = nodes.wait_until("s1", "has refused frames", |s| refused(s) > 1000);
+    println!("{} of them refused by s1", refused(&status));
+    assert!(status["signs"].as_array().is_some_and(|s| s.is_empty()), "{status}");
+}
+
+/// A link to the first server. New links of one node are limited, so it is tried again.
+fn patient(nodes: &Nodes, lie: fn(&mut Hello)) -> Evil {
+    let until = Instant::now() + PATIENCE;
+    loop {
+        match Evil::new(nodes, 1, lie) {
+            Some(evil) => return evil,
+            None => assert!(Instant::now() < until, "no link"),
+        }
+    }
+}
+
+/// Messages to the first server that no honest node sends.
+fn wrong_messages(honest: &[u8]) -> [(&'static str, Message<'_>); 6] {
+    let of_another = StreamId { from: Party::server(2), ..stream_to(1, 0) };
+    let to_another = StreamId { to: Party::server(2), ..stream_to(1, 0) };
+    let back = StreamId { from: Party::server(1), to: Party::server(FALSE), register: 0, owner: 0 };
+    [
+        ("a frame as another's", Message::Data { stream: of_another, number: 0, frame: honest }),
+        ("a frame to another", Message::Data { stream: to_another, number: 0, frame: honest }),
+        ("a frame of another owner", Message::Data { stream: stream_to(1, 3), number: 0, frame: honest }),
+        ("a number out of the window", Message::Data { stream: stream_to(1, 0), number: 1 << 40, frame: honest }),
+        ("an acknowledgement of another's stream", Message::Ack { stream: StreamId { from: Party::server(2), ..to_another }, next: 0 }),
+        ("an acknowledgement of what was never sent", Message::Ack { stream: back, next: 1 << 40 }),
+    ]
 }
 
 #[test]
 fn what_no_node_may_say_ends_its_link() {
     let nodes = three_and_a_desk("wrong");
-    let patient = |lie: fn(&mut Hello)| {
-        let until = Instant::now() + PATIENCE;
-        loop {
-            match Evil::new(&nodes, 1, lie) {
-                Some(evil) => return evil,
-                None => assert!(Instant::now() < until, "no link"),
-            }
-        }
-    };
+    let patient = |lie: fn(&mut Hello)| patient(&nodes, lie);
     let honest = frame(1, 1, 1, &[]);
-    let of_another = StreamId { from: Party::server(2), ..stream_to(1, 0) };
-    let to_another = StreamId { to: Party::server(2), ..stream_to(1, 0) };
-    let wrong: [(&str, Message); 6] = [
-        ("a frame as another's", Message::Data { stream: of_another, number: 0, frame: &honest }),
-        ("a frame to another", Message::Data { stream: to_another, number: 0, frame: &honest }),
-        ("a frame of another owner", Message::Data { stream: stream_to(1, 3), number: 0, frame: &honest }),
-        ("a number out of the window", Message::Data { stream: stream_to(1, 0), number: 1 << 40, frame: &honest }),
-        ("an acknowledgement of another's stream", Message::Ack { stream: StreamId { from: Party::server(2), ..to_another }, next: 0 }),
-        (
-            "an acknowledgement of what was never sent",
-            Message::Ack { stream: StreamId { from: Party::server(1), to: Party::server(FALSE), register: 0, owner: 0 }, next: 1 << 40 },
-        ),
-    ];
-    for (what, message) in wrong {
+    for (what, message) in wrong_messages(&honest) {
         let mut evil = patient(|_| {});
         evil.send(&message).expect("sent");
         assert!(evil.sees_its_end(), "{what}");

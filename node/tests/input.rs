@@ -34,7 +34,7 @@ fn contents(folder: &Path) -> Vec<(String, Vec<u8>)> {
 
 #[test]
 fn wrong_words_are_wrong_use() {
-    for words in [&[][..], &["dance"], &["serve"], &["write"], &["read", "--client", "x"], &["judge"], &["wait", "--client", "1", "x"]] {
+    for words in [&[][..], &["dance"], &["serve"], &["write"], &["read", "--client", "x"], &["judge"], &["find"], &["wait", "--client", "1", "x"]] {
         let output = semduoli(words);
         assert_eq!(code(&output), 1, "{words:?}: {}", said(&output));
         assert!(said(&output).contains("--help") || said(&output).contains("Usage"), "{words:?}: {}", said(&output));
@@ -45,10 +45,9 @@ fn wrong_words_are_wrong_use() {
 }
 
 #[test]
-fn wrong_folders_keys_and_cluster_files_are_told_apart() {
+fn wrong_folders_and_files_are_told_apart() {
     let nodes = Nodes::new("input", SMALL);
     let (own, cluster) = (nodes.path("s1"), nodes.at("s1").join("cluster.toml"));
-    let good = fs::read_to_string(&cluster).expect("a cluster file");
     let file = cluster.to_str().expect("text");
     assert_eq!(code(&semduoli(&["check-config", file])), 0);
 
@@ -62,11 +61,21 @@ fn wrong_folders_keys_and_cluster_files_are_told_apart() {
     fails(&["status", "--folder", "/nonexistent"], 3, "no node answers");
     fails(&["history", "--folder", &own], 2, "has not run yet");
     fails(&["verify", "--folder", &own], 2, "has not run yet");
+    fails(&["find", "--folder", &own, "1"], 2, "has no desk");
+    fails(&["find", "--folder", &nodes.path("desk"), "1"], 2, "has not run yet");
+    fails(&["find", "--folder", "/nonexistent", "1"], 2, "no such folder");
     fails(&["judge", "/nonexistent"], 1, "No such file");
     fails(&["play", "/nonexistent", "--cluster", file, "--server", "1"], 1, "No such file");
     fails(&["trace", "--folder", &nodes.path("desk"), "/tmp/none"], 1, "has no server");
     assert_eq!(contents(&nodes.folder), before, "nothing is altered");
+}
 
+#[test]
+fn wrong_cluster_files_are_told_apart() {
+    let nodes = Nodes::new("clusters", SMALL);
+    let (own, cluster) = (nodes.path("s1"), nodes.at("s1").join("cluster.toml"));
+    let good = fs::read_to_string(&cluster).expect("a cluster file");
+    let file = cluster.to_str().expect("text");
     for (old, new, says) in [
         ("n = 4", "n = 5", "server 5 of n = 5"),
         ("n = 4", "n = 3", "refused 1"),
@@ -79,8 +88,13 @@ fn wrong_folders_keys_and_cluster_files_are_told_apart() {
     }
     fs::write(&cluster, [0xff, 0xfe, 0]).expect("written");
     fails(&["check-config", file], 2, "UTF-8");
-    fs::write(&cluster, &good).expect("written");
+}
 
+#[test]
+fn wrong_keys_are_told_apart() {
+    let nodes = Nodes::new("keys", SMALL);
+    let (own, cluster) = (nodes.path("s1"), nodes.at("s1").join("cluster.toml"));
+    let file = cluster.to_str().expect("text");
     let certificate = fs::read(nodes.at("s1").join("node.crt")).expect("a certificate");
     fs::write(nodes.at("s1").join("node.crt"), fs::read(nodes.at("s2").join("node.crt")).expect("another")).expect("written");
     fails(&["serve", &own], 2, "is not the key of");
@@ -111,6 +125,19 @@ fn wrong_histories_and_traces_are_told_apart() {
     judged("W 5 2 1 1 1 1\n");
     fails(&["judge", path], 4, "refused 18");
     fs::remove_dir_all(&folder).expect("removed");
+}
+
+#[test]
+fn wrong_accession_numbers_are_told_apart() {
+    let nodes = Nodes::new("numbers", (4, 1, 2, 7));
+    let desk = nodes.path("desk");
+    for word in ["x", "", "+1", "1.0", "18446744073709551616", "\n"] {
+        fails(&["find", "--folder", &desk, word], 1, "a number from 0 to 18446744073709551615 is wanted");
+    }
+    for word in ["lot 471", "lot 47110", ""] {
+        fails(&["find", "--folder", &desk, "--text", word], 1, "the 8 bytes that a value begins with");
+    }
+    fails(&["find", "--folder", &desk, "1"], 4, "refused 26: a value of this register has 7 bytes");
 }
 
 #[test]

@@ -163,6 +163,13 @@ fn batches(segment: &[u8]) -> Vec<(usize, usize)> {
     found
 }
 
+/// A segment with the front of a batch behind its last whole one, as if some of its bytes came to the disk.
+fn torn(segment: &[u8], last: usize, part: &[u8]) -> Vec<u8> {
+    let (mut torn, behind) = (segment.to_vec(), last + BLOCK as usize);
+    torn[behind..behind + part.len()].copy_from_slice(part);
+    torn
+}
+
 #[test]
 fn a_torn_log_is_cut_and_a_damaged_one_stops_the_node() {
     let mut nodes = Nodes::new("torn", SIZE);
@@ -181,13 +188,9 @@ fn a_torn_log_is_cut_and_a_damaged_one_stops_the_node() {
         copy(&kept, &folder);
         fs::write(folder.join("log-00000001"), segment).expect("written");
     };
-    // a batch of which some bytes came to the disk stands behind the last whole one
     let ((earlier, length), (last, _)) = (found[found.len() / 2], found[found.len() - 1]);
     for part in (1..length).step_by(length / 20 + 1) {
-        let mut torn = segment.clone();
-        let behind = last + BLOCK as usize;
-        torn[behind..behind + part].copy_from_slice(&segment[earlier..earlier + part]);
-        put_back(&torn);
+        put_back(&torn(&segment, last, &segment[earlier..earlier + part]));
         nodes.start("s2");
         nodes.wait_until("s2", "is ready", |_| true);
         nodes.kill("s2");
@@ -235,6 +238,76 @@ fn a_trace_is_played_back_to_the_servers_state() {
         let judged = semduoli(&["judge", history.to_str().expect("text")]);
         assert!(printed(&judged).starts_with("30 operations have an order"), "{clock}: {}", said(&judged));
     }
+}
+
+/// Writes a value and reads it by another client; the read's answer.
+fn write_and_read(nodes: &Nodes, value: &[u8]) -> Value {
+    let mut desk = nodes.desk();
+    assert_eq!(desk.write(1, value)["outcome"], "written");
+    let read = desk.read(2);
+    let wanted: String = value.iter().map(|b| format!("{b:02x}")).collect();
+    assert_eq!((&read["outcome"], &read["value"]), (&"value".into(), &wanted.into()));
+    read
+}
+
+#[test]
+fn values_that_were_read_are_found_by_their_accession_numbers() {
+    let mut nodes = Nodes::new("find", SIZE);
+    nodes.start_all();
+    let value = |number: u64, rest: u8| [&number.to_be_bytes()[..], &[rest; 24]].concat();
+    // an index takes 64 values; the first four numbers come twice
+    let mut reads: Vec<Value> = (0..35).map(|i| write_and_read(&nodes, &value(i.into(), i))).collect();
+    nodes.kill("desk");
+    nodes.start("desk");
+    nodes.wait_until("desk", "is open", |s| s["open"] == true);
+    reads.extend((35..70).map(|i| write_and_read(&nodes, &value(u64::from(i) % 66, i))));
+    assert_eq!(nodes.desk().write(3, &value(999, 1))["outcome"], "written");
+    let path = nodes.path("desk");
+    let find = |words: &[&str]| semduoli(&[&["find", "--folder", &path], words].concat());
+    let found = |number: u64| -> Value {
+        let output = find(&[&number.to_string(), "--json"]);
+        assert_eq!(code(&output), 0, "{}", said(&output));
+        serde_json::from_str(&printed(&output)).expect("an object")
+    };
+    let all = || {
+        for (number, at) in [(0, 66), (3, 69), (4, 4), (40, 40), (63, 63), (64, 64), (65, 65)] {
+            let (object, read) = (found(number), &reads[at]);
+            assert_eq!((&object["number"], &object["place"]), (&number.into(), &(at + 1).into()));
+            for name in ["value", "stamp", "client", "register", "end_tick", "end_wall"] {
+                assert_eq!(object[name], read[name], "{name} of {number}");
+            }
+        }
+        // what was written and not read, and what was neither
+        for number in [999, 66] {
+            assert_eq!(found(number), serde_json::json!({ "number": number, "place": 0 }));
+        }
+    };
+    all();
+    // the log has it all, whether the node runs or not
+    nodes.kill("desk");
+    all();
+    fs::remove_file(nodes.at("desk").join("log-00000001")).expect("removed");
+    let cut = find(&["3"]);
+    assert_eq!(code(&cut), 1, "{}", said(&cut));
+    assert!(said(&cut).contains("first segments were removed"), "{}", said(&cut));
+}
+
+#[test]
+fn a_value_is_found_by_the_text_that_it_begins_with() {
+    let mut nodes = Nodes::new("find-text", SIZE);
+    nodes.start_all();
+    write_and_read(&nodes, b"lot 4711, rye: 92 of 100        ");
+    write_and_read(&nodes, b"lot 4712, oats: 71 of 100       ");
+    let path = nodes.path("desk");
+    let find = |words: &[&str]| semduoli(&[&["find", "--folder", &path], words].concat());
+    let output = find(&["--text", "lot 4711"]);
+    assert_eq!((code(&output), printed(&output).as_str()), (0, "lot 4711, rye: 92 of 100\n"), "{}", said(&output));
+    assert_eq!(said(&output), "value 1 of those read here, by client 2; stamp: time 1, client 1, write 1\n");
+    let number = u64::from_be_bytes(*b"lot 4712").to_string();
+    assert!(printed(&find(&[&number, "--hex"])).starts_with("6c6f742034373132"));
+    let none = find(&["--text", "lot 4713"]);
+    assert_eq!((code(&none), printed(&none).as_str()), (0, ""));
+    assert!(said(&none).starts_with("no value that this node's desks have read"), "{}", said(&none));
 }
 
 /// A folder on a small disk of its own, in memory; none where this user may not mount one.

@@ -175,4 +175,15 @@ mod tests {
         late.end.wall = u64::MAX;
         assert_eq!(line(&late, ClockKind::Wall, 10).end, NO_END);
     }
+
+    /// The wall clock steps back by an hour while the operation is open: its local line is the same, its other one is a point, and a widening by the step
+    /// has what either reading of the clock says.
+    #[test]
+    fn a_clock_that_steps_back_makes_no_line_that_ends_before_it_starts() {
+        let mut back = operation();
+        back.end.wall -= 3_600_000;
+        assert_eq!(line(&back, ClockKind::Local, 0), line(&operation(), ClockKind::Local, 0));
+        assert_eq!(line(&back, ClockKind::Wall, 0).to_string(), "W 1700000001 1700000002 5 3 2 3");
+        assert_eq!(line(&back, ClockKind::Wall, 3600).to_string(), "W 1699996401 1700000003 5 3 2 3");
+    }
 }

@@ -2,6 +2,7 @@
 
 mod desk;
 mod files;
+mod find;
 mod folder;
 mod history;
 mod status;
@@ -112,6 +113,19 @@ enum Command {
         #[arg(long, default_value_t = history::SHEET_MOST)]
         last: usize,
     },
+    /// Find the last value read by this node's desks that has an accession number: its first eight bytes, high byte first
+    Find {
+        #[command(flatten)]
+        node: NodeFolder,
+        /// The accession number, or with --text the eight bytes that the value begins with
+        number: String,
+        /// The number is given as text
+        #[arg(long)]
+        text: bool,
+        /// Print the value as hexadecimal digits
+        #[arg(long)]
+        hex: bool,
+    },
     /// Write the trace of this node's server: every frame that it took
     Trace {
         #[command(flatten)]
@@ -199,6 +213,7 @@ pub fn carry_out(arguments: Arguments) -> Result<(), Failure> {
         Command::History { node, clock } => history::history(&node, &clock, json),
         Command::Judge { files } => history::judge(&files, json),
         Command::Sheet { node, last } => history::sheet(&node, last, json),
+        Command::Find { node, number, text, hex } => find::find(&node, &number, text, hex, json),
         Command::Trace { node, file } => trace::trace(&node, &file, json),
         Command::Play { file, cluster, server } => trace::play(&file, &cluster, server, json),
         Command::Verify { node } => trace::verify(&node, json),

@@ -28,6 +28,21 @@ struct Told {
     traces: BTreeMap<u8, (Vec<u8>, usize)>,
     /// Operations of the node's desks, by client and number.
     operations: BTreeMap<(u8, u64), Operation>,
+    /// Their begins and ends in the log's order.
+    points: Vec<Point>,
+}
+
+/// When an operation began or ended, by the count of begins and ends and by the wall clock.
+#[derive(Clone, Copy, Debug, PartialEq)]
+pub struct Point {
+    pub client: u8,
+    pub tick: u32,
+    pub wall: u64,
+}
+
+/// The begins and ends of the operations of a node's desks, as its log has them.
+pub fn points(w: &World, node: usize) -> Result<Vec<Point>, String> {
+    Ok(read_log(&w.slots[node].disk, w.plan.cluster.register_digest())?.points)
 }
 
 fn read_log(disk: &Disk, register: [u8; 32]) -> Result<Told, String> {
@@ -60,12 +75,14 @@ fn tell(told: &mut Told, record: &Record) -> Result<(), &'static str> {
             }
             tell_sent(told, stream.to, sent)
         }
-        Record::Begin { client, value, sent, .. } => {
+        Record::Begin { client, tick, wall, value, sent, .. } => {
+            told.points.push(Point { client: *client, tick: *tick, wall: *wall });
             let count = told.operations.keys().filter(|k| k.0 == *client).count() as u64;
             told.operations.insert((*client, count + 1), (value.is_some(), None));
             tell_sent(told, Party::client(*client), sent)
         }
-        Record::Ended { client, outcome, stamp, .. } => {
+        Record::Ended { client, tick, wall, outcome, stamp, .. } => {
+            told.points.push(Point { client: *client, tick: *tick, wall: *wall });
             let count = told.operations.keys().filter(|k| k.0 == *client).count() as u64;
             let open = told.operations.get_mut(&(*client, count)).ok_or("an end without a begin")?;
             open.1 = Some((*outcome, sem::stamp_of(stamp)));

@@ -161,41 +161,11 @@ impl Disk {
 
     pub fn step(&mut self, micro: &Micro) -> Result<DiskAnswer, DiskError> {
         match micro {
-            Micro::List => {
-                let length = |inode: &u64| self.files.get(inode).map_or(0, |f| f.cache.len() as u64);
-                return Ok(DiskAnswer::Names(self.names.iter().map(|(n, i)| (n.clone(), length(i))).collect()));
-            }
-            Micro::Read { file, offset, length } => {
-                let f = self.file(file)?;
-                let from = (*offset as usize).min(f.cache.len());
-                let to = from.saturating_add((*length).min(1 << 40) as usize).min(f.cache.len());
-                return Ok(DiskAnswer::Bytes(f.cache[from..to].to_vec()));
-            }
-            Micro::Create { file, bytes, length } => {
-                if self.full {
-                    return Err(DiskError { full: true, text: format!("{file}: no space") });
-                }
-                self.next += 1;
-                let inode = self.next;
-                let mut f = File::default();
-                f.write(0, bytes);
-                let zeros = (*length as usize).saturating_sub(bytes.len());
-                f.write(bytes.len(), &vec![0; zeros]);
-                self.files.insert(inode, f);
-                self.name(NameOp::Put(file.clone(), inode));
-            }
+            Micro::List => return Ok(self.list()),
+            Micro::Read { file, offset, length } => return self.read(file, *offset, *length),
+            Micro::Create { file, bytes, length } => self.create(file, bytes, *length)?,
             Micro::Write { file, offset, bytes } => self.file(file)?.write(*offset as usize, bytes),
-            Micro::Sync { file } => {
-                let (fail, lying) = (std::mem::take(&mut self.fail_sync), self.lying);
-                let f = self.file(file)?;
-                if fail {
-                    f.failed = std::mem::take(&mut f.dirty);
-                    return Err(DiskError { full: false, text: format!("{file}: sync failed") });
-                }
-                if !lying {
-                    f.sync();
-                }
-            }
+            Micro::Sync { file } => self.sync(file)?,
             Micro::Drop { file } => self.file(file)?.drop_pages(),
             Micro::Rename { from, to } => {
                 self.file(from)?;
@@ -208,6 +178,47 @@ impl Disk {
             Micro::Unlink { file } => self.name(NameOp::Remove(file.clone())),
         }
         Ok(DiskAnswer::Done)
+    }
+
+    fn list(&self) -> DiskAnswer {
+        let length = |inode: &u64| self.files.get(inode).map_or(0, |f| f.cache.len() as u64);
+        DiskAnswer::Names(self.names.iter().map(|(n, i)| (n.clone(), length(i))).collect())
+    }
+
+    fn read(&mut self, file: &str, offset: u64, length: u64) -> Result<DiskAnswer, DiskError> {
+        let f = self.file(file)?;
+        let from = (offset as usize).min(f.cache.len());
+        let to = from.saturating_add(length.min(1 << 40) as usize).min(f.cache.len());
+        Ok(DiskAnswer::Bytes(f.cache[from..to].to_vec()))
+    }
+
+    fn create(&mut self, file: &str, bytes: &[u8], length: u64) -> Result<(), DiskError> {
+        if self.full {
+            return Err(DiskError { full: true, text: format!("{file}: no space") });
+        }
+        self.next += 1;
+        let inode = self.next;
+        let mut f = File::default();
+        f.write(0, bytes);
+        let zeros = (length as usize).saturating_sub(bytes.len());
+        f.write(bytes.len(), &vec![0; zeros]);
+        self.files.insert(inode, f);
+        self.name(NameOp::Put(file.to_string(), inode));
+        Ok(())
+    }
+
+    /// As the faults that are on have it.
+    fn sync(&mut self, file: &str) -> Result<(), DiskError> {
+        let (fail, lying) = (std::mem::take(&mut self.fail_sync), self.lying);
+        let f = self.file(file)?;
+        if fail {
+            f.failed = std::mem::take(&mut f.dirty);
+            return Err(DiskError { full: false, text: format!("{file}: sync failed") });
+        }
+        if !lying {
+            f.sync();
+        }
+        Ok(())
     }
 
     /// A write that the end of the process cut short: a part of its pages is in the cache.

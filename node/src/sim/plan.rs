@@ -29,52 +29,86 @@ pub struct Plan {
     pub operations: u64,
 }
 
-impl Plan {
-    pub fn draw(seed: u64, mutant: Option<Mutant>) -> Plan {
-        let mut r = Random::new(seed);
+/// What a seed draws of the register and its nodes: its parameters, and how many nodes have desks alone.
+struct Shape {
+    n: usize,
+    t: usize,
+    k: usize,
+    size: usize,
+    desks: usize,
+    /// Whether the first two servers' nodes have desks too.
+    own_desks: bool,
+}
+
+impl Shape {
+    fn draw(r: &mut Random) -> Shape {
         let (n, t) = if r.one_in(4) { (7, 2) } else { (4, 1) };
         let k = 1 + r.below((n - 2 * t) as u64) as usize;
         let size = 1 + r.below(24) as usize;
         let desks = 1 + r.below(2) as usize;
-        let mut text = format!("cluster = \"sim\"\nn = {n}\nt = {t}\nk = {k}\nlength = {size}\ninitial = \"{}\"\n", "00".repeat(size));
+        Shape { n, t, k, size, desks, own_desks: r.one_in(2) }
+    }
+
+    /// The cluster file; how many clients a node has is drawn.
+    fn cluster(&self, r: &mut Random) -> Cluster {
+        let Shape { n, t, k, size, .. } = self;
+        let mut text = format!("cluster = \"sim\"\nn = {n}\nt = {t}\nk = {k}\nlength = {size}\ninitial = \"{}\"\n", "00".repeat(*size));
         let mut client = 0;
-        let own_desks = r.one_in(2);
-        for at in 0..n + desks {
+        for at in 0..n + self.desks {
             let _ = write!(text, "[[node]]\nname = \"n{at}\"\nfingerprints = [\"{at:064x}\"]\n");
-            if at < n {
+            if at < *n {
                 let _ = write!(text, "address = \"127.0.0.1:{}\"\nserver = {}\n", 7000 + at, at + 1);
             }
-            if at >= n || (own_desks && at < 2) {
+            if at >= *n || (self.own_desks && at < 2) {
                 let count = 1 + r.below(2);
                 let clients: Vec<String> = (0..count).map(|i| (client + 1 + i).to_string()).collect();
                 client += count;
                 let _ = writeln!(text, "clients = [{}]", clients.join(", "));
             }
         }
-        let cluster = Cluster::parse(&text).unwrap_or_else(|e| panic!("the simulation's own cluster file: {e}\n{text}"));
+        Cluster::parse(&text).unwrap_or_else(|e| panic!("the simulation's own cluster file: {e}\n{text}"))
+    }
+
+    /// Up to t servers' nodes, and of two nodes with desks alone the last.
+    fn evil(&self, r: &mut Random) -> BTreeSet<usize> {
         let mut evil = BTreeSet::new();
         if r.one_in(2) {
-            for _ in 0..t {
-                evil.insert(r.below(n as u64) as usize);
+            for _ in 0..self.t {
+                evil.insert(r.below(self.n as u64) as usize);
             }
-            if desks == 2 && r.one_in(2) {
-                evil.insert(n + 1);
+            if self.desks == 2 && r.one_in(2) {
+                evil.insert(self.n + 1);
             }
         }
-        let settings = Settings {
-            segment: 4096 * (24 + r.below(64)),
-            batch_most: 4096 * (1 + r.below(8)) as usize,
-            snapshot_every: 4096 * (8 + r.below(200)),
-            window: 2 + r.below(16) as usize,
-            window_owner: 2 + r.below(8) as usize,
-            ping_every: 500,
-            silent_most: 2_000,
-            call_first: 20,
-            call_most: 500,
-            full_wait: 50,
-            mutant,
-            ..Settings::default()
-        };
+        evil
+    }
+}
+
+fn settings(r: &mut Random, mutant: Option<Mutant>) -> Settings {
+    Settings {
+        segment: 4096 * (24 + r.below(64)),
+        batch_most: 4096 * (1 + r.below(8)) as usize,
+        snapshot_every: 4096 * (8 + r.below(200)),
+        window: 2 + r.below(16) as usize,
+        window_owner: 2 + r.below(8) as usize,
+        ping_every: 500,
+        silent_most: 2_000,
+        call_first: 20,
+        call_most: 500,
+        full_wait: 50,
+        mutant,
+        ..Settings::default()
+    }
+}
+
+impl Plan {
+    /// What a seed means depends on the order of the draws.
+    pub fn draw(seed: u64, mutant: Option<Mutant>) -> Plan {
+        let mut r = Random::new(seed);
+        let shape = Shape::draw(&mut r);
+        let cluster = shape.cluster(&mut r);
+        let evil = shape.evil(&mut r);
+        let settings = settings(&mut r, mutant);
         Plan {
             seed,
             crash: if r.one_in(4) { 0 } else { 100 + r.below(1500) },

@@ -15,6 +15,8 @@ const MS: u64 = 1000;
 /// Faults fall until here, in microseconds; then all is mended, and this long is left.
 const CHAOS: u64 = 12_000 * MS;
 const MENDED: u64 = 120_000 * MS;
+/// The wall clocks when a run begins, in milliseconds.
+pub const WALL: u64 = 1_700_000_000_000;
 /// The refusal of a write after one that closed as out of stamps.
 const OUT_OF_STAMPS: u8 = 17;
 /// A run with more events than this goes round in a circle.
@@ -109,39 +111,44 @@ pub struct World {
     /// Every frame that an honest node put on a link, by its stream and number.
     pub wire: BTreeMap<(StreamId, u64), Vec<u8>>,
     pub failures: Vec<String>,
+    /// A node's wall clock, by its number and the clock that never steps; both in milliseconds.
+    pub wall: fn(usize, u64) -> u64,
     wall_jump: u64,
     pub verbose: bool,
 }
 
+impl Slot {
+    /// A node that has not run yet.
+    fn new(evil: Option<Evil>) -> Slot {
+        Slot {
+            core: None,
+            disk: Disk::default(),
+            epoch: 0,
+            boots: 1,
+            lanes: BTreeMap::new(),
+            tick_at: None,
+            backlog: VecDeque::new(),
+            ready: false,
+            exited: None,
+            evil,
+            excused: false,
+            rolled: false,
+            lied: false,
+            let_out: 0,
+            old_disk: None,
+        }
+    }
+}
+
 impl World {
     pub fn new(plan: Plan) -> World {
-        let r = plan.random.clone();
-        let nodes = plan.cluster.nodes.len();
-        let slots = (0..nodes)
-            .map(|node| Slot {
-                core: None,
-                disk: Disk::default(),
-                epoch: 0,
-                boots: 1,
-                lanes: BTreeMap::new(),
-                tick_at: None,
-                backlog: VecDeque::new(),
-                ready: false,
-                exited: None,
-                evil: plan.evil.contains(&node).then(|| Evil::new(&plan.cluster, node)),
-                excused: false,
-                rolled: false,
-                lied: false,
-                let_out: 0,
-                old_disk: None,
-            })
-            .collect();
+        let evil = |node: usize| plan.evil.contains(&node).then(|| Evil::new(&plan.cluster, node));
         let mut w = World {
-            r,
+            r: plan.random.clone(),
             now: 0,
             row: BTreeMap::new(),
             order: 0,
-            slots,
+            slots: (0..plan.cluster.nodes.len()).map(|node| Slot::new(evil(node))).collect(),
             pipes: BTreeMap::new(),
             cuts: vec![],
             mended: false,
@@ -158,26 +165,32 @@ impl World {
             readers: BTreeSet::new(),
             wire: BTreeMap::new(),
             failures: vec![],
+            wall: |_, boot| WALL + boot,
             wall_jump: 0,
             verbose: std::env::var_os("SIM_VERBOSE").is_some(),
             plan,
         };
-        for node in 0..nodes {
-            let evil = w.slots[node].evil.is_some();
-            let wait = w.r.below(500 * MS);
-            w.later(wait, if evil { Will::Evil { node } } else { Will::Start { node } });
-            for client in w.plan.cluster.nodes[node].clients.clone() {
+        w.set_going();
+        w
+    }
+
+    /// What happens by itself: nodes start, desks ask, faults fall, and in the end all is mended.
+    fn set_going(&mut self) {
+        for node in 0..self.slots.len() {
+            let evil = self.slots[node].evil.is_some();
+            let wait = self.r.below(500 * MS);
+            self.later(wait, if evil { Will::Evil { node } } else { Will::Start { node } });
+            for client in self.plan.cluster.nodes[node].clients.clone() {
                 if !evil {
-                    w.left.insert(client, w.plan.operations);
-                    let at = 500 * MS + w.r.below(3000) * MS;
-                    w.later(at, Will::Ask { node, client });
+                    self.left.insert(client, self.plan.operations);
+                    let at = 500 * MS + self.r.below(3000) * MS;
+                    self.later(at, Will::Ask { node, client });
                 }
             }
         }
-        w.later(200 * MS, Will::Cut);
-        w.later(300 * MS, Will::Fault);
-        w.later(CHAOS, Will::Mend);
-        w
+        self.later(200 * MS, Will::Cut);
+        self.later(300 * MS, Will::Fault);
+        self.later(CHAOS, Will::Mend);
     }
 
     fn later(&mut self, wait: u64, will: Will) {
@@ -191,8 +204,9 @@ impl World {
         }
     }
 
-    pub fn clock(&self) -> Now {
-        Now { boot: self.now / MS, wall: 1_700_000_000_000 + self.now / MS + self.wall_jump }
+    fn clock(&self, node: usize) -> Now {
+        let boot = self.now / MS;
+        Now { boot, wall: (self.wall)(node, boot).saturating_add(self.wall_jump) }
     }
 
     pub fn run(&mut self) {
@@ -304,7 +318,7 @@ impl World {
 
     /// Hands an event to a node and carries its actions out.
     fn hand(&mut self, node: usize, event: Event) {
-        let now = self.clock();
+        let now = self.clock(node);
         let wants_room = matches!(event, Event::Bytes { .. } | Event::Ask { .. });
         let slot = &mut self.slots[node];
         let Some(core) = slot.core.as_mut() else { return };

@@ -297,7 +297,9 @@ impl Core {
         }
         let p = &mut self.partners[node];
         (p.calls, p.why) = (0, String::new());
-        if !found.lost && self.cluster.nodes[node].server.is_some() {
+        // a sign stands: what was lost does not come back, though this node's numbers may pass those that the partner saw
+        let signed = if self.settings.is(Mutant::SignPasses) { found.lost } else { self.signs.contains(&node) };
+        if !signed && self.cluster.nodes[node].server.is_some() {
             self.greetings.insert(node);
             self.open_gate(now, out);
         }

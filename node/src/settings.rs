@@ -75,6 +75,8 @@ pub enum Mutant {
     WeakSum,
     /// Frames leave before enough servers have greeted.
     NoWait,
+    /// A partner that gave a sign of lost state counts as one without, once its numbers are passed.
+    SignPasses,
     /// A frame's sender is the one that the frame names.
     SenderByFrame,
 }

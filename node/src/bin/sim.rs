@@ -4,7 +4,7 @@ use semduoli::settings::Mutant;
 use semduoli::sim;
 use std::time::Instant;
 
-const MUTANTS: [(&str, Mutant); 9] = [
+const MUTANTS: [(&str, Mutant); 10] = [
     ("send-early", Mutant::SendEarly),
     ("ack-early", Mutant::AckEarly),
     ("no-settle", Mutant::NoSettle),
@@ -13,6 +13,7 @@ const MUTANTS: [(&str, Mutant); 9] = [
     ("numbers-lost", Mutant::NumbersLost),
     ("weak-sum", Mutant::WeakSum),
     ("no-wait", Mutant::NoWait),
+    ("sign-passes", Mutant::SignPasses),
     ("sender-by-frame", Mutant::SenderByFrame),
 ];
 

@@ -57,13 +57,14 @@ mod tests {
         }
     }
 
-    const FALLS: [(Mutant, u64); 7] = [
+    const FALLS: [(Mutant, u64); 8] = [
         (Mutant::SendEarly, 16),
         (Mutant::AckEarly, 4),
         (Mutant::NoSettle, 29),
         (Mutant::SnapshotAhead, 876),
         (Mutant::NumbersLost, 2),
         (Mutant::NoWait, 64),
+        (Mutant::SignPasses, 5505),
         (Mutant::SenderByFrame, 6),
     ];
 

@@ -4,24 +4,30 @@ use crate::desk::Queue;
 use crate::events::{exit, Action, AskId, DiskAnswer, DiskError, DiskId, DiskOp, Event, Lane, Level, LinkId, NodeId, Now, Response, Start};
 use crate::links::{Link, Partner};
 use crate::log::{self, segment_name, LogId, Place};
+use crate::owed::Fetch;
 use crate::records::{self, Record};
 use crate::recovery::{Next, Recovered, Recovery, FAILED, LOST};
 use crate::settings::{Mutant, Settings};
 use crate::snapshot;
 use crate::state::State;
+use crate::streams::{Spot, StreamId};
 use crate::writer::{InFlight, Writer};
 use std::collections::{BTreeMap, BTreeSet};
 
+/// A link's bytes that may wait to be worked off: more than the longest message.
+const INPUT_MOST: usize = 256 << 10;
 /// Snapshots that are kept.
-const SNAPSHOTS: usize = 2;
+pub(crate) const SNAPSHOTS: usize = 2;
 
 /// What a disk operation is for.
-enum Purpose {
+pub(crate) enum Purpose {
     Recovery,
     Batch,
     Segment(u32),
-    Snapshot(u64),
+    Snapshot(snapshot::Name),
     Remove,
+    /// Frames that are owed are read from the log.
+    Fetch,
     /// The last act: a file that says why, then the end.
     Last {
         code: u8,
@@ -52,14 +58,18 @@ pub struct Core {
     /// What is to be sent by each link at the end of the event.
     pub(crate) outgoing: BTreeMap<LinkId, Vec<u8>>,
     pub(crate) queues: BTreeMap<u8, Queue>,
-    /// Nodes with servers that have greeted since the start without a sign, and those that gave a sign of lost state.
+    /// Nodes with servers that have greeted since the start and never gave a sign of lost state.
     pub(crate) greetings: BTreeSet<NodeId>,
-    pub(crate) signs: BTreeSet<NodeId>,
     /// Whether frames may leave.
     pub(crate) open: bool,
     pub(crate) alarm: Option<String>,
     pub(crate) snapshot_askers: Vec<AskId>,
     pub(crate) replayed: u64,
+    /// Frames that are being read from the log, and streams that wait for theirs.
+    pub(crate) fetching: Option<Fetch>,
+    pub(crate) to_fetch: BTreeSet<StreamId>,
+    /// Something came since the last tick.
+    gathers: bool,
     snapshotting: bool,
     making_segment: bool,
     retry_at: Option<u64>,
@@ -80,6 +90,7 @@ impl Core {
             last_segment: 1,
             snapshots: vec![],
             replayed: 0,
+            since_snapshot: 0,
             notes: vec![],
         };
         Core {
@@ -93,11 +104,13 @@ impl Core {
             outgoing: BTreeMap::new(),
             queues: BTreeMap::new(),
             greetings: BTreeSet::new(),
-            signs: BTreeSet::new(),
             open: false,
             alarm: None,
             snapshot_askers: vec![],
             replayed: 0,
+            fetching: None,
+            to_fetch: BTreeSet::new(),
+            gathers: false,
             snapshotting: false,
             making_segment: false,
             retry_at: None,
@@ -108,11 +121,13 @@ impl Core {
         }
     }
 
-    /// One event. Actions are put behind those that are there.
+    /// One event. Actions are put behind those that are there. What came is worked off at the next tick, all at once: so what comes together is in one
+    /// batch, and leaves together.
     pub fn on(&mut self, now: Now, event: Event, out: &mut Vec<Action>) {
         if matches!(self.phase, Phase::Ended) {
             return;
         }
+        let tick = matches!(event, Event::Tick);
         match event {
             Event::Start(start) => self.begin(start, out),
             Event::Disk { id, result } => self.disk_done(id, result, now, out),
@@ -122,13 +137,14 @@ impl Core {
             Event::LinkDown { link, node, why } => self.link_down(link, node, &why, now),
             Event::Ask { id, ask } => self.ask(id, ask, now, out),
             Event::AskGone { id } => self.ask_gone(id),
-            Event::Tick => {}
+            Event::Tick => self.gathers = false,
         }
         if self.retry_at.is_some_and(|at| now.boot >= at) {
             self.retry_at = None;
         }
         match self.phase {
-            Phase::Running => self.go_on(now, out),
+            Phase::Running if tick => self.go_on(now, out),
+            Phase::Running => self.gathers = true,
             // the batch with the start's record may wait for a segment
             Phase::Starting => self.commit(now, out),
             _ => {}
@@ -143,9 +159,15 @@ impl Core {
         matches!(self.phase, Phase::Running) && self.writer.fx.batch.len() < self.settings.batch_most
     }
 
+    /// Whether bytes of this link may be handed in: not while much of what came by it is to be worked off.
+    pub fn taking_from(&self, link: LinkId) -> bool {
+        self.taking() && self.links.get(&link).is_none_or(|l| l.input.len() < INPUT_MOST)
+    }
+
     /// When the core wants a tick at the latest, by the boot clock.
     pub fn wake(&self) -> Option<u64> {
         match self.phase {
+            Phase::Running if self.gathers => Some(0),
             Phase::Running => self.writer.wake(&self.settings).into_iter().chain(self.links_wake()).chain(self.retry_at).min(),
             Phase::Starting => self.retry_at,
             _ => None,
@@ -167,12 +189,13 @@ impl Core {
         if self.settings.is(Mutant::SendEarly) || self.settings.is(Mutant::AckEarly) {
             self.mark_dirty_early();
         }
-        self.let_out();
+        self.let_out(now);
+        self.fetch(out);
     }
 
     /// For the simulation: a wrong node that lets out what gathers.
     fn mark_dirty_early(&mut self) {
-        let outs: Vec<_> = self.writer.fx.sent.iter().copied().collect();
+        let outs = self.state.gathering();
         let ins: Vec<_> = self.writer.fx.answered.iter().copied().collect();
         for stream in outs.into_iter().filter(|_| self.settings.is(Mutant::SendEarly)) {
             if let Some(node) = self.cluster.node_of(stream.to) {
@@ -208,7 +231,7 @@ impl Core {
 
     // ---- the disk
 
-    fn disk(&mut self, purpose: Purpose, lane: Lane, op: DiskOp, out: &mut Vec<Action>) {
+    pub(crate) fn disk(&mut self, purpose: Purpose, lane: Lane, op: DiskOp, out: &mut Vec<Action>) {
         let id = self.disk_next;
         self.disk_next += 1;
         self.purposes.insert(id, purpose);
@@ -219,7 +242,7 @@ impl Core {
         out.push(Action::Note { level, line });
     }
 
-    fn stop(&mut self, code: u8, line: String, out: &mut Vec<Action>) {
+    pub(crate) fn stop(&mut self, code: u8, line: String, out: &mut Vec<Action>) {
         self.phase = Phase::Ended;
         self.outgoing.clear();
         out.push(Action::Exit { code, line });
@@ -237,7 +260,10 @@ impl Core {
                 self.alarm = None;
                 self.writer.last_segment = number;
             }
-            (Purpose::Snapshot(batch), Ok(_)) => self.snapshot_done(batch, out),
+            (Purpose::Snapshot(name), Ok(_)) => self.snapshot_done(name, out),
+            (Purpose::Fetch, Ok(DiskAnswer::Bytes(bytes))) => self.fetch_read(&bytes, out),
+            (Purpose::Fetch, Err(e)) => self.fetch_failed(&e, out),
+            (Purpose::Fetch, Ok(_)) => {}
             (Purpose::Remove, _) => {}
             (Purpose::Segment(_) | Purpose::Snapshot(_), Err(e)) if e.full => self.side_full(&e, now, out),
             (purpose, Err(e)) => self.disk_failed(&purpose, &e, out),
@@ -282,14 +308,28 @@ impl Core {
         if self.cluster.nodes[node].server.is_none() {
             return;
         }
-        self.signs.insert(node);
+        if self.state.signs.insert(node as u8) {
+            self.writer.signs.insert(node as u8);
+        }
         self.greetings.remove(&node);
-        if self.signs.len() > self.cluster.parameters.t {
-            let names: Vec<&str> = self.signs.iter().map(|n| self.cluster.nodes[*n].name.as_str()).collect();
-            let line = format!("this node has lost state, as {} say: it must not be started again", names.join(", "));
+        self.stop_if_lost(out);
+    }
+
+    /// The nodes that gave a sign, by name.
+    pub(crate) fn signs(&self) -> Vec<String> {
+        let known = self.state.signs.iter().filter_map(|n| self.cluster.nodes.get(usize::from(*n)));
+        known.map(|n| n.name.clone()).collect()
+    }
+
+    /// Whether it does.
+    fn stop_if_lost(&mut self, out: &mut Vec<Action>) -> bool {
+        let lost = self.state.signs.len() > self.cluster.parameters.t;
+        if lost {
+            let line = format!("this node has lost state, as {} say: it must not be started again", self.signs().join(", "));
             let bytes = line.clone().into_bytes();
             self.last_act(exit::LOST, line, LOST, bytes, out);
         }
+        lost
     }
 
     // ---- the start
@@ -334,14 +374,22 @@ impl Core {
         if self.settings.is(Mutant::NumbersLost) {
             self.state.streams.ins.values_mut().for_each(|i| i.next = 0);
         }
+        if self.settings.is(Mutant::SignForgotten) {
+            self.state.signs.clear();
+        }
+        if self.stop_if_lost(out) {
+            return;
+        }
         let parties: Vec<u8> = own.iter().flat_map(|p| [p.class, p.number]).collect();
         let mut record = vec![];
         let version = self.start.version.clone();
         records::write(&mut record, &Record::Start { pid: self.start.pid, parties: &parties, version: version.as_bytes() });
-        if let Err(what) = self.state.replay(&record) {
+        if let Err(what) = self.state.replay(&record, &Spot::default()) {
             return self.stop(exit::CLUSTER, what.to_string(), out);
         }
-        self.writer.fx.work.extend(self.state.settle());
+        let own = self.state.settle();
+        self.to_fetch.extend(own.iter().copied());
+        self.writer.fx.work.extend(own);
         self.writer.fx.batch = record;
         self.writer.fx.stepped = true;
         self.phase = Phase::Starting;
@@ -361,7 +409,7 @@ impl Core {
             return;
         }
         let snapshot_due = self.writer.snapshot_wanted || self.writer.since_snapshot >= self.settings.snapshot_every;
-        let Some(closed) = self.writer.close(&self.state, now.wall, &self.settings) else { return };
+        let Some(closed) = self.writer.close(&mut self.state, now.wall, &self.settings) else { return };
         if snapshot_due && !self.snapshotting && self.retry_at.is_none() {
             self.snapshot(out);
         }
@@ -372,33 +420,34 @@ impl Core {
     /// A copy of the state behind the batch that was just closed. It goes to the disk when the batch is there.
     fn snapshot(&mut self, out: &mut Vec<Action>) {
         let bytes = snapshot::write(&self.state, &self.writer.log, &self.writer.place);
-        let batch = self.writer.place.number;
+        let name = snapshot::Name::new(&self.state, &self.writer.place);
         self.snapshotting = true;
         self.writer.since_snapshot = 0;
         self.writer.snapshot_wanted = false;
         if self.settings.is(Mutant::SnapshotAhead) {
-            return self.write_snapshot(batch, bytes, out);
+            return self.write_snapshot(name, bytes, out);
         }
         if let Some(f) = &mut self.writer.in_flight {
-            f.snapshot = Some((batch, bytes));
+            f.snapshot = Some((name, bytes));
         }
     }
 
-    fn write_snapshot(&mut self, batch: u64, bytes: Vec<u8>, out: &mut Vec<Action>) {
+    fn write_snapshot(&mut self, name: snapshot::Name, bytes: Vec<u8>, out: &mut Vec<Action>) {
         let length = bytes.len() as u64;
-        let op = DiskOp::Replace { file: snapshot::name(batch), bytes, length };
-        self.disk(Purpose::Snapshot(batch), Lane::Side, op, out);
+        let op = DiskOp::Replace { file: name.to_string(), bytes, length };
+        self.disk(Purpose::Snapshot(name), Lane::Side, op, out);
     }
 
-    fn snapshot_done(&mut self, batch: u64, out: &mut Vec<Action>) {
+    fn snapshot_done(&mut self, name: snapshot::Name, out: &mut Vec<Action>) {
         self.snapshotting = false;
-        self.writer.snapshots.push(batch);
+        self.writer.snapshots.push(name);
         while self.writer.snapshots.len() > SNAPSHOTS {
-            let file = snapshot::name(self.writer.snapshots.remove(0));
+            let file = self.writer.snapshots.remove(0).to_string();
             self.disk(Purpose::Remove, Lane::Side, DiskOp::Unlink { file }, out);
         }
+        self.prune(out);
         for id in std::mem::take(&mut self.snapshot_askers) {
-            out.push(Action::Answer { id, response: Response::SnapshotDone { batch } });
+            out.push(Action::Answer { id, response: Response::SnapshotDone { batch: name.batch } });
         }
     }
 
@@ -423,8 +472,8 @@ impl Core {
             }
         }
         out.extend(answers.into_iter().map(|(id, response)| Action::Answer { id, response }));
-        if let Some((batch, bytes)) = snapshot {
-            self.write_snapshot(batch, bytes, out);
+        if let Some((name, bytes)) = snapshot {
+            self.write_snapshot(name, bytes, out);
         }
         if matches!(self.phase, Phase::Starting) {
             self.phase = Phase::Running;

@@ -47,7 +47,6 @@ impl Core {
         if let Some(response) = answer {
             out.push(Action::Answer { id, response });
         }
-        self.begin_waiting(now, out);
     }
 
     pub(crate) fn ask_gone(&mut self, id: AskId) {
@@ -134,7 +133,7 @@ impl Core {
         Status {
             name: self.cluster.nodes[self.me].name.clone(),
             open: self.open,
-            signs: self.signs.iter().map(|n| self.cluster.nodes[*n].name.clone()).collect(),
+            signs: self.signs(),
             alarm: self.alarm.clone(),
             servers: self.state.servers.values().map(server_status).collect(),
             desks: self.state.desks.keys().map(|c| self.desk_status(*c, now)).collect(),
@@ -145,8 +144,8 @@ impl Core {
                 segment: self.writer.place.segment,
                 first_segment: self.writer.first_segment,
                 steps: self.state.steps,
-                bytes: self.writer.bytes,
-                snapshot: self.writer.snapshots.last().copied().unwrap_or(0),
+                bytes: self.writer.bytes(&self.settings),
+                snapshot: self.writer.snapshots.last().map_or(0, |name| name.batch),
                 replayed: self.replayed,
             },
         }
@@ -176,12 +175,13 @@ impl Core {
             refused: p.refused.iter().map(|(number, count)| (*number, *count)).collect(),
             ..PartnerStatus::default()
         };
-        for (_, o) in self.state.streams.outs.iter().filter(|(s, _)| self.cluster.node_of(s.to) == Some(node)) {
-            s.owed_frames += o.owed.len() as u64;
-            s.owed_bytes += o.owed.iter().map(|o| o.frame.len() as u64).sum::<u64>();
-            let age = o.owed.front().map_or(0, |o| now.boot.saturating_sub(o.since));
-            s.owed_age = s.owed_age.max(age);
+        for (stream, o) in self.state.streams.outs.iter().filter(|(s, _)| self.cluster.node_of(s.to) == Some(node)) {
+            s.owed_frames += o.owed(stream.to);
+            let log = o.spots.front().map_or(0, |at| self.writer.bytes_from(at.segment, at.block, &self.settings));
+            s.owed_log = s.owed_log.max(log);
+            s.owed_age = s.owed_age.max(o.oldest().map_or(0, |wall| now.wall.saturating_sub(wall)));
         }
+        s.given_up = self.cluster.nodes[node].parties().any(|p| self.state.given_up.contains(&p));
         for (_, i) in self.state.streams.ins.iter().filter(|(s, _)| self.cluster.node_of(s.from) == Some(node)) {
             s.held += i.held.len() as u64;
         }

@@ -14,7 +14,7 @@ use std::sync::mpsc::{channel, Sender};
 use std::thread;
 
 /// Zeros are written in pieces of this size.
-const PIECE: usize = 1 << 20;
+const PIECE: usize = 128 << 10;
 /// What a disk writes whole or not at all.
 const SECTOR: usize = 512;
 /// What a file that is being made is called until it is whole.
@@ -31,7 +31,7 @@ pub struct Fault {
 enum FaultKind {
     /// The program ends before anything is written.
     Lost,
-    /// It ends when some of the sectors are written.
+    /// It ends when some of the sectors are written, and some that are not zeros are not.
     Torn,
     /// It ends between write and sync.
     Written,
@@ -78,7 +78,7 @@ impl Disk {
         let lane = |name: &str, fault: Option<Fault>| {
             let (orders, inbox) = channel::<(DiskId, DiskOp)>();
             let (done, waker) = (done.clone(), waker.clone());
-            let mut worker = Worker { folder: folder.to_path_buf(), fault, commits: 0 };
+            let mut worker = Worker::new(folder, fault);
             thread::Builder::new().name(name.into()).spawn(move || {
                 for (id, op) in inbox {
                     let result = worker.carry_out(op);
@@ -103,10 +103,13 @@ impl Disk {
     }
 }
 
-struct Worker {
+/// Carries out a lane's operations.
+pub struct Worker {
     folder: PathBuf,
     fault: Option<Fault>,
     commits: u64,
+    /// The segment that was written last, which the next batch is for too, as a rule.
+    open: Option<(String, File)>,
 }
 
 fn error(what: &str, e: io::Error) -> DiskError {
@@ -115,7 +118,14 @@ fn error(what: &str, e: io::Error) -> DiskError {
 }
 
 impl Worker {
-    fn carry_out(&mut self, op: DiskOp) -> Result<DiskAnswer, DiskError> {
+    pub fn new(folder: &Path, fault: Option<Fault>) -> Worker {
+        Worker { folder: folder.to_path_buf(), fault, commits: 0, open: None }
+    }
+
+    pub fn carry_out(&mut self, op: DiskOp) -> Result<DiskAnswer, DiskError> {
+        if !matches!(op, DiskOp::Commit { .. }) {
+            self.open = None;
+        }
         match op {
             DiskOp::List => self.list().map(DiskAnswer::Names).map_err(|e| error("the folder can't be listed", e)),
             DiskOp::Settle { file } => self.settle(&file).map_err(|e| error(&format!("{file} can't be synced"), e)),
@@ -171,7 +181,10 @@ impl Worker {
         let commits = self.commits;
         let fault = self.fault.as_ref().filter(|f| f.commit == commits).map(|f| f.kind);
         let unwritten = |e| error(&format!("{name} can't be written at byte {offset}"), e);
-        let file = OpenOptions::new().write(true).open(self.folder.join(name)).map_err(unwritten)?;
+        let file = match self.open.take().filter(|(open, _)| open == name) {
+            Some((_, file)) => file,
+            None => OpenOptions::new().write(true).open(self.folder.join(name)).map_err(unwritten)?,
+        };
         match fault {
             Some(FaultKind::Lost) => std::process::abort(),
             Some(FaultKind::Torn) => {
@@ -190,6 +203,7 @@ impl Worker {
         if fault == Some(FaultKind::Synced) {
             std::process::abort();
         }
+        self.open = Some((name.to_string(), file));
         Ok(DiskAnswer::Done)
     }
 
@@ -220,12 +234,20 @@ fn fill(path: &Path, bytes: &[u8], length: u64) -> io::Result<()> {
     file.sync_all()
 }
 
-/// For tests: some of the sectors, and not only the first ones, as a machine that loses power may leave them.
+/// For tests: some of the sectors, and not only the first ones, as a machine that loses power may leave them. One that is not zeros is lost, and one is
+/// written; of a batch with one such sector half of that.
 fn write_some(file: &File, offset: u64, bytes: &[u8], number: u64) -> io::Result<()> {
     let seed = format!("{} {number}", std::process::id());
     let choice = openssl::sha::sha256(seed.as_bytes());
+    let used = bytes.iter().rposition(|b| *b != 0).map_or(0, |last| last + 1);
+    let sectors = used.div_ceil(SECTOR);
+    if sectors < 2 {
+        return file.write_all_at(&bytes[..used / 2], offset);
+    }
+    let lost = usize::from(choice[0]) % sectors;
+    let written = (lost + 1 + usize::from(choice[1]) % (sectors - 1)) % sectors;
     for (i, sector) in bytes.chunks(SECTOR).enumerate() {
-        if choice[i / 8 % choice.len()] >> (i % 8) & 1 == 1 {
+        if i == written || (i != lost && choice[i / 8 % choice.len()] >> (i % 8) & 1 == 1) {
             file.write_all_at(sector, offset + (i * SECTOR) as u64)?;
         }
     }
@@ -239,7 +261,7 @@ mod tests {
     fn worker(name: &str, fault: Option<Fault>) -> Worker {
         let folder = std::env::temp_dir().join(format!("semduoli-disk-{name}-{}", std::process::id()));
         fs::create_dir_all(&folder).unwrap();
-        Worker { folder, fault, commits: 0 }
+        Worker::new(&folder, fault)
     }
 
     #[test]
@@ -260,6 +282,23 @@ mod tests {
         assert_eq!(w.carry_out(DiskOp::Unlink { file: file.clone() }), Ok(DiskAnswer::Done));
         assert_eq!(w.carry_out(DiskOp::Unlink { file: file.clone() }), Ok(DiskAnswer::Done));
         assert!(w.carry_out(DiskOp::Commit { file, offset: 0, bytes: vec![1] }).unwrap_err().text.contains("can't be written"));
+        fs::remove_dir_all(&w.folder).unwrap();
+    }
+
+    #[test]
+    fn a_torn_batch_is_there_in_part() {
+        let w = worker("torn", None);
+        let path = w.folder.join("log");
+        for number in 0..400 {
+            let length = 2 + number as usize * 7;
+            let mut bytes = vec![1; length];
+            bytes.resize(length.next_multiple_of(4096), 0);
+            fs::write(&path, vec![0; bytes.len()]).unwrap();
+            let file = OpenOptions::new().write(true).open(&path).unwrap();
+            write_some(&file, 0, &bytes, number).unwrap();
+            let found = fs::read(&path).unwrap();
+            assert!(found.contains(&1) && found != bytes, "{length}");
+        }
         fs::remove_dir_all(&w.folder).unwrap();
     }
 

@@ -7,8 +7,9 @@
 //! - The first event is `Start`, and it comes once. No link and no ask is handed in before the action `Ready`.
 //! - Each `Disk` action is answered by exactly one event `Disk` with the same `id`. Operations of one lane are carried out in their order, one after
 //!   the other; the lanes run beside each other. An operation is answered only when it is done wholly, `Commit` and `Replace` with their syncs.
-//! - While `Core::taking` is false no `Bytes` and no `Ask` are handed in: the batch is full, and what comes waits outside.
-//! - A tick is handed in at the latest when `Core::wake` says.
+//! - While `Core::taking` is false no `Bytes` and no `Ask` are handed in: the batch is full, and what comes waits outside. `Core::taking_from` says the same
+//!   of one link.
+//! - A tick is handed in at the latest when `Core::wake` says. After other events it says "at once": what is there is handed in first, then the tick.
 //! - Actions are carried out in their order. After `Exit` nothing more is handed in, and no further action is carried out.
 //! - `Send` is put behind what was sent by that link before; the bytes arrive in order or the link goes down. What can't be sent at once is kept by
 //!   the one who runs the core. A link on which more than `SEND_MOST` bytes wait is taken down (`LinkDown`).

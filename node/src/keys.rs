@@ -109,7 +109,9 @@ fn settings(c: &mut SslContextBuilder) -> Result<(), ErrorStack> {
     c.set_min_proto_version(Some(SslVersion::TLS1_3))?;
     c.set_options(SslOptions::NO_TICKET);
     c.set_session_cache_mode(SslSessionCacheMode::OFF);
-    c.set_mode(SslMode::ENABLE_PARTIAL_WRITE | SslMode::ACCEPT_MOVING_WRITE_BUFFER | SslMode::RELEASE_BUFFERS);
+    c.set_mode(SslMode::ENABLE_PARTIAL_WRITE | SslMode::ACCEPT_MOVING_WRITE_BUFFER);
+    // a record is read by one call of the system, and not its head first
+    c.set_read_ahead(true);
     Ok(())
 }
 

@@ -5,7 +5,7 @@ use crate::events::{Action, Level, LinkId, NodeId, Now};
 use crate::messages::{self, Front, Hello, Line, Mark, Message, Reason, LINK_VERSION, MESSAGE_MOST};
 use crate::sem;
 use crate::settings::Mutant;
-use crate::streams::{Offer, StreamId};
+use crate::streams::{Leaving, Offer, StreamId};
 use std::collections::{BTreeMap, BTreeSet};
 
 /// The front of a data message's body: the stream and the number.
@@ -34,6 +34,8 @@ pub struct Partner {
     /// Streams that something may leave by, and streams that are to be acknowledged.
     pub to_send: BTreeSet<StreamId>,
     pub to_ack: BTreeSet<StreamId>,
+    /// Since when acknowledgements have waited for something that leaves by the link anyway.
+    pub ack_since: Option<u64>,
     pub refused: BTreeMap<u8, u64>,
 }
 
@@ -298,7 +300,7 @@ impl Core {
         let p = &mut self.partners[node];
         (p.calls, p.why) = (0, String::new());
         // a sign stands: what was lost does not come back, though this node's numbers may pass those that the partner saw
-        let signed = if self.settings.is(Mutant::SignPasses) { found.lost } else { self.signs.contains(&node) };
+        let signed = if self.settings.is(Mutant::SignPasses) { found.lost } else { self.state.signs.contains(&(node as u8)) };
         if !signed && self.cluster.nodes[node].server.is_some() {
             self.greetings.insert(node);
             self.open_gate(now, out);
@@ -381,23 +383,35 @@ impl Core {
     }
 
     /// What is on the disk may leave: frames, acknowledgements.
-    pub(crate) fn let_out(&mut self) {
+    pub(crate) fn let_out(&mut self, now: Now) {
         let early_send = self.settings.is(Mutant::SendEarly);
         let early_ack = self.settings.is(Mutant::AckEarly);
         let open = self.open || self.settings.is(Mutant::NoWait);
         for node in 0..self.partners.len() {
-            let Some(link) = self.partners[node].link else { continue };
-            if !self.links.get(&link).is_some_and(|l| l.greeted) {
+            let Some(link) = self.partners[node].link.filter(|l| self.links.get(l).is_some_and(|l| l.greeted)) else {
+                self.partners[node].ack_since = None;
                 continue;
-            }
+            };
             let streams = if open { std::mem::take(&mut self.partners[node].to_send) } else { BTreeSet::new() };
             for stream in streams {
                 let window = self.window(&stream);
                 let Some(o) = self.state.streams.outs.get_mut(&stream) else { continue };
                 let durable = if early_send { o.next } else { o.durable };
-                while let Some((number, frame)) = o.leave(window, durable) {
-                    messages::write(self.outgoing.entry(link).or_default(), &Message::Data { stream, number, frame: &frame });
+                loop {
+                    match o.leave(stream.to, window, durable) {
+                        Leaving::Frame(number, frame) => {
+                            messages::write(self.outgoing.entry(link).or_default(), &Message::Data { stream, number, frame: &frame });
+                        }
+                        Leaving::Absent => {
+                            self.to_fetch.insert(stream);
+                            break;
+                        }
+                        Leaving::Nothing => break,
+                    }
                 }
+            }
+            if !self.acks_are_due(node, link, now) {
+                continue;
             }
             for stream in std::mem::take(&mut self.partners[node].to_ack) {
                 let Some(i) = self.state.streams.ins.get_mut(&stream) else { continue };
@@ -408,6 +422,17 @@ impl Core {
                 }
             }
         }
+    }
+
+    /// Acknowledgements go with what leaves anyway, or after a while, or when much of a window waits for them.
+    fn acks_are_due(&mut self, node: NodeId, link: LinkId, now: Now) -> bool {
+        let (p, ins) = (&self.partners[node], &self.state.streams.ins);
+        let waits = |s: &StreamId| ins.get(s).is_some_and(|i| i.next.saturating_sub(i.told) * 4 >= self.window(s) as u64);
+        let late = p.ack_since.is_some_and(|since| now.boot >= since + self.settings.ack_wait);
+        let due = late || self.outgoing.contains_key(&link) || p.to_ack.iter().any(waits);
+        let p = &mut self.partners[node];
+        p.ack_since = if due || p.to_ack.is_empty() { None } else { p.ack_since.or(Some(now.boot)) };
+        due
     }
 
     /// Tells every partner the last batch on the disk.
@@ -450,6 +475,7 @@ impl Core {
         let calls = (0..self.me)
             .filter(|n| self.partners[*n].link.is_none() && !self.partners[*n].dialing && Core::dials(&self.cluster, self.me, *n))
             .map(|n| self.partners[n].dial_at);
-        links.chain(calls).min()
+        let acks = self.partners.iter().filter_map(|p| p.ack_since).map(|since| since + self.settings.ack_wait);
+        links.chain(calls).chain(acks).min()
     }
 }

@@ -138,6 +138,14 @@ pub fn batch_at<'a>(id: &[u8; 16], bytes: &'a [u8], at: usize) -> Option<Batch<'
     good.then_some(Batch { number, wall, before, hash: own, payload, bytes: whole })
 }
 
+/// How many bytes the batch takes that seems to begin here: only its magic was looked at.
+pub fn batch_length(bytes: &[u8]) -> Option<usize> {
+    let mut b = Reader(bytes);
+    let magic = b.array::<4>()?;
+    let payload = b.u32()? as usize;
+    (&magic == BATCH_MAGIC).then(|| whole_blocks(BATCH_HEAD + payload))
+}
+
 /// Where a log goes on.
 #[derive(Clone, Copy, Debug, PartialEq, Eq, Default)]
 pub struct Place {
@@ -185,8 +193,8 @@ impl Scan {
         self.weak = true;
     }
 
-    /// The next segment, whole; the first is the place's. Each good batch is handed to `each`, which may turn it down.
-    pub fn segment(&mut self, number: u32, bytes: &[u8], each: &mut dyn FnMut(&Batch) -> Result<(), &'static str>) -> Result<(), Fault> {
+    /// The next segment, whole; the first is the place's. Each good batch is handed to `each`, with the byte that it begins at, which may turn it down.
+    pub fn segment(&mut self, number: u32, bytes: &[u8], each: &mut dyn FnMut(u64, &Batch) -> Result<(), &'static str>) -> Result<(), Fault> {
         let found = segment_read(bytes, number)?;
         if found.register != self.log.register {
             return Err(Fault::Other { segment: number, what: "the log is another register's: the cluster file was changed" });
@@ -203,7 +211,7 @@ impl Scan {
             if batch.number != self.place.number || batch.before != self.place.before {
                 return Err(damaged(at, "a good batch is out of its place"));
             }
-            each(&batch).map_err(|what| damaged(at, what))?;
+            each(at, &batch).map_err(|what| damaged(at, what))?;
             self.last = Some((number, at, batch.bytes.to_vec()));
             self.place = self.place.behind(number, at, &batch);
             at = self.place.at;
@@ -259,7 +267,7 @@ mod tests {
     fn scan(bytes: &[u8]) -> (Result<(), Fault>, Vec<Vec<u8>>, Scan) {
         let mut s = Scan::new(LOG, Place::first());
         let mut found = vec![];
-        let result = s.segment(1, bytes, &mut |b| {
+        let result = s.segment(1, bytes, &mut |_, b| {
             found.push(b.payload.to_vec());
             Ok(())
         });
@@ -339,6 +347,6 @@ mod tests {
         let mut weak = Scan::new(LOG, Place::first());
         weak.weaken();
         let damaged = Fault::Damaged { segment: 1, at: BLOCK, what: "a batch is damaged, and good ones follow it" };
-        assert_eq!(weak.segment(1, &bytes, &mut |_| Ok(())), Err(damaged));
+        assert_eq!(weak.segment(1, &bytes, &mut |_, _| Ok(())), Err(damaged));
     }
 }

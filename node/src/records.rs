@@ -9,7 +9,9 @@ pub const ENDED: u8 = 3;
 pub const PLACE: u8 = 4;
 pub const ACKED: u8 = 5;
 pub const START: u8 = 6;
+pub const GIVEN_UP: u8 = 7;
 pub const SEEN: u8 = 8;
+pub const SIGN: u8 = 9;
 
 /// The version of a trace's entries.
 const ENTRY: u8 = 1;
@@ -32,8 +34,12 @@ pub enum Record<'a> {
     Acked { stream: StreamId, next: u64 },
     /// The program began; the node's parties, two bytes each.
     Start { pid: u32, parties: &'a [u8], version: &'a [u8] },
+    /// A server was given up: nothing is owed to it any more.
+    GivenUp { party: Party },
     /// The last batch of a node's log that this node was told of.
     Seen { node: u8, batch: u64, hash: Hash },
+    /// A node told this one that it has lost state.
+    Sign { node: u8 },
 }
 
 /// Outcomes of `Ended`.
@@ -75,6 +81,8 @@ pub fn write(batch: &mut Vec<u8>, record: &Record) {
             put(batch, START, &[&pid.to_be_bytes(), &[(parties.len() / 2) as u8], parties, version]);
         }
         Record::Seen { node, batch: number, hash } => put(batch, SEEN, &[&[*node], &number.to_be_bytes(), hash]),
+        Record::Sign { node } => put(batch, SIGN, &[&[*node]]),
+        Record::GivenUp { party } => put(batch, GIVEN_UP, &[&[party.class, party.number]]),
     }
 }
 
@@ -83,6 +91,8 @@ fn body(kind: u8, b: &mut Reader<'_>) -> Option<Record<'static>> {
         PLACE => Record::Place { stream: StreamId::read(b)?, next: b.u64()? },
         ACKED => Record::Acked { stream: StreamId::read(b)?, next: b.u64()? },
         SEEN => Record::Seen { node: b.u8()?, batch: b.u64()?, hash: b.array()? },
+        SIGN => Record::Sign { node: b.u8()? },
+        GIVEN_UP => Record::GivenUp { party: Party { class: b.u8()?, number: b.u8()? } },
         ENDED => Record::Ended { client: b.u8()?, register: b.u8()?, tick: b.u32()?, wall: b.u64()?, outcome: b.u8()?, stamp: b.array()? },
         _ => return None,
     })
@@ -211,6 +221,8 @@ mod tests {
                 Record::Acked { stream, next: number },
                 Record::Start { pid: 5, parties: &[1, 2, 0, 3], version: a },
                 Record::Seen { node: 2, batch: number, hash: [7; 16] },
+                Record::Sign { node: 3 },
+                Record::GivenUp { party: stream.to },
             ];
             let mut payload = vec![];
             all.iter().for_each(|record| write(&mut payload, record));

@@ -3,11 +3,12 @@
 use crate::bytes::Reader;
 use crate::cluster::Cluster;
 use crate::events::{exit, DiskAnswer, DiskOp, Start};
-use crate::log::{self, batch_at, segment_name, Fault, LogId, Place, Scan};
+use crate::log::{self, batch_at, segment_name, Batch, Fault, LogId, Place, Scan};
 use crate::records::Hash;
 use crate::settings::{Mutant, Settings, BLOCK};
 use crate::snapshot;
 use crate::state::State;
+use crate::streams::Spot;
 
 /// Names of files beside segments and snapshots: the boot under which a sync failed; that the state was lost; the last batch that was found at a start.
 pub const FAILED: &str = "failed";
@@ -23,9 +24,11 @@ pub struct Recovered {
     pub marks: Vec<(u64, Hash)>,
     pub first_segment: u32,
     pub last_segment: u32,
-    /// The snapshots that are there, rising.
-    pub snapshots: Vec<u64>,
+    /// The snapshots that are there and good, as far as they were looked at, rising.
+    pub snapshots: Vec<snapshot::Name>,
+    /// Records that were replayed, and bytes of the batches that have them.
     pub replayed: u64,
+    pub since_snapshot: u64,
     pub notes: Vec<String>,
 }
 
@@ -55,9 +58,11 @@ pub struct Recovery {
     register: [u8; 32],
     settings: Settings,
     blank: Box<dyn Fn() -> State>,
+    /// Segments that are read, with their lengths; and the first that is there.
     segments: Vec<(u32, u64)>,
-    snapshots: Vec<u64>,
-    bad_snapshots: usize,
+    first_segment: u32,
+    snapshots: Vec<snapshot::Name>,
+    bad_snapshots: Vec<snapshot::Name>,
     other_files: Vec<String>,
     has_failed: bool,
     has_last: bool,
@@ -66,6 +71,7 @@ pub struct Recovery {
     scan: Option<Scan>,
     marks: Vec<(u64, Hash)>,
     replayed: u64,
+    since_snapshot: u64,
     notes: Vec<String>,
 }
 
@@ -85,8 +91,10 @@ impl Recovery {
     pub fn new(start: Start, cluster: &Cluster, settings: &Settings) -> Recovery {
         let (parameters, initial) = (cluster.parameters, cluster.initial.clone());
         let one_stream = settings.is(Mutant::OneStream);
+        let limits = settings.limits;
         let blank = move || {
             let mut state = State::new(parameters, &initial);
+            state.limits = limits;
             if one_stream {
                 state.one_stream();
             }
@@ -99,8 +107,9 @@ impl Recovery {
             settings: settings.clone(),
             blank: Box::new(blank),
             segments: vec![],
+            first_segment: 1,
             snapshots: vec![],
-            bad_snapshots: 0,
+            bad_snapshots: vec![],
             other_files: vec![],
             has_failed: false,
             has_last: false,
@@ -109,6 +118,7 @@ impl Recovery {
             scan: None,
             marks: vec![],
             replayed: 0,
+            since_snapshot: 0,
             notes: vec![],
         }
     }
@@ -152,8 +162,8 @@ impl Recovery {
         for (name, length) in names {
             if let Some(number) = log::segment_number(&name) {
                 self.segments.push((number, length));
-            } else if let Some(batch) = snapshot::batch_of(&name) {
-                self.snapshots.push(batch);
+            } else if let Some(name) = snapshot::Name::read(&name) {
+                self.snapshots.push(name);
             } else if name == LOST {
                 return stop(exit::LOST, "this node has lost state (file `lost`): it must not be started again; make a new node");
             } else if name.ends_with(".new") {
@@ -164,6 +174,7 @@ impl Recovery {
             }
         }
         self.segments.sort_unstable();
+        self.first_segment = self.segments.first().map_or(1, |s| s.0);
         self.snapshots.sort_unstable();
         if self.has_failed {
             self.stage = Stage::Failed;
@@ -178,7 +189,7 @@ impl Recovery {
         let mut ops: Vec<DiskOp> = self.other_files.iter().map(|file| DiskOp::Unlink { file: file.clone() }).collect();
         if !self.settings.is(Mutant::NoSettle) {
             let segments = self.segments.iter().map(|(number, _)| segment_name(*number));
-            let snapshots = self.snapshots.iter().map(|batch| snapshot::name(*batch));
+            let snapshots = self.snapshots.iter().map(snapshot::Name::to_string);
             let last = self.has_last.then(|| LAST.to_string());
             ops.extend(segments.chain(snapshots).chain(last).map(|file| DiskOp::Settle { file }));
             ops.push(DiskOp::SettleFolder);
@@ -192,24 +203,24 @@ impl Recovery {
     /// The newest snapshot that was not found bad, or none.
     fn read_snapshot(&mut self) -> Next {
         self.stage = Stage::Snapshot;
-        match self.snapshots.iter().rev().nth(self.bad_snapshots) {
-            Some(batch) => Next::Ask(vec![DiskOp::Read { file: snapshot::name(*batch), offset: 0, length: u64::MAX }]),
+        match self.snapshots.last() {
+            Some(name) => Next::Ask(vec![DiskOp::Read { file: name.to_string(), offset: 0, length: u64::MAX }]),
             None => self.no_snapshot(),
         }
     }
 
     fn snapshot_read(&mut self, bytes: &[u8]) -> Next {
-        let batch = self.snapshots.iter().rev().nth(self.bad_snapshots).copied().unwrap_or(0);
+        let Some(name) = self.snapshots.last().copied() else { return self.no_snapshot() };
         match snapshot::read(bytes, (self.blank)(), &self.register) {
-            Some((state, log, place)) if place.number == batch => {
+            Some((state, log, place)) if snapshot::Name::new(&state, &place) == name => {
                 self.state = Some(state);
                 self.scan = Some(self.scan_from(log, place));
                 self.segments.retain(|s| s.0 >= place.segment);
                 self.read_last()
             }
             _ => {
-                self.notes.push(format!("{} is damaged: an older one is taken", snapshot::name(batch)));
-                self.bad_snapshots += 1;
+                self.notes.push(format!("{name} is damaged: an older one is taken"));
+                self.bad_snapshots.extend(self.snapshots.pop());
                 self.read_snapshot()
             }
         }
@@ -226,7 +237,7 @@ impl Recovery {
     fn no_snapshot(&mut self) -> Next {
         self.state = Some((self.blank)());
         match self.segments.first() {
-            None if self.snapshots.is_empty() && !self.has_last => self.fresh(),
+            None if self.bad_snapshots.is_empty() && !self.has_last => self.fresh(),
             None => stop(exit::DAMAGED, "the log's segments are missing"),
             Some((1, _)) => self.read_last(),
             Some((number, _)) => {
@@ -288,9 +299,10 @@ impl Recovery {
 
     fn scan_segment(&mut self, number: u32, bytes: &[u8]) -> Result<(), Fault> {
         let (Some(scan), Some(state)) = (&mut self.scan, &mut self.state) else { return Ok(()) };
-        let (marks, replayed) = (&mut self.marks, &mut self.replayed);
-        scan.segment(number, bytes, &mut |batch| {
-            *replayed += state.replay(batch.payload)?;
+        let (marks, replayed, since_snapshot) = (&mut self.marks, &mut self.replayed, &mut self.since_snapshot);
+        scan.segment(number, bytes, &mut |at, batch| {
+            *replayed += state.replay(batch.payload, &spot(number, at, batch))?;
+            *since_snapshot += batch.bytes.len() as u64;
             marks.push((batch.number, batch.hash));
             Ok(())
         })
@@ -326,6 +338,7 @@ impl Recovery {
         if self.has_failed {
             ops.push(DiskOp::Unlink { file: FAILED.into() });
         }
+        ops.extend(self.bad_snapshots.iter().map(|name| DiskOp::Unlink { file: name.to_string() }));
         if ops.is_empty() {
             return self.done();
         }
@@ -342,7 +355,7 @@ impl Recovery {
         if batch.number != scan.place.number || batch.before != scan.place.before || !next {
             return Ok(None);
         }
-        self.replayed += state.replay(batch.payload)?;
+        self.replayed += state.replay(batch.payload, &spot(segment, at, &batch))?;
         self.marks.push((batch.number, batch.hash));
         scan.place = scan.place.behind(segment, at, &batch);
         scan.last = Some((segment, at, batch.bytes.to_vec()));
@@ -351,20 +364,25 @@ impl Recovery {
 
     fn done(&mut self) -> Next {
         let (Some(scan), Some(state)) = (self.scan.take(), self.state.take()) else { return stop(exit::DAMAGED, "the log has no segment") };
-        let first_segment = self.segments.first().map_or(1, |s| s.0);
         let last_segment = self.segments.last().map_or(1, |s| s.0);
         Next::Done(Box::new(Recovered {
             state,
             log: scan.log,
             place: scan.place,
             marks: std::mem::take(&mut self.marks),
-            first_segment,
+            first_segment: self.first_segment,
             last_segment,
             snapshots: std::mem::take(&mut self.snapshots),
             replayed: self.replayed,
+            since_snapshot: self.since_snapshot,
             notes: std::mem::take(&mut self.notes),
         }))
     }
+}
+
+/// Where a batch lies.
+fn spot(segment: u32, at: u64, batch: &Batch) -> Spot {
+    Spot { from: 0, segment, block: (at / BLOCK) as u32, wall: batch.wall }
 }
 
 /// The batch in front of where a snapshot ends is in the log.

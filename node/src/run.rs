@@ -172,8 +172,11 @@ impl Host {
     /// Waits for something to happen, and hands it in. `again` has the links that may have more than `poll` knows.
     fn round(&mut self, sleeper: &Sleeper, done: &Receiver<Done>, again: &mut Vec<LinkId>) -> Result<(), End> {
         let taking = self.core.taking();
-        let ready = self.wait(sleeper, taking, taking && !again.is_empty());
-        sleeper.clear();
+        let at_once = again.iter().any(|link| self.core.taking_from(*link));
+        let ready = self.wait(sleeper, taking, at_once);
+        if ready.woken {
+            sleeper.clear();
+        }
         while let Ok(done) = done.try_recv() {
             self.hand_in(Event::Disk { id: done.id, result: done.result })?;
         }
@@ -191,7 +194,7 @@ impl Host {
         again.dedup();
         for link in std::mem::take(again) {
             // a batch that is full is on its way to the disk: what comes waits in the sockets
-            if !self.core.taking() || self.take(link)? {
+            if !self.core.taking_from(link) || self.take(link)? {
                 again.push(link);
             }
         }
@@ -233,7 +236,7 @@ impl Host {
         let flags = poll_all(&fds, if at_once { 0 } else { wait });
         let is_ready = |flags: &PollFlags| flags.intersects(!PollFlags::POLLOUT);
         let links = watched.iter().zip(&flags[links_at..]).filter(|(_, f)| is_ready(f)).map(|((id, ..), _)| *id).collect();
-        Ready { local: flags[1..links_at].to_vec(), links }
+        Ready { woken: !flags[0].is_empty(), local: flags[1..links_at].to_vec(), links }
     }
 
     /// Hands an event in, and whatever carrying out the core's actions leads to.
@@ -401,8 +404,9 @@ impl Host {
     }
 }
 
-/// What is ready: of the local socket, in its order, and links to read.
+/// What is ready: whether a thread has something for the loop; of the local socket, in its order; and links to read.
 struct Ready {
+    woken: bool,
     local: Vec<PollFlags>,
     links: Vec<LinkId>,
 }
@@ -412,6 +416,12 @@ fn poll_all(interests: &[(RawFd, PollFlags)], wait: u64) -> Vec<PollFlags> {
     // a signal ends the wait early, which does no harm
     let _ = poll(&mut fds, wait as i32);
     fds.iter().map(|f| f.revents().unwrap_or(PollFlags::empty())).collect()
+}
+
+/// Bytes of the disk of a folder.
+pub fn disk_size(folder: &Path) -> Option<u64> {
+    let s = nix::sys::statvfs::statvfs(folder).ok()?;
+    Some(s.blocks() * s.fragment_size())
 }
 
 /// Bytes free on the disk of a folder, for the node's user.

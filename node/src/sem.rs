@@ -29,6 +29,9 @@ pub const INDEX_VALUES: usize = raw::INDEX_VALUES;
 pub const NOBODY: u8 = raw::REFUSED_PARTIES;
 /// The refusal of a frame whose sequence has not come.
 pub const AHEAD: u8 = raw::REFUSED_AHEAD;
+/// How a trace closed that was played: whole, or inside an entry.
+pub const TRACE_WHOLE: u8 = raw::TRACE_WHOLE;
+pub const TRACE_CUT: u8 = raw::TRACE_CUT;
 /// Where a frame's body begins.
 const BODY: usize = 9;
 
@@ -289,6 +292,36 @@ impl Server {
         room.step(answer)
     }
 
+    /// Plays a trace: hands in the frames of its entries in their order.
+    pub fn resume(&mut self, p: &Parameters, room: &mut Room, trace: &[u8]) -> Result<Played, u8> {
+        // SAFETY: as in `fresh`.
+        let answer = unsafe {
+            raw::semduoli_server_resume(
+                p.n,
+                p.t,
+                p.k,
+                p.size,
+                self.me.into(),
+                trace.as_ptr(),
+                trace.len(),
+                self.area.as_mut_ptr(),
+                self.area.len(),
+                self.initial.as_ptr(),
+                self.initial.len(),
+                self.state.as_mut_ptr(),
+                self.state.len(),
+                room.out.as_mut_ptr(),
+                room.out.len(),
+                room.to.as_mut_ptr(),
+                room.to.len(),
+            )
+        };
+        match answer as u8 {
+            0 => Ok(Played { closed: (answer >> 8) as u8, entries: answer >> 24 }),
+            refusal => Err(refusal),
+        }
+    }
+
     /// The sequence of a client's write that the server works on.
     pub fn open(&self, client: u8) -> u64 {
         // SAFETY: as in `fresh`.
@@ -308,45 +341,11 @@ impl Server {
     }
 }
 
-/// What the proved playback of a trace came to: how it closed (0 for whole), the entries played, the server's record and areas, and what each entry did.
+/// How a trace closed that was played (0 for whole), and how many of its entries were.
+#[derive(Clone, Copy, PartialEq, Eq, Debug)]
 pub struct Played {
     pub closed: u8,
     pub entries: u64,
-    pub server: Server,
-    pub out: Vec<u8>,
-}
-
-/// Plays a trace of at most `entries` entries back, from a fresh server on.
-pub fn playback(p: &Parameters, me: u8, initial: &[u8], trace: &[u8], entries: usize) -> Result<Played, u8> {
-    let mut s = Server::empty(p, me);
-    let frames = p.n + SERVER_FURTHER;
-    let mut out = vec![0; entries.saturating_mul(3 + frames * (p.frame_most() + 2))];
-    // SAFETY: as in `Server::fresh`.
-    let answer = unsafe {
-        raw::semduoli_playback(
-            p.n,
-            p.t,
-            p.k,
-            p.size,
-            me.into(),
-            initial.as_ptr(),
-            initial.len(),
-            trace.as_ptr(),
-            trace.len(),
-            s.area.as_mut_ptr(),
-            s.area.len(),
-            s.initial.as_mut_ptr(),
-            s.initial.len(),
-            s.state.as_mut_ptr(),
-            s.state.len(),
-            out.as_mut_ptr(),
-            out.len(),
-        )
-    };
-    match answer as u8 {
-        0 => Ok(Played { closed: (answer >> 8) as u8, entries: answer >> 24, server: s, out }),
-        refusal => Err(refusal),
-    }
 }
 
 /// A client's record and rows, and the value of its open write.
@@ -497,5 +496,26 @@ impl Index {
         // SAFETY: as in `Server::fresh`. It can't be refused: the area has its size.
         let answer = unsafe { raw::semduoli_index_search(number, self.0.as_ptr(), INDEX) };
         Some((answer >> 16 & 0xffff) as usize).filter(|place| *place > 0)
+    }
+}
+
+/// An entry of a trace: who sent which frame, and the bytes behind it.
+pub struct Entry<'a> {
+    pub from: Party,
+    pub frame: &'a [u8],
+    pub rest: &'a [u8],
+}
+
+/// The first entry of a trace; none where no bytes are left; the number by which the trace closes there.
+pub fn entry(trace: &[u8]) -> Result<Option<Entry<'_>>, u8> {
+    // SAFETY: as in `Server::fresh`.
+    let answer = unsafe { raw::semduoli_entry_read(trace.as_ptr(), trace.len()) };
+    match (answer as u8, (answer >> 8) as u8) {
+        (0, 0) => Ok(None),
+        (0, _) => {
+            let (entry, rest) = trace.split_at(((answer >> 32) as usize).min(trace.len()));
+            Ok(Some(Entry { from: Party { class: (answer >> 16) as u8, number: (answer >> 24) as u8 }, frame: &entry[5.min(entry.len())..], rest }))
+        }
+        (refusal, _) => Err(refusal),
     }
 }

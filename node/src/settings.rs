@@ -1,5 +1,6 @@
 //! All numbers that can be chosen, in one place. The program takes the defaults; the simulation draws small ones, so that segments end, windows fill
 //! and snapshots come often.
+use crate::streams::Limits;
 
 /// Blocks that batches begin on.
 pub const BLOCK: u64 = 4096;
@@ -15,10 +16,16 @@ pub struct Settings {
     /// Frames of a stream that may be on the wire or held: of streams with owner 0, and with another.
     pub window: usize,
     pub window_owner: usize,
+    /// How much of what a server is owed is in memory, and by how many bytes the rest is read from the log.
+    pub limits: Limits,
+    pub fetch: u64,
+    /// Bytes of log that are kept, and so many more while a server is owed something from them.
+    pub keep: u64,
+    pub owed: u64,
     /// Asks of a desk that may wait their turn.
     pub asks_most: usize,
     /// Milliseconds: how long a place waits for a batch; rest after which an empty batch is committed; between pings; after which a silent link is
-    /// closed; between calls, at first and at most; until no space is looked at again.
+    /// closed; between calls, at first and at most; until no space is looked at again; how long acknowledgements wait for company.
     pub place_wait: u64,
     pub fence_wait: u64,
     pub ping_every: u64,
@@ -26,6 +33,7 @@ pub struct Settings {
     pub call_first: u64,
     pub call_most: u64,
     pub full_wait: u64,
+    pub ack_wait: u64,
     /// Calls to a node that wait no longer than the first.
     pub calls_short: u32,
     /// Wrong nodes that the simulation must find.
@@ -41,6 +49,10 @@ impl Default for Settings {
             snapshot_every: 256 << 20,
             window: 32,
             window_owner: 8,
+            limits: Limits { near: 64, grain: 256 },
+            fetch: 256 << 10,
+            keep: u64::MAX,
+            owed: u64::MAX,
             asks_most: 64,
             place_wait: 10,
             fence_wait: 100,
@@ -49,6 +61,7 @@ impl Default for Settings {
             call_first: 200,
             call_most: 10_000,
             full_wait: 1_000,
+            ack_wait: 5,
             calls_short: 10,
             #[cfg(feature = "sim")]
             mutant: None,
@@ -77,6 +90,8 @@ pub enum Mutant {
     NoWait,
     /// A partner that gave a sign of lost state counts as one without, once its numbers are passed.
     SignPasses,
+    /// A sign of lost state is forgotten at the next start.
+    SignForgotten,
     /// A frame's sender is the one that the frame names.
     SenderByFrame,
 }

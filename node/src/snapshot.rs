@@ -1,25 +1,43 @@
-//! A snapshot (pure): the state behind a batch as one file, with where the log goes on. `snap-` and the number of the first batch not in it name it.
+//! A snapshot (pure): the state behind a batch as one file, with where the log goes on. What servers are owed is not in it, only where in the log it lies.
 use crate::bytes::Reader;
 use crate::cluster::FORMAT;
 use crate::events::{Ended, Outcome, Stamp};
 use crate::log::{LogId, Place};
 use crate::messages::Mark;
 use crate::records::outcome;
-use crate::sem::{stamp_bytes, stamp_of, Client, Server};
+use crate::sem::{stamp_bytes, stamp_of, Client, Party, Server, CLIENT};
 use crate::state::{Desk, Open, State};
-use crate::streams::{In, Out, Owed, StreamId};
+use crate::streams::{In, Out, Owed, Spot, StreamId};
 use openssl::sha::sha256;
 
 const MAGIC: &[u8; 4] = b"SDS1";
 const SUM: usize = 32;
 
-pub fn name(batch: u64) -> String {
-    format!("snap-{batch:016x}")
+/// What a snapshot's name says: the first batch that is not in it, and the first segment of the log that a start from it may need: where the log goes
+/// on, or from where on something is owed.
+#[derive(Clone, Copy, Debug, PartialEq, Eq, PartialOrd, Ord)]
+pub struct Name {
+    pub batch: u64,
+    pub segment: u32,
 }
 
-pub fn batch_of(name: &str) -> Option<u64> {
-    let digits = name.strip_prefix("snap-")?;
-    (digits.len() == 16).then(|| u64::from_str_radix(digits, 16).ok())?
+impl Name {
+    /// Of a snapshot of this state, where the log goes on there.
+    pub fn new(state: &State, place: &Place) -> Name {
+        Name { batch: place.number, segment: state.pinned().map_or(place.segment, |s| s.min(place.segment)) }
+    }
+
+    pub fn read(name: &str) -> Option<Name> {
+        let (batch, segment) = name.strip_prefix("snap-")?.split_once('-')?;
+        let number = |digits: &str, length: usize| (digits.len() == length).then(|| u64::from_str_radix(digits, 16).ok())?;
+        Some(Name { batch: number(batch, 16)?, segment: number(segment, 8)? as u32 })
+    }
+}
+
+impl std::fmt::Display for Name {
+    fn fmt(&self, f: &mut std::fmt::Formatter) -> std::fmt::Result {
+        write!(f, "snap-{:016x}-{:08x}", self.batch, self.segment)
+    }
 }
 
 struct Writer(Vec<u8>);
@@ -74,6 +92,8 @@ pub fn write(state: &State, log: &LogId, place: &Place) -> Vec<u8> {
         w.number(mark.batch);
         w.put(&mark.hash);
     }
+    w.long(&state.signs.iter().copied().collect::<Vec<u8>>());
+    w.long(&state.given_up.iter().flat_map(|p| [p.class, p.number]).collect::<Vec<u8>>());
     write_streams(&mut w, state);
     let sum = sha256(&w.0);
     w.put(&sum);
@@ -91,11 +111,32 @@ fn write_streams(w: &mut Writer, state: &State) {
         w.put(&stream.bytes());
         w.number(o.next);
         w.number(o.acked);
-        w.count(o.owed.len());
-        for owed in &o.owed {
-            w.number(owed.number);
-            w.long(&owed.frame);
+        if stream.to.class == CLIENT {
+            write_frames(w, o);
+        } else {
+            write_index(w, o);
         }
+    }
+}
+
+/// What a client is owed: a few frames.
+fn write_frames(w: &mut Writer, o: &Out) {
+    w.count(o.near.len());
+    for owed in &o.near {
+        w.number(owed.number);
+        w.number(owed.wall);
+        w.long(&owed.frame);
+    }
+}
+
+/// Where in the log lies what a server is owed.
+fn write_index(w: &mut Writer, o: &Out) {
+    w.count(o.spots.len());
+    for spot in &o.spots {
+        w.number(spot.from);
+        w.put(&spot.segment.to_be_bytes());
+        w.put(&spot.block.to_be_bytes());
+        w.number(spot.wall);
     }
 }
 
@@ -164,9 +205,14 @@ fn read_streams(b: &mut Reader, state: &mut State) -> Option<()> {
     }
     for _ in 0..b.u32()? {
         let stream = StreamId::read(b)?;
-        let mut o = Out { next: b.u64()?, acked: b.u64()?, ..Out::default() };
+        let mut o = Out { given_up: state.given_up.contains(&stream.to), ..Out::kept(b.u64()?, b.u64()?) };
         for _ in 0..b.u32()? {
-            o.owed.push_back(Owed { number: b.u64()?, frame: long(b)?.into(), since: 0 });
+            if stream.to.class == CLIENT {
+                let (number, wall) = (b.u64()?, b.u64()?);
+                o.near.push_back(Owed { number, wall, frame: long(b)?.into() });
+            } else {
+                o.spots.push_back(Spot { from: b.u64()?, segment: b.u32()?, block: b.u32()?, wall: b.u64()? });
+            }
         }
         state.streams.outs.insert(stream, o);
     }
@@ -197,6 +243,8 @@ pub fn read(bytes: &[u8], mut state: State, register: &[u8; 32]) -> Option<(Stat
     for _ in 0..b.u32()? {
         state.seen.insert(b.u8()?, Mark { batch: b.u64()?, hash: b.array()? });
     }
+    state.signs = long(&mut b)?.iter().copied().collect();
+    state.given_up = long(&mut b)?.chunks_exact(2).map(|p| Party { class: p[0], number: p[1] }).collect();
     read_streams(&mut b, &mut state)?;
     b.is_empty().then_some((state, log, place))
 }

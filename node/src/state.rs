@@ -4,7 +4,7 @@ use crate::events::{Ended, Now, Outcome, Stamp};
 use crate::messages::Mark;
 use crate::records::{self, outcome, Record};
 use crate::sem::{self, Client, End, Parameters, Party, Room, Sent, Server, Step, AHEAD, CLIENT, SERVER};
-use crate::streams::{StreamId, Streams};
+use crate::streams::{Limits, Out, Spot, StreamId, Streams};
 use std::collections::{BTreeMap, BTreeSet, VecDeque};
 
 /// A desk: how many operations it began, the one that is open, and the last that ended.
@@ -39,8 +39,16 @@ pub struct State {
     pub steps: u64,
     /// The last batch of each node's log that this node was told of.
     pub seen: BTreeMap<u8, Mark>,
-    /// In replay: an operation that ended, whose record must come next.
+    /// Nodes that gave a sign that this one has lost state. What was lost does not come back, so a sign stands for good.
+    pub signs: BTreeSet<u8>,
+    /// Servers that were given up.
+    pub given_up: BTreeSet<Party>,
+    pub limits: Limits,
+    /// Streams that frames were put into since the last batch was closed.
+    sent: BTreeSet<StreamId>,
+    /// In replay: an operation that ended, whose record must come next; and the batch's wall clock.
     ending: Option<(u8, Outcome)>,
+    wall: u64,
     one_stream: bool,
 }
 
@@ -48,8 +56,7 @@ pub struct State {
 #[derive(Default)]
 pub struct Effects {
     pub batch: Vec<u8>,
-    /// Streams that frames were put into, and streams whose frames were answered.
-    pub sent: BTreeSet<StreamId>,
+    /// Streams whose frames were answered.
     pub answered: BTreeSet<StreamId>,
     /// Streams whose last answered frame was refused: a place is written at the batch's end.
     pub places: BTreeSet<StreamId>,
@@ -85,7 +92,12 @@ impl State {
             tick: 0,
             steps: 0,
             seen: BTreeMap::new(),
+            signs: BTreeSet::new(),
+            given_up: BTreeSet::new(),
+            limits: Limits { near: usize::MAX, grain: 1 },
+            sent: BTreeSet::new(),
             ending: None,
+            wall: 0,
             one_stream: false,
         }
     }
@@ -137,14 +149,51 @@ impl State {
     }
 
     /// Puts what a party sends into its streams, and says it as the log does. Receivers are numbered whether they are listed or not.
-    fn send(&mut self, from: Party, sent: &[Sent], since: u64, mut each: impl FnMut(StreamId)) -> Vec<u8> {
+    fn send(&mut self, from: Party, sent: &[Sent], wall: u64) -> Vec<u8> {
         let mut numbers = Vec::with_capacity(sent.len());
         for s in sent {
             let stream = StreamId { from, to: s.to, register: 0, owner: self.owner(&s.frame) };
-            numbers.push(self.streams.outs.entry(stream).or_default().push(s.to, s.frame.clone(), since));
-            each(stream);
+            let given_up = self.given_up.contains(&s.to);
+            let o = self.streams.outs.entry(stream).or_insert_with(|| Out { given_up, ..Out::default() });
+            numbers.push(o.push(s.to, s.frame.clone(), wall));
+            self.sent.insert(stream);
         }
         records::sent_bytes(sent, &numbers)
+    }
+
+    /// A batch with all that was sent so far is closed: where it lies. The answer is what it has frames of.
+    pub fn close(&mut self, batch: &Spot) -> BTreeSet<StreamId> {
+        let sent = std::mem::take(&mut self.sent);
+        for stream in sent.iter().filter(|s| s.to.class == SERVER) {
+            let own = self.is_own(stream.to);
+            let limits = if own { Limits { near: usize::MAX, ..self.limits } } else { self.limits };
+            if let Some(o) = self.streams.outs.get_mut(stream) {
+                o.close(batch, &limits);
+            }
+        }
+        sent
+    }
+
+    /// What frames were put into since the last batch was closed.
+    pub fn gathering(&self) -> Vec<StreamId> {
+        self.sent.iter().copied().collect()
+    }
+
+    /// Nothing is owed to a server any more, for good.
+    pub fn give_up(&mut self, party: Party) {
+        self.given_up.insert(party);
+        self.streams.outs.iter_mut().filter(|(s, _)| s.to == party).for_each(|(_, o)| o.give_up());
+    }
+
+    /// The first segment of the log that something is owed from.
+    pub fn pinned(&self) -> Option<u32> {
+        self.streams.outs.values().filter_map(|o| o.spots.front().map(|s| s.segment)).min()
+    }
+
+    /// Servers of others that are owed something from a segment of the log.
+    pub fn pinning(&self, segment: u32) -> BTreeSet<Party> {
+        let pins = |o: &Out| o.spots.front().is_some_and(|s| s.segment <= segment);
+        self.streams.outs.iter().filter(|(s, o)| !self.is_own(s.to) && pins(o)).map(|(s, _)| s.to).collect()
     }
 
     /// What a client's step means for its open operation: its outcome, if it has ended.
@@ -214,9 +263,7 @@ impl State {
     }
 
     fn send_live(&mut self, from: Party, sent: &[Sent], now: Now, fx: &mut Effects) -> Vec<u8> {
-        let bytes = self.send(from, sent, now.boot, |stream| {
-            fx.sent.insert(stream);
-        });
+        let bytes = self.send(from, sent, now.wall);
         for s in sent.iter().filter(|s| self.is_own(s.to)) {
             fx.work.push_back(StreamId { from, to: s.to, register: 0, owner: self.owner(&s.frame) });
         }
@@ -273,13 +320,15 @@ impl State {
         desk.begun
     }
 
-    /// The records of a batch, once more. What they send must be what the log says they sent, byte for byte.
-    pub fn replay(&mut self, payload: &[u8]) -> Result<u64, &'static str> {
+    /// The records of a batch that lies there, once more. What they send must be what the log says they sent, byte for byte.
+    pub fn replay(&mut self, payload: &[u8], batch: &Spot) -> Result<u64, &'static str> {
         let mut count = 0;
+        self.wall = batch.wall;
         for record in records::read(payload) {
             self.replay_one(&record.map_err(|_| "the batch is whole, but its records are not")?)?;
             count += 1;
         }
+        self.close(batch);
         match self.ending {
             Some(_) => Err("an operation ends now that did not end when the log was written"),
             None => Ok(count),
@@ -320,6 +369,14 @@ impl State {
                 self.seen.insert(*node, Mark { batch: *batch, hash: *hash });
                 Ok(())
             }
+            Record::Sign { node } => {
+                self.signs.insert(*node);
+                Ok(())
+            }
+            Record::GivenUp { party } => {
+                self.give_up(*party);
+                Ok(())
+            }
         }
     }
 
@@ -330,7 +387,7 @@ impl State {
         }
         let step = self.deliver(stream.to, stream.from, frame).map_err(|_| "a step of the log is refused now")?;
         self.steps += 1;
-        if self.send(stream.to, &step.sent, 0, |_| ()) != sent {
+        if self.send(stream.to, &step.sent, self.wall) != sent {
             return Err("a step sends something else now");
         }
         self.streams.answered(&stream, number + 1, own);
@@ -344,7 +401,7 @@ impl State {
         let party = self.clients.get_mut(&client).ok_or("an operation of a client that this node does not have")?;
         let step = party.begin(&self.parameters, &mut self.room, value).map_err(|_| "a begin of the log is refused now")?;
         self.steps += 1;
-        if tick != self.tick || self.send(Party::client(client), &step.sent, 0, |_| ()) != sent {
+        if tick != self.tick || self.send(Party::client(client), &step.sent, self.wall) != sent {
             return Err("a begin sends something else now");
         }
         self.begun(client, value.is_some(), wall);

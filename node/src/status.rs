@@ -51,9 +51,12 @@ pub struct PartnerStatus {
     /// Why there is none, in words.
     pub why: String,
     pub owed_frames: u64,
-    pub owed_bytes: u64,
-    /// For how many ms the oldest owed frame has been owed.
+    /// Bytes of the log from the batch of the first frame on that it is owed.
+    pub owed_log: u64,
+    /// For how many ms the oldest owed frame has been owed, by the wall clock.
     pub owed_age: u64,
+    /// Whether its server was given up: nothing is owed to it any more.
+    pub given_up: bool,
     /// Frames of this partner that are held until their sequence comes.
     pub held: u64,
     /// Refusals by number.
@@ -69,6 +72,7 @@ pub struct LogStatus {
     pub segment: u32,
     pub first_segment: u32,
     pub steps: u64,
+    /// The log's size on the disk, from the first segment that is there to the last batch's end.
     pub bytes: u64,
     /// The first batch that is not in the newest snapshot; 0 if there is none.
     pub snapshot: u64,

@@ -1,5 +1,6 @@
 //! Streams (pure): a row of frames from one party to another, by owner, numbered for ever in the order of the sender's steps. What may leave, what is
-//! owed, what is held, and from where on a stream goes on, stand here; nothing here does input or output.
+//! owed, what is held, and from where on a stream goes on, stand here; nothing here does input or output. What a server is owed lies in the log: in memory
+//! are the frames that leave next, and an index.
 use crate::bytes::Reader;
 use crate::sem::{self, Older, Party, CLIENT};
 use std::collections::{BTreeMap, VecDeque};
@@ -30,12 +31,38 @@ impl StreamId {
     }
 }
 
-/// A frame that is owed, since when (milliseconds of the boot clock).
+/// A frame that is owed, and when it was sent, by the wall clock in milliseconds (only shown).
 #[derive(Clone, Debug, PartialEq)]
 pub struct Owed {
     pub number: u64,
     pub frame: Rc<[u8]>,
-    pub since: u64,
+    pub wall: u64,
+}
+
+/// A batch of the log that has frames of a stream: the first of them, where the batch begins, and its wall clock.
+#[derive(Clone, Copy, Debug, PartialEq, Eq, Default)]
+pub struct Spot {
+    pub from: u64,
+    pub segment: u32,
+    pub block: u32,
+    pub wall: u64,
+}
+
+/// How much of what a server is owed is in memory: frames of a stream, and blocks of log between two entries of a stream's index.
+#[derive(Clone, Copy, Debug, PartialEq, Eq)]
+pub struct Limits {
+    pub near: usize,
+    pub grain: u32,
+}
+
+/// The next frame of a stream to leave by the present link.
+#[derive(Clone, Debug, PartialEq)]
+pub enum Leaving {
+    Frame(u64, Rc<[u8]>),
+    /// It is in the log alone, and is to be read.
+    Absent,
+    /// There is none, or it must not leave yet.
+    Nothing,
 }
 
 /// What goes out by a stream.
@@ -47,18 +74,34 @@ pub struct Out {
     pub acked: u64,
     /// From here on frames have not been sent by the present link.
     pub sent: u64,
-    pub owed: VecDeque<Owed>,
+    /// Frames in memory. To a client: all that it is owed. To a server: the first of those that it is owed, without a gap, and behind them those of the
+    /// batch that gathers.
+    pub near: VecDeque<Owed>,
+    /// To a server: where in the log the frames are that it is owed, rising. Between two entries they lie where the earlier one says or behind it.
+    pub spots: VecDeque<Spot>,
+    /// Frames below are in batches that are closed.
+    pub closed: u64,
+    /// The receiver was given up: frames are numbered, and nothing is owed.
+    pub given_up: bool,
 }
 
 impl Out {
+    /// As a snapshot has it.
+    pub fn kept(next: u64, acked: u64) -> Out {
+        Out { next, acked, closed: next, ..Out::default() }
+    }
+
     /// Takes a frame up and says its number. A client is owed only what it can still use, so its numbers may rise with gaps.
-    pub fn push(&mut self, to: Party, frame: Rc<[u8]>, since: u64) -> u64 {
-        if to.class == CLIENT {
-            self.owed.retain(|o| sem::older(&o.frame, &frame) != Older::Stale);
-        }
+    pub fn push(&mut self, to: Party, frame: Rc<[u8]>, wall: u64) -> u64 {
         let number = self.next;
-        self.owed.push_back(Owed { number, frame, since });
         self.next += 1;
+        if self.given_up {
+            return number;
+        }
+        if to.class == CLIENT {
+            self.near.retain(|o| sem::older(&o.frame, &frame) != Older::Stale);
+        }
+        self.near.push_back(Owed { number, frame, wall });
         if to.class == CLIENT {
             self.drop_small_value();
         }
@@ -67,12 +110,55 @@ impl Out {
 
     /// Of more values for the read of the last frame than a client keeps, the one with the smallest stamp goes.
     fn drop_small_value(&mut self) {
-        let Some(last) = self.owed.back() else { return };
-        let peers: Vec<usize> = (0..self.owed.len()).filter(|i| sem::older(&self.owed[*i].frame, &last.frame) == Older::Peer).collect();
+        let Some(last) = self.near.back() else { return };
+        let peers: Vec<usize> = (0..self.near.len()).filter(|i| sem::older(&self.near[*i].frame, &last.frame) == Older::Peer).collect();
         if peers.len() > VALUES_MOST {
-            if let Some(smallest) = peers.into_iter().min_by_key(|i| sem::value_stamp(&self.owed[*i].frame)) {
-                self.owed.remove(smallest);
+            if let Some(smallest) = peers.into_iter().min_by_key(|i| sem::value_stamp(&self.near[*i].frame)) {
+                self.near.remove(smallest);
             }
+        }
+    }
+
+    /// How many frames to a server are in memory without a gap, from the first that it is owed on.
+    fn run(&self) -> usize {
+        self.near.iter().zip(self.acked..).take_while(|(o, number)| o.number == *number).count()
+    }
+
+    /// The batch with the newest frames to a server is closed: where it lies is remembered, and of its frames only those that leave soon stay in memory.
+    pub fn close(&mut self, batch: &Spot, limits: &Limits) {
+        if self.given_up || self.acked >= self.next {
+            self.spots.clear();
+        } else if self.next > self.closed {
+            let apart = |last: &Spot| last.segment != batch.segment || batch.block >= last.block + limits.grain;
+            if self.spots.back().is_none_or(apart) {
+                self.spots.push_back(Spot { from: self.closed, ..*batch });
+            }
+        }
+        self.closed = self.next;
+        self.near.truncate(self.run().min(limits.near));
+    }
+
+    /// Where in the log the first frame lies that is owed to a server, on the disk, and not in memory; with its number.
+    pub fn absent(&self) -> Option<(u64, Spot)> {
+        let first = self.acked + self.run() as u64;
+        let at = self.spots.partition_point(|s| s.from <= first).checked_sub(1)?;
+        (first < self.durable.min(self.closed)).then_some((first, self.spots[at]))
+    }
+
+    /// Frames that were read from the log, rising without a gap; the last of them lies in the batch that `reached` says.
+    pub fn fetched(&mut self, frames: Vec<(u64, Rc<[u8]>)>, reached: &Spot, limits: &Limits) {
+        let mut at = self.run();
+        let Some(last) = frames.last().map(|f| f.0) else { return };
+        for (number, frame) in frames {
+            if number == self.acked + at as u64 && at < limits.near {
+                self.near.insert(at, Owed { number, frame, wall: reached.wall });
+                at += 1;
+            }
+        }
+        let from = self.acked + at as u64;
+        let behind = self.spots.partition_point(|s| s.from < from);
+        if from > last && behind > 0 && self.spots.get(behind).is_none_or(|s| s.from > from) {
+            self.spots.insert(behind, Spot { from, ..*reached });
         }
     }
 
@@ -84,21 +170,54 @@ impl Out {
         }
         self.acked = next;
         self.sent = self.sent.max(next);
-        while self.owed.front().is_some_and(|o| o.number < next) {
-            self.owed.pop_front();
+        while self.near.front().is_some_and(|o| o.number < next) {
+            self.near.pop_front();
+        }
+        if self.acked >= self.closed {
+            self.spots.clear();
+        }
+        while self.spots.get(1).is_some_and(|s| s.from <= next) {
+            self.spots.pop_front();
         }
         true
     }
 
     /// The next frame that may leave by the present link.
-    pub fn leave(&mut self, window: usize, durable: u64) -> Option<(u64, Rc<[u8]>)> {
-        let at = self.owed.partition_point(|o| o.number < self.sent);
-        let o = self.owed.get(at)?;
-        if at >= window || o.number >= durable {
-            return None;
+    pub fn leave(&mut self, to: Party, window: usize, durable: u64) -> Leaving {
+        let at = self.near.partition_point(|o| o.number < self.sent);
+        match self.near.get(at) {
+            Some(o) if to.class == CLIENT || o.number == self.sent => {
+                let in_flight = if to.class == CLIENT { at as u64 } else { self.sent - self.acked };
+                if in_flight >= window as u64 || o.number >= durable {
+                    return Leaving::Nothing;
+                }
+                self.sent = o.number + 1;
+                Leaving::Frame(o.number, o.frame.clone())
+            }
+            _ if to.class != CLIENT && !self.given_up && self.sent < self.durable.min(self.acked + window as u64) => Leaving::Absent,
+            _ => Leaving::Nothing,
         }
-        self.sent = o.number + 1;
-        Some((o.number, o.frame.clone()))
+    }
+
+    /// Nothing is owed any more, and nothing will be.
+    pub fn give_up(&mut self) {
+        self.given_up = true;
+        self.near.clear();
+        self.spots.clear();
+    }
+
+    /// How many frames are owed.
+    pub fn owed(&self, to: Party) -> u64 {
+        match (self.given_up, to.class) {
+            (true, _) => 0,
+            (_, CLIENT) => self.near.len() as u64,
+            _ => self.next - self.acked,
+        }
+    }
+
+    /// Since when the oldest frame has been owed, by the wall clock.
+    pub fn oldest(&self) -> Option<u64> {
+        self.spots.front().map(|s| s.wall).or(self.near.front().map(|o| o.wall))
     }
 }
 
@@ -153,7 +272,10 @@ impl Streams {
     /// The frame at the head of a stream that comes in, with its number.
     pub fn head(&self, stream: &StreamId, own: bool) -> Option<(u64, Vec<u8>)> {
         if own {
-            self.outs.get(stream)?.owed.front().map(|o| (o.number, o.frame.to_vec()))
+            let o = self.outs.get(stream)?;
+            // behind a gap frames wait for those before them
+            let first = o.near.front().filter(|f| stream.to.class == CLIENT || f.number == o.acked);
+            first.map(|o| (o.number, o.frame.to_vec()))
         } else {
             self.ins.get(stream)?.held.front().cloned()
         }
@@ -202,6 +324,7 @@ mod tests {
     }
 
     const FRAMES: u64 = 60;
+    const LIMITS: Limits = Limits { near: 5, grain: 3 };
 
     /// A sender and a receiver over links that lose what is on the way when they break; the receiver may crash back to what is durable.
     #[derive(Default)]
@@ -209,6 +332,8 @@ mod tests {
         o: Out,
         i: In,
         wire: VecDeque<(u64, Rc<[u8]>)>,
+        /// The sender's log: of each block the number behind its last frame.
+        blocks: Vec<u64>,
         /// What the receiver was handed in, and what its log has of the stream.
         taken: Vec<u8>,
         log: In,
@@ -220,8 +345,12 @@ mod tests {
                 0 if self.o.next < FRAMES => {
                     self.o.push(to(1), vec![self.o.next as u8].into(), 0);
                 }
-                1 => self.o.durable = self.o.next,
-                2 => self.wire.extend(self.o.leave(4, self.o.durable)),
+                1 => self.sender_syncs(),
+                2 => match self.o.leave(to(1), 4, self.o.durable) {
+                    Leaving::Frame(number, frame) => self.wire.push_back((number, frame)),
+                    Leaving::Absent => self.fetch(r),
+                    Leaving::Nothing => {}
+                },
                 3 => {
                     if let Some((number, frame)) = self.wire.pop_front() {
                         assert_ne!(self.i.offer(to(1), number, &frame, 4), Offer::Outside);
@@ -236,8 +365,39 @@ mod tests {
                 5 => self.sync_and_ack(),
                 6 if r.one_in(4) => self.link_breaks(),
                 7 if r.one_in(10) => self.receiver_crashes(),
+                7 if r.one_in(10) => self.sender_crashes(),
                 _ => {}
             }
+        }
+
+        /// The frames since the last sync are a batch, which lies on a block of its own.
+        fn sender_syncs(&mut self) {
+            self.blocks.push(self.o.next);
+            self.o.close(&Spot { block: self.blocks.len() as u32 - 1, ..Spot::default() }, &LIMITS);
+            self.o.durable = self.o.next;
+        }
+
+        /// Reads some blocks of the log, from where the index says on.
+        fn fetch(&mut self, r: &mut Random) {
+            let (first, spot) = self.o.absent().expect("a frame that is absent");
+            let before = |block: u32| block.checked_sub(1).map_or(0, |b| self.blocks[b as usize]);
+            assert!(before(spot.block) <= first, "the index leads past frame {first}");
+            let mut block = spot.block;
+            let enough = 1 + r.below(3);
+            while self.blocks[block as usize] < first + enough && (block as usize) + 1 < self.blocks.len() {
+                block += 1;
+            }
+            let frames = (first..self.blocks[block as usize]).map(|n| (n, vec![n as u8].into())).collect();
+            self.o.fetched(frames, &Spot { block, ..Spot::default() }, &LIMITS);
+        }
+
+        /// The sender starts again from what a snapshot has.
+        fn sender_crashes(&mut self) {
+            let next = self.o.durable;
+            self.wire.clear();
+            let spots = self.o.spots.iter().copied().filter(|s| s.from < next).collect();
+            self.o = Out { spots, durable: next, sent: self.o.acked, ..Out::kept(next, self.o.acked) };
+            self.i.held.clear();
         }
 
         fn sync_and_ack(&mut self) {
@@ -279,21 +439,42 @@ mod tests {
         for time in [5, 1, 7, 3, 9, 2] {
             o.push(to(CLIENT), value(1, time), 0);
         }
-        let left: Vec<u64> = o.owed.iter().map(|o| o.number).collect();
+        let left: Vec<u64> = o.near.iter().map(|o| o.number).collect();
         assert_eq!(left, [0, 2, 3, 4], "the four largest stamps");
         o.push(to(CLIENT), value(2, 1), 0);
-        assert_eq!(o.owed.len(), 1, "the older read's are stale");
+        assert_eq!(o.near.len(), 1, "the older read's are stale");
         for sequence in 1..9 {
             o.push(to(CLIENT), short(2, sequence), 0);
             o.push(to(CLIENT), short(9, sequence), 0);
         }
-        assert_eq!(o.owed.iter().map(|o| o.number).collect::<Vec<_>>(), [6, 21, 22]);
-        assert_eq!(o.next, 23);
+        assert_eq!(o.near.iter().map(|o| o.number).collect::<Vec<_>>(), [6, 21, 22]);
+        assert_eq!((o.next, o.owed(to(CLIENT))), (23, 3));
         let mut s = Out::default();
         for n in 0..9 {
             s.push(to(1), short(4, n), 0);
         }
-        assert_eq!(s.owed.len(), 9, "a server is owed every frame");
+        assert_eq!(s.owed(to(1)), 9, "a server is owed every frame");
+        s.close(&Spot::default(), &LIMITS);
+        assert_eq!((s.owed(to(1)), s.near.len(), s.spots.len()), (9, LIMITS.near, 1), "of which some are in memory");
+        s.give_up();
+        s.push(to(1), short(4, 9), 0);
+        assert_eq!((s.next, s.owed(to(1)), s.near.len(), s.leave(to(1), 4, 10)), (10, 0, 0, Leaving::Nothing));
+    }
+
+    #[test]
+    fn what_a_server_is_owed_takes_little_memory() {
+        let mut o = Out::default();
+        for block in 0..10_000 {
+            o.push(to(1), short(4, 0), 0);
+            o.close(&Spot { segment: block / 4000, block: block % 4000, ..Spot::default() }, &Limits { near: 64, grain: 256 });
+            o.durable = o.next;
+        }
+        assert_eq!((o.owed(to(1)), o.near.len(), o.spots.len()), (10_000, 64, 16 + 16 + 8));
+        o.ack(8000);
+        assert_eq!((o.near.len(), o.spots.len(), o.spots[0].segment), (0, 8, 2));
+        assert_eq!(o.absent().map(|(first, spot)| (first, spot.block)), Some((8000, 0)));
+        o.ack(10_000);
+        assert_eq!((o.owed(to(1)), o.spots.len()), (0, 0));
     }
 
     #[test]

@@ -32,6 +32,7 @@ impl Sleeper {
     /// Takes the bytes, so that the next `poll` waits again. Called before looking at what came.
     pub fn clear(&self) {
         let mut room = [0; 256];
-        while matches!((&self.0).read(&mut room), Ok(1..)) {}
+        // what is left, should there be more, wakes the next `poll` too
+        let _ = (&self.0).read(&mut room);
     }
 }

@@ -5,10 +5,12 @@ use crate::log::{self, LogId, Place};
 use crate::messages::Mark;
 use crate::records::{self, Hash, Record};
 use crate::recovery::Recovered;
+use crate::sem::Party;
 use crate::settings::{Settings, BLOCK};
+use crate::snapshot;
 use crate::state::{Effects, State};
-use crate::streams::StreamId;
-use std::collections::{BTreeMap, BTreeSet};
+use crate::streams::{Spot, StreamId};
+use std::collections::{BTreeSet, VecDeque};
 
 /// Hashes of so many last batches are remembered, to compare with what partners have seen.
 const MARKS_MOST: usize = 16_384;
@@ -19,8 +21,8 @@ pub struct InFlight {
     pub outs: Vec<(StreamId, u64)>,
     pub ins: Vec<(StreamId, u64)>,
     pub answers: Vec<(AskId, Response)>,
-    /// A snapshot of the state behind this batch, with the number of the next.
-    pub snapshot: Option<(u64, Vec<u8>)>,
+    /// A snapshot of the state behind this batch.
+    pub snapshot: Option<(snapshot::Name, Vec<u8>)>,
     pub fence: bool,
 }
 
@@ -40,6 +42,10 @@ pub struct Writer {
     /// Streams whose acknowledgements, and nodes whose marks, are not in the log yet.
     pub acked: BTreeSet<StreamId>,
     pub seen: BTreeSet<u8>,
+    /// Nodes whose signs of lost state are not in the log yet.
+    pub signs: BTreeSet<u8>,
+    /// Servers that were given up, which is not in the log yet.
+    pub given_up: BTreeSet<Party>,
     pub in_flight: Option<InFlight>,
     /// The last batch on the disk, and since when it is there.
     pub durable: Mark,
@@ -48,15 +54,18 @@ pub struct Writer {
     pub fenced: bool,
     /// Since when a place has waited.
     pub place_since: Option<u64>,
-    marks: BTreeMap<u64, Hash>,
+    /// Hashes of the last batches, and the number of the first of these.
+    marks: VecDeque<Hash>,
+    first_mark: u64,
     /// A batch waits for the next segment: time alone changes nothing.
     blocked: bool,
     pub first_segment: u32,
     pub last_segment: u32,
-    pub bytes: u64,
+    /// Bytes of log since the last snapshot.
     pub since_snapshot: u64,
     pub snapshot_wanted: bool,
-    pub snapshots: Vec<u64>,
+    /// The snapshots that are there, rising.
+    pub snapshots: Vec<snapshot::Name>,
 }
 
 impl Writer {
@@ -69,17 +78,19 @@ impl Writer {
             answers: vec![],
             acked: BTreeSet::new(),
             seen: BTreeSet::new(),
+            signs: BTreeSet::new(),
+            given_up: BTreeSet::new(),
             in_flight: None,
             durable,
             durable_since: now,
             fenced: false,
             place_since: None,
-            marks: BTreeMap::new(),
+            marks: VecDeque::new(),
+            first_mark: 0,
             blocked: false,
             first_segment: r.first_segment,
             last_segment: r.last_segment,
-            bytes: 0,
-            since_snapshot: 0,
+            since_snapshot: r.since_snapshot,
             snapshot_wanted: false,
             snapshots: r.snapshots.clone(),
         };
@@ -88,22 +99,29 @@ impl Writer {
     }
 
     fn remember(&mut self, batch: u64, hash: Hash) {
-        self.marks.insert(batch, hash);
+        if batch != self.first_mark + self.marks.len() as u64 {
+            self.marks.clear();
+            self.first_mark = batch;
+        }
+        self.marks.push_back(hash);
         if self.marks.len() > MARKS_MOST {
-            self.marks.pop_first();
+            self.marks.pop_front();
+            self.first_mark += 1;
         }
     }
 
     /// Whether this log, as it is on the disk, has the batch that somebody saw of it. A batch that is too old to be remembered passes.
     pub fn has(&self, mark: &Mark) -> bool {
-        mark.batch <= self.durable.batch && self.marks.get(&mark.batch).is_none_or(|hash| *hash == mark.hash)
+        let known = mark.batch.checked_sub(self.first_mark).and_then(|at| self.marks.get(at as usize));
+        mark.batch <= self.durable.batch && known.is_none_or(|hash| *hash == mark.hash)
     }
 
     /// Whether a batch is to be closed now.
     pub fn is_due(&self, now: u64, settings: &Settings) -> bool {
         let place = self.place_since.is_some_and(|since| now >= since + settings.place_wait);
         let fence = !self.fenced && now >= self.durable_since + settings.fence_wait;
-        self.in_flight.is_none() && (self.fx.stepped || !self.answers.is_empty() || self.snapshot_wanted || place || fence)
+        let told = !self.answers.is_empty() || !self.signs.is_empty() || !self.given_up.is_empty();
+        self.in_flight.is_none() && (self.fx.stepped || told || self.snapshot_wanted || place || fence)
     }
 
     /// When `is_due` may come true by time alone.
@@ -131,10 +149,16 @@ impl Writer {
                 records::write(&mut self.fx.batch, &Record::Seen { node, batch: mark.batch, hash: mark.hash });
             }
         }
+        for node in std::mem::take(&mut self.signs) {
+            records::write(&mut self.fx.batch, &Record::Sign { node });
+        }
+        for party in std::mem::take(&mut self.given_up) {
+            records::write(&mut self.fx.batch, &Record::GivenUp { party });
+        }
     }
 
     /// Closes the batch that gathers and puts it in flight; none if it needs the next segment, which is not there yet.
-    pub fn close(&mut self, state: &State, wall: u64, settings: &Settings) -> Option<Closed> {
+    pub fn close(&mut self, state: &mut State, wall: u64, settings: &Settings) -> Option<Closed> {
         let fence = !self.fx.stepped && self.fx.places.is_empty() && self.fx.batch.is_empty();
         self.close_records(state);
         let space = log::batch_space(self.fx.batch.len());
@@ -151,9 +175,8 @@ impl Writer {
         let closed = Closed { segment: place.segment, at: place.at, bytes };
         let mark = Mark { batch: place.number, hash };
         self.place = Place { at: place.at + space, number: place.number + 1, before: hash, last: place.at, segment: place.segment };
-        self.bytes += space;
         self.since_snapshot += space;
-        let outs = std::mem::take(&mut self.fx.sent);
+        let outs = state.close(&Spot { from: 0, segment: place.segment, block: (place.at / BLOCK) as u32, wall });
         let ins = std::mem::take(&mut self.fx.answered);
         self.in_flight = Some(InFlight {
             mark,
@@ -166,6 +189,17 @@ impl Writer {
         self.fx.stepped = false;
         self.place_since = None;
         Some(closed)
+    }
+
+    /// Bytes of the log on the disk, from the first segment that is there to the last batch's end.
+    pub fn bytes(&self, settings: &Settings) -> u64 {
+        self.bytes_from(self.first_segment, 0, settings)
+    }
+
+    /// Bytes of the log from a segment's block on.
+    pub fn bytes_from(&self, segment: u32, block: u32, settings: &Settings) -> u64 {
+        let end = u64::from(self.place.segment.saturating_sub(segment)) * settings.segment + self.place.at;
+        end.saturating_sub(u64::from(block) * BLOCK)
     }
 
     /// The batch in flight is on the disk.

@@ -19,7 +19,11 @@ use std::time::{Duration, Instant};
 
 const LENGTH: usize = 32;
 /// Torn tails are the rarest by themselves, since a write takes the least time.
-const HOOKS: [&str; 6] = ["torn", "torn", "torn", "lost", "written", "synced"];
+const HOOKS: [&str; 8] = ["torn", "torn", "torn", "torn", "torn", "lost", "written", "synced"];
+/// What a run of a minute or more must reach. On a machine with much other work it goes on for it, up to so many times as long.
+const LONG: u64 = 60;
+const CUT_LEAST: usize = 20;
+const LONGER: u32 = 4;
 
 fn setting(name: &str, usual: u64) -> u64 {
     std::env::var(name).ok().and_then(|v| v.parse().ok()).unwrap_or(usual)
@@ -138,7 +142,7 @@ impl Chaos {
         self.hooks.remove(name);
         if self.random.below(2) == 0 {
             let hook = HOOKS[self.random.below(HOOKS.len() as u64) as usize];
-            environment.push(("SEMDUOLI_TEST_FAULT", format!("{hook}:{}", 5 + self.random.below(150))));
+            environment.push(("SEMDUOLI_TEST_FAULT", format!("{hook}:{}", 3 + self.random.below(60))));
             self.hooks.insert(name.into(), hook);
         }
         self.nodes.start_with(name, &environment);
@@ -156,6 +160,11 @@ impl Chaos {
                 self.start(&name);
             }
         }
+    }
+
+    /// Ends in the midst of a batch; each leaves a tail to cut off.
+    fn torn(&self) -> u32 {
+        self.count.hooks.get("torn").copied().unwrap_or(0)
     }
 
     fn disturb(&mut self) {
@@ -205,7 +214,9 @@ fn chaos(name: &str, (n, t, k): (usize, usize, usize), seconds: u64) {
             std::thread::spawn(move || client.work(seed, &stop))
         })
         .collect();
-    while start.elapsed() < Duration::from_secs(seconds) {
+    let least = if seconds < LONG { 0 } else { CUT_LEAST as u32 };
+    let span = Duration::from_secs(seconds);
+    while start.elapsed() < span || (chaos.torn() < least && start.elapsed() < span * LONGER) {
         chaos.raise();
         chaos.disturb();
         // time in which enough servers are there for operations to end
@@ -222,7 +233,10 @@ fn chaos(name: &str, (n, t, k): (usize, usize, usize), seconds: u64) {
     chaos.nodes.wait_for_rest();
     check(&seen);
     let operations: usize = seen.iter().map(|s| s.lines.len()).sum();
-    println!("{name}: {operations} operations, {:?}, served {} s after the start", chaos.count, served.as_secs());
+    // a batch that was not whole and was cut off at a start
+    let cut: usize = chaos.nodes.names().iter().map(|name| chaos.nodes.notes(name).matches("was cut off at byte").count()).sum();
+    println!("{name}: {operations} operations, {:?}, {cut} torn tails cut off, served {} s after the start", chaos.count, served.as_secs());
+    assert!(cut >= least as usize, "{cut} torn tails in {seconds} s");
     assert!(operations > 100 && chaos.count.starts as usize > chaos.nodes.names().len(), "too little happened: {operations}");
     verify(&chaos.nodes);
 }

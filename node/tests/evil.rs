@@ -74,11 +74,8 @@ impl Evil {
         let Front::Whole(Message::Hello(theirs), _) = messages::read(&first, MESSAGE_MOST) else { return None };
         let to_us = |l: &&messages::Line| l.stream.from == Party::server(FALSE);
         let numbers = theirs.lines.iter().filter(to_us).map(|l| (l.stream.owner, l.next)).collect();
-        // it acknowledges all that it was sent, so that what it is owed does not count as memory
-        let from_them = theirs.lines.iter().filter(|l| l.stream.to == Party::server(FALSE));
-        let mut lines: Vec<messages::Line> = from_them.map(|l| messages::Line { acked: 0, ..*l }).collect();
-        // what it says that it has sent is more than was taken, or it would be seen that it goes back
-        lines.extend(theirs.lines.iter().filter(to_us).map(|l| messages::Line { next: l.next + 1000, acked: l.next, ..*l }));
+        // it never acknowledges what it is sent; what it says that it has sent is more than was taken, or it would be seen that it goes back
+        let lines = theirs.lines.iter().filter(to_us).map(|l| messages::Line { next: l.next + 1000, acked: l.next, ..*l }).collect();
         let mut own = Hello { own: theirs.seen, seen: theirs.own, lines, ..theirs.clone() };
         lie(&mut own);
         let mut bytes = vec![];
@@ -159,12 +156,6 @@ fn burst(evil: &mut Evil, random: &mut Random) -> u64 {
     count
 }
 
-fn memory(nodes: &Nodes, name: &str) -> u64 {
-    let status = std::fs::read_to_string(format!("/proc/{}/status", nodes.pid(name))).expect("a process");
-    let kb = status.lines().find_map(|l| l.strip_prefix("VmRSS:")?.trim().strip_suffix(" kB")?.trim().parse::<u64>().ok());
-    kb.expect("its memory") << 10
-}
-
 /// A client that reads and writes until it is stopped; its history.
 fn client(folder: &Path, number: u8, start: Instant, stop: &AtomicBool) -> Vec<Line> {
     let mut desk = Desk::new(folder).expect("the desk's socket");
@@ -183,6 +174,7 @@ fn client(folder: &Path, number: u8, start: Instant, stop: &AtomicBool) -> Vec<L
 
 fn three_and_a_desk(name: &str) -> Nodes {
     let mut nodes = Nodes::new(name, SIZE);
+    nodes.words = ["--rate", "1000000"].map(str::to_string).into();
     for name in ["s1", "s2", "s3", "desk"] {
         nodes.start(name);
     }
@@ -219,35 +211,90 @@ fn refused(status: &Value) -> u64 {
     partner["refused"].as_array().into_iter().flatten().filter_map(|r| r[1].as_u64()).sum()
 }
 
+const SERVERS: [&str; 3] = ["s1", "s2", "s3"];
+
+/// Clients that read and write until they are stopped.
+struct Clients {
+    stop: Arc<AtomicBool>,
+    threads: Vec<std::thread::JoinHandle<Vec<Line>>>,
+}
+
+impl Clients {
+    fn begin(nodes: &Nodes, count: u8) -> Clients {
+        let (stop, start) = (Arc::new(AtomicBool::new(false)), Instant::now());
+        let begin = |number: u8| {
+            let (stop, folder) = (stop.clone(), nodes.at("desk"));
+            std::thread::spawn(move || client(&folder, number, start, &stop))
+        };
+        let threads = (1..=count).map(begin).collect();
+        Clients { stop, threads }
+    }
+
+    /// Stops them: all that they did has an order. How many operations it was.
+    fn end(self) -> usize {
+        self.stop.store(true, Ordering::Relaxed);
+        let mut lines: Vec<Line> = self.threads.into_iter().flat_map(|c| c.join().expect("a client")).collect();
+        let count = lines.len();
+        judge::add_writes(&mut lines);
+        assert!(matches!(judge::history(&lines, &mut |_, _| {}), Verdict::Order { .. }));
+        count
+    }
+}
+
+/// Runs an attack: what a first part costs is buffers; a second must cost nothing more.
+fn within_memory(nodes: &Nodes, mut attack: impl FnMut(Duration)) {
+    attack(ATTACK / 2);
+    let before = SERVERS.map(|name| nodes.memory(name));
+    attack(ATTACK);
+    for (name, before) in SERVERS.iter().zip(before) {
+        let after = nodes.memory(name);
+        println!("{name}: {before} bytes before, {after} after");
+        assert!(after < before + MEMORY_MOST, "{name}: {before} bytes before, {after} after");
+    }
+}
+
 #[test]
 fn a_false_node_costs_no_memory_and_no_order() {
     let nodes = three_and_a_desk("evil");
-    let (stop, start) = (Arc::new(AtomicBool::new(false)), Instant::now());
-    let clients: Vec<_> = [1, 2]
-        .map(|number| {
-            let (stop, folder) = (stop.clone(), nodes.at("desk"));
-            std::thread::spawn(move || client(&folder, number, start, &stop))
-        })
-        .into();
+    let clients = Clients::begin(&nodes, 2);
     let mut attack = Attack { nodes: &nodes, random: Random::new(5), messages: 0, links: 0 };
-    // what a first attack costs is buffers; a second must cost nothing more
-    attack.go_on(ATTACK / 2);
-    let before: Vec<u64> = ["s1", "s2", "s3"].map(|name| memory(&nodes, name)).into();
-    attack.go_on(ATTACK);
-    for (name, before) in ["s1", "s2", "s3"].iter().zip(before) {
-        let after = memory(&nodes, name);
-        assert!(after < before + MEMORY_MOST, "{name}: {before} bytes before, {after} after");
-    }
-    stop.store(true, Ordering::Relaxed);
-    let mut lines: Vec<Line> = clients.into_iter().flat_map(|c| c.join().expect("a client")).collect();
-    let (messages, links) = (attack.messages, attack.links);
-    println!("{messages} messages by {links} links; {} operations beside them", lines.len());
-    assert!(messages > 10_000 && lines.len() > 50, "too little happened: {messages}, {}", lines.len());
-    judge::add_writes(&mut lines);
-    assert!(matches!(judge::history(&lines, &mut |_, _| {}), Verdict::Order { .. }));
+    within_memory(&nodes, |long| attack.go_on(long));
+    let (messages, links, operations) = (attack.messages, attack.links, clients.end());
+    println!("{messages} messages by {links} links; {operations} operations beside them");
+    assert!(messages > 10_000 && operations > 50, "too little happened: {messages}, {operations}");
     let status = nodes.wait_until("s1", "has refused frames", |s| refused(s) > 1000);
     println!("{} of them refused by s1", refused(&status));
     assert!(status["signs"].as_array().is_some_and(|s| s.is_empty()), "{status}");
+}
+
+/// A node that is greeted, is sent what it is owed, and never acknowledges anything; one that does not even read.
+#[test]
+fn a_node_that_never_acknowledges_costs_no_memory() {
+    for reads in [true, false] {
+        let nodes = three_and_a_desk("never");
+        let clients = Clients::begin(&nodes, 8);
+        let mut links: Vec<Evil> = (1..=3).map(|server| Evil::new(&nodes, server, |_| {}).expect("a link")).collect();
+        for l in &links {
+            l.stream.get_ref().set_nonblocking(true).expect("no waiting");
+        }
+        let mut taken = 0;
+        within_memory(&nodes, |long| {
+            let (until, mut room) = (Instant::now() + long / 2, [0; 16 * 1024]);
+            while Instant::now() < until {
+                for l in links.iter_mut().filter(|_| reads) {
+                    taken += l.stream.read(&mut room).unwrap_or(0);
+                }
+                std::thread::sleep(Duration::from_millis(5));
+            }
+        });
+        let operations = clients.end();
+        let status = nodes.wait_until("s1", "has the link", |s| s["partners"].as_array().is_some_and(|p| p.iter().any(|p| p["name"] == "s4")));
+        let owed =
+            status["partners"].as_array().into_iter().flatten().find(|p| p["name"] == "s4").map_or(0, |p| p["owed_frames"].as_u64().unwrap_or(0));
+        println!("reads {reads}: it took {taken} bytes and is owed {owed} frames by s1; {operations} operations beside it");
+        // it is sent a window of each stream
+        assert!(owed > 500 && operations > 500 && (taken > 5000) == reads, "{owed}, {operations}, {taken}");
+    }
 }
 
 /// A link to the first server. New links of one node are limited, so it is tried again.
@@ -297,11 +344,26 @@ fn what_no_node_may_say_ends_its_link() {
     for (what, lie) in lies {
         assert!(patient(lie).sees_its_end(), "{what}");
     }
-    // it can say that a node lost state; alone it does not stop it
-    let mut evil = patient(|h| h.seen.batch += 1 << 30);
+}
+
+/// A false node can say that a node lost state; alone it does not stop it. The node remembers it, by its log and by a snapshot.
+#[test]
+fn a_sign_of_lost_state_is_remembered() {
+    let mut nodes = three_and_a_desk("sign");
+    let mut evil = patient(&nodes, |h| h.seen.batch += 1 << 30);
     let _ = evil.send(&Message::Ping(Default::default()));
-    nodes.wait_until("s1", "shows the sign", |s| s["signs"].as_array().is_some_and(|s| s.len() == 1));
+    let signed = |s: &Value| s["open"] == true && s["signs"] == json!(["s4"]);
+    nodes.wait_until("s1", "shows the sign", signed);
     assert_eq!(nodes.desk().write(1, &[9; 32])["outcome"], "written");
+    drop(evil);
+    for _ in 0..2 {
+        nodes.kill("s1");
+        nodes.start("s1");
+        nodes.wait_until("s1", "shows the sign again", signed);
+        let made = common::semduoli(&["snapshot", "--folder", &nodes.path("s1")]);
+        assert_eq!(common::code(&made), 0, "{}", common::said(&made));
+    }
+    assert_eq!(nodes.desk().write(1, &[8; 32])["outcome"], "written");
 }
 
 #[test]

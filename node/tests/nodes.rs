@@ -61,6 +61,99 @@ fn a_partner_that_was_away_catches_up() {
     assert_eq!(all[3]["servers"][0]["stamp"], all[0]["servers"][0]["stamp"]);
 }
 
+/// What a node's status says of a partner.
+fn partner(status: &Value, name: &str) -> Value {
+    status["partners"].as_array().into_iter().flatten().find(|p| p["name"] == name).cloned().unwrap_or_default()
+}
+
+/// Bytes of the segments in a node's folder.
+fn log_files(folder: &Path) -> u64 {
+    let entries = fs::read_dir(folder).expect("a folder").map(|e| e.expect("an entry"));
+    let segments = entries.filter(|e| e.file_name().to_string_lossy().starts_with("log-"));
+    segments.filter_map(|e| e.metadata().ok()).map(|m| m.len()).sum()
+}
+
+const MEMORY_MOST: u64 = 2 << 20;
+
+/// Small segments and snapshots, so that a short run has many.
+fn small_segments(nodes: &mut Nodes) {
+    nodes.environment = vec![("SEMDUOLI_TEST_SEGMENT", (256 << 10).to_string()), ("SEMDUOLI_TEST_SNAPSHOT", (700 << 10).to_string())];
+}
+
+#[test]
+fn what_a_partner_is_owed_costs_disk_and_no_memory() {
+    let mut nodes = Nodes::new("owed", SIZE);
+    nodes.words = ["--rate", "1000000", "--keep", "1"].map(str::to_string).into();
+    small_segments(&mut nodes);
+    nodes.start_all();
+    nodes.kill("s4");
+    nodes.write_by_all(50);
+    let up = ["s1", "s2", "s3", "desk"];
+    let before = up.map(|name| nodes.memory(name));
+    nodes.write_by_all(200);
+    for (name, before) in up.iter().zip(before) {
+        let after = nodes.memory(name);
+        assert!(after < before + MEMORY_MOST, "{name}: {before} bytes before, {after} after");
+    }
+    let owed = |nodes: &Nodes| partner(&nodes.wait_until("s1", "is open", |s| s["open"] == true), "s4");
+    // an echo and a ready of each write; the log is longer than it would be kept, for s4's sake
+    let first = owed(&nodes);
+    assert!(first["owed_frames"].as_u64() >= Some(2 * 8 * 250) && first["owed_log"].as_u64() > Some(2 << 20), "{first}");
+    assert!(log_files(&nodes.at("s1")) > 2 << 20);
+    nodes.kill("s1");
+    nodes.start("s1");
+    assert_eq!(owed(&nodes)["owed_frames"], first["owed_frames"]);
+    nodes.start("s4");
+    nodes.wait_for_rest();
+    // nobody is owed anything: with the next snapshots the log becomes short
+    nodes.write_by_all(60);
+    nodes.wait_for_rest();
+    let status = nodes.wait_until("s1", "has removed segments", |s| s["log"]["first_segment"].as_u64() > Some(5));
+    assert_eq!(partner(&status, "s4")["given_up"], false);
+    let files = log_files(&nodes.at("s1"));
+    assert!(files < 4 << 20 && status["log"]["bytes"].as_u64() <= Some(files), "{files}: {}", status["log"]);
+    nodes.kill("s1");
+    nodes.start("s1");
+    nodes.wait_for_rest();
+}
+
+#[test]
+fn a_partner_that_stays_away_is_given_up_at_the_limit() {
+    let mut nodes = Nodes::new("given-up", SIZE);
+    nodes.words = ["--rate", "1000000", "--keep", "1", "--owed", "2"].map(str::to_string).into();
+    small_segments(&mut nodes);
+    nodes.start_all();
+    writes(&nodes, 5);
+    nodes.wait_for_rest();
+    nodes.kill("s4");
+    let up = ["s1", "s2", "s3", "desk"];
+    let given_up = |nodes: &Nodes, name: &str| nodes.status(name).is_some_and(|s| partner(&s, "s4")["given_up"] == true);
+    for _ in 0..60 {
+        nodes.write_by_all(20);
+        if up.iter().all(|name| given_up(&nodes, name)) {
+            break;
+        }
+    }
+    for name in up {
+        nodes.wait_until(name, "gives s4 up", |s| partner(s, "s4")["given_up"] == true && partner(s, "s4")["owed_frames"] == 0);
+        assert!(nodes.notes(name).contains("server 4 (s4) is given up"), "{}", nodes.notes(name));
+    }
+    nodes.write_by_all(100);
+    for name in up {
+        let files = log_files(&nodes.at(name));
+        assert!(files < 6 << 20, "{name}: {files} bytes of log");
+        nodes.kill(name);
+        nodes.start(name);
+    }
+    // it is remembered, and the register goes on; the one that was given up does no harm
+    nodes.start("s4");
+    for name in up {
+        nodes.wait_until(name, "remembers", |s| s["open"] == true && partner(s, "s4")["given_up"] == true && partner(s, "s4")["linked"] == true);
+    }
+    write_and_read(&nodes, &[7; 32]);
+    nodes.write_by_all(20);
+}
+
 #[test]
 fn an_operation_outlives_its_node_and_who_asked() {
     let mut nodes = Nodes::new("outlives", SIZE);
@@ -163,10 +256,10 @@ fn batches(segment: &[u8]) -> Vec<(usize, usize)> {
     found
 }
 
-/// A segment with the front of a batch behind its last whole one, as if some of its bytes came to the disk.
-fn torn(segment: &[u8], last: usize, part: &[u8]) -> Vec<u8> {
-    let (mut torn, behind) = (segment.to_vec(), last + BLOCK as usize);
-    torn[behind..behind + part.len()].copy_from_slice(part);
+/// A segment with the front of a batch after its last whole one, as if some of its bytes came to the disk.
+fn torn(segment: &[u8], end: usize, part: &[u8]) -> Vec<u8> {
+    let mut torn = segment.to_vec();
+    torn[end..end + part.len()].copy_from_slice(part);
     torn
 }
 
@@ -188,9 +281,12 @@ fn a_torn_log_is_cut_and_a_damaged_one_stops_the_node() {
         copy(&kept, &folder);
         fs::write(folder.join("log-00000001"), segment).expect("written");
     };
-    let ((earlier, length), (last, _)) = (found[found.len() / 2], found[found.len() - 1]);
-    for part in (1..length).step_by(length / 20 + 1) {
-        put_back(&torn(&segment, last, &segment[earlier..earlier + part]));
+    let ((earlier, length), (last, taken)) = (found[found.len() / 2], found[found.len() - 1]);
+    let end = last + taken.next_multiple_of(BLOCK as usize);
+    // the rest of the segment is zeros: a batch is torn if a byte is lost that is none
+    let told = segment[earlier..earlier + length].iter().rposition(|byte| *byte != 0).expect("bytes");
+    for part in (1..=told).step_by(told / 20 + 1) {
+        put_back(&torn(&segment, end, &segment[earlier..earlier + part]));
         nodes.start("s2");
         nodes.wait_until("s2", "is ready", |_| true);
         nodes.kill("s2");

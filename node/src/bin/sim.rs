@@ -4,7 +4,7 @@ use semduoli::settings::Mutant;
 use semduoli::sim;
 use std::time::Instant;
 
-const MUTANTS: [(&str, Mutant); 10] = [
+const MUTANTS: [(&str, Mutant); 11] = [
     ("send-early", Mutant::SendEarly),
     ("ack-early", Mutant::AckEarly),
     ("no-settle", Mutant::NoSettle),
@@ -14,6 +14,7 @@ const MUTANTS: [(&str, Mutant); 10] = [
     ("weak-sum", Mutant::WeakSum),
     ("no-wait", Mutant::NoWait),
     ("sign-passes", Mutant::SignPasses),
+    ("sign-forgotten", Mutant::SignForgotten),
     ("sender-by-frame", Mutant::SenderByFrame),
 ];
 
@@ -30,13 +31,15 @@ fn main() {
     let mutant = words.get(2).map(|name| MUTANTS.iter().find(|m| m.0 == name).map_or_else(|| usage(), |m| m.1));
     let begun = Instant::now();
     let (mut failed, mut events, mut operations, mut crashes, mut torn, mut hash) = (0, 0, 0, 0, 0, 0);
-    let (mut rolled, mut caught) = (0, 0);
+    let (mut rolled, mut caught, mut fetches, mut removed) = (0, 0, 0, 0);
     for (done, seed) in (first..first.saturating_add(count)).enumerate() {
         let report = sim::run(seed, mutant);
         events += report.events;
         operations += report.operations;
         crashes += report.crashes;
         torn += report.torn;
+        fetches += report.fetches;
+        removed += report.removed;
         rolled += report.rolled;
         caught += report.caught;
         hash ^= report.hash.rotate_left((seed % 64) as u32);
@@ -53,8 +56,8 @@ fn main() {
             eprintln!("{} of {count} seeds, {failed} failed, {:.0} s", done + 1, begun.elapsed().as_secs_f64());
         }
     }
-    println!(
-        "{count} seeds from {first}: {failed} failed; {events} events, {operations} operations, {crashes} crashes, {torn} torn batches, {caught} of {rolled} old folders caught, hash {hash:016x}"
-    );
+    print!("{count} seeds from {first}: {failed} failed; {events} events, {operations} operations, {crashes} crashes, {torn} torn batches, ");
+    print!("{fetches} pieces of logs read for what is owed, {removed} segments removed, ");
+    println!("{caught} of {rolled} old folders caught, hash {hash:016x}");
     std::process::exit(i32::from((failed > 0) != mutant.is_some()));
 }

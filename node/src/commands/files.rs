@@ -58,7 +58,13 @@ fn beginning(log: &LogId, first: u32, bytes: &[u8]) -> Place {
 
 /// Hands each batch of the log of this register to `each`, in order.
 pub fn read_log(folder: &Path, register: [u8; 32], each: &mut dyn FnMut(&Batch) -> Result<(), &'static str>) -> Result<Whole, Failure> {
-    let (mut progress, segments) = (Progress::new(), segments(folder)?);
+    read_last(folder, register, usize::MAX, each)
+}
+
+/// The same of the last few segments of the log.
+pub fn read_last(folder: &Path, register: [u8; 32], most: usize, each: &mut dyn FnMut(&Batch) -> Result<(), &'static str>) -> Result<Whole, Failure> {
+    let (mut progress, mut segments) = (Progress::new(), segments(folder)?);
+    segments.drain(..segments.len().saturating_sub(most));
     let mut scan: Option<Scan> = None;
     let mut whole = Whole { from_start: segments[0].0 == 1, batches: 0, bytes: 0, torn: false };
     for (at, (number, name)) in segments.iter().enumerate() {
@@ -77,13 +83,13 @@ pub fn read_log(folder: &Path, register: [u8; 32], each: &mut dyn FnMut(&Batch) 
                 again
             };
             tries += 1;
-            match again().segment(*number, &bytes, &mut |_| Ok(())) {
+            match again().segment(*number, &bytes, &mut |_, _| Ok(())) {
                 Err(Fault::Damaged { .. }) if tries < TRIES => std::thread::sleep(PAUSE),
                 Err(f) => return Err(fault(&f)),
                 Ok(()) => break (bytes, again()),
             }
         };
-        let counted = &mut |b: &Batch| {
+        let counted = &mut |_: u64, b: &Batch| {
             whole.batches += 1;
             whole.bytes += b.bytes.len() as u64;
             each(b)

@@ -1,5 +1,6 @@
 //! A node's folder: its key, its cluster file, and the node itself.
 
+use super::Budget;
 use crate::disk::{Fault, FAULT_VARIABLE};
 use crate::failure::{code, Failure};
 use crate::keys;
@@ -9,7 +10,7 @@ use crate::run::{self, Setup};
 use semduoli::bytes::hex;
 use semduoli::cluster::Cluster;
 use semduoli::events::Level;
-use semduoli::settings::Settings;
+use semduoli::settings::{Settings, BLOCK};
 use serde_json::json;
 use std::fs::{File, OpenOptions, TryLockError};
 use std::path::{Path, PathBuf};
@@ -18,8 +19,12 @@ const CLUSTER_FILE: &str = "cluster.toml";
 const LOCK: &str = "lock";
 /// With less space the node does not start: a segment, snapshots and what is made beside them need it.
 const SPACE_LEAST: u64 = 64 << 20;
-/// For tests: bytes of log between snapshots, so that short runs have some.
+/// For tests: bytes of log between snapshots, and bytes of a segment, so that short runs have some.
 const SNAPSHOT_VARIABLE: &str = "SEMDUOLI_TEST_SNAPSHOT";
+const SEGMENT_VARIABLE: &str = "SEMDUOLI_TEST_SEGMENT";
+/// A batch takes at most such a part of a segment, and the log by default such a part of the disk: what is kept anyway, and what is kept for who is away.
+const BATCH_PART: u64 = 4;
+const DISK_PART: u64 = 4;
 
 fn wrong(line: impl Into<String>) -> Failure {
     Failure::new(code::CLUSTER, line)
@@ -80,12 +85,23 @@ fn lock(folder: &Path) -> Result<File, Failure> {
     }
 }
 
-fn settings() -> Settings {
+/// A number that a test has set.
+fn set_for_test(variable: &str) -> Option<u64> {
+    let number = std::env::var(variable).ok().and_then(|n| n.parse().ok())?;
+    note(Level::Warning, &format!("{variable}={number} is set, for a test"));
+    Some(number)
+}
+
+fn settings(folder: &Path, budget: &Budget) -> Settings {
     let mut settings = Settings::default();
-    if let Some(bytes) = std::env::var(SNAPSHOT_VARIABLE).ok().and_then(|b| b.parse().ok()) {
-        settings.snapshot_every = bytes;
-        note(Level::Warning, &format!("{SNAPSHOT_VARIABLE} is set, for a test: a snapshot every {bytes} bytes of log"));
+    settings.snapshot_every = set_for_test(SNAPSHOT_VARIABLE).unwrap_or(settings.snapshot_every);
+    if let Some(bytes) = set_for_test(SEGMENT_VARIABLE).map(|b| b.max(BATCH_PART * BLOCK).next_multiple_of(BLOCK)) {
+        settings.segment = bytes;
+        settings.batch_most = settings.batch_most.min((bytes / BATCH_PART) as usize);
     }
+    let usual = run::disk_size(folder).map_or(u64::MAX, |bytes| bytes / DISK_PART);
+    let bytes = |mib: Option<u32>| mib.map_or(usual, |m| u64::from(m) << 20);
+    (settings.keep, settings.owed) = (bytes(budget.keep), bytes(budget.owed));
     settings
 }
 
@@ -97,7 +113,7 @@ fn fault() -> Result<Option<Fault>, Failure> {
 }
 
 /// Runs the node; comes back only when it ends.
-pub fn serve(folder: PathBuf, cluster: Option<PathBuf>, rate: u32) -> Failure {
+pub fn serve(folder: PathBuf, cluster: Option<PathBuf>, rate: u32, budget: &Budget) -> Failure {
     let prepared = (|| {
         let (cluster, me) = read_own(&folder, cluster.as_deref())?;
         let lock = lock(&folder)?;
@@ -105,7 +121,8 @@ pub fn serve(folder: PathBuf, cluster: Option<PathBuf>, rate: u32) -> Failure {
             let line = format!("{}: {} MiB are free on its disk, and a node needs {}", folder.display(), free >> 20, SPACE_LEAST >> 20);
             return Err(Failure::new(code::DISK, line));
         }
-        Ok((Setup { folder: folder.clone(), cluster, me, settings: settings(), rate: rate.max(1).into(), fault: fault()? }, lock))
+        let settings = settings(&folder, budget);
+        Ok((Setup { folder: folder.clone(), cluster, me, settings, rate: rate.max(1).into(), fault: fault()? }, lock))
     })();
     match prepared {
         Ok((setup, _lock)) => run::run(setup),

@@ -1,10 +1,13 @@
 //! The commands, as they are written on the command line.
 
 mod desk;
+mod draw;
 mod files;
 mod find;
 mod folder;
 mod history;
+mod page;
+mod recent;
 mod status;
 mod trace;
 
@@ -44,6 +47,8 @@ enum Command {
         /// Frames a second that are taken from a partner with desks alone, after 10,000 at any speed; a write is two, a read two
         #[arg(long, default_value_t = 500)]
         rate: u32,
+        #[command(flatten)]
+        budget: Budget,
     },
     /// Read the register by a desk of this node
     Read {
@@ -143,6 +148,11 @@ enum Command {
         #[arg(long)]
         server: u8,
     },
+    /// Draw a history or a run as a picture (SVG); no node is needed
+    #[command(subcommand)]
+    Draw(draw::Draw),
+    /// Show the node whose folder it is on a page for browsers, until it is stopped: a process of its own, which only looks
+    Page(page::Page),
     /// Check the whole log: every byte, and every step by the proved playback
     Verify {
         #[command(flatten)]
@@ -182,6 +192,17 @@ pub struct Desk {
     pub wait: Option<f64>,
 }
 
+/// How long the log may become.
+#[derive(Args)]
+pub struct Budget {
+    /// MiB of log that are kept: traces, histories and `find` reach back so far [default: a quarter of the disk]
+    #[arg(long)]
+    pub keep: Option<u32>,
+    /// MiB of log that are kept beyond that for a partner's server that is away; then it is given up for good [default: a quarter of the disk]
+    #[arg(long)]
+    pub owed: Option<u32>,
+}
+
 #[derive(Clone, Copy, PartialEq, ValueEnum)]
 pub enum ClockKind {
     /// Counts the begins and ends of this node's desks: exact, for one node
@@ -204,7 +225,7 @@ pub fn carry_out(arguments: Arguments) -> Result<(), Failure> {
     match arguments.command {
         Command::Keygen { folder } => folder::keygen(&folder, json),
         Command::CheckConfig { file } => folder::check_config(&file, json),
-        Command::Serve { folder, cluster, rate } => Err(folder::serve(folder, cluster, rate)),
+        Command::Serve { folder, cluster, rate, budget } => Err(folder::serve(folder, cluster, rate, &budget)),
         Command::Read { desk, hex, file } => desk::read(&desk, hex, file.as_deref(), json),
         Command::Write { desk, value, hex, file, pad } => desk::write(&desk, value, hex, file.as_deref(), pad, json),
         Command::Wait { desk, operation, hex } => desk::wait(&desk, operation, hex, json),
@@ -216,6 +237,8 @@ pub fn carry_out(arguments: Arguments) -> Result<(), Failure> {
         Command::Find { node, number, text, hex } => find::find(&node, &number, text, hex, json),
         Command::Trace { node, file } => trace::trace(&node, &file, json),
         Command::Play { file, cluster, server } => trace::play(&file, &cluster, server, json),
+        Command::Page(page) => page::page(page, json),
+        Command::Draw(what) => draw::draw(&what, json),
         Command::Verify { node } => trace::verify(&node, json),
         Command::Demo { keep } => demo::demo(keep, json),
     }

@@ -94,7 +94,11 @@ fn partner(p: &Value) -> String {
     };
     let mut line = format!("  partner {}: {link}", plain(&p["name"]));
     if p["owed_frames"].as_u64().unwrap_or(0) > 0 {
-        line += &format!("; owed {} frames, {} bytes, for {}", p["owed_frames"], p["owed_bytes"], age(&p["owed_age"]));
+        let mib = p["owed_log"].as_u64().unwrap_or(0) >> 20;
+        line += &format!("; owed {} frames, in {mib} MiB of log, for {}", p["owed_frames"], age(&p["owed_age"]));
+    }
+    if p["given_up"] == true {
+        line += "; GIVEN UP: nothing is owed to its server any more";
     }
     if p["held"].as_u64().unwrap_or(0) > 0 {
         line += &format!("; {} of its frames are held", p["held"]);
@@ -115,8 +119,8 @@ mod tests {
             "name": "north", "open": false, "signs": ["south"], "alarm": "no space",
             "servers": [{"number": 1, "register": 0, "stamp": [3, 1, 2], "sequences": [3, 1]}],
             "desks": [{"client": 2, "register": 0, "open": "read", "operation": 7, "age": 5000, "awaited": [2, 3], "waiting": 1}],
-            "partners": [{"name": "south", "linked": false, "why": "refused", "owed_frames": 4, "owed_bytes": 900, "owed_age": 7_300_000, "held": 1,
-                "refused": [[12, 5]]}],
+            "partners": [{"name": "south", "linked": false, "why": "refused", "owed_frames": 4, "owed_log": 9_000_000, "owed_age": 7_300_000, "held": 1,
+                "given_up": true, "refused": [[12, 5]]}],
             "log": {},
         });
         let text = words(&status, &json!({"strangers": ["192.0.2.9:5: no certificate"]}));
@@ -126,7 +130,8 @@ mod tests {
             "ALARM: no space",
             "stamp 3.1.2",
             "read 7 open for 5 s, awaits servers 2, 3; 1 wait",
-            "partner south: NO LINK (refused); owed 4 frames, 900 bytes, for 2 h; 1 of its frames are held; refused 12: 5 times",
+            "partner south: NO LINK (refused); owed 4 frames, in 8 MiB of log, for 2 h; GIVEN UP: nothing is owed to its server any more; 1 of its",
+            "frames are held; refused 12: 5 times",
             "no certificate",
         ] {
             assert!(text.contains(part), "{part}: {text}");

@@ -7,60 +7,66 @@ use super::{use_error, NodeFolder};
 use crate::failure::{code, Failure};
 use crate::local::Request;
 use crate::out;
-use semduoli::bytes::{hex, Reader};
+use semduoli::bytes::hex;
 use semduoli::cluster::Cluster;
 use semduoli::events::exit;
 use semduoli::records::{self, Record};
-use semduoli::sem::{self, Parameters, Party, Played};
+use semduoli::sem::{Parameters, Party, Played, Room, Server, TRACE_CUT, TRACE_WHOLE};
 use serde_json::{json, Value};
 use std::fs::OpenOptions;
 use std::io::{BufWriter, Write};
 use std::path::Path;
 
-const TRACE_WHOLE: u8 = 0;
-
-/// What the log has of a server: its trace, and what each step sent, as the log says.
+/// What was read of the log: steps and begins of all parties, steps of the server, batches and their bytes.
 #[derive(Default)]
-struct Kept {
-    trace: Vec<u8>,
-    sent: Vec<Vec<u8>>,
-    /// Steps and begins of all parties.
+struct Counts {
     steps: u64,
+    entries: u64,
     batches: u64,
     bytes: u64,
+}
+
+/// A step of the server: its sender, its frame, and what it sent, as the log says.
+struct Logged<'a> {
+    from: Party,
+    frame: &'a [u8],
+    sent: &'a [u8],
 }
 
 fn own_server(cluster: &Cluster, me: usize) -> Result<u8, Failure> {
     cluster.nodes[me].server.ok_or_else(|| use_error(format!("node {} has no server, and so no trace", cluster.nodes[me].name)))
 }
 
-/// Reads the whole log; `sent` is kept where it is to be compared.
-fn kept(node: &NodeFolder, cluster: &Cluster, server: Option<u8>, compare: bool) -> Result<Kept, Failure> {
+/// Takes the steps of the server in a batch, and their entries of the trace end to end.
+type Each<'a> = dyn FnMut(&[Logged], &[u8]) -> Result<(), &'static str> + 'a;
+
+/// Hands the server's steps to `each`, batch by batch.
+fn walk(node: &NodeFolder, cluster: &Cluster, server: Option<u8>, each: &mut Each) -> Result<Counts, Failure> {
     let to = server.map(Party::server);
-    let mut kept = Kept::default();
+    let mut counts = Counts::default();
     let whole = read_log(&node.folder, cluster.register_digest(), &mut |batch| {
+        let (mut logged, mut trace) = (vec![], vec![]);
         for record in records::read(batch.payload) {
             match record.map_err(|_| "the batch has bytes that are no record")? {
-                Record::Step { stream, entry, sent, .. } => {
-                    kept.steps += 1;
+                Record::Step { stream, entry, frame, sent, .. } => {
+                    counts.steps += 1;
                     if Some(stream.to) == to {
-                        kept.trace.extend_from_slice(entry);
-                        if compare {
-                            kept.sent.push(sent.to_vec());
-                        }
+                        logged.push(Logged { from: stream.from, frame, sent });
+                        trace.extend_from_slice(entry);
                     }
                 }
-                Record::Begin { .. } => kept.steps += 1,
+                Record::Begin { .. } => counts.steps += 1,
                 _ => {}
             }
         }
-        Ok(())
+        counts.entries += logged.len() as u64;
+        each(&logged, &trace)
     })?;
     if !whole.from_start {
         return Err(use_error("the log's first segments were removed, and a trace begins at a fresh server"));
     }
-    (kept.batches, kept.bytes) = (whole.batches, whole.bytes);
-    Ok(kept)
+    (counts.batches, counts.bytes) = (whole.batches, whole.bytes);
+    Ok(counts)
 }
 
 pub fn trace(node: &NodeFolder, file: &Path, as_json: bool) -> Result<(), Failure> {
@@ -69,67 +75,86 @@ pub fn trace(node: &NodeFolder, file: &Path, as_json: bool) -> Result<(), Failur
     if file.exists() {
         return Err(use_error(format!("{} is there already, and stays as it is", file.display())));
     }
-    let kept = kept(node, &cluster, Some(server), true)?;
     let failed = |e: std::io::Error| use_error(format!("{}: {e}", file.display()));
     let mut out = BufWriter::new(OpenOptions::new().write(true).create_new(true).open(file).map_err(failed)?);
-    out.write_all(&kept.trace).and_then(|()| out.flush()).map_err(failed)?;
-    let (entries, bytes) = (kept.sent.len(), kept.trace.len());
+    let (mut bytes, mut written) = (0, Ok(()));
+    let walked = walk(node, &cluster, Some(server), &mut |_, trace| {
+        bytes += trace.len();
+        written = out.write_all(trace);
+        written.as_ref().map_err(|_| "the trace can't be written").map(|_| ())
+    });
+    let counts = match written.and_then(|()| out.flush()).map_err(failed).and(walked) {
+        Ok(counts) => counts,
+        Err(failure) => {
+            // a part of a trace is none
+            let _ = std::fs::remove_file(file);
+            return Err(failure);
+        }
+    };
+    let entries = counts.entries;
     match as_json {
         true => out::line(json!({ "server": server, "entries": entries, "bytes": bytes })),
         false => out::line(format!("server {server}: {entries} entries, {bytes} bytes")),
     }
 }
 
-/// How many entries a trace has, up to the first that is not whole.
-fn entries(trace: &[u8]) -> usize {
-    let mut rest = Reader(trace);
-    std::iter::from_fn(|| rest.frame()).count()
+fn no_server(number: u8) -> Failure {
+    Failure::new(code::REFUSED, format!("refused {number}: no server of this register"))
 }
 
-fn playback(p: &Parameters, server: u8, initial: &[u8], trace: &[u8]) -> Result<Played, Failure> {
-    sem::playback(p, server, initial, trace, entries(trace)).map_err(|number| {
-        let why = if number == 10 { "the trace is too long for this machine's memory" } else { "no server of this register" };
-        Failure::new(code::REFUSED, format!("refused {number}: {why}"))
-    })
-}
-
-/// The stamp that a played server holds, and the digest of its record.
-fn end_of(played: &Played) -> (Value, String) {
-    let stamp = played.server.stamp();
-    (json!([stamp.time, stamp.writer, stamp.sequence]), hex(&openssl::sha::sha256(&played.server.state)))
+/// The stamp that a server holds, and the digest of its record.
+fn end_of(server: &Server) -> (Value, String) {
+    let stamp = server.stamp();
+    (json!([stamp.time, stamp.writer, stamp.sequence]), hex(&openssl::sha::sha256(&server.state)))
 }
 
 pub fn play(file: &Path, cluster: &Path, server: u8, as_json: bool) -> Result<(), Failure> {
     let cluster = read_cluster(cluster)?;
+    let p = &cluster.parameters;
     let trace = std::fs::read(file).map_err(|e| use_error(format!("{}: {e}", file.display())))?;
-    let played = playback(&cluster.parameters, server, &cluster.initial, &trace)?;
-    let (stamp, record) = end_of(&played);
-    if played.closed != TRACE_WHOLE {
-        let how = if played.closed == 23 { "ends inside an entry" } else { "has an entry of another form" };
-        return Err(Failure::new(code::REFUSED, format!("refused {}: {} {how}, behind {} entries", played.closed, file.display(), played.entries)));
+    let mut end = Server::fresh(p, server, &cluster.initial).map_err(no_server)?;
+    let Played { closed, entries } = end.resume(p, &mut Room::new(p), &trace).map_err(no_server)?;
+    let (stamp, record) = end_of(&end);
+    if closed != TRACE_WHOLE {
+        let how = if closed == TRACE_CUT { "ends inside an entry" } else { "has an entry of another form" };
+        return Err(Failure::new(code::REFUSED, format!("refused {closed}: {} {how}, behind {entries} entries", file.display())));
     }
     match as_json {
-        true => out::line(json!({ "server": server, "entries": played.entries, "stamp": stamp, "record": record })),
-        false => {
-            out::line(format!("{} entries played; server {server} then holds stamp {stamp} (time, client, write), record {record}", played.entries))
-        }
+        true => out::line(json!({ "server": server, "entries": entries, "stamp": stamp, "record": record })),
+        false => out::line(format!("{entries} entries played; server {server} then holds stamp {stamp} (time, client, write), record {record}")),
     }
 }
 
-/// Whether each entry of a playback was a step that sent what the log says; if not, which.
-fn differs(played: &Played, sent: &[Vec<u8>]) -> Option<usize> {
-    let mut out = Reader(&played.out);
-    let same = |out: &mut Reader, logged: &[u8]| -> Option<bool> {
-        let (answer, count) = (out.u8()?, out.u16()?);
-        let logged = records::sent_read(logged)?;
-        let mut same = answer == 0 && usize::from(count) == logged.len();
-        for at in 0..usize::from(count) {
-            let (class, number, frame) = (out.u8()?, out.u8()?, out.frame()?);
-            same &= logged.get(at).is_some_and(|(to, _, f)| *to == Party { class, number } && *f == frame);
+/// A server that takes the log's steps twice: one by one, so that what each sends is seen, and by the proved playback.
+struct Checked<'a> {
+    p: &'a Parameters,
+    room: Room,
+    stepped: Server,
+    played: Server,
+}
+
+impl<'a> Checked<'a> {
+    fn new(cluster: &'a Cluster, server: u8) -> Result<Checked<'a>, Failure> {
+        let p = &cluster.parameters;
+        let fresh = Server::fresh(p, server, &cluster.initial).map_err(no_server)?;
+        Ok(Checked { p, room: Room::new(p), stepped: fresh.clone(), played: fresh })
+    }
+
+    fn batch(&mut self, logged: &[Logged], trace: &[u8]) -> Result<(), &'static str> {
+        for l in logged {
+            let step = self.stepped.deliver(self.p, &mut self.room, l.from, l.frame).map_err(|_| "a step of the log is refused now")?;
+            let sent = records::sent_read(l.sent).ok_or("what a step sent can't be read")?;
+            let same = sent.len() == step.sent.len() && sent.iter().zip(&step.sent).all(|((to, _, frame), s)| *to == s.to && **frame == *s.frame);
+            if !same {
+                return Err("a step sends something else than the log says");
+            }
         }
-        Some(same)
-    };
-    sent.iter().position(|logged| same(&mut out, logged) != Some(true))
+        let whole = Played { closed: TRACE_WHOLE, entries: logged.len() as u64 };
+        if self.played.resume(self.p, &mut self.room, trace) != Ok(whole) || self.played != self.stepped {
+            return Err("the playback comes to another state than the steps");
+        }
+        Ok(())
+    }
 }
 
 pub fn verify(node: &NodeFolder, as_json: bool) -> Result<(), Failure> {
@@ -137,31 +162,24 @@ pub fn verify(node: &NodeFolder, as_json: bool) -> Result<(), Failure> {
     let server = cluster.nodes[me].server;
     // before the log is read: a node that is at rest has the same afterwards
     let live = ask_once(&node.folder, &Request::Status {}).ok();
-    let kept = kept(node, &cluster, server, true)?;
-    let damaged = |line: String| Failure::new(exit::DAMAGED, line);
+    let mut checked = server.map(|s| Checked::new(&cluster, s)).transpose()?;
+    let counts = walk(node, &cluster, server, &mut |logged, trace| checked.as_mut().map_or(Ok(()), |c| c.batch(logged, trace)))?;
     let mut compared = "no node runs here, so its state was not compared";
-    if let Some(server) = server {
-        let played = playback(&cluster.parameters, server, &cluster.initial, &kept.trace)?;
-        if let Some(at) = differs(&played, &kept.sent) {
-            return Err(damaged(format!("step {} of server {server} sends something else than the log says", at + 1)));
-        }
-        if let Some(status) = live.map(|l| l["status"].clone()) {
-            let (stamp, record) = end_of(&played);
-            let found = status["servers"].as_array().into_iter().flatten().find(|s| s["number"] == server);
-            let same = found.is_some_and(|s| s["stamp"] == stamp && s["record"] == record.as_str());
-            compared = match (status["log"]["steps"] == kept.steps, same) {
-                (true, true) => "the running node's state is the same",
-                (true, false) => return Err(damaged(format!("the running server {server} has another state than its log"))),
-                (false, _) => "the node is at work, so its state was not compared",
-            };
-        }
+    if let (Some(server), Some(checked), Some(status)) = (server, checked, live.map(|l| l["status"].clone())) {
+        let (stamp, record) = end_of(&checked.played);
+        let found = status["servers"].as_array().into_iter().flatten().find(|s| s["number"] == server);
+        let same = found.is_some_and(|s| s["stamp"] == stamp && s["record"] == record.as_str());
+        compared = match (status["log"]["steps"] == counts.steps, same) {
+            (true, true) => "the running node's state is the same",
+            (true, false) => return Err(Failure::new(exit::DAMAGED, format!("the running server {server} has another state than its log"))),
+            (false, _) => "the node is at work, so its state was not compared",
+        };
     }
-    let (batches, bytes, steps) = (kept.batches, kept.bytes, kept.steps);
+    let Counts { steps, entries, batches, bytes } = counts;
     match as_json {
-        true => out::line(json!({ "batches": batches, "bytes": bytes, "steps": steps, "played": kept.sent.len(), "state": compared })),
+        true => out::line(json!({ "batches": batches, "bytes": bytes, "steps": steps, "played": entries, "state": compared })),
         false => out::line(format!(
-            "{batches} batches, {bytes} bytes, {steps} steps; {} steps of the server played back, each sends what the log says; {compared}",
-            kept.sent.len()
+            "{batches} batches, {bytes} bytes, {steps} steps; {entries} steps of the server played back, each sends what the log says; {compared}"
         )),
     }
 }

@@ -1,13 +1,13 @@
 //! What must hold of every run, looked at when it is over: of the logs as they are on the disks, of the nodes, and of what the desks saw.
 use super::disk::{micros, Disk};
-use super::world::World;
+use super::world::{Slot, World};
 use crate::cluster::Cluster;
 use crate::core::Core;
 use crate::events::{exit, Action, Event, Now, Stamp, Start};
 use crate::judge::{self, Line, Verdict};
 use crate::log::{segment_number, segment_read, LogId, Place, Scan};
 use crate::records::{self, outcome, Record};
-use crate::sem::{self, Party, SERVER};
+use crate::sem::{self, Party, Played, Room, Server, SERVER};
 use crate::settings::Settings;
 use crate::snapshot;
 use crate::streams::StreamId;
@@ -42,11 +42,13 @@ pub struct Point {
 
 /// The begins and ends of the operations of a node's desks, as its log has them.
 pub fn points(w: &World, node: usize) -> Result<Vec<Point>, String> {
-    Ok(read_log(&w.slots[node].disk, w.plan.cluster.register_digest())?.points)
+    Ok(read_log(&w.slots[node], w.plan.cluster.register_digest())?.points)
 }
 
-fn read_log(disk: &Disk, register: [u8; 32]) -> Result<Told, String> {
-    let files = disk.read_all();
+/// The whole log of a node, with the segments that it has removed.
+fn read_log(slot: &Slot, register: [u8; 32]) -> Result<Told, String> {
+    let mut files = slot.archive.clone();
+    files.extend(slot.disk.read_all());
     let mut told = Told::default();
     let mut scan: Option<Scan> = None;
     for (name, bytes) in &files {
@@ -58,7 +60,7 @@ fn read_log(disk: &Disk, register: [u8; 32]) -> Result<Told, String> {
                 none.insert(Scan::new(LogId { id, register }, Place::first()))
             }
         };
-        s.segment(number, bytes, &mut |batch| records::read(batch.payload).try_for_each(|r| tell(&mut told, &r.map_err(|_| "no record")?)))
+        s.segment(number, bytes, &mut |_, batch| records::read(batch.payload).try_for_each(|r| tell(&mut told, &r.map_err(|_| "no record")?)))
             .map_err(|f| f.to_string())?;
     }
     Ok(told)
@@ -104,7 +106,7 @@ pub fn all(w: &mut World) {
     let mut failures = vec![];
     let mut logs = BTreeMap::new();
     for node in w.honest().into_iter().filter(|n| !w.slots[*n].lied) {
-        match read_log(&w.slots[node].disk, w.plan.cluster.register_digest()) {
+        match read_log(&w.slots[node], w.plan.cluster.register_digest()) {
             Ok(told) => drop(logs.insert(node, told)),
             Err(e) => failures.push(format!("4: the log of n{node} can't be read: {e}")),
         }
@@ -193,8 +195,12 @@ fn bounds(w: &World, failures: &mut Vec<String>) {
             }
         }
         for (stream, o) in &core.state.streams.outs {
-            if stream.to.class != SERVER && stream.from.class == SERVER && o.owed.len() > 6 {
-                failures.push(format!("8: n{node} owes a client {} frames by {stream:?}", o.owed.len()));
+            if stream.to.class != SERVER && stream.from.class == SERVER && o.near.len() > 6 {
+                failures.push(format!("8: n{node} owes a client {} frames by {stream:?}", o.near.len()));
+            }
+            let own = core.state.is_own(stream.to);
+            if stream.to.class == SERVER && !own && o.near.len() > w.plan.settings.limits.near {
+                failures.push(format!("8: n{node} has {} frames of {stream:?} in memory", o.near.len()));
             }
         }
     }
@@ -275,7 +281,7 @@ fn rot(w: &mut World, node: usize, failures: &mut Vec<String>) {
     let files = w.slots[node].disk.read_all();
     let used = |name: &String| files.get(name).and_then(|b| b.iter().rposition(|b| *b != 0)).unwrap_or(0) as u64;
     let segments: Vec<&String> = files.keys().filter(|name| segment_number(name).is_some()).collect();
-    let snapshot = files.keys().rfind(|name| snapshot::batch_of(name).is_some());
+    let snapshot = files.keys().rfind(|name| snapshot::Name::read(name).is_some());
     for turn in 0..3 {
         let (name, in_log) = match snapshot {
             Some(name) if turn == 2 => (name, false),
@@ -299,9 +305,10 @@ fn played(w: &World, node: usize, told: &Told, failures: &mut Vec<String>) {
     for live in w.slots[node].core.iter().flat_map(|c| c.state.servers.values()) {
         let empty = (vec![], 0);
         let (trace, entries) = told.traces.get(&live.me).unwrap_or(&empty);
-        match sem::playback(p, live.me, initial, trace, *entries) {
-            Ok(played) if played.closed == 0 && played.entries == *entries as u64 && played.server == *live => {}
-            Ok(played) => failures.push(format!("10: the playback of server {} ends elsewhere (closed {})", live.me, played.closed)),
+        let played = Server::fresh(p, live.me, initial).and_then(|mut s| Ok((s.resume(p, &mut Room::new(p), trace)?, s)));
+        match played {
+            Ok((played, server)) if played == Played { closed: 0, entries: *entries as u64 } && server == *live => {}
+            Ok((played, _)) => failures.push(format!("10: the playback of server {} ends elsewhere: {played:?}", live.me)),
             Err(refusal) => failures.push(format!("10: the playback of server {} is refused {refusal}", live.me)),
         }
     }

@@ -9,6 +9,8 @@ use std::collections::{BTreeMap, BTreeSet};
 
 /// What is remembered of others' frames.
 const LEARNED_MOST: usize = 64;
+/// One that floods sends up to so many messages at once.
+const FLOOD: u64 = 100;
 
 struct Link {
     other: usize,
@@ -33,12 +35,14 @@ pub struct Evil {
     /// Servers that it helps.
     friends: BTreeSet<u8>,
     acks: bool,
+    /// It floods readers with values whose digest lists look like the beginnings of batches.
+    floods: bool,
 }
 
 type Sends = Vec<(u64, Vec<u8>)>;
 
 impl Evil {
-    pub fn new(cluster: &Cluster, me: usize) -> Evil {
+    pub fn new(cluster: &Cluster, me: usize, floods: bool) -> Evil {
         Evil {
             cluster: cluster.clone(),
             me,
@@ -49,7 +53,8 @@ impl Evil {
             writes: BTreeMap::new(),
             greetings: 0,
             friends: BTreeSet::new(),
-            acks: me.is_multiple_of(2),
+            acks: floods || me.is_multiple_of(2),
+            floods,
         }
     }
 
@@ -133,7 +138,7 @@ impl Evil {
         let mut sends = vec![];
         for link in links {
             let mut out = vec![];
-            for _ in 0..r.below(4) {
+            for _ in 0..r.below(if self.floods { FLOOD } else { 4 }) {
                 self.one(link, r, &mut out);
             }
             sends.push((link, out));
@@ -151,6 +156,12 @@ impl Evil {
         }
         let from = mine[r.below(mine.len() as u64) as usize];
         let to = theirs[r.below(theirs.len() as u64) as usize];
+        if self.floods && from.class == SERVER && to.class == CLIENT && !r.one_in(200) {
+            if let Some(frame) = self.pattern_value(from, to, r) {
+                self.put_next(link, from, to, &frame, out);
+            }
+            return;
+        }
         let frame = match r.below(40) {
             0 => return out.extend_from_slice(&r.bytes(30)),
             1 => {
@@ -179,6 +190,14 @@ impl Evil {
         self.put(link, from, to, &frame, r, out);
     }
 
+    fn put_next(&mut self, link: u64, from: Party, to: Party, frame: &[u8], out: &mut Vec<u8>) {
+        let stream = StreamId { from, to, register: 0, owner: sem::owner(frame) };
+        let Some(l) = self.links.get_mut(&link) else { return };
+        let number = l.next.entry(stream).or_default();
+        messages::write(out, &Message::Data { stream, number: *number, frame });
+        *number += 1;
+    }
+
     fn put(&mut self, link: u64, from: Party, to: Party, frame: &[u8], r: &mut Random, out: &mut Vec<u8>) {
         let stream = StreamId { from, to, register: 0, owner: sem::owner(frame) };
         let Some(l) = self.links.get_mut(&link) else { return };
@@ -198,15 +217,30 @@ impl Evil {
         f
     }
 
-    /// A send whose digest list looks like the beginning of a batch of the log, again and again.
-    fn pattern(&self, from: Party, to: Party, r: &mut Random) -> Vec<u8> {
+    /// A block for a server, and a digest list that looks like the beginning of a batch of the log, again and again, but for that block's digest.
+    fn pattern_parts(&self, server: u8, r: &mut Random) -> (Vec<u8>, Vec<u8>) {
         let p = &self.cluster.parameters;
         let block = r.bytes(p.size.div_ceil(p.k));
         let mut list: Vec<u8> = b"SDB1".iter().copied().cycle().skip(r.below(4) as usize).take(32 * p.n).collect();
-        let at = 32 * usize::from(to.number.clamp(1, p.n as u8) - 1);
+        let at = 32 * usize::from(server.clamp(1, p.n as u8) - 1);
         list[at..at + 32].copy_from_slice(&openssl::sha::sha256(&block));
+        (list, block)
+    }
+
+    /// A send with such a list.
+    fn pattern(&self, from: Party, to: Party, r: &mut Random) -> Vec<u8> {
+        let (list, block) = self.pattern_parts(to.number, r);
         let body = [&[0; 8][..], &list, &block].concat();
         Evil::head(3, from.number, 1 + r.below(3) as u32, &body)
+    }
+
+    /// A value with such a list, for the last read of a client that came here.
+    fn pattern_value(&self, from: Party, to: Party, r: &mut Random) -> Option<Vec<u8>> {
+        let reads = self.learned.iter().filter(|(p, f)| *p == to && matches!(sem::head(f), Some((10, _, _))));
+        let sequence = reads.filter_map(|(_, f)| sem::head(f)).map(|h| h.2).max()?;
+        let (list, block) = self.pattern_parts(from.number, r);
+        let body = [&(1 + r.below(40)).to_be_bytes()[..], &[1 + r.below(8) as u8], &sequence.to_be_bytes(), &list, &block].concat();
+        Some(Evil::head(11, to.number, sequence, &body))
     }
 
     /// What a false server sends: help with writes for its friends, and answers of its own making.

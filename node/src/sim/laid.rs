@@ -6,7 +6,7 @@ use super::evil::sends;
 use crate::events::Now;
 use crate::sem::{self, Client, Parameters, Party, Room, Sent, CLIENT};
 use crate::state::{Effects, State};
-use crate::streams::StreamId;
+use crate::streams::{Leaving, StreamId};
 use std::collections::BTreeMap;
 
 const P: Parameters = Parameters { n: 4, t: 1, k: 2, size: 4 };
@@ -96,10 +96,10 @@ impl Node {
     fn leave(&mut self, allowed: &dyn Fn(&StreamId, &[u8]) -> bool) -> Option<(StreamId, u64, Vec<u8>)> {
         let own = self.state.parties();
         for (stream, o) in self.state.streams.outs.iter_mut().filter(|(s, _)| !own.contains(&s.to)) {
-            let next = o.owed.iter().find(|owed| owed.number >= o.sent);
+            let next = o.near.iter().find(|owed| owed.number >= o.sent);
             if next.is_some_and(|owed| allowed(stream, &owed.frame)) {
                 let durable = o.next;
-                let (number, frame) = o.leave(WINDOW, durable)?;
+                let Leaving::Frame(number, frame) = o.leave(stream.to, WINDOW, durable) else { return None };
                 return Some((*stream, number, frame.to_vec()));
             }
         }

@@ -17,6 +17,9 @@ pub struct Report {
     pub operations: usize,
     pub crashes: u64,
     pub torn: u64,
+    /// Pieces of the log that were read for what is owed, and segments that were removed.
+    pub fetches: u64,
+    pub removed: u64,
     /// Nodes that were put back from an older and shorter copy of their folder, and those of them that saw it and stopped.
     pub rolled: u64,
     pub caught: u64,
@@ -57,15 +60,16 @@ mod tests {
         }
     }
 
-    const FALLS: [(Mutant, u64); 8] = [
-        (Mutant::SendEarly, 16),
-        (Mutant::AckEarly, 4),
-        (Mutant::NoSettle, 29),
-        (Mutant::SnapshotAhead, 876),
-        (Mutant::NumbersLost, 2),
-        (Mutant::NoWait, 64),
-        (Mutant::SignPasses, 5505),
-        (Mutant::SenderByFrame, 6),
+    const FALLS: [(Mutant, u64); 9] = [
+        (Mutant::SendEarly, 7),
+        (Mutant::AckEarly, 23),
+        (Mutant::NoSettle, 251),
+        (Mutant::SnapshotAhead, 388),
+        (Mutant::NumbersLost, 1),
+        (Mutant::NoWait, 7),
+        (Mutant::SignPasses, 2498),
+        (Mutant::SignForgotten, 6),
+        (Mutant::SenderByFrame, 2),
     ];
 
     /// Longer than a run, in milliseconds.

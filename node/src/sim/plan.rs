@@ -2,6 +2,7 @@
 use crate::cluster::Cluster;
 use crate::random::Random;
 use crate::settings::{Mutant, Settings};
+use crate::streams::Limits;
 use std::collections::BTreeSet;
 use std::fmt::Write;
 
@@ -25,6 +26,8 @@ pub struct Plan {
     pub rollback: bool,
     /// A node's disk says that it has synced, and has not.
     pub lying: bool,
+    /// False servers flood readers.
+    pub floods: bool,
     /// Operations that each desk asks for.
     pub operations: u64,
 }
@@ -85,12 +88,17 @@ impl Shape {
 }
 
 fn settings(r: &mut Random, mutant: Option<Mutant>) -> Settings {
+    let segment = 4096 * (24 + r.below(64));
+    let (window, window_owner) = (2 + r.below(16) as usize, 2 + r.below(8) as usize);
     Settings {
-        segment: 4096 * (24 + r.below(64)),
+        segment,
         batch_most: 4096 * (1 + r.below(8)) as usize,
         snapshot_every: 4096 * (8 + r.below(200)),
-        window: 2 + r.below(16) as usize,
-        window_owner: 2 + r.below(8) as usize,
+        window,
+        window_owner,
+        limits: Limits { near: window.max(window_owner) + r.below(4) as usize, grain: 1 + r.below(20) as u32 },
+        fetch: 4096 * (1 + r.below(8)),
+        keep: if r.one_in(2) { segment * r.below(5) } else { u64::MAX },
         ping_every: 500,
         silent_most: 2_000,
         call_first: 20,
@@ -120,6 +128,7 @@ impl Plan {
             clock: r.one_in(3),
             rollback: r.one_in(5),
             lying: r.one_in(8),
+            floods: r.one_in(3),
             operations: 2 + r.below(8),
             random: r,
             cluster,

@@ -6,6 +6,7 @@ use super::plan::Plan;
 use super::Report;
 use crate::core::Core;
 use crate::events::{exit, Action, Ask, DiskId, DiskOp, Ended, Event, Lane, Level, Now, Response, Start};
+use crate::log::segment_number;
 use crate::messages::{self, Front, Message, MESSAGE_MOST};
 use crate::random::Random;
 use crate::streams::StreamId;
@@ -46,6 +47,8 @@ struct Job {
 pub struct Slot {
     pub core: Option<Core>,
     pub disk: Disk,
+    /// Segments of its log that it has removed, by name: for the checks.
+    pub archive: BTreeMap<String, Vec<u8>>,
     /// Counts the starts; what was meant for an earlier one is dropped.
     pub epoch: u64,
     boots: u64,
@@ -64,6 +67,10 @@ pub struct Slot {
     pub lied: bool,
     /// Frames that it let out since: none, if it notices.
     let_out: u64,
+    /// Signs of lost state that it was given since its start: by whom, and a batch of its log by which the log must have it.
+    signs: Vec<(usize, u64)>,
+    /// Who gave signs that its log must have.
+    signs_kept: BTreeSet<usize>,
     old_disk: Option<Disk>,
 }
 
@@ -100,6 +107,8 @@ pub struct World {
     events: u64,
     crashes: u64,
     torn: u64,
+    fetches: u64,
+    removed: u64,
     rolled: u64,
     caught: u64,
     asks: BTreeMap<u64, (u8, u64, u64)>,
@@ -123,6 +132,7 @@ impl Slot {
         Slot {
             core: None,
             disk: Disk::default(),
+            archive: BTreeMap::new(),
             epoch: 0,
             boots: 1,
             lanes: BTreeMap::new(),
@@ -135,6 +145,8 @@ impl Slot {
             rolled: false,
             lied: false,
             let_out: 0,
+            signs: vec![],
+            signs_kept: BTreeSet::new(),
             old_disk: None,
         }
     }
@@ -142,7 +154,7 @@ impl Slot {
 
 impl World {
     pub fn new(plan: Plan) -> World {
-        let evil = |node: usize| plan.evil.contains(&node).then(|| Evil::new(&plan.cluster, node));
+        let evil = |node: usize| plan.evil.contains(&node).then(|| Evil::new(&plan.cluster, node, plan.floods));
         let mut w = World {
             r: plan.random.clone(),
             now: 0,
@@ -156,6 +168,8 @@ impl World {
             events: 0,
             crashes: 0,
             torn: 0,
+            fetches: 0,
+            removed: 0,
             rolled: 0,
             caught: 0,
             asks: BTreeMap::new(),
@@ -258,11 +272,11 @@ impl World {
             }
             for (stream, o) in &core.state.streams.outs {
                 let to = self.plan.cluster.node_of(stream.to);
-                if !o.owed.is_empty() && to.is_some_and(|to| healthy.contains(&to)) {
+                if o.owed(stream.to) > 0 && to.is_some_and(|to| healthy.contains(&to)) {
                     let (next, durable, acked, sent) = (o.next, o.durable, o.acked, o.sent);
                     return Some(format!(
                         "n{node} owes n{to:?} {} frames by {stream:?}: next {next}, durable {durable}, acked {acked}, sent {sent}",
-                        o.owed.len()
+                        o.owed(stream.to)
                     ));
                 }
             }
@@ -346,6 +360,9 @@ impl World {
     fn schedule_tick(&mut self, node: usize) {
         let slot = &self.slots[node];
         let Some(at) = slot.core.as_ref().and_then(Core::wake).map(|ms| (ms * MS).max(self.now + 1)) else { return };
+        // what comes meanwhile is worked off by the same tick
+        let at = if at == self.now + 1 { at + self.r.below(100) } else { at };
+        let slot = &self.slots[node];
         if slot.tick_at.is_none_or(|t| at < t) {
             let epoch = slot.epoch;
             self.slots[node].tick_at = Some(at);
@@ -371,6 +388,7 @@ impl World {
         match action {
             Action::Ready => {
                 self.slots[node].ready = true;
+                self.signs_remembered(node);
                 if self.slots[node].rolled {
                     self.ask_at_once(node);
                 }
@@ -387,6 +405,7 @@ impl World {
                 if line.contains("cut off at byte") {
                     self.torn += 1;
                 }
+                self.sign_given(node, &line);
                 if self.verbose && level <= Level::Notice {
                     eprintln!("{:>9} n{node}: {line}", self.now / MS);
                 }
@@ -431,6 +450,8 @@ impl World {
     /// The process ends: its links break, what it had not given to the disk is gone.
     fn stop(&mut self, node: usize) {
         let slot = &mut self.slots[node];
+        let durable = slot.core.as_ref().map_or(0, |c| c.writer.durable.batch);
+        slot.signs_kept.extend(slot.signs.drain(..).filter(|(_, batch)| *batch <= durable).map(|(by, _)| by));
         (slot.core, slot.ready, slot.tick_at) = (None, false, None);
         slot.epoch += 1;
         slot.backlog.clear();
@@ -472,6 +493,8 @@ impl World {
     // ---- disks
 
     fn disk(&mut self, node: usize, id: DiskId, lane: Lane, op: &DiskOp) {
+        self.fetches += u64::from(lane == Lane::Side && matches!(op, DiskOp::Read { .. }));
+        self.removed += u64::from(matches!(op, DiskOp::Unlink { file } if segment_number(file).is_some()));
         let slot = &mut self.slots[node];
         let epoch = slot.epoch;
         let queue = slot.lanes.entry(lane).or_default();
@@ -493,6 +516,9 @@ impl World {
         let Some(job) = slot.lanes.get_mut(&lane).and_then(|l| l.front_mut()) else { return };
         let Some(micro) = job.steps.pop_front() else { return };
         let id = job.id;
+        if let Micro::Unlink { file } = &micro {
+            slot.archive.extend(slot.disk.read_all().remove_entry(file).filter(|(name, _)| segment_number(name).is_some()));
+        }
         let result = slot.disk.step(&micro);
         let done = result.is_err() || job.steps.is_empty();
         if done {
@@ -647,6 +673,26 @@ impl World {
         }
     }
 
+    /// A partner's greeting told a node that it has lost state, as the node itself says.
+    fn sign_given(&mut self, node: usize, line: &str) {
+        let Some((name, _)) = line.split_once(" has seen more of this node") else { return };
+        let by = self.plan.cluster.nodes.iter().position(|n| n.name == name && n.server.is_some());
+        let slot = &mut self.slots[node];
+        let next = slot.core.as_ref().map(|c| c.writer.place.number);
+        slot.signs.extend(by.zip(next));
+    }
+
+    /// Check 11: signs of lost state are remembered over a start, once a batch that was closed after them is on the disk.
+    fn signs_remembered(&mut self, node: usize) {
+        let slot = &self.slots[node];
+        let known = slot.core.as_ref().map_or(vec![], |c| c.status(self.clock(node)).signs);
+        let names = &self.plan.cluster.nodes;
+        let gone = slot.signs_kept.iter().find(|by| !known.contains(&names[**by].name));
+        if let Some(by) = gone.filter(|_| !slot.lied) {
+            self.failures.push(format!("11: n{node} has forgotten that n{by} gave a sign of lost state"));
+        }
+    }
+
     // ---- faults
 
     fn cut(&mut self) {
@@ -717,8 +763,10 @@ impl World {
                 (self.slots[node].excused, self.slots[node].rolled) = (true, true);
                 let written = |d: &Disk| d.read_all().values().flatten().filter(|b| **b != 0).count();
                 self.rolled += u64::from(written(&old) < written(&self.slots[node].disk));
-                self.slots[node].disk = old;
                 self.stop(node);
+                self.slots[node].disk = old;
+                self.slots[node].signs_kept.clear();
+                self.slots[node].archive.clear();
                 self.later(100 * MS, Will::Start { node });
             }
         }
@@ -857,6 +905,8 @@ impl World {
             operations: self.operations.len(),
             crashes: self.crashes,
             torn: self.torn,
+            fetches: self.fetches,
+            removed: self.removed,
             rolled: self.rolled,
             caught: self.caught,
             failures: self.failures,

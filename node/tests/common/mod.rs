@@ -45,8 +45,9 @@ pub struct Nodes {
     pub n: usize,
     pub length: usize,
     pub ports: Vec<u16>,
-    /// Further words of `serve`.
+    /// Further words of `serve`, and variables of its environment.
     pub words: Vec<String>,
+    pub environment: Vec<(&'static str, String)>,
     processes: BTreeMap<String, Child>,
 }
 
@@ -56,7 +57,7 @@ impl Nodes {
         let folder = temporary(name);
         let held: Vec<TcpListener> = (0..n).map(|_| TcpListener::bind("127.0.0.1:0").expect("a port")).collect();
         let ports = held.iter().map(|l| l.local_addr().expect("an address").port()).collect();
-        let mut nodes = Nodes { folder, n, length, ports, words: vec![], processes: BTreeMap::new() };
+        let mut nodes = Nodes { folder, n, length, ports, words: vec![], environment: vec![], processes: BTreeMap::new() };
         for name in nodes.names() {
             let made = semduoli(&["keygen", nodes.at(&name).to_str().expect("text")]);
             assert_eq!(code(&made), 0, "{}", said(&made));
@@ -102,11 +103,11 @@ impl Nodes {
         self.start_with(name, &[]);
     }
 
-    pub fn start_with(&mut self, name: &str, environment: &[(&str, String)]) {
+    pub fn start_with(&mut self, name: &str, environment: &[(&'static str, String)]) {
         let notes = File::options().create(true).append(true).open(self.at(name).join("notes")).expect("notes");
         let mut command = Command::new(PROGRAM);
         command.arg("serve").arg(self.at(name)).args(&self.words).stdin(Stdio::null()).stdout(Stdio::null()).stderr(notes);
-        for (key, value) in environment {
+        for (key, value) in self.environment.iter().chain(environment) {
             command.env(key, value);
         }
         self.processes.insert(name.into(), command.spawn().expect("a node starts"));
@@ -177,6 +178,30 @@ impl Nodes {
             assert!(Instant::now() < until, "{name} never {what}: {status:?}; its notes:\n{}", self.notes(name));
             std::thread::sleep(LOOK);
         }
+    }
+
+    /// Bytes of memory that a node's process has.
+    pub fn memory(&self, name: &str) -> u64 {
+        let status = fs::read_to_string(format!("/proc/{}/status", self.pid(name))).expect("a process");
+        let kb = status.lines().find_map(|l| l.strip_prefix("VmRSS:")?.trim().strip_suffix(" kB")?.trim().parse::<u64>().ok());
+        kb.expect("its memory") << 10
+    }
+
+    /// So many writes by each client, side by side.
+    pub fn write_by_all(&self, count: u32) {
+        let clients = (1..=CLIENTS).map(|client| {
+            let (folder, length) = (self.at("desk"), self.length);
+            std::thread::spawn(move || {
+                let mut desk = Desk::new(&folder).expect("the desk's socket");
+                for i in 0..count {
+                    let mut value = vec![client; length];
+                    value[..4].copy_from_slice(&i.to_be_bytes());
+                    let answer = desk.write(client, &value);
+                    assert_eq!(answer["outcome"], "written", "{answer}");
+                }
+            })
+        });
+        clients.collect::<Vec<_>>().into_iter().for_each(|c| c.join().expect("a client"));
     }
 
     pub fn desk(&self) -> Desk {

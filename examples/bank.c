@@ -60,7 +60,7 @@ static void path_of(const struct party *p, const char *suffix, char *path, size_
         stop(folder, "the name is too long");
 }
 
-/* makes room for so many frames that are not confirmed */
+/* makes room for this many frames that are not confirmed */
 static void make_room(struct party *p, size_t frames)
 {
     if (frames <= p->unsent_room)
@@ -242,7 +242,7 @@ static void note_read(struct party *c, const uint8_t *stamp)
     c->stamp.sequence = semduoli_stamp_sequence(stamp);
 }
 
-/* What has ended is told, and noted where it has a stamp: a write that closed and a read whose blocks disagree are no lines of the history. */
+/* Prints what has ended, and notes it if it has a stamp: a write that closed and a read whose blocks disagree give no line of the history. */
 static void tell(const struct party *c, unsigned outcome, const uint8_t *result)
 {
     if (outcome == SEMDUOLI_WRITTEN || outcome == SEMDUOLI_VALUE)

@@ -70,7 +70,7 @@ static void ask_of_frames(void)
     printf("header, n = 3: %u\n", (unsigned)semduoli_frame_header(3, T, K, SIZE, stamp, sizeof stamp));
 }
 
-/* what is at the front of so many bytes of a trace, and how many bytes it takes */
+/* prints what is at the front of the first length bytes of a trace, and returns how many bytes it takes */
 static size_t read_entry(const uint8_t *trace, size_t length)
 {
     uint64_t answer = semduoli_entry_read(trace, length);
@@ -115,7 +115,7 @@ static void judge(const char *text)
         printf("history: %u and %u offend\n", SEMDUOLI_EARLIER(answer), SEMDUOLI_LATER(answer));
 }
 
-/* The first line of a history's sheet, and its page number, at the right of the last line; the area has so many bytes. */
+/* The first line of a history's sheet, and its page number, at the right of the last line; the area has room bytes. */
 static void lay(const char *text, size_t room)
 {
     uint8_t sheet[SEMDUOLI_SHEET(64)];
@@ -293,7 +293,7 @@ static void whole_run(const uint8_t *initial, const uint8_t *value)
     show_block(3, 1);
 }
 
-/* what server 1 answers to client 1's get-stamp from this sender, so many bytes of the frame and of the record being lent */
+/* what server 1 answers to client 1's get-stamp from this sender, with only the first bytes of the frame and of the record lent */
 static void hand_get_stamp(const char *name, size_t sender_class, size_t sender, size_t frame_length, size_t state_length)
 {
     const uint8_t frame[] = {0, 7, 1, 1, 1, 0, 0, 0, 1};
@@ -304,7 +304,7 @@ static void hand_get_stamp(const char *name, size_t sender_class, size_t sender,
     printf("get-stamp, %s: refusal %u, frames %u\n", name, SEMDUOLI_REFUSAL(answer), SEMDUOLI_COUNT(answer));
 }
 
-/* plays back, at server 3, so many bytes of a trace: client 2's get-stamp, the same as server 2's, and a malformed entry; the out area is so much short */
+/* plays back, at server 3, the first bytes of a trace: client 2's get-stamp, the same as server 2's, and a malformed entry; the out area lacks short_by */
 static void play_back(size_t trace_length, size_t short_by)
 {
     const uint8_t trace[] = {0, 12, 1, 0, 2, 0, 7, 1, 1, 2, 0, 0, 0, 5, 0, 12, 1, 1, 2, 0, 7, 1, 1, 2, 0, 0, 0, 5, 0, 2};
@@ -316,6 +316,19 @@ static void play_back(size_t trace_length, size_t short_by)
     size_t first = SEMDUOLI_REPLY_HEAD + SEMDUOLI_RECEIVER; /* one frame was sent, to the first entry */
     if (!SEMDUOLI_REFUSAL(answer))
         show("replies:", out, first + semduoli_frame_length(out + first) + SEMDUOLI_REPLY_HEAD);
+}
+
+/* hands client 2's next get-stamp, the first bytes of an entry, to server 3, which goes on from its record; the to area lacks short_by */
+static void go_on(size_t trace_length, size_t short_by)
+{
+    const uint8_t trace[] = {0, 12, 1, 0, 2, 0, 7, 1, 1, 2, 0, 0, 0, 6};
+    uint8_t out[SEMDUOLI_SERVER_OUT(N, K, SIZE)], to[SEMDUOLI_SERVER_TO(N)];
+    struct server *s = &servers[3];
+    uint64_t answer = semduoli_server_resume(N, T, K, SIZE, 3, trace, trace_length, s->area, sizeof s->area, s->initial, sizeof s->initial, s->state,
+                                             sizeof s->state, out, sizeof out, to, sizeof to - short_by);
+    printf("resume: refusal %u, closed by %u, entries %u\n", SEMDUOLI_REFUSAL(answer), SEMDUOLI_OUTCOME(answer), (unsigned)SEMDUOLI_ENTRIES(answer));
+    if (SEMDUOLI_ENTRIES(answer))
+        show("sent last:", out, semduoli_frame_length(out));
 }
 
 int main(void)
@@ -383,5 +396,8 @@ int main(void)
     play_back(30, 0);
     play_back(29, 0);
     play_back(28, 1);
+    go_on(14, 0);
+    go_on(13, 0);
+    go_on(14, 1);
     return 0;
 }

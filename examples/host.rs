@@ -28,7 +28,7 @@ mod semduoli {
             22 + DIGEST * self.n + self.block()
         }
 
-        // The out area of so many entries played back.
+        // How many bytes the out area needs to play back this many entries.
         pub fn playback_out(&self, entries: usize) -> usize {
             entries * (REPLY_HEAD + (self.n + 9) * (self.frame() + RECEIVER))
         }
@@ -159,6 +159,18 @@ mod semduoli {
             raw::semduoli_playback(
                 g.n, g.t, g.k, g.size, me, v.as_ptr(), v.len(), trace.as_ptr(), trace.len(), area.as_mut_ptr(), area.len(),
                 initial.as_mut_ptr(), initial.len(), state.as_mut_ptr(), state.len(), out.as_mut_ptr(), out.len(),
+            )
+        })
+    }
+
+    #[allow(clippy::too_many_arguments)]
+    pub fn server_resume(
+        g: &Params, me: usize, trace: &[u8], area: &mut [u8], initial: &[u8], state: &mut [u8], out: &mut [u8], to: &mut [u8],
+    ) -> Answer {
+        Answer(unsafe {
+            raw::semduoli_server_resume(
+                g.n, g.t, g.k, g.size, me, trace.as_ptr(), trace.len(), area.as_mut_ptr(), area.len(), initial.as_ptr(), initial.len(),
+                state.as_mut_ptr(), state.len(), out.as_mut_ptr(), out.len(), to.as_mut_ptr(), to.len(),
             )
         })
     }
@@ -321,7 +333,7 @@ fn judge(text: &str) {
     }
 }
 
-// The first line of a history's sheet, and its page number, at the right of the last line; the area has so many bytes.
+// The first line of a history's sheet, and its page number, at the right of the last line; the area has room bytes.
 fn lay(text: &str, room: usize) {
     let mut sheet = [0; 2 * semduoli::PAGE];
     let answer = semduoli::sheet(text.as_bytes(), &mut sheet[..room]);
@@ -464,7 +476,7 @@ impl Run {
         println!("frames handed in so far: {}, of them refused: {}", self.taken, self.refused);
     }
 
-    // A client begins the write of a value, or a read where there is none.
+    // A client begins the write of a value, or a read if the value is empty.
     fn begin(&mut self, me: usize, value: &[u8]) {
         let (mut out, mut to) = self.areas(self.g.n);
         let c = &mut self.clients[me];
@@ -499,7 +511,7 @@ impl Run {
         }
     }
 
-    // What server 1 answers to client 1's get-stamp from this sender, so many bytes of the frame and of the record being lent.
+    // What server 1 answers to client 1's get-stamp from this sender, with only the first bytes of the frame and of the record lent.
     fn hand_get_stamp(&mut self, name: &str, class: usize, sender: usize, frame: usize, state: usize) {
         let (mut out, mut to) = self.areas(self.g.n + 9);
         let f = [0, 7, 1, 1, 1, 0, 0, 0, 1];
@@ -509,7 +521,7 @@ impl Run {
         println!("get-stamp, {name}: refusal {}, frames {}", answer.refusal(), answer.count());
     }
 
-    // Plays back, at server 3, so many bytes of a trace: client 2's get-stamp, the same as server 2's, and a malformed entry; the out area is so much short.
+    // Plays back, at server 3, the first bytes of a trace: client 2's get-stamp, the same as server 2's, and a malformed entry; the out area lacks short_by.
     fn play_back(&mut self, trace: usize, short_by: usize) {
         let asked = [0, 7, 1, 1, 2, 0, 0, 0, 5];
         let whole = [&[0, 12, 1, 0, 2], &asked[..], &[0, 12, 1, 1, 2], &asked, &[0, 2]].concat();
@@ -521,6 +533,18 @@ impl Run {
         let first = semduoli::REPLY_HEAD + semduoli::RECEIVER; // one frame was sent, to the first entry
         if answer.refusal() == 0 {
             show("replies:", &out[..first + semduoli::frame_length(&out[first..]) + semduoli::REPLY_HEAD]);
+        }
+    }
+
+    // Hands client 2's next get-stamp, the first bytes of an entry, to server 3, which goes on from its record; the to area lacks short_by.
+    fn go_on(&mut self, trace: usize, short_by: usize) {
+        let entry = [0, 12, 1, 0, 2, 0, 7, 1, 1, 2, 0, 0, 0, 6];
+        let (mut out, mut to) = self.areas(self.g.n + 9);
+        let (s, lent) = (&mut self.servers[3], to.len() - short_by);
+        let answer = semduoli::server_resume(&self.g, 3, &entry[..trace], &mut s.area, &s.initial, &mut s.state, &mut out, &mut to[..lent]);
+        println!("resume: refusal {}, closed by {}, entries {}", answer.refusal(), answer.outcome(), answer.entries());
+        if answer.entries() > 0 {
+            show("sent last:", &out[..semduoli::frame_length(&out)]);
         }
     }
 }
@@ -605,4 +629,7 @@ fn main() {
     run.play_back(30, 0);
     run.play_back(29, 0);
     run.play_back(28, 1);
+    run.go_on(14, 0);
+    run.go_on(13, 0);
+    run.go_on(14, 1);
 }

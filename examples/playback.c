@@ -18,7 +18,7 @@
 enum { WHOLE = 0, CLOSED = 1, FAILED = 2, REFUSED = 3 };
 /* where a frame that does not open has what it gives as its kind, its client and its sequence, and how many bytes it must have for that */
 enum { CLAIMED_KIND = 3, CLAIMED_CLIENT = 4, CLAIMED_SEQUENCE = 5, CLAIMS = 9 };
-/* progress is told of traces with more entries, every so many seconds */
+/* progress is printed for traces with more than LONG entries, every PAUSE seconds */
 enum { LONG = 1000, PAUSE = 2 };
 
 static const char *const usage =
@@ -155,7 +155,7 @@ static uint64_t call(size_t trace_length)
                              sizeof play.area, play.initial, sizeof play.initial, play.state, sizeof play.state, play.out.at, play.out.length);
 }
 
-/* Room for so many entries. Only what is written of it takes memory. Of parameters out of bounds none is needed: they are refused first. */
+/* Room for this many entries. Only what is written of it takes memory. Where parameters are out of bounds none is needed: they are refused first. */
 static struct bytes room_for(size_t entries)
 {
     struct bytes b = {NULL, 0};
@@ -220,7 +220,7 @@ static const char *refusal(unsigned number)
     }
 }
 
-/* the ending of a word for so many of what it names */
+/* the ending of a word for this number of things */
 static const char *plural(unsigned long long count)
 {
     return count == 1 ? "" : "s";

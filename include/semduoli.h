@@ -31,8 +31,8 @@
  *    most some, say four, for each sender and client; what is beyond is dropped and not confirmed, and comes again by its sender's resending.
  * 4. Authenticate the links. What is proved takes it that the class and number of a frame's sender are true: a frame is handed in as that party's
  *    whose key or connection it came by, never as the party's that the frame itself names.
- * 5. Call a party's record from one thread at a time, and give a call stack enough: up to 12,200 bytes were measured, of semduoli_playback 29,900
- *    (docs/PERFORMANCE.md has them for each call), which is no bound; 64 KB is ample.
+ * 5. Call a party's record from one thread at a time, and give a call stack enough: up to 13,100 bytes were measured (docs/PERFORMANCE.md has them for
+ *    each call), which is no bound; 64 KB is ample.
  * 6. Lend areas of the sizes below. The largest frame there can be has SEMDUOLI_FRAME_MOST bytes, and SEMDUOLI_OUT_MOST and SEMDUOLI_TO_MOST bytes
  *    are enough as out and to for every party of every register. A call that is answered 10 has done nothing, and is made again with longer areas.
  * 7. Bound what is kept to be sent again, but drop only what nobody needs. A dropped frame never harms the order of reads and writes; it can keep an
@@ -173,6 +173,7 @@ enum semduoli_refusal {
  *   semduoli_index_...            index SEMDUOLI_INDEX
  *   semduoli_server_fresh         state SEMDUOLI_SERVER, area SEMDUOLI_AREA, initial SEMDUOLI_INITIAL(k, size)
  *   semduoli_server_deliver       these three, out SEMDUOLI_SERVER_OUT(n, k, size), to SEMDUOLI_SERVER_TO(n)
+ *   semduoli_server_resume        the same five
  *   semduoli_server_stamp, _open  state SEMDUOLI_SERVER; of the first also stamp SEMDUOLI_STAMP
  *   semduoli_server_block         state, area and initial as above, block SEMDUOLI_BLOCK(k, size)
  *   semduoli_frame_time           time SEMDUOLI_TIME
@@ -379,6 +380,14 @@ uint64_t semduoli_entry_read(const uint8_t *trace, size_t trace_length);
 uint64_t semduoli_playback(size_t n, size_t t, size_t k, size_t size, size_t me, const uint8_t *value, size_t value_length, const uint8_t *trace,
                            size_t trace_length, uint8_t *area, size_t area_length, uint8_t *initial, size_t initial_length, uint8_t *state,
                            size_t state_length, uint8_t *out, size_t out_length);
+
+/* Goes on from the kept record, area and initial block of server me: hands it the frames of a trace in their order. For a host that starts again, with
+ * what it handed in since it kept them. out and to are lent as for one semduoli_server_deliver and are used again by each step; they end as the last one left
+ * them. Outcome and SEMDUOLI_ENTRIES(answer) as of semduoli_playback. A frame that is turned down changes nothing, so a trace of the steps alone leaves the
+ * same. Refusals: 1, 2, 3, 10. */
+uint64_t semduoli_server_resume(size_t n, size_t t, size_t k, size_t size, size_t me, const uint8_t *trace, size_t trace_length, uint8_t *area,
+                                size_t area_length, const uint8_t *initial, size_t initial_length, uint8_t *state, size_t state_length, uint8_t *out,
+                                size_t out_length, uint8_t *to, size_t to_length);
 
 /* ---- a client, of which the host keeps, beside the record, the area of SEMDUOLI_ROWS bytes, rows, of any content at first; out has
  * SEMDUOLI_CLIENT_OUT bytes at least, to has SEMDUOLI_CLIENT_TO */

@@ -125,6 +125,10 @@ extern "C" {
         area: *mut u8, area_length: usize, initial: *mut u8, initial_length: usize, state: *mut u8, state_length: usize, out: *mut u8,
         out_length: usize,
     ) -> u64;
+    pub fn semduoli_server_resume(
+        n: usize, t: usize, k: usize, size: usize, me: usize, trace: *const u8, trace_length: usize, area: *mut u8, area_length: usize,
+        initial: *const u8, initial_length: usize, state: *mut u8, state_length: usize, out: *mut u8, out_length: usize, to: *mut u8, to_length: usize,
+    ) -> u64;
     pub fn semduoli_client_fresh(state: *mut u8, state_length: usize) -> u64;
     pub fn semduoli_client_open(state: *const u8, state_length: usize) -> u64;
     pub fn semduoli_begin_read(

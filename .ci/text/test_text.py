@@ -169,6 +169,9 @@ class Text(unittest.TestCase):
     def test_a_crate_without_a_row(self):
         self.assertEqual(self.changed(layer_faults, "docs/MAP.md", "| `high` | a program | low and below |\n", ""), ["no row of the layers has high"])
 
+    def test_a_row_without_a_crate(self):
+        self.assertEqual(self.changed(layer_faults, "docs/MAP.md", "| `high` | a program |", "| `gone`, `high` | a program |"), ["there is no crate gone"])
+
     def test_crates_txt(self):
         crates = lambda tree: crate_faults(tree, 0)
         self.assertEqual(self.changed(crates, "crates.txt", "low io", "low io gone")[0], "high names gone, which is no crate")

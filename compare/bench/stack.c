@@ -1,9 +1,9 @@
 /* stack: the stack that the library's calls use, as a table for docs/PERFORMANCE.md. A whole write and then a whole read, all parties honest and
- * frames in the order sent, what a host asks of each frame, and the playback of what server 1 was handed. Each call is made on a thread of its own,
- * whose stack is painted before; the lowest byte that is no longer paint says how deep the call went. What an empty thread uses is subtracted; it ends
- * some 70 bytes deeper than it begins, and so much is missing from a figure (0 is a call that goes no deeper), while the frame that makes the call is in
- * it. Bytes below the lowest written one that a call reserves are not seen, nor are paths that this run does not take.
- * Link with -z now: else the first calls of memcpy would count the linker's work. */
+ * frames in the order sent, what a host asks of each frame, and what server 1 was handed, played back and handed to a fresh server again. Each call
+ * is made on a thread of its own, whose stack is painted before; the lowest byte that is no longer paint says how deep the call went. What an empty
+ * thread uses is subtracted; it ends some 70 bytes deeper than it begins, and so much is missing from a figure (0 is a call that goes no deeper),
+ * while the frame that makes the call is in it. Bytes below the lowest written one that a call reserves are not seen, nor are paths that this run
+ * does not take. Link with -z now: else the first calls of memcpy would count the linker's work. */
 #define _XOPEN_SOURCE 700
 #include <pthread.h>
 #include <stdio.h>
@@ -20,14 +20,14 @@ static const struct set {
 static struct set p; /* that is being measured */
 
 /* the rows of the table; rows 1 to 12 are a server's deliveries by the frame's kind, of which 2, 9 and 11 go to clients and 6 to 8 are retired */
-enum { SERVER_FRESH = 0, CLIENT_FRESH = 13, BEGIN_READ, BEGIN_WRITE, CLIENT_DELIVER, PLAYBACK, ENTRY_WRITE, ENTRY_READ, SERVER_BLOCK, FRAME_HEADER, FRAME_TIME,
-       TABLE };
+enum { SERVER_FRESH = 0, CLIENT_FRESH = 13, BEGIN_READ, BEGIN_WRITE, CLIENT_DELIVER, PLAYBACK, SERVER_RESUME, ENTRY_WRITE, ENTRY_READ, SERVER_BLOCK,
+       FRAME_HEADER, FRAME_TIME, TABLE };
 
 static const char *const names[TABLE] = {
     "server_fresh", "server_deliver, kind 1", NULL, "server_deliver, kind 3", "server_deliver, kind 4", "server_deliver, kind 5",
     NULL, NULL, NULL, NULL, "server_deliver, kind 10", NULL,
-    "server_deliver, kind 12", "client_fresh", "begin_read", "begin_write", "client_deliver", "playback", "entry_write", "entry_read",
-    "server_block", "frame_header", "frame_time"};
+    "server_deliver, kind 12", "client_fresh", "begin_read", "begin_write", "client_deliver", "playback", "server_resume", "entry_write",
+    "entry_read", "server_block", "frame_header", "frame_time"};
 static size_t deepest[TABLE];
 static int made[TABLE];
 
@@ -112,6 +112,13 @@ static void *playback(void *unused)
 {
     answer = semduoli_playback(p.n, p.t, p.k, p.size, 1, first, p.size, trace, trace_length, played.area, sizeof played.area, played.initial,
                                sizeof played.initial, played.state, sizeof played.state, told, sizeof told);
+    return unused;
+}
+
+static void *server_resume(void *unused)
+{
+    answer = semduoli_server_resume(p.n, p.t, p.k, p.size, 1, trace, trace_length, played.area, sizeof played.area, played.initial,
+                                    sizeof played.initial, played.state, sizeof played.state, out, sizeof out, to, sizeof to);
     return unused;
 }
 
@@ -256,6 +263,13 @@ static void whole_run(void)
     measure(PLAYBACK, playback, NULL);
     if (SEMDUOLI_REFUSAL(answer) || SEMDUOLI_OUTCOME(answer) || memcmp(played.state, servers[1].state, SEMDUOLI_SERVER))
         fail("the trace played back gives another server");
+    answer = semduoli_server_fresh(p.n, p.t, p.k, p.size, 1, first, p.size, played.area, sizeof played.area, played.initial,
+                                   sizeof played.initial, played.state, sizeof played.state);
+    if (answer)
+        fail("a server is refused");
+    measure(SERVER_RESUME, server_resume, NULL);
+    if (SEMDUOLI_REFUSAL(answer) || SEMDUOLI_OUTCOME(answer) || memcmp(played.state, servers[1].state, SEMDUOLI_SERVER))
+        fail("the trace handed to a fresh server gives another one");
     measure(ENTRY_READ, entry_read, NULL);
     if (SEMDUOLI_OUTCOME(answer) != SEMDUOLI_TRACE_ENTRY)
         fail("the trace has no entry");

@@ -2,8 +2,8 @@
 """Writes the cases of this crate and of the sheet program, from the words of the request and of the specification alone: the histories (data/, and
 ../sheet/stdin), their names (args), and what the programs must print for them (stdout, and ../sheet/stdout). It reads no output of the programs.
 
-A sheet: pages of 60 lines of 72 columns, a newline behind each line. An operation has one line, in the order found: place (3 columns), kind (1), start (10),
-end (10), time (20), writer (1), sequence (10), caller (1), right-aligned, one space between, spaces behind. 59 operations a page; the 60th line of each page
+A sheet: pages of 60 lines of 72 columns, a newline after each line. An operation has one line, in the order found: place (3 columns), kind (1), start (10),
+end (10), time (20), writer (1), sequence (10), caller (1), right-aligned, one space between, then spaces. 59 operations a page; the 60th line of each page
 has its number, right-aligned. An empty history has one page."""
 import os
 

@@ -1,6 +1,6 @@
 //! The calls of include/semduoli.h, declared in include/semduoli.rs. Each passes a slice as its pointer and length and gives the answer as it is.
 
-use register::playback::Areas;
+use register::playback::{Areas, Kept};
 use register::{Params, Party};
 
 #[rustfmt::skip]
@@ -226,6 +226,32 @@ pub fn playback(p: &Params, me: usize, value: &[u8], trace: &[u8], lent: &mut Ar
             state.len(),
             out.as_mut_ptr(),
             out.len(),
+        )
+    }
+}
+
+/// A trace handed to the server of a kept record; `kept` are the areas that are written.
+pub fn server_resume(p: &Params, me: usize, initial: &[u8], trace: &[u8], kept: &mut Kept) -> u64 {
+    let Kept { state, area, out, to } = kept;
+    unsafe {
+        raw::semduoli_server_resume(
+            p.n,
+            p.t,
+            p.k,
+            p.l,
+            me,
+            trace.as_ptr(),
+            trace.len(),
+            area.as_mut_ptr(),
+            area.len(),
+            initial.as_ptr(),
+            initial.len(),
+            state.as_mut_ptr(),
+            state.len(),
+            out.as_mut_ptr(),
+            out.len(),
+            to.as_mut_ptr(),
+            to.len(),
         )
     }
 }

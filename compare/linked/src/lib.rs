@@ -123,6 +123,10 @@ pub const KINDS: &[Kind] = &[
         refusals: &[1, 2, 3, 10], outcomes: &["traces to their end", "to a malformed entry", "to one that is cut"],
     },
     Kind {
+        name: "resumed", usual: 10_000, case: playbacks::resumed,
+        refusals: &[1, 2, 3, 10], outcomes: &["traces to their end", "to a malformed entry", "to one that is cut"],
+    },
+    Kind {
         name: "recorded", usual: 150, case: playbacks::recorded,
         refusals: &[], outcomes: &["servers' traces of runs"],
     },

@@ -1,10 +1,10 @@
-//! Traces played back: any traces with any numbers and areas, against the second implementation; and the traces of whole runs, against
-//! the runs themselves.
+//! Traces played back, from a fresh server or from a kept record: any traces with any numbers and areas, against the second
+//! implementation; and the traces of whole runs, against the runs themselves.
 
 use crate::{calls, same_answer, same_bytes, Difference, Seen};
-use register::playback::{play_lent, Closing, Done};
+use register::playback::{play_lent, resume_lent, Closing, Done};
 use register::random::Random;
-use register::traces::playback_call;
+use register::traces::{playback_call, resume_call};
 use register::Refusal;
 use simulate::run::{parameters_of, run, Options};
 use simulate::style::FLAT;
@@ -41,6 +41,21 @@ pub fn any(seed: u64) -> Result<Seen, Difference> {
     same_bytes("area", &given.area, &expected.area).map_err(at)?;
     same_bytes("initial", &given.initial, &expected.initial).map_err(at)?;
     same_bytes("out", &given.out, &expected.out).map_err(at)?;
+    Ok(seen(done))
+}
+
+/// The same from a kept record.
+pub fn resumed(seed: u64) -> Result<Seen, Difference> {
+    let c = resume_call(&mut Random::new(seed));
+    let (mut given, mut expected) = (c.kept.clone(), c.kept);
+    let done = resume_lent(&c.p, c.own, &c.initial, &c.trace, &mut expected);
+    let answer = calls::server_resume(&c.p, c.own, &c.initial, &c.trace, &mut given);
+    let at = |difference| format!("{:?}, server {}, {} bytes: {difference}", c.p, c.own, c.trace.len());
+    same_answer(answer, bits(done)).map_err(at)?;
+    same_bytes("state", &given.state, &expected.state).map_err(at)?;
+    same_bytes("area", &given.area, &expected.area).map_err(at)?;
+    same_bytes("out", &given.out, &expected.out).map_err(at)?;
+    same_bytes("to", &given.to, &expected.to).map_err(at)?;
     Ok(seen(done))
 }
 

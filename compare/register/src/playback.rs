@@ -2,6 +2,7 @@
 //! words with the clear server and can be told to be wrong by a hair; `play_lent` does the same on `flat`'s records and lent areas.
 
 use crate::flat;
+use crate::frame::client_named;
 use crate::layout;
 use crate::params::{Params, Party, Refusal, Send};
 use crate::server::Server;
@@ -300,6 +301,49 @@ pub fn play_lent(
     }
     layout::put_server(&server, state);
     Ok(Done { played: entries.len(), bytes, closing })
+}
+
+/// What a server keeps, its record and state area, and the areas for the frames and receivers of one step.
+#[derive(Clone, Debug, PartialEq, Eq)]
+pub struct Kept {
+    pub state: Vec<u8>,
+    pub area: Vec<u8>,
+    pub out: Vec<u8>,
+    pub to: Vec<u8>,
+}
+
+impl Kept {
+    fn has_room(&self, p: &Params, initial: usize) -> bool {
+        self.state.len() >= layout::SERVER
+            && self.area.len() >= flat::STATE_AREA
+            && initial >= p.block()
+            && self.out.len() >= p.server_room()
+            && self.to.len() >= 2 * (p.n + 9)
+    }
+}
+
+/// Hands the entries of a trace to the server of a kept record, one after the other. A frame that is turned down changes nothing; a step writes the bytes
+/// of the record that it touches, and uses the areas for frames and receivers again. Refusals 1, 2, 3, 10.
+pub fn resume_lent(
+    p: &Params,
+    own: usize,
+    initial: &[u8],
+    trace: &[u8],
+    kept: &mut Kept,
+) -> Result<Done, Refusal> {
+    p.check_server(own)?;
+    if !kept.has_room(p, initial.len()) {
+        return Err(Refusal::Room);
+    }
+    let (entries, closing) = entries(trace);
+    let Kept { state, area, out, to } = kept;
+    for &Entry { from, frame } in &entries {
+        let mut server = layout::server_in(state);
+        if server.deliver(p, own, initial, area, from, frame, out, to).is_ok() {
+            layout::put_scope(&server, client_named(frame), state);
+        }
+    }
+    Ok(Done { played: entries.len(), bytes: 0, closing })
 }
 
 /// Writes a step's reply to the front of the out area and gives its bytes.

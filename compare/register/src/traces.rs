@@ -6,7 +6,7 @@ use crate::flat::STATE_AREA;
 use crate::frame::{build, Body, Stage};
 use crate::layout::SERVER;
 use crate::params::{Params, Party, CLIENTS};
-use crate::playback::{entries, need, write_entry, Areas};
+use crate::playback::{entries, need, play_lent, write_entry, Areas, Kept};
 use crate::random::Random;
 use crate::server::digest_list;
 
@@ -136,4 +136,46 @@ pub fn playback_call(random: &mut Random) -> PlaybackCall {
         out: (0..room).map(|i| i as u8 ^ 0xbb).collect(),
     };
     PlaybackCall { p, own, value: random.bytes(length), trace, lent }
+}
+
+/// A resumption with everything lent: the record is what the first entries of a trace leave, or in one of four cases any bytes; `trace` is the rest.
+#[derive(Clone, Debug, PartialEq, Eq)]
+pub struct ResumeCall {
+    pub p: Params,
+    pub own: usize,
+    pub initial: Vec<u8>,
+    pub trace: Vec<u8>,
+    pub kept: Kept,
+}
+
+/// Splits a trace after some of its entries.
+fn split(mut trace: Vec<u8>, random: &mut Random) -> (Vec<u8>, Vec<u8>) {
+    let lengths: Vec<usize> = entries(&trace).0.iter().map(|entry| 5 + entry.frame.len()).collect();
+    let first = random.below(lengths.len() + 1);
+    let rest = trace.split_off(lengths[..first].iter().sum());
+    (trace, rest)
+}
+
+pub fn resume_call(random: &mut Random) -> ResumeCall {
+    let PlaybackCall { p, own, trace, .. } = playback_call(random);
+    let sane = if p.check_server(1).is_ok() { p } else { Params::new(10, 1, 1, 256) };
+    let (first, trace) = split(trace, random);
+    let mut made = Areas {
+        state: random.bytes(SERVER),
+        area: random.bytes(STATE_AREA),
+        initial: vec![0xcc; sane.block()],
+        out: vec![0; need(&sane) * entries(&first).0.len()],
+    };
+    if random.chance(3, 4) {
+        let value = random.bytes(sane.l);
+        play_lent(&sane, own.clamp(1, sane.n), &value, &first, &mut made)
+            .expect("areas that are long enough");
+    }
+    made.state.resize(some_size(SERVER, random), 0xdd);
+    made.area.resize(some_size(STATE_AREA, random), 0xdd);
+    made.initial.resize(some_size(sane.block(), random), 0xdd);
+    let out = (0..some_size(sane.server_room(), random)).map(|i| i as u8 ^ 0xbb).collect();
+    let to = vec![0xaa; some_size(2 * (sane.n + 9), random)];
+    let kept = Kept { state: made.state, area: made.area, out, to };
+    ResumeCall { p, own, initial: made.initial, trace, kept }
 }

@@ -21,7 +21,7 @@ pub fn no_line() -> Line {
     }
 }
 
-// The line with a space more.
+// The line with one more space.
 fn spaced(line: Line) -> Line {
     let mut r = line;
     if line.spaces < 2 {
@@ -30,7 +30,7 @@ fn spaced(line: Line) -> Line {
     r
 }
 
-// The line with a byte of its argument more.
+// The line with one more byte of its argument.
 fn add_to_argument(line: Line, b: u8, bytes: &mut [u8]) -> Line {
     let f = line.argument;
     let y = field_with(f, b);
@@ -42,7 +42,7 @@ fn add_to_argument(line: Line, b: u8, bytes: &mut [u8]) -> Line {
     r
 }
 
-// The line with one byte more, which is no newline; the first eight bytes that the argument spells go into bytes.
+// The line with one more byte, which is not a newline; the first eight bytes that the argument spells go into bytes.
 fn add_byte(line: Line, b: u8, bytes: &mut [u8]) -> Line {
     if b == b' ' {
         return spaced(line);
@@ -56,7 +56,7 @@ fn add_byte(line: Line, b: u8, bytes: &mut [u8]) -> Line {
     r
 }
 
-// The line with a part more.
+// The line with one more part.
 pub fn add_part(line: Line, part: &[u8], bytes: &mut [u8]) -> Line {
     let mut y = line;
     let mut i = 0;

@@ -1,4 +1,4 @@
--- What an insertion's answer says gives the answer back, and so does what a search's says: no two say the same. Assumes nothing.
+-- An insertion's answer can be told from what it says, and so can a search's: no two answers say the same. Assumes nothing.
 use Prim.Native.Nat.{ℕ}
 use mathlib.Core.Path.{_≡_, refl, ap}
 use mathlib.Core.Option.{Option, none, some}

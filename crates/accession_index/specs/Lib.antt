@@ -1,3 +1,4 @@
 pub mod Rows
 pub mod Index
 pub mod Afresh
+pub mod Answers

@@ -11,7 +11,7 @@ unfoldable pub pick : {A : Type 0} → Bool → A → A → A
 pick true a b = a
 pick false a b = b
 
--- a payload beside its flag
+-- a value that counts only if its flag is set
 abbrev pub kept : {P : Type 0} → Bool → P → Option P
 kept true p = some p
 kept false p = none

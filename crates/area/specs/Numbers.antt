@@ -3,7 +3,7 @@ use Prim.Native.Nat.{ℕ, _+_, _*_, _/_, _%_}
 use mathlib.Core.List.{List, [], _∷_, _++_}
 use lib.ListN.{getD}
 
--- the number in the 2, the 4, the 8 bytes from index i on
+-- the number in the 2, 4 or 8 bytes from index i on
 unfoldable pub be2 : List ℕ → ℕ → ℕ
 be2 l i = getD l i 0 * 256 + getD l (i + 1) 0
 

@@ -1,4 +1,4 @@
-// Bytes in lent areas: stored, compared, and read and written as big-endian numbers. Everything above is made of these leaves.
+// Bytes in lent areas: stored, compared, and read and written as big-endian numbers. All other crates build on these functions.
 ghost use mathlib.Core.Path.{_≡_};
 ghost use Prim.Native.Nat.{_+_, _≤_, _<_};
 ghost use lib.ListN.{length, replicate, getD};

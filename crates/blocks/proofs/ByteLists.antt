@@ -1,4 +1,4 @@
--- Lists of bytes made from others, and lists end to end: a front, a part. Assumes nothing.
+-- Lists of bytes made from others; the front and a part of lists that lie end to end. Assumes nothing.
 use mathlib.Core.Path.{_≡_, sym, ap, _∙_}
 use mathlib.Core.List.{List, _++_}
 use Prim.Native.Nat.{ℕ, zero, suc, _+_, _*_, _<_, _≤_}

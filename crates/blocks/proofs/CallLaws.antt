@@ -1,4 +1,4 @@
--- The calls: what a passed test tells, and the outcome by the answer of the tests. Assumes nothing.
+-- The calls: what holds where a test is passed, and the outcome by the answer of the tests. Assumes nothing.
 use Prim.Native.Nat.{ℕ, _*_, _≤_}
 use mathlib.Core.Path.{_≡_, refl, sym, ap, _∙_}
 use mathlib.Core.Bool.{Bool, true, false, not}
@@ -22,7 +22,7 @@ unfolding andThen
 then-both Done rest e = (refl, e)
 then-both (Refused f) rest e = impossible (cc e)
 
--- what `encode` has when its tests are passed
+-- what holds when the tests of `encode` are passed
 pub record Encodes (g : Params) (len room : ℕ) : Type 0 where
   pub within : Bounded g
   pub whole : len ≡ g .size
@@ -38,7 +38,7 @@ encodes g len room e =
     let f : g .n * blockLength (g .size) (g .k) ≤ room = leb-true (g .n * blockLength (g .size) (g .k)) room (c .0) in
     record { within = bounds g (a .0); whole = w; fits = rw w f }
 
--- what `decode` has when its tests are passed
+-- what holds when the tests of `decode` are passed
 pub record Decodes (g : Params) (numbers : List ℕ) (len room : ℕ) : Type 0 where
   pub within : Bounded g
   pub enough : g .k ≤ length numbers

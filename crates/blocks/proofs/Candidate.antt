@@ -11,7 +11,7 @@ use Rattle.area.specs.Area.{same}
 use Rattle.blocks.specs.Code.{blockLength, valueOf, blocksOf, candidate, agree}
 use Rattle.blocks.proofs.Values.{length-valueOf}
 
--- blocks with the numbers js end to end in w, of a value that fills d
+-- blocks with the numbers js lie end to end in w; d has the length of their value
 module _ (k : ℕ) (js w d : List ℕ) (b : ℕ) (h : 0 < k) (m : k ≤ length js) (l : length w ≡ length js * blockLength (length d) k)
     (p : b ≡ blockLength (length d) k) where
   pub first-room : k * b ≤ length w

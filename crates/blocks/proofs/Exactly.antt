@@ -66,7 +66,7 @@ pub candidate-bytes : (k L : ℕ) (js w : List ℕ) → Bytes (candidate k L js 
 unfolding candidate
 candidate-bytes k L js w = Bytes-valueOf (take k js) L (take (k * blockLength L k) w)
 
--- a value whose blocks they are is the candidate
+-- if w holds the blocks of v, the candidate is v
 pub candidate-is : (k L : ℕ) (js w v : List ℕ) → Given k L js w → BlocksOf k L js w v → candidate k L js w ≡ v
 unfolding candidate
 candidate-is k L js w v h x =

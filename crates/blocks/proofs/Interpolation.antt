@@ -23,7 +23,7 @@ all-map₃ : {P Q R S : ℕ → Type 0} → ((z : ℕ) → P z → Q z → R z �
 all-map₃ f [] h k l = tt
 all-map₃ f (x ∷ xs) h k l = (f x (h .0) (k .0) (l .0), all-map₃ f xs (h .1) (k .1) (l .1))
 
--- a list of bytes has a byte at each entry
+-- each element of a list of bytes is a byte
 all-bytes : (xs : List ℕ) → Bytes xs → All (λ x. x < 256) xs
 all-bytes [] h = tt
 all-bytes (x ∷ xs) h = (h .0, all-bytes xs (h .1))
@@ -139,7 +139,7 @@ quot-eval x (c ∷ []) z =
 quot-eval x (c ∷ d ∷ ds) z =
     quot-step c x z (eval (d ∷ ds) x) (eval (quot x (d ∷ ds)) z) (eval (d ∷ ds) z) (quot-eval x (d ∷ ds) z)
 
--- zero throughout
+-- all coefficients are zero
 abbrev pub Zeros : List ℕ → Type 0
 Zeros = All (λ a. a ≡ 0)
 
@@ -170,7 +170,7 @@ only-zero (x ∷ xs) (c ∷ cs) hx hp d l v =
     (all-map₃ (λ z hz n e. root-left x z (c ∷ cs) (hx .0) hz hp n (v .0) e) xs (all-bytes xs (hx .1)) (d .0) (v .1)))
     (v .0)
 
--- the lists of two polynomials of one length whose sum is zero are equal
+-- two polynomials of the same length whose sum is zero are equal
 pub same-of-sum : (p q : List ℕ) → length p ≡ length q → Zeros (plus p q) → p ≡ q
 unfolding plus
 same-of-sum [] [] e h = refl

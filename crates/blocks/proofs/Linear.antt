@@ -1,4 +1,4 @@
--- The polynomial through points is linear in their values, and so is the sum of the basis polynomials, each times its point's value. Assumes nothing.
+-- The polynomial through points is linear in their values, so it is the sum of the basis polynomials, each times its point's value. Assumes nothing.
 use mathlib.Core.Path.{_≡_, refl, sym, ap, ap₂, _∙_}
 use mathlib.Core.List.{List, [], _∷_}
 use Prim.Native.Nat.{ℕ, zero, suc, _+_, _-_, _*_, _<_, _≤_}
@@ -118,7 +118,7 @@ unfolding plus scale
 plus-zeros c [] = refl
 plus-zeros c (a ∷ l) = ap₂ _∷_ (ap (λ (u : ℕ). a ⊕ u) (R.zero-right c) ∙ X.zero-r a) (plus-zeros c l)
 
--- a value stored in place of a 0 is a multiple of a unit added
+-- storing a value in place of a 0 adds a multiple of a unit vector
 set-plus : (l : List ℕ) (i y : ℕ) → y < 256 → i < length l → getD l i 0 ≡ 0 → set l i y ≡ plus l (scale y (unit (length l) i))
 unfolding plus scale unit
 set-plus [] i y h k e = absurd (omega arith)
@@ -181,7 +181,7 @@ zeros-front zero n h = refl
 zeros-front (suc k) zero h = absurd (omega arith)
 zeros-front (suc k) (suc n) h = ap (λ (l : List ℕ). 0 ∷ l) (zeros-front k n (omega arith))
 
--- a unit in the front of a longer array
+-- a unit vector in the front of a longer array
 pub unit-front : (k n i : ℕ) → k ≤ n → take k (set (zeros n) i 1) ≡ unit k i
 unfolding unit
 unit-front zero n i h = refl

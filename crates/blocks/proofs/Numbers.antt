@@ -1,4 +1,4 @@
--- The numbers of the blocks to decode: the turns of the loops that test them, and what a passed test tells. Assumes nothing.
+-- The numbers of the blocks to decode: the turns of the loops that test them, and what holds where a test is passed. Assumes nothing.
 use Prim.Native.Nat.{ℕ, suc, _+_, _<_, _≤_}
 use mathlib.Core.Path.{_≡_, sym, ap, ap₂, _∙_}
 use mathlib.Core.Bool.{Bool, true, false, _&&_, not}
@@ -28,7 +28,7 @@ number-yes n j a b = sym (simp (le-leb 1 j a, le-leb j n b))
 pub number-no : (n j : ℕ) → (1 ≤ j → j ≤ n → ⊥) → false ≡ numberFits n j
 number-no n j h = refuted (numberFits n j) (λ e. let f = number-facts n j e in h (f .0) (f .1))
 
--- ---- none of the others
+-- ---- a number that is not among the others
 
 pub absent-turn : (j : ℕ) (js : List ℕ) (m : ℕ) → m < length js → (getD js m 0 ≡ j → ⊥) → absent j (drop m js) ≡ absent j (drop (m + 1) js)
 unfolding absent
@@ -72,7 +72,7 @@ pub numbers-end : (n : ℕ) (js : List ℕ) (m : ℕ) → length js ≤ m → nu
 unfolding numbersFit
 numbers-end n js m h = rw (drop-of-length-le js)
 
--- ---- what the passed test tells
+-- ---- what holds where the test is passed
 
 absent-facts : (j : ℕ) (js : List ℕ) → absent j js ≡ true → All (λ z. z ≡ j → ⊥) js
 unfolding absent

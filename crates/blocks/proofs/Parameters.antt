@@ -1,4 +1,4 @@
--- The bounds of the parameters: what a passed test tells, and what each outcome of a chain of demands tells. Assumes nothing.
+-- The bounds of the parameters: what holds where a test is passed, and what each outcome of a chain of demands says. Assumes nothing.
 use Prim.Native.Nat.{ℕ, _*_, _-_, _<_, _≤_}
 use mathlib.Core.Path.{_≡_, refl, sym, ap, _∙_}
 use mathlib.Core.Bool.{Bool, true, false, _&&_, not}
@@ -12,7 +12,7 @@ use Rattle.blocks.specs.declared.Coded.{Coded}
 use Rattle.blocks.specs.declared.Coded.the-variants.{Done, Refused}
 use Rattle.blocks.specs.Params.{partiesFit, thresholdFits, lengthFits, demand, andThen, paramsTest, Bounded}
 
--- a test whose passing is absurd is false
+-- a test that cannot hold is false
 pub refuted : (b : Bool) → (b ≡ true → ⊥) → false ≡ b
 refuted true h = absurd (h refl)
 refuted false h = refl
@@ -69,7 +69,7 @@ pub passes : (r b : Bool) (f : Fault) (rest : Coded) → r ≡ b → not r ≡ f
 unfolding demand
 passes r b f rest e h = ap (λ x. demand x f rest) (sym e ∙ not-false r h)
 
--- a chain of demands that ends in Done has all of them met
+-- if a chain of demands ends in Done, all of them are met
 pub demand-done : (b : Bool) (f : Fault) (rest : Coded) → demand b f rest ≡ Done → (b ≡ true) × (rest ≡ Done)
 unfolding demand
 demand-done true f rest e = (refl, e)

@@ -1,4 +1,4 @@
--- A zero coefficient after the last one changes nothing: the steps of interpolation, on lists that have room for one coefficient more.
+-- A zero coefficient after the last one changes nothing: the steps of interpolation on lists that have room for one more coefficient.
 -- Assumes nothing.
 use mathlib.Core.Path.{_≡_, refl, sym, ap, ap₂, _∙_}
 use mathlib.Core.List.{List, [], _∷_, _++_}

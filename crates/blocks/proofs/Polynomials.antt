@@ -1,4 +1,4 @@
--- The laws of polynomials over the byte field: values, bytes, lengths and entries of sums and of products by a constant and by X - x. Assumes nothing.
+-- Laws of polynomials over the byte field: values, bytes, lengths and coefficients of sums, of multiples and of products with X - x. Assumes nothing.
 use mathlib.Core.Path.{_≡_, refl, sym, ap, ap₂, _∙_}
 use mathlib.Core.List.{List, [], _∷_}
 use Prim.Native.Nat.{ℕ, zero, suc, _<_, _-_, max}
@@ -61,7 +61,7 @@ through-bytes [] ys = tt
 through-bytes (x ∷ xs) [] = tt
 through-bytes (x ∷ xs) (y ∷ ys) = plus-bytes (through xs ys) (scale _ (vanishing xs)) (through-bytes xs ys) (scale-bytes _ (vanishing xs))
 
--- nothing is added where the value is right already
+-- adding 0 times a polynomial changes nothing
 plus-nothing : (p m : List ℕ) → length p ≡ length m → plus p (scale 0 m) ≡ p
 unfolding plus scale
 plus-nothing [] [] e = refl

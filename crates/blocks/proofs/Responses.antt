@@ -1,4 +1,4 @@
--- What an answer of the block code says gives the answer back, so that no two say the same. Assumes nothing.
+-- An answer of the block code can be told from what it says, so no two answers say the same. Assumes nothing.
 use mathlib.Core.Path.{_≡_, refl, ap}
 use Rattle.area.specs.Responses.{Response, turnedDown, gives}
 use Rattle.blocks.specs.declared.Fault.{Fault}

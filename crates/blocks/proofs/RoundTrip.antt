@@ -1,5 +1,5 @@
--- Decoding any k different blocks of a value gives the value, and values of one length with one encoding are equal. Upper layers cite these laws, with those
--- on lengths and bytes, and open no definition. Assumes nothing.
+-- Decoding any k different blocks of a value gives the value, and values of the same length with the same encoding are equal. Upper layers cite these laws,
+-- with those on lengths and bytes, and open no definition. Assumes nothing.
 use mathlib.Core.Path.{_≡_, refl, sym, ap, ap₂, _∙_, subst}
 use mathlib.Core.List.{List, [], _∷_, _++_, map}
 use Prim.Native.Nat.{ℕ, zero, suc, _+_, _-_, _*_, _<_, _≤_}
@@ -16,7 +16,7 @@ use Rattle.blocks.proofs.Interpolation.{recovers}
 use Rattle.blocks.proofs.Stripes.{length-blockOf, block-at, fits}
 use Rattle.blocks.proofs.ByteLists.{Bytes-zeros, Bytes-joined, take-joined, part-joined}
 
--- ---- the bytes r of the blocks
+-- ---- byte r of each block
 
 from-next : (f : ℕ → ℕ) (i n : ℕ) → tableFrom f (suc i) n ≡ tableFrom (λ x. f (suc x)) i n
 unfolding tableFrom

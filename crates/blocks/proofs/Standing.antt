@@ -16,13 +16,13 @@ use Rattle.blocks.specs.Code.{blockLength, blockOf, blocksOf}
 use Rattle.blocks.proofs.Parameters.{refuted}
 use Rattle.blocks.proofs.Stripes.{length-blockOf, block-small}
 
--- a common front does not matter
+-- two lists with the same front are compared by what follows it
 same-front : (a x y : List ℕ) → same (a ++ x) (a ++ y) ≡ same x y
 unfolding same
 same-front [] x y = refl
 same-front (u ∷ a) x y = rw (eq-eqb u u refl) (same-front a x y)
 
--- fronts of one length that differ
+-- lists whose fronts have the same length and differ are not the same
 front-differs : (a b x y : List ℕ) (n : ℕ) → length a ≡ n → length b ≡ n → same b a ≡ false → same (a ++ x) (b ++ y) ≡ false
 front-differs a b x y n la lb e =
     sym (refuted (same (a ++ x) (b ++ y)) (λ t.

@@ -1,4 +1,4 @@
--- The turns of the loops over coefficients: Horner's rule, the sum with a multiple, and the product by X - x in place. Assumes nothing.
+-- The turns of the loops over coefficients: Horner's rule, the sum with a multiple, and the product with X - x in place. Assumes nothing.
 use mathlib.Core.Path.{_≡_, sym, ap, ap₂, _∙_}
 use mathlib.Core.List.{List, _∷_}
 use Prim.Native.Nat.{ℕ, zero, suc, _+_, _<_, _≤_, _-_}
@@ -41,7 +41,7 @@ sum-turn p₀ m p c i r e h k f =
     (f ∙ sym (getD-scale c m i))
     ∙ sym (getD-plus p₀ (scale c m) i))
 
--- ---- the product by X - x, in place: the result without its last coefficient, which is 0 where that of m is
+-- ---- the product with X - x, in place: the result without its last coefficient, which is 0 where the last one of m is
 
 unfoldable pub rooted : ℕ → List ℕ → List ℕ
 rooted x m = take (length m) (withRoot x m)

@@ -33,7 +33,7 @@ pub row-at : (k b : ℕ) (w : List ℕ) (r i : ℕ) → i < k → getD (row k b 
 unfolding row
 row-at k b w r i h = getD-table k _ i 0 h
 
--- a list in whose front e was written, read back
+-- what was written at the front of a list reads back
 pub front-back : (d e : List ℕ) (n : ℕ) → n ≤ length d → length e ≡ length (take n d) → take n (e ++ drop n d) ≡ e
 front-back d e n h k = take-at e (drop n d) n (k ∙ length-take-le n d h)
 
@@ -45,7 +45,7 @@ zeros n = replicate n 0
 pub through-row-length : (js w : List ℕ) (b r : ℕ) → length (through js (row (length js) b w r)) ≡ length js
 through-row-length js w b r = through-length js (row (length js) b w r) (sym (row-length (length js) b w r))
 
--- the stripes of the value of L bytes that is decoded
+-- stripe r of the value of L bytes that is decoded
 unfoldable pub stripes : List ℕ → ℕ → List ℕ → ℕ → List ℕ
 stripes js L w r = through js (row (length js) (blockLength L (length js)) w r)
 
@@ -97,7 +97,7 @@ pub value-start : (f : ℕ → List ℕ) (L : ℕ) (d : List ℕ) → d ≡ sets
 unfolding joined
 value-start f L d = sym (ap (sets d 0) (take-nil L))
 
--- the front of a local array d into which e was written, as far as the value has bytes left
+-- of e, which was written at the front of a local array d, as many bytes as the value has left
 pub part-read : (d e : List ℕ) (k m n : ℕ) → k ≤ length d → length e ≡ length (take k d) → n ≡ min k m → take n (e ++ drop k d) ≡ take m e
 part-read d e k m n h l q =
     let len : length e ≡ k = l ∙ length-take-le k d h in

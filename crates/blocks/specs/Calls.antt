@@ -12,7 +12,7 @@ use Rattle.blocks.specs.declared.Coded.the-variants.{Done, Refused}
 use Rattle.blocks.specs.Params.{paramsTest, numberOf, fault, demand, andThen}
 use Rattle.blocks.specs.Code.{blockLength, encoded, candidate, agree}
 
--- what an answer says: the number, or that the result is in the lent area, and no value beside that
+-- what an answer says: the number of a refusal, or that the result is in the lent area
 abbrev pub codeResponse : Coded → Response (Unit {0})
 codeResponse Done = gives tt
 codeResponse (Refused f) = turnedDown (numberOf f)
@@ -28,7 +28,7 @@ told a l = record { answer = a; out = l }
 abbrev pub outcome : Coded → List ℕ → Outcome
 outcome c l = told (codeResponse c) l
 
--- the result is at the front of the area, whose further bytes stay as they were; a refusal leaves them all
+-- the result is at the front of the area, and the bytes after it stay as they were; where the call is refused, all do
 unfoldable pub written : Coded → List ℕ → List ℕ → Outcome
 written Done out bytes = told (gives tt) (sets out 0 bytes)
 written (Refused f) out bytes = told (turnedDown (numberOf f)) out

@@ -45,7 +45,7 @@ unfoldable pub blocksOf : ℕ → List ℕ → List ℕ → List ℕ
 blocksOf k v [] = []
 blocksOf k v (j ∷ js) = blockOf k v j ++ blocksOf k v js
 
--- ---- request F-7: any number of blocks from k on, with the numbers js, end to end in w
+-- ---- request F-7: k blocks or more, with the numbers js, end to end in w
 
 -- the value of L bytes that the first k of them give
 unfoldable pub candidate : ℕ → ℕ → List ℕ → List ℕ → List ℕ

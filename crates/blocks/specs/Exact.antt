@@ -21,7 +21,7 @@ pub record BlocksOf (k L : ℕ) (js w v : List ℕ) : Type 0 where
   pub bytes : Bytes v
   pub blocks : blocksOf k v js ≡ w
 
--- k blocks or more, of b bytes each, with different numbers of a byte
+-- k blocks or more, of b bytes each; their numbers are bytes, and different
 pub record Given (k L : ℕ) (js w : List ℕ) : Type 0 where
   pub one : 1 ≤ k
   pub enough : k ≤ length js
@@ -29,7 +29,7 @@ pub record Given (k L : ℕ) (js w : List ℕ) : Type 0 where
   pub different : Distinct js
   pub whole : length w ≡ length js * blockLength L k
 
--- the outcome of the call `decode`, no test having turned it down
+-- the outcome of the call `decode`, where no test turned it down
 pub record Called (g : Params) (js w out : List ℕ) : Type 0 where
   -- it answers v exactly if the blocks are v's
   pub answers : (v : List ℕ) → BlocksOf (g .k) (g .size) js w v → decoding g js w out ≡ told (gives tt) (sets out 0 v)
@@ -45,7 +45,7 @@ pub record Exact : Type 0 where
   -- the value is given exactly if the blocks are its blocks
   pub given-is : (k L : ℕ) (js w v : List ℕ) → Given k L js w → decodedAll k L js w ≡ some v → BlocksOf k L js w v
   pub is-given : (k L : ℕ) (js w v : List ℕ) → Given k L js w → BlocksOf k L js w v → decodedAll k L js w ≡ some v
-  -- they disagree exactly if they are no value's
+  -- they disagree exactly if no value has them all
   pub none-has : (k L : ℕ) (js w : List ℕ) → Given k L js w → decodedAll k L js w ≡ none → (v : List ℕ) → BlocksOf k L js w v → ⊥
   pub has-none : (k L : ℕ) (js w : List ℕ) → Given k L js w → ((v : List ℕ) → BlocksOf k L js w v → ⊥) → decodedAll k L js w ≡ none
   -- the same of the call

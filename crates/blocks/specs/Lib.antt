@@ -3,3 +3,4 @@ pub mod Poly
 pub mod Code
 pub mod Calls
 pub mod Exact
+pub mod Answers

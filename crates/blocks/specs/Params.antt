@@ -36,12 +36,12 @@ thresholdFits n t k = leb 1 k && leb k (n - 2 * t)
 unfoldable pub lengthFits : ℕ → Bool
 lengthFits L = leb 1 L && leb L 256
 
--- the refusal where a demand is not met, and the outcome of the demands that follow where it is
+-- if the demand is not met, its refusal; else the outcome of the demands that follow
 unfoldable pub demand : Bool → Fault → Coded → Coded
 demand true f rest = rest
 demand false f rest = Refused f
 
--- the outcome of the first tests where they refuse, and of the second where not
+-- if the first tests refuse, their outcome; else that of the second
 unfoldable pub andThen : Coded → Coded → Coded
 andThen Done rest = rest
 andThen (Refused f) rest = Refused f

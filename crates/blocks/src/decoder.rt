@@ -39,7 +39,7 @@ fn put_basis(js: &[u8], table: &mut [u8], ps: &[u8; 255], ls: &[u8; 256])
     }
 }
 
-// The coefficients of stripe r, from the blocks with the numbers js: the sum of the table's rows, each times its block's byte, in p, which is zero before.
+// The coefficients of stripe r, from the blocks with the numbers js: the sum of the table's rows, each times byte r of its block, into p, which holds zeros.
 fn combine(
     js: &[u8],
     table: &[u8],
@@ -100,7 +100,7 @@ fn put_stripe(
     area::put(value, start, &p[..n]);
 }
 
-// The value from the blocks with the numbers js, which lie end to end in w. The numbers are the same for all stripes: their basis is computed once.
+// The value from the blocks with the numbers js, which lie end to end in w. The numbers are the same for all stripes, so the table is computed once.
 pub fn decode_into(js: &[u8], w: &[u8], value: &mut [u8], ps: &[u8; 255], ls: &[u8; 256])
     requires { ⌜ (0 < length (now js)) × (length (now js) ≤ 8) × (length (now value) ≤ 256)
         × (length (now w) ≡ length (now js) * blockLength (length (now value)) (length (now js))) × Tables (now ps) (now ls) ⌝ }
@@ -116,7 +116,7 @@ pub fn decode_into(js: &[u8], w: &[u8], value: &mut [u8], ps: &[u8; 255], ls: &[
     }
 }
 
-// The value that the first k of the blocks with the numbers js give, which lie end to end in w, into value; whether all of them are its blocks.
+// Decodes the first k of the blocks with the numbers js, which lie end to end in w, into value; whether all of the blocks are blocks of that value.
 pub fn decode_all(
     js: &[u8],
     w: &[u8],

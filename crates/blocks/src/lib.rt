@@ -4,6 +4,7 @@ ghost use Rattle.blocks.specs.Calls.{outcome, encoding, decoding};
 use decoder::decode_all;
 use encoder::encode_blocks;
 
+pub mod answers;
 pub mod bounds;
 pub mod decoder;
 pub mod encoder;
@@ -50,7 +51,7 @@ pub fn encode(g: Params, value: &[u8], out: &mut [u8]) -> Coded
     Coded::Done
 }
 
-// The value from k to n blocks, which lie end to end in blocks, with their numbers, into the front of out, if they are all blocks of one value.
+// Decodes k to n blocks, which lie end to end in blocks: if they are all blocks of one value, that value goes to the front of out.
 pub fn decode(g: Params, numbers: &[u8], blocks: &[u8], out: &mut [u8]) -> Coded
     ensures { λ r. ⌜ outcome r (now (out .exit)) ≡ decoding g (now (numbers .entry)) (now (blocks .entry)) (now (out .entry)) ⌝ }
 {

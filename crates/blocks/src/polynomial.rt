@@ -37,7 +37,7 @@ fn newton_step(p: &mut [u8], m: &[u8], x: u8, y: u8, ps: &[u8; 255], ls: &[u8; 2
     ensures { λ _. ⌜ now (p .exit) ≡ newtonStep (now (p .entry)) (now (m .entry)) x y ⌝ }
 {
     let gap = y ^ value_at(p, x, ps, ls);
-    // as at the points of a unit vector after its one: then no inverse is needed
+    // p is y at x already, and no inverse is needed; so it is for a unit vector at all points after its 1
     if gap == 0 {
         return;
     }
@@ -59,8 +59,8 @@ fn with_root(m: &mut [u8], x: u8, ps: &[u8; 255], ls: &[u8; 256])
     m[0] = field::mul(x, m[0], ps, ls);
 }
 
-// From the polynomial through k - 1 points in the front of p, and the product of X - x over those in the front of m: the same two
-// with the point (x, y) in front, k being the length of p.
+// k is the length of p, which holds the polynomial through k - 1 points in its front; m holds the product of X - x over these points.
+// Adds the point (x, y) to both.
 fn with_point(p: &mut [u8], m: &mut [u8], x: u8, y: u8, ps: &[u8; 255], ls: &[u8; 256])
     requires { ⌜ (0 < length (now p)) × (length (now m) ≡ length (now p) + 1) × Tables (now ps) (now ls) ⌝ }
     ensures { λ _. ⌜ (now (p .exit) ≡ newtonStep (take (length (now (p .entry)) - 1) (now (p .entry))) (take (length (now (p .entry))) (now (m .entry))) x y)

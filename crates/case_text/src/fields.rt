@@ -36,7 +36,7 @@ fn longer(length: usize) -> usize {
     9
 }
 
-// Whether a decimal number reaches 2^64 with this digit more.
+// Whether a decimal number reaches 2^64 with one more digit, this one.
 fn is_large(f: Field, d: u8) -> bool {
     if f.large {
         return true;
@@ -50,7 +50,7 @@ fn is_large(f: Field, d: u8) -> bool {
     5 < d
 }
 
-// Whether a field stays a decimal number without leading zeros by this digit.
+// Whether a field that is a decimal number without leading zeros still is with this digit added.
 fn stays_decimal(f: Field, d: u8) -> bool {
     if !f.decimal {
         return false;
@@ -75,7 +75,7 @@ fn number_with(number: u64, d: u8) -> u64 {
     std::num::wrapping_add_u64(number % 1844674407370955162 * 10, d as u64)
 }
 
-// The field with one byte more.
+// The field with one more byte.
 pub fn field_with(f: Field, b: u8) -> Field {
     let d = digit(b);
     Field {

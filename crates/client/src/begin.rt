@@ -13,7 +13,7 @@ use frame::Ask;
 use frame::Place;
 use frame::Verdict;
 use frame::bounds::params_test;
-use frame::layout::CLIENTS;
+use frame::places::CLIENTS;
 use frame::send::ask_all;
 ghost use mathlib.Core.Path.{_≡_};
 ghost use lib.ListN.{length};

@@ -4,7 +4,7 @@ use blocks::encoder::encode_block;
 use frame::Place;
 use frame::WriteTime;
 use frame::bounds::width;
-use frame::layout::BLOCK_AT;
+use frame::places::BLOCK_AT;
 use frame::send::send_block;
 use group::digesting::digests;
 ghost use mathlib.Core.Path.{_≡_};

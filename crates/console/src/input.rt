@@ -6,7 +6,7 @@ ghost use Prim.Native.Nat.{_+_, _≤_, _<_};
 ghost use lib.ListN.{length};
 ghost use Rattle.io.specs.Counts.{Counts};
 
-// The file that the argument names, opened; -1 where it can't be, which is said.
+// Opens the file that the argument names; -1, with a message, if it can't be opened.
 fn open_named() -> i32 {
     let mut name = io::buffer();
     let k = os::arg(1, &mut name);
@@ -21,7 +21,7 @@ fn open_named() -> i32 {
     fd
 }
 
-// The descriptor of the input: standard input, or the file that the one argument names; -1 if that can't be opened or there are more, which is said.
+// The descriptor of the input: standard input, or the file that the one argument names; -1, with a message, if it can't be opened or there are more arguments.
 pub fn open_input() -> i32 {
     let count = os::arg_count();
     if count < 2 {
@@ -34,7 +34,7 @@ pub fn open_input() -> i32 {
     open_named()
 }
 
-// What was read: how many bytes, at the front of a buffer; none at the input's end, or where it could not be read.
+// What was read: how many bytes, at the front of a buffer; none at the input's end, or if it could not be read.
 pub struct Piece {
     pub count: usize,
     pub failed: bool,
@@ -67,7 +67,7 @@ fn read_once(fd: i32, buf: &mut [u8]) -> Try
     }
 }
 
-// Reads the next piece of the input; where it can't be read that is said.
+// Reads the next piece of the input; prints a message if it can't be read.
 pub fn read_piece(fd: i32, buf: &mut [u8]) -> Piece
     ensures { λ r. ⌜ Counts (r .count) (now (buf .exit)) ⌝ }
 {
@@ -93,7 +93,7 @@ struct Whole {
     more: bool,
 }
 
-// Reads one piece more, into the buffer after its first count bytes.
+// Reads one more piece, into the buffer after its first count bytes.
 fn read_more(fd: i32, buf: &mut [u8], count: usize) -> Whole
     requires { ⌜ count ≤ length (now buf) ⌝ }
     ensures { λ r. ⌜ r .count ≤ length (now (buf .exit)) ⌝ }
@@ -106,7 +106,7 @@ fn read_more(fd: i32, buf: &mut [u8], count: usize) -> Whole
     }
 }
 
-// Reads the input to its end, or until the buffer is full; where it can't be read that is said.
+// Reads the input to its end, or until the buffer is full; prints a message if it can't be read.
 pub fn read_whole(fd: i32, buf: &mut [u8]) -> Piece
     ensures { λ r. ⌜ Counts (r .count) (now (buf .exit)) ⌝ }
 {

@@ -20,7 +20,7 @@ pub struct Part {
     pub out: Out,
 }
 
-// A part of no bytes, after which the buffer has none either.
+// An empty part, with nothing left in the buffer.
 fn empty(ends: bool, more: bool, begun: bool, out: Out) -> Part
     ensures { λ r. ⌜ (r .start ≤ 0) × (r .end ≤ 0) ⌝ }
 {

@@ -58,7 +58,7 @@ fn write_whole(text: &[u8]) -> bool {
     text.len() <= done
 }
 
-// Writes a text, unless a write failed before; where this one fails that is said.
+// Writes a text, unless a write failed before; prints a message if this one fails.
 fn send(out: Out, text: &[u8]) -> Out {
     if out.failed {
         return out;
@@ -79,7 +79,7 @@ pub fn flush(out: Out, area: &[u8]) -> Out {
     send(out, &area[..n])
 }
 
-// Makes room for so many bytes more: what waits is written if they do not fit after it.
+// Makes room for size more bytes: what waits is written if they do not fit after it.
 fn with_room(out: Out, area: &[u8], size: usize) -> Out {
     let n = count_of(out.used, area);
     if area.len() - n < size {
@@ -122,7 +122,7 @@ pub fn put_hex(out: Out, area: &mut [u8], bytes: &[u8]) -> Out {
     y
 }
 
-// Puts the answer to a line of no form that the program knows.
+// Puts the answer to a line that the program does not understand.
 pub fn put_what(out: Out, area: &mut [u8]) -> Out {
     put(out, area, b"what?\n")
 }

@@ -2,8 +2,8 @@
 use libc::types::timespec;
 ghost use Prim.Native.Nat.{_<_};
 
-// Waits for a hundredth of a second, or until a signal comes. The libraries have no call that waits for a descriptor, so that a program that waits for one
-// looks again after such a pause.
+// Waits for a hundredth of a second, or until a signal comes. The libraries have no call that waits for a descriptor, so a program that waits for one
+// tries again after such a pause.
 fn pause() {
     let asked = timespec {
         tv_sec: 0,
@@ -16,7 +16,7 @@ fn pause() {
     libc::nanosleep(&asked, &mut left);
 }
 
-// Whether the call that just failed is to be made again: it was interrupted, or nothing was ready yet; then after a pause.
+// Whether the call that just failed is to be made again: it was interrupted, or nothing was ready yet; in the second case it pauses first.
 pub fn is_again() -> bool {
     let error = os::errno();
     if error == libc::EINTR {

@@ -1,4 +1,4 @@
--- What is kept is enough: longer numbers or blocks are refused by 9, or by 1 to 3 before it, and so is what is kept of them. Assumes nothing.
+-- What is kept is enough: longer numbers or blocks are refused with 9, or with 1 to 3 before it, and so is what is kept of them. Assumes nothing.
 use Prim.Native.Nat.{ℕ, _*_, _<_, _≤_}
 use native.Mathlib.Nat.{mul-le-mul-right}
 use native.Mathlib.Omega.{arith}
@@ -40,7 +40,7 @@ many g js len room b h =
     let m : g .n < length js = omega (arith, b .servers-high) in
     ap (demand (leb (g .k) (length js)) (fault 9)) (lacks (length js) (g .n) (fault 9) _ m) ∙ either _ (fault 9)
 
--- so many blocks have at most so many bytes
+-- a bound on the bytes that several blocks have
 most : (g : Params) (m : ℕ) → Bounded g → m ≤ g .n → m * blockLength (g .size) (g .k) ≤ 2560
 most g m b h =
     let y = block-small (g .size) (g .k) (b .blocks-low) in
@@ -60,7 +60,7 @@ long g js len room b h = ap (demand (leb (g .k) (length js)) (fault 9)) (long-or
 
 -- ---- the outcome
 
--- that of lists too long to be decoded
+-- the outcome for lists that are too long to be decoded
 abbrev tooLong : Params → List ℕ → Outcome
 tooLong g out = written (andThen (paramsTest g) (Refused (fault 9))) out []
 

@@ -13,6 +13,6 @@ numbersKept = 11
 unfoldable pub bytesKept : ℕ
 bytesKept = 2561
 
--- o is the outcome of decoding whatever numbers and blocks these are kept of
+-- o is the outcome of decoding any numbers and blocks of which these are kept
 unfoldable pub DecodesAll : Params → List ℕ → List ℕ → List ℕ → Outcome → Type 0
 DecodesAll g numbers blocks out o = (js w : List ℕ) → numbers ≡ take numbersKept js → blocks ≡ take bytesKept w → o ≡ decoding g js w out

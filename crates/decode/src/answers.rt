@@ -26,7 +26,7 @@ fn decode_kept(g: Params, numbers: &[u8], blocks: &[u8], area: &mut [u8]) -> Cod
     blocks::decode(g, numbers, blocks, area)
 }
 
-// Decodes into the front of the area, of which as much is lent as room says.
+// Decodes into the first room bytes of the area.
 fn decode_in(
     g: Params,
     room: usize,
@@ -45,7 +45,7 @@ fn decode_in(
     put_value(out, text, &area[..n])
 }
 
-// A value has at most 256 bytes, so that a longer area changes nothing.
+// A value has at most 256 bytes, so a longer area changes nothing.
 fn decoded(
     g: Params,
     room: usize,

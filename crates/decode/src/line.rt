@@ -90,7 +90,7 @@ fn next_field(line: Line) -> Line {
     r
 }
 
-// The line with a byte of a field more; the bytes that NUMBERS and BLOCKS spell are kept where there is room.
+// The line with one more byte of a field; the bytes that NUMBERS and BLOCKS spell are kept while there is room.
 fn add_to_field(line: Line, b: u8, numbers: &mut [u8], blocks: &mut [u8]) -> Line {
     let f = line.field;
     let y = field_with(f, b);
@@ -110,7 +110,7 @@ fn add_to_field(line: Line, b: u8, numbers: &mut [u8], blocks: &mut [u8]) -> Lin
     r
 }
 
-// The line with one byte more, which is no newline.
+// The line with one more byte, which is not a newline.
 fn add_byte(line: Line, b: u8, numbers: &mut [u8], blocks: &mut [u8]) -> Line {
     if b == b' ' {
         return next_field(line);
@@ -118,7 +118,7 @@ fn add_byte(line: Line, b: u8, numbers: &mut [u8], blocks: &mut [u8]) -> Line {
     add_to_field(line, b, numbers, blocks)
 }
 
-// The line with a part more.
+// The line with one more part.
 pub fn add_part(line: Line, part: &[u8], numbers: &mut [u8], blocks: &mut [u8]) -> Line {
     let mut y = line;
     let mut i = 0;
@@ -129,7 +129,7 @@ pub fn add_part(line: Line, part: &[u8], numbers: &mut [u8], blocks: &mut [u8]) 
     y
 }
 
-// Whether a line that ends here has all its fields, each of its form.
+// Whether a line that ends here has all its fields, each in its form.
 pub fn is_whole(line: Line) -> bool {
     let y = ended(line);
     if y.place != BLOCKS {

@@ -28,7 +28,7 @@ and-false false b e f = impossible (cc f)
 
 -- ---- an entry
 
--- an entry begins the list
+-- the list begins with an entry
 pub record Begins (l : List ℕ) : Type 0 where
   pub long : 3 ≤ be2 l 0
   pub version : getD l 2 0 ≡ 1
@@ -38,7 +38,7 @@ pub record Begins (l : List ℕ) : Type 0 where
 abbrev pub foundAt : List ℕ → Found
 foundAt l = record { sender = partyIn (getD l 3 0) (getD l 4 0); end = 2 + be2 l 0 }
 
--- nothing speaks against the length, the version and the class as far as they are there
+-- the length, the version and the class are right, as far as the list has them
 pub record Sound (l : List ℕ) : Type 0 where
   pub long : 2 ≤ length l → 3 ≤ be2 l 0
   pub version : 3 ≤ length l → getD l 2 0 ≡ 1
@@ -55,7 +55,7 @@ sound-of l e =
       class = λ h. ltb-false _ _ (and-false _ _ (b .1) (le-leb 4 (length l) h));
     }
 
--- what speaks against it
+-- one of them is wrong
 pub data Unsound (l : List ℕ) : Type 0 where
   length-low : 2 ≤ length l → be2 l 0 < 3 → Unsound l
   version-other : 3 ≤ length l → (getD l 2 0 ≡ 1 → ⊥) → Unsound l
@@ -119,7 +119,7 @@ front l = first (eqb (length l) 0) refl
     first true e = empty (eqb-true _ _ e)
     first false e = let n : length l ≡ 0 → ⊥ = eqb-false (length l) 0 e in second (omega arith) (malformed l) refl
 
--- the reading of a list that an entry begins
+-- what is read from a list that begins with an entry
 pub reading-begins : (l : List ℕ) → Begins l → readingOf l ≡ gives (some (foundAt l))
 unfolding readingOf malformed cut pick
 reading-begins l B =

@@ -1,4 +1,4 @@
--- A closing's number gives the closing back, and what a reading or a writing says the reading or the writing, so that no two say the same. Assumes
+-- A closing can be told from its number, and a reading or a writing from what it says, so no two say the same. Assumes
 -- nothing.
 use Prim.Native.Nat.{ℕ}
 use mathlib.Core.Path.{_≡_, refl, ap}

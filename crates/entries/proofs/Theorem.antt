@@ -97,7 +97,7 @@ back (e ∷ es) W rest =
 
 -- ---- only written forms are read
 
--- two bytes, version, class, number and frame as they are read
+-- length, version, class, number and frame as they are read
 again : (a b c j : ℕ) (f : List ℕ) → a < 256 → b < 256 → c ≤ 1 → 3 + length f ≡ a * 256 + b
     → (entryBytes (traceEntry (partyIn c j) f) ≡ a ∷ b ∷ 1 ∷ c ∷ j ∷ f) × (numberIn (partyIn c j) ≡ j)
 unfolding entryBytes leadBytes bytes2 partyBytes partyIn pick
@@ -111,7 +111,7 @@ again a b (suc zero) j f ha hb hc e =
     (ap₂ (λ x y. x ∷ y ∷ 1 ∷ 1 ∷ j ∷ f) u v, refl)
 again a b (suc (suc c)) j f ha hb hc e = absurd (omega arith)
 
--- what is left of n bytes and more after the first five
+-- a list of at least n bytes, cut after the first n; its first five bytes are written out
 split-five : (n : ℕ) (a b v c j : ℕ) (r : List ℕ) → 5 ≤ n → n ≤ 5 + length r
     → (length (take (n - 5) r) ≡ n - 5) × ((a ∷ b ∷ v ∷ c ∷ j ∷ take (n - 5) r) ++ drop n (a ∷ b ∷ v ∷ c ∷ j ∷ r) ≡ a ∷ b ∷ v ∷ c ∷ j ∷ r)
 split-five n a b v c j r h g =
@@ -145,7 +145,7 @@ only-one (a ∷ b ∷ v ∷ c ∷ j ∷ r) p B =
 front-same : (l more : List ℕ) (i : ℕ) → i < length l → getD (l ++ more) i 0 ≡ getD l i 0
 front-same l more i h = List·getD-append l more 0 i h
 
--- 22: no entry begins there, whatever follows
+-- closing 22: no entry begins there, whatever follows
 never-begins : (l more : List ℕ) → Unsound l → Begins (l ++ more) → ⊥
 unfolding be2
 never-begins l more (length-low h u) B = omega (arith, B .long, front-same l more 0 (omega arith), front-same l more 1 (omega arith))
@@ -156,7 +156,7 @@ bad-closes : (l : List ℕ) → Unsound l → Closes l 22
 bad-closes l u =
     closesMalformed (λ e W more rest q. never-begins l more u (subst Begins (sym q) (written-back (e .sender) (e .frame) rest (W .short) .begins)))
 
--- 23: what is missing of an entry
+-- closing 23: some bytes would complete an entry
 record Missing (l : List ℕ) : Type 0 where
   pub entry : TraceEntry
   pub writable : Writable entry
@@ -164,7 +164,7 @@ record Missing (l : List ℕ) : Type 0 where
   pub some : 0 < length more
   pub whole : l ++ more ≡ entryBytes entry
 
--- bytes that a frame f would end
+-- l is the front of the entry with the frame f
 missing : (a b c j : ℕ) (f l more : List ℕ) → a < 256 → b < 256 → c ≤ 1 → j < 256 → 3 + length f ≡ a * 256 + b → 0 < length more
     → l ++ more ≡ a ∷ b ∷ 1 ∷ c ∷ j ∷ f → Missing l
 missing a b c j f l more ha hb hc hj e s q =
@@ -212,7 +212,7 @@ nothing-long l h e = omega (arith, ap length e)
 cut-closes : (l : List ℕ) → 0 < length l → Missing l → Closes l 23
 cut-closes l h M = closesCut (nothing-long l h) (M .entry) (M .writable) (M .more) (nothing-long (M .more) (M .some)) (M .whole)
 
--- 0: nothing is left
+-- closing 0: nothing is left
 pub whole-closes : {l : List ℕ} {n : ℕ} → Closes l n → n ≡ 0 → l ≡ []
 whole-closes (closesWhole h) e = h
 whole-closes (closesMalformed h) e = absurd (omega arith)

@@ -22,9 +22,9 @@ use Rattle.entries.proofs.Fronts.{Begins, foundAt, Unsound, length-low,
 pub fewer : (l : List ℕ) → Begins l → (m : ℕ) → length l ≤ suc m → length (drop (2 + be2 l 0) l) ≤ m
 fewer l B m h = let w = B .whole in let g = B .long in rw length-drop (omega arith)
 
--- ---- how many entries may be read does not matter where there are so many bytes
+-- ---- the bound on how many entries may be read does not matter if it is at least the number of bytes
 
--- what is read after an entry is all that counts
+-- two readings agree if they agree on what follows the first entry
 pub same-then : (l : List ℕ) (f g : List ℕ → Trace) → (Begins l → f (drop (2 + be2 l 0) l) ≡ g (drop (2 + be2 l 0) l))
     → {r : Response (Option Found)} → Front l r → thenTrace r l f ≡ thenTrace r l g
 unfolding thenTrace
@@ -102,7 +102,7 @@ module _ (l : List ℕ) where
   unfolding thenTrace
   trace-entry x e = trace-more l ∙ ap (λ r. thenTrace r l traceOf) e
 
--- an entry takes five bytes and its frame, and no more than there are
+-- an entry takes at least five bytes, and no more than there are
 pub entry-within : (l : List ℕ) (x : Found) → readingOf l ≡ gives (some x) → (5 ≤ x .end) × (x .end ≤ length l)
 entry-within l x = go (front l)
   where

@@ -36,7 +36,7 @@ entryVersion = 1
 abbrev pub frameAt : ℕ
 frameAt = 5
 
--- what comes before the frame in an entry of which size bytes follow the length
+-- the bytes of an entry before its frame; size is how many bytes follow the length
 unfoldable pub leadBytes : ℕ → Party → List ℕ
 leadBytes size p = bytes2 size ++ (entryVersion ∷ partyBytes p)
 
@@ -67,7 +67,7 @@ closingNumber C.Whole = 0
 closingNumber C.Malformed = 22
 closingNumber C.Cut = 23
 
--- what a reading says, by its cases: an entry; nothing, since no bytes are left; or the number with which the trace closes there
+-- what a reading says, by its cases: an entry; nothing, since no bytes are left; or the number, 22 or 23, with which the trace closes there
 abbrev pub readingResponse : Reading → Response (Option Found)
 readingResponse (R.Entry x) = gives (some x)
 readingResponse (R.Closed C.Whole) = gives none
@@ -104,7 +104,7 @@ thenTrace (turnedDown n) l rest = closed n
 thenTrace (gives none) l rest = closed 0
 thenTrace (gives (some x)) l rest = before (foundIn l x ∷ []) (rest (drop (x .end) l))
 
--- at most m entries; every entry takes a byte, so that the length is enough for m
+-- at most m entries; an entry takes at least one byte, so the number of bytes is enough for m
 unfoldable pub traceFrom : ℕ → List ℕ → Trace
 traceFrom zero l = closed 0
 traceFrom (suc m) l = thenTrace (readingOf l) l (traceFrom m)

@@ -9,7 +9,7 @@ use Rattle.frame.specs.Messages.{numberIn}
 use Rattle.entries.specs.Entries.{TraceEntry, entryBytes, traceBytes, Trace, before, traceOf}
 use Rattle.entries.specs.Writing.{longest}
 
--- an entry that can be written: the sender's number is a byte, and the length fits in two
+-- an entry that can be written: the sender's number fits into a byte, and the length into two
 pub record Writable (e : TraceEntry) : Type 0 where
   pub number : numberIn (e .sender) < 256
   pub short : length (e .frame) ≤ longest
@@ -20,7 +20,7 @@ AllWritable (e ∷ es) = Writable e × AllWritable es
 
 -- a trace closes at the bytes l, with a number
 pub data Closes (l : List ℕ) : ℕ → Type 0 where
-  -- there are none
+  -- no bytes are left
   closesWhole : l ≡ [] → Closes l 0
   -- whatever may follow them, no entry begins there
   closesMalformed : ((e : TraceEntry) → Writable e → (more rest : List ℕ) → l ++ more ≡ entryBytes e ++ rest → ⊥) → Closes l 22

@@ -12,11 +12,11 @@ use Rattle.entries.specs.declared.Writing.{Writing}
 use Rattle.entries.specs.declared.Writing.the-variants as W
 use Rattle.entries.specs.Entries.{frameAt, traceEntry, entryBytes}
 
--- the longest frame of an entry: its length, with the three bytes before it, fits in two
+-- the longest frame of an entry: the entry's length, which counts the frame and three bytes before it, fits into two bytes
 abbrev pub longest : ℕ
 longest = 65532
 
--- what a writing says, by its cases: how many bytes the entry takes, or the number
+-- what a writing says, by its cases: how many bytes the entry takes, or the refusal's number
 abbrev pub writingResponse : Writing → Response ℕ
 writingResponse (W.Written m) = gives m
 writingResponse (W.Refused r) = turnedDown (numberOf r)
@@ -28,7 +28,7 @@ pub record Written : Type 0 where
 abbrev pub written : Response ℕ → List ℕ → Written
 written r out = record { answer = r; out = out }
 
--- an entry at the front of the area, and how many bytes it takes. 3: the frame is too long for an entry; 10: "lent area short"
+-- an entry at the front of the area, and how many bytes it takes. Refusal 3: the frame is too long for an entry; 10: "lent area short"
 unfoldable pub writing : Party → List ℕ → List ℕ → Written
 writing p f out =
     pick (ltb longest (length f)) (written (turnedDown 3) out)

@@ -1,4 +1,4 @@
-// Entries of a trace (document 02, F-8): a frame and its sender each.
+// Entries of a trace (document 02, F-8): each is a frame and its sender.
 use frame::Party;
 use frame::Refusal;
 
@@ -14,7 +14,7 @@ pub const VERSION: u8 = 1;
 // The longest frame that an entry can have.
 pub const LONGEST: usize = 65532;
 
-// How a trace closes: whole, or at an entry that is malformed or inside of which it ends. `closingNumber` gives document 02's number.
+// How a trace closes: whole, or at an entry that is malformed or inside which it ends. `closingNumber` gives document 02's number.
 pub enum Closing {
     Whole,
     Malformed,

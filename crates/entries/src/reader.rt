@@ -7,7 +7,7 @@ use frame::parties::party_in;
 ghost use mathlib.Core.Path.{_≡_};
 ghost use Rattle.entries.specs.Entries.{malformed, cut, readingResponse, readingOf, traceOf, surveyed, surveyOf};
 
-// 22: length under 3, version not 1 or class above 1, as far as the bytes go.
+// 22: the length is under 3, the version not 1 or the class above 1, as far as the bytes go.
 fn is_malformed(l: &[u8]) -> bool
     ensures { λ r. ⌜ r ≡ malformed (now (l .entry)) ⌝ }
 {

@@ -11,7 +11,7 @@ ghost use Prim.Native.Nat.{_<_};
 ghost use Rattle.entries.specs.Entries.{leadBytes};
 ghost use Rattle.entries.specs.Writing.{written, writingResponse, writing};
 
-// What comes before the frame in an entry of which size bytes follow the length.
+// The bytes of an entry before its frame; size is how many bytes follow the length.
 fn lead_bytes(sender: Party, size: usize) -> [u8; 5]
     ensures { λ r. ⌜ r ≡ leadBytes size sender ⌝ }
 {
@@ -21,7 +21,7 @@ fn lead_bytes(sender: Party, size: usize) -> [u8; 5]
     [high, low, VERSION, party[0], party[1]]
 }
 
-// Writes an entry at the front of out. 3: the frame is too long for an entry; 10: out is too short.
+// Writes an entry at the front of out. Refusal 3: the frame is too long for an entry; 10: out is too short.
 pub fn write_entry(sender: Party, f: &[u8], out: &mut [u8]) -> Writing
     ensures { λ r. ⌜ written (writingResponse r) (now (out .exit)) ≡ writing sender (now (f .entry)) (now (out .entry)) ⌝ }
 {

@@ -15,7 +15,7 @@ a ⊕ b = bitXor a b
 unfoldable pub reduction : ℕ
 reduction = 0x1b
 
--- 4.2.1: the product by 02, which is a shift by one place and, where the top bit was set, the sum with 1B
+-- 4.2.1: the product with 02, which is a shift by one place and, if the top bit was set, the sum with 1B
 unfoldable pub xtime : ℕ → ℕ
 xtime a = (a * 2 % 256) ⊕ (a / 128 % 2 * reduction)
 

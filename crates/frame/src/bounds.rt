@@ -1,7 +1,7 @@
 // The parameters' bounds, and the sizes that follow from them.
 use crate::Refusal;
 use crate::Verdict;
-use crate::layout::VALUE_AT;
+use crate::places::VALUE_AT;
 use blocks::Params;
 use blocks::bounds::length_fits;
 use blocks::bounds::parties_fit;

@@ -1,7 +1,7 @@
 // Entries, a digest list and a block each, in the chunks of a lent area.
 use crate::bounds::width;
-use crate::layout::BLOCK_AT;
-use crate::layout::CHUNK_BYTES;
+use crate::places::BLOCK_AT;
+use crate::places::CHUNK_BYTES;
 use blocks::Params;
 ghost use mathlib.Core.Path.{_≡_};
 ghost use Prim.Native.Nat.{_+_, _*_, _≤_};

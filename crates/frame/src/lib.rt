@@ -1,9 +1,9 @@
 // What servers and clients share: parties, stamps and refusals, and frames as they are opened and written.
 pub mod bounds;
 pub mod entries;
-pub mod layout;
 pub mod opener;
 pub mod parties;
+pub mod places;
 pub mod refusals;
 pub mod send;
 pub mod stamps;

@@ -11,7 +11,7 @@ use crate::line::WRITE;
 use blocks::Params;
 use frame::Party;
 
-// A party of this number gets a frame of this sender; or begins a read or a write. What a frame or a value is, the line's last field spells.
+// The server or client with this number gets a frame from this sender, or begins a read or a write. The line's last field spells the frame or the value.
 pub enum Ask {
     Other,
     Begin(Params),
@@ -67,7 +67,7 @@ fn begin_ask(line: Line) -> Ask {
 
 // ---- the calls
 
-// A number as a byte; 255 is nobody's.
+// A number as a byte; 255, which no party has, for a larger one.
 pub fn byte_of(j: usize) -> u8 {
     if 255 < j {
         return 255;

@@ -7,7 +7,7 @@ use case_text::fields::is_number;
 use case_text::fields::no_field;
 use case_text::fields::store;
 
-// The words of the script, by number; 0 stands for any other.
+// The words of the script, by number; 0 is any other word.
 pub const HALL: u8 = 1;
 
 pub const SERVER: u8 = 2;
@@ -37,7 +37,7 @@ const SPELT_FROM_CLIENT: u64 = 0x63;
 
 const SPELT_FROM_SERVER: u64 = 0x73;
 
-// What is kept of a field: which word it is; whether it is a decimal number, and its value, 1000 standing for more; whether it spells bytes.
+// What is kept of a field: which word it is; whether it is a decimal number, and its value, 1000 meaning 1000 or more; whether it spells bytes.
 pub struct Mark {
     pub word: u8,
     pub decimal: bool,
@@ -45,7 +45,7 @@ pub struct Mark {
     pub bytes: bool,
 }
 
-// The place of the field being read, 6 standing for one too many; what is kept of the fields before it; that field; and how many bytes it spells so far.
+// The place of the field being read, 6 meaning too many fields; what is kept of the fields before it; that field; and how many bytes it spells so far.
 pub struct Line {
     pub last: usize,
     pub marks: [Mark; 6],
@@ -71,7 +71,7 @@ pub fn no_line() -> Line {
     }
 }
 
-// The number of the word of so many bytes.
+// The number of a word with this length in bytes.
 fn word_of(length: usize, word: u64) -> u8 {
     if length == 1 {
         return letter_of(word);
@@ -118,7 +118,7 @@ fn mark_of(f: Field) -> Mark {
     }
 }
 
-// The line with the field being read kept too.
+// The line at its end: the field that was being read is kept, too.
 pub fn ended(line: Line) -> Line {
     let i = line.last;
     if 6 <= i {
@@ -159,7 +159,7 @@ fn add_to_field(line: Line, b: u8, bytes: &mut [u8]) -> Line {
     r
 }
 
-// The line with one byte more, which is no newline.
+// The line with one byte more, which is not a newline.
 pub fn add_byte(line: Line, b: u8, bytes: &mut [u8]) -> Line {
     if b == b' ' {
         return next_field(line);

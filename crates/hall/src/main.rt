@@ -2,7 +2,6 @@
 use crate::asks::asked;
 use crate::asks::is_call;
 use crate::calls::answer;
-use crate::calls::with_out;
 use crate::line::Line;
 use crate::line::ended;
 use crate::line::is_begun;
@@ -10,9 +9,11 @@ use crate::line::no_line;
 use crate::parties::AREAS;
 use crate::parties::Hall;
 use crate::parties::INITIALS;
+use crate::parties::RECORDS;
 use crate::parties::ROWS;
 use crate::parties::VALUES;
 use crate::parties::no_hall;
+use crate::parties::with_out;
 use crate::script::Next;
 use crate::script::next_ask;
 use console::counts::count_of;
@@ -32,14 +33,14 @@ mod parties;
 mod print;
 mod script;
 
-// The parties, the line that is being read, and where the piece of the script goes on.
+// The parties, the line that is being read, and the next index in the piece of the script.
 struct Run {
     hall: Hall,
     line: Line,
     at: usize,
 }
 
-// What a piece of the script leaves: whether it goes on, and whether it ended because it could not be read, or its answers could not be written.
+// After a piece of the script: the run, whether the script goes on, and whether it could not be read or its answers could not be written.
 struct Taken {
     run: Run,
     more: bool,
@@ -53,11 +54,12 @@ fn step(
     bytes: &[u8],
     areas: &mut [u8],
     initials: &mut [u8],
+    records: &mut [u8],
     rows: &mut [u8],
     values: &mut [u8],
     text: &mut [u8],
 ) -> Run
-    requires { ⌜ Parties (now areas) (now initials) (now rows) (now values) ⌝ }
+    requires { ⌜ Parties (now areas) (now initials) (now records) (now rows) (now values) ⌝ }
     ensures { λ x. ⌜ x .at ≡ n .at ⌝ }
 {
     let line = n.line;
@@ -68,7 +70,17 @@ fn step(
         return Run { hall: h, line, at };
     }
     let used = count_of(n.used, bytes);
-    let hall = answer(h, ask, &bytes[..used], areas, initials, rows, values, text);
+    let hall = answer(
+        h,
+        ask,
+        &bytes[..used],
+        areas,
+        initials,
+        records,
+        rows,
+        values,
+        text,
+    );
     Run { hall, line, at }
 }
 
@@ -79,17 +91,18 @@ fn take_next(
     bytes: &mut [u8],
     areas: &mut [u8],
     initials: &mut [u8],
+    records: &mut [u8],
     rows: &mut [u8],
     values: &mut [u8],
     text: &mut [u8],
 ) -> Run
     requires { ⌜ r .at < length (now piece) ⌝ }
-    requires { ⌜ Parties (now areas) (now initials) (now rows) (now values) ⌝ }
+    requires { ⌜ Parties (now areas) (now initials) (now records) (now rows) (now values) ⌝ }
     ensures { λ x. ⌜ (r .at < x .at) × (x .at ≤ length (now (piece .entry))) ⌝ }
 {
     let h = r.hall;
     let n = next_ask(h.ready, r.line, piece, r.at, bytes, h.out, text);
-    step(r, n, bytes, areas, initials, rows, values, text)
+    step(r, n, bytes, areas, initials, records, rows, values, text)
 }
 
 fn from_start(r: Run) -> Run
@@ -107,15 +120,26 @@ fn take_all(
     bytes: &mut [u8],
     areas: &mut [u8],
     initials: &mut [u8],
+    records: &mut [u8],
     rows: &mut [u8],
     values: &mut [u8],
     text: &mut [u8],
 ) -> Run
-    requires { ⌜ Parties (now areas) (now initials) (now rows) (now values) ⌝ }
+    requires { ⌜ Parties (now areas) (now initials) (now records) (now rows) (now values) ⌝ }
 {
     let mut y = from_start(r);
     while y.at < piece.len() {
-        y = take_next(y, piece, bytes, areas, initials, rows, values, text);
+        y = take_next(
+            y,
+            piece,
+            bytes,
+            areas,
+            initials,
+            records,
+            rows,
+            values,
+            text,
+        );
     }
     y
 }
@@ -134,11 +158,12 @@ fn take_piece(
     bytes: &mut [u8],
     areas: &mut [u8],
     initials: &mut [u8],
+    records: &mut [u8],
     rows: &mut [u8],
     values: &mut [u8],
     text: &mut [u8],
 ) -> Taken
-    requires { ⌜ Parties (now areas) (now initials) (now rows) (now values) ⌝ }
+    requires { ⌜ Parties (now areas) (now initials) (now records) (now rows) (now values) ⌝ }
 {
     let mut chunk = io::large_buffer();
     let p = read_piece(fd, &mut chunk);
@@ -150,7 +175,17 @@ fn take_piece(
             failed: p.failed,
         };
     }
-    let y = take_all(r, &chunk[..n], bytes, areas, initials, rows, values, text);
+    let y = take_all(
+        r,
+        &chunk[..n],
+        bytes,
+        areas,
+        initials,
+        records,
+        rows,
+        values,
+        text,
+    );
     let run = flushed(y, text);
     let hall = run.hall;
     let out = hall.out;
@@ -167,11 +202,12 @@ fn end_script(
     bytes: &[u8],
     areas: &mut [u8],
     initials: &mut [u8],
+    records: &mut [u8],
     rows: &mut [u8],
     values: &mut [u8],
     text: &mut [u8],
 )
-    requires { ⌜ Parties (now areas) (now initials) (now rows) (now values) ⌝ }
+    requires { ⌜ Parties (now areas) (now initials) (now records) (now rows) (now values) ⌝ }
 {
     let line = r.line;
     if !is_begun(line) {
@@ -180,21 +216,32 @@ fn end_script(
     let h = r.hall;
     let used = count_of(line.used, bytes);
     let ask = asked(h.ready, ended(line));
-    let last = answer(h, ask, &bytes[..used], areas, initials, rows, values, text);
+    let last = answer(
+        h,
+        ask,
+        &bytes[..used],
+        areas,
+        initials,
+        records,
+        rows,
+        values,
+        text,
+    );
     flush(last.out, text);
 }
 
-// Reads the script to its end, in at most 2^64 - 1 pieces. Where it can't be read to its end, the line that is begun is not answered.
+// Reads the script to its end, in at most 2^64 - 1 pieces. If it can't be read to its end, a line that was not read to its end is not answered.
 fn read_script(
     fd: i32,
     bytes: &mut [u8],
     areas: &mut [u8],
     initials: &mut [u8],
+    records: &mut [u8],
     rows: &mut [u8],
     values: &mut [u8],
     text: &mut [u8],
 )
-    requires { ⌜ Parties (now areas) (now initials) (now rows) (now values) ⌝ }
+    requires { ⌜ Parties (now areas) (now initials) (now records) (now rows) (now values) ⌝ }
 {
     let mut r = Run {
         hall: no_hall(),
@@ -204,22 +251,23 @@ fn read_script(
     let mut failed = false;
     let mut left: u64 = 18446744073709551615;
     while 0 < left {
-        let taken = take_piece(fd, r, bytes, areas, initials, rows, values, text);
+        let taken = take_piece(fd, r, bytes, areas, initials, records, rows, values, text);
         r = taken.run;
         failed = taken.failed;
         left = left_after(left, taken.more);
     }
     if !failed {
-        end_script(r, bytes, areas, initials, rows, values, text);
+        end_script(r, bytes, areas, initials, records, rows, values, text);
     }
 }
 
-// Reads the script, the areas being whole.
+// Reads the script, once the areas are known to have their lengths.
 fn serve(
     fd: i32,
     bytes: &mut [u8],
     areas: &mut [u8],
     initials: &mut [u8],
+    records: &mut [u8],
     rows: &mut [u8],
     values: &mut [u8],
     text: &mut [u8],
@@ -230,13 +278,16 @@ fn serve(
     if initials.len() != INITIALS {
         return;
     }
+    if records.len() != RECORDS {
+        return;
+    }
     if rows.len() != ROWS {
         return;
     }
     if values.len() != VALUES {
         return;
     }
-    read_script(fd, bytes, areas, initials, rows, values, text);
+    read_script(fd, bytes, areas, initials, records, rows, values, text);
 }
 
 // Eleven state areas.
@@ -249,7 +300,7 @@ fn no_rows() -> [u8; ROWS] {
     [0; ROWS]
 }
 
-// A frame has at most 65537 bytes, by its length field. A field that spells more fills the last place too, and is then no frame and no value.
+// A frame has at most 65537 bytes, by its length field. A field that spells more fills the last place too; no frame and no value is that long.
 fn no_bytes() -> [u8; 65538] {
     [0; 65538]
 }
@@ -257,6 +308,7 @@ fn no_bytes() -> [u8; 65538] {
 fn main() {
     let mut areas = no_areas();
     let mut initials = [0u8; INITIALS];
+    let mut records = [0u8; RECORDS];
     let mut rows = no_rows();
     let mut values = [0u8; VALUES];
     let mut bytes = no_bytes();
@@ -270,6 +322,7 @@ fn main() {
         &mut bytes,
         &mut areas,
         &mut initials,
+        &mut records,
         &mut rows,
         &mut values,
         &mut text,

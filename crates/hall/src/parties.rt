@@ -1,4 +1,4 @@
-// The parties of one register on one machine. Place j belongs to server or client j; place 0 serves a number that is nobody's, and stays as it is.
+// The parties of one register on one machine. Place j belongs to server or client j; place 0 is lent for a number that no party has, and stays as it is.
 use crate::asks::byte_of;
 use crate::print::put_disagreement;
 use crate::print::put_out_of_stamps;
@@ -16,9 +16,11 @@ use console::counts::count_of;
 use console::output::Out;
 use console::output::nothing;
 use frame::Party;
-use frame::layout::AREA_BYTES;
-use frame::layout::ROWS_BYTES;
-use server::setup::construct;
+use frame::places::AREA_BYTES;
+use frame::places::ROWS_BYTES;
+use layout::servers::SERVER_SIZE;
+use server_deliver::deliver;
+use server_deliver::fresh::fresh;
 use server_rules::Reply;
 use server_rules::Server;
 ghost use mathlib.Core.Path.{_≡_};
@@ -26,8 +28,10 @@ ghost use Prim.Native.Nat.{_+_, _*_, _≤_};
 ghost use lib.ListN.{length};
 ghost use Rattle.hall.specs.Areas.{Clients, Servers};
 
-// The areas of all parties, with a place 0 that nobody has: state areas and initial blocks of servers 1 to 10, rows areas and values of clients 1 to 8.
+// The areas of all parties, with a place 0 for nobody: state areas, initial blocks and records of servers 1 to 10, rows areas and values of clients 1 to 8.
 pub const AREAS: usize = 11 * AREA_BYTES;
+
+pub const RECORDS: usize = 11 * SERVER_SIZE;
 
 pub const INITIALS: usize = 11 * 256;
 
@@ -35,11 +39,10 @@ pub const ROWS: usize = 9 * ROWS_BYTES;
 
 pub const VALUES: usize = 9 * 256;
 
-// What waits to be printed goes with them.
+// Whether a hall is open, its parameters, its clients, and what waits to be printed.
 pub struct Hall {
     pub ready: bool,
     pub g: Params,
-    pub servers: [Server; 11],
     pub clients: [Client; Server::PLACES],
     pub out: Out,
 }
@@ -54,13 +57,12 @@ pub fn no_hall() -> Hall {
     Hall {
         ready: false,
         g,
-        servers: [Server::fresh(); 11],
         clients: [fresh_client(); Server::PLACES],
         out: nothing(),
     }
 }
 
-// The place of party j of at most so many.
+// The place of party j, one of parties 1 to most; place 0 for any other number.
 fn place_of(j: usize, most: usize) -> usize
     ensures { λ r. ⌜ r ≤ most ⌝ }
 {
@@ -70,13 +72,9 @@ fn place_of(j: usize, most: usize) -> usize
     j
 }
 
-fn with_server(h: Hall, i: usize, s: Server, o: Out) -> Hall {
+pub fn with_out(h: Hall, o: Out) -> Hall {
     let mut y = h;
     y.out = o;
-    if 10 < i {
-        return y;
-    }
-    y.servers[i] = s;
     y
 }
 
@@ -90,22 +88,29 @@ fn with_client(h: Hall, i: usize, s: Client, o: Out) -> Hall {
     y
 }
 
-// Makes servers 1 to n afresh with this initial value. The first refusal is the reply; the parameters being the same, it is the first server's.
-pub fn fresh_servers(g: Params, value: &[u8], areas: &mut [u8], initials: &mut [u8]) -> Reply
-    requires { ⌜ Servers (now areas) (now initials) ⌝ }
+// Makes servers 1 to n afresh with this initial value. The first refusal is the reply; all servers have the same parameters, so it is server 1's.
+pub fn fresh_servers(
+    g: Params,
+    value: &[u8],
+    areas: &mut [u8],
+    initials: &mut [u8],
+    records: &mut [u8],
+) -> Reply
+    requires { ⌜ Servers (now areas) (now initials) (now records) ⌝ }
 {
     let mut j = 1;
     while j < 11 {
         let at = AREA_BYTES * j;
         let first = 256 * j;
-        let r = construct(
+        let own = SERVER_SIZE * j;
+        let reply = fresh(
             g,
-            j as u8,
+            j,
             value,
             &mut areas[at..at + AREA_BYTES],
             &mut initials[first..first + 256],
+            &mut records[own..own + SERVER_SIZE],
         );
-        let reply = r.reply;
         if let Reply::Refused(x) = reply {
             return Reply::Refused(x);
         }
@@ -132,32 +137,31 @@ pub fn hand_server(
     f: &[u8],
     areas: &mut [u8],
     initials: &[u8],
+    records: &mut [u8],
     text: &mut [u8],
 ) -> Hall
-    requires { ⌜ Servers (now areas) (now initials) ⌝ }
+    requires { ⌜ Servers (now areas) (now initials) (now records) ⌝ }
 {
     let i = place_of(j, 10);
     let at = AREA_BYTES * i;
     let first = 256 * i;
+    let own = SERVER_SIZE * i;
     let g = h.g;
-    let servers = h.servers;
     let mut out = [0u8; 12000];
     let mut to = [0u8; 64];
-    let r = server_deliver::deliver(
-        servers[i],
+    let reply = deliver(
         g,
-        byte_of(j),
+        j,
         from,
         f,
         &mut areas[at..at + AREA_BYTES],
         &initials[first..first + 256],
+        &mut records[own..own + SERVER_SIZE],
         &mut out,
         &mut to,
     );
-    let reply = r.reply;
     let o = put_served(h.out, text, reply, &out, &to);
-    let s = r.server;
-    with_server(h, i, s, o)
+    with_out(h, o)
 }
 
 fn put_answered(
@@ -191,7 +195,7 @@ fn put_answered(
     }
 }
 
-// A frame is handed to client j, whose open write's value lies in values. The delivery is lent its record, and updates it.
+// A frame is handed to client j; the value of its open write lies in values. Its record is lent to the delivery, which updates it.
 pub fn hand_client(
     h: Hall,
     j: usize,

@@ -69,7 +69,7 @@ fn put_receiver(o: Out, text: &mut [u8], class: u8, number: u8) -> Out {
     put(b, text, b" ")
 }
 
-// Where the frame at index at ends; the end of the area where there is none.
+// Where the frame at index at ends; the end of the area if no whole frame is there.
 fn frame_end(out: &[u8], at: usize) -> usize
     ensures { λ r. ⌜ r ≤ length (now (out .entry)) ⌝ }
 {

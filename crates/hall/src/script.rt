@@ -1,4 +1,4 @@
-// Lines of the script, one after the other: those that ask for nothing are answered here, without the parties.
+// Lines of the script, one after the other: those that ask for no call are answered here, without the parties.
 use crate::asks::Ask;
 use crate::asks::asked;
 use crate::asks::is_call;
@@ -11,7 +11,7 @@ use console::output::put_what;
 ghost use Prim.Native.Nat.{_≤_, _<_};
 ghost use lib.ListN.{length};
 
-// A line that was read on in a piece of the script, and where the piece goes on: at a newline, or at its end.
+// A line as far as it was read in a piece of the script, and the index where reading stopped: at a newline, or at the end of the piece.
 pub struct Scanned {
     pub line: Line,
     pub at: usize,
@@ -34,8 +34,8 @@ fn scan(line: Line, piece: &[u8], at: usize, bytes: &mut [u8]) -> Scanned
     Scanned { line: y, at: i }
 }
 
-// Where the piece goes on; whether the line that ended there asked for nothing; what is asked for, and how many bytes the line's last field spells; the line
-// that is begun; and what waits to be printed.
+// The next index in the piece; whether the line that ended there asked for no call; what is asked for, and how many bytes the line's last field spells; the
+// line that is being read; and what waits to be printed.
 pub struct Next {
     pub at: usize,
     pub idle: bool,

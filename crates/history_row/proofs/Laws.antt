@@ -68,7 +68,7 @@ verdict-added h (a ∷ ops) e l =
     ∙ verdict-over (record { rows = h .rows; count = 65 }) ops (omega arith)
     ∙ sym (judged-over (take (h .count) (h .rows) ++ a ∷ ops) (omega arith)))
 
--- from no operations on
+-- starting from no operations
 pub verdict-row : (ops : List Operation) → verdictOf (addedAll none ops) ≡ judged ops
 unfolding none
 verdict-row ops = verdict-added none ops refl (omega arith)

@@ -12,7 +12,7 @@ use Rattle.history_row.specs.declared.History.{History}
 unfoldable pub none : History
 none = record { rows = replicate 64 noOperation; count = 0 }
 
--- one operation more; 65 stands for more than 64
+-- one more operation; 65 means more than 64
 unfoldable pub added : History → Operation → History
 added h a = pick (leb 64 (h .count)) (record { rows = h .rows; count = 65 }) (record { rows = set (h .rows) (h .count) a; count = h .count + 1 })
 

@@ -25,7 +25,7 @@ value-one : (n c : ℕ) → valueFrom n (c ∷ []) ≡ n * 10 + (c - 48)
 unfolding valueFrom
 value-one n c = refl
 
--- the last digit after those of the tenth
+-- the digits of a number are those of its tenth, and then its last digit
 pub decimal-more : (n : ℕ) → 10 ≤ n → n < 10 ^ 20 → decimal n ≡ decimal (n / 10) ++ ((n % 10 + 48) ∷ [])
 decimal-more n g h =
     let c = n % 10 + 48 in
@@ -57,7 +57,7 @@ pub length-aligned : (w : ℕ) (t : List ℕ) → length t ≤ w → length (ali
 unfolding aligned
 length-aligned w t h = simp (length-append, length-replicate) (omega arith)
 
--- one byte more at the end takes one column more
+-- one more byte at the end takes one more column
 pub aligned-snoc : (w : ℕ) (t : List ℕ) (c : ℕ) → aligned (suc w) (t ++ (c ∷ [])) ≡ aligned w t ++ (c ∷ [])
 unfolding aligned
 aligned-snoc w t c =
@@ -66,13 +66,13 @@ aligned-snoc w t c =
 
 -- ---- the stores of `put_number`
 
--- a store after others does not wait for them
+-- a store at a higher index may be made before the others
 sets-behind : (d : List ℕ) (j c i : ℕ) (vs : List ℕ) → i + length vs ≤ j → sets (set d j c) i vs ≡ set (sets d i vs) j c
 sets-behind d j c i [] h = refl
 sets-behind d j c i (v ∷ vs) h =
     ap (λ l. sets l (suc i) vs) (set-comm d j i c v (λ e. omega arith)) ∙ sets-behind (set d i v) j c (suc i) vs (omega arith)
 
--- one digit, the last of those that are left: what comes of it in the end is the same
+-- the last of the digits that are left is stored: the final outcome stays the same
 digit-put : (d : List ℕ) (at k x : ℕ) → 10 ≤ x → x < 10 ^ 20 → length (decimal x) ≤ suc k
     → (length (decimal (x / 10)) ≤ k)
     × (sets (set d (at + k) (x % 10 + 48)) at (aligned k (decimal (x / 10))) ≡ sets d at (aligned (suc k) (decimal x)))

@@ -1,4 +1,4 @@
--- A line's fields cut at their columns are those that it was made of. Assumes nothing.
+-- Cutting a line at its columns gives the fields that it was made of. Assumes nothing.
 use mathlib.Core.Path.{_≡_, refl, sym, ap, ap₂, _∙_}
 use mathlib.Core.Bool.{Bool, true, false}
 use mathlib.Core.List.{List, [], _∷_, _++_, append-assoc, map}

@@ -1,5 +1,5 @@
 -- What `lay` answers, by the answer to the history: the operations that the line numbers name are those in the order found. And no two answers of the code
--- have one response (`laid-injective`). Assumes nothing.
+-- have the same response (`laid-injective`). Assumes nothing.
 use mathlib.Core.Path.{_≡_, refl, sym, ap, ap₂, subst, _∙_}
 use mathlib.Core.List.{List, [], _∷_, _++_, append-assoc, append-nil}
 use Prim.Native.Nat.{ℕ, zero, suc, _+_, _-_, _*_, _<_, _≤_}
@@ -24,7 +24,7 @@ use Rattle.order.proofs.Picks.{pick-yes, pick-no}
 use Rattle.order.proofs.Less.{true-false}
 use Rattle.order.proofs.Rows.{noEntry, row-length}
 use Rattle.order.proofs.Arranged.{theRow, size, stands, row-is-row}
-use Rattle.order.proofs.Answers.{isOrder, first}
+use Rattle.order.proofs.Judgements.{isOrder, first}
 use Rattle.history_row.specs.Rows.{none, added, addedAll}
 use Rattle.history_row.specs.declared.History.{History}
 use Rattle.history_row.proofs.Laws.{added-fits}
@@ -56,7 +56,7 @@ laid-back (L.Pages n) = refl
 laid-back (L.Offending a b) = refl
 laid-back (L.Refused x) = refl
 
--- no two answers of the code have one response
+-- no two answers of the code have the same response
 pub laid-injective : (x y : Laid) → laidResponse x ≡ laidResponse y → x ≡ y
 laid-injective x y e = sym (laid-back x) ∙ ap laidWith e ∙ laid-back y
 
@@ -158,7 +158,7 @@ module _ (ops : List Operation) where
             subst InWidth (sym (order-at i k)) (wide-at ops (getD (theRow ops) i 0 - 1) w (omega arith));
       }
 
--- line numbers name them
+-- they are the operations that the line numbers name
 module _ (ops rows : List Operation) (lines : List ℕ) (m : ℕ) (w : AllInWidth ops) (few : length ops ≤ 64) (n : m ≡ length ops)
     (r : take m rows ≡ ops) (l : lines ≡ sets blank 0 (lineNumbers (rowOf ops))) where
   numbers : (i : ℕ) → i < m → getD lines i 0 ≡ getD (theRow ops) i 0
@@ -208,7 +208,7 @@ module _ (ops rows : List Operation) (lines : List ℕ) (m : ℕ) (w : AllInWidt
 
 -- ---- the outcome
 
--- what `lay` has to know where the history has an order
+-- what `lay` needs to know where the history has an order
 pub record Ready (x : Reading) (v : Judgement) (m : ℕ) (l : Lines) : Type 0 where
   pub there : Named (x .history .rows) (v .lines) m
   pub lays : (out : List ℕ) → laidOut (namedAll (x .history .rows) (v .lines) m) out ≡ layingOf l out

@@ -32,7 +32,7 @@ joined-agree f g i k (suc n) e =
     ap₂ (λ x l. x ++ l) (rw (add-zero, add-zero) at (e 0 (omega arith)))
     (joined-agree f g (suc i) (suc k) n (λ j h. rw (suc-add, suc-add, ← add-suc, ← add-suc) (e (suc j) (omega arith))))
 
--- a loop that stores lists of one length: its start, a turn, and its end
+-- a loop that stores lists of the same length: its start, a turn, and its end
 pub no-lines : (f : ℕ → List ℕ) (i : ℕ) (d : List ℕ) (at : ℕ) → d ≡ sets d at (joined f i 0)
 unfolding joined
 no-lines f i d at = refl
@@ -45,7 +45,7 @@ pub turn : (f : ℕ → List ℕ) (w i j : ℕ) (d o y : List ℕ) (at : ℕ) �
 turn f w i j d o y at e p q =
     put-next d at (j * w) (joined f i j) (f (i + j)) p (length-lines f w i j e) q ∙ ap (sets d at) (sym (joined-snoc f i j))
 
--- the same from the front on
+-- the same from the front of the area on
 pub turn-front : (f : ℕ → List ℕ) (w j : ℕ) (d o y : List ℕ) → ((k : ℕ) → k < j → length (f k) ≡ w)
     → o ≡ sets d 0 (joined f 0 j) → y ≡ sets o (j * w) (f j) → y ≡ sets d 0 (joined f 0 (j + 1))
 turn-front f w j d o y e p q =

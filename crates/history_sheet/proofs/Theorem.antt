@@ -170,7 +170,7 @@ module _ (a b : List Operation) (A : Fits a) (B : Fits b) (e : sheetOf a ≡ she
   same-pages : pagesOf (length a) ≡ pagesOf (length b)
   same-pages = let x = sheet-size a A in let y = sheet-size b B in let z = ap length e in omega arith
 
-  -- the first place that a has not has a line of spaces there, and that of an operation on the sheet of b
+  -- the line for the first place after those of a is spaces on the sheet of a, and an operation's on the sheet of b
   not-shorter : length a < length b → ⊥
   not-shorter h =
       let n = length a in

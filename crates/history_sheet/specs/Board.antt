@@ -38,7 +38,7 @@ trimmed (c ∷ text) = pick (eqb c 32) (trimmed text) (c ∷ text)
 unfoldable pub fieldsIn : List ℕ → List (List ℕ)
 fieldsIn line = map trimmed (cut columns line)
 
--- the place, which is the first field; and the operation that the others say, as those of a line of a history do
+-- the place, which is the first field; and the operation, which the other fields say as in a line of a history
 unfoldable pub placeOf : List (List ℕ) → ℕ
 placeOf [] = 0
 placeOf (place ∷ fields) = valueOf place
@@ -55,7 +55,7 @@ pub record Fits (row : List Operation) : Type 0 where
   pub widths : (i : ℕ) → i < length row → InWidth (getD row i noOperation)
 
 pub record Theorem : Type 0 where
-  -- a sheet has 60 lines of 73 bytes for each page, and a newline after every 72
+  -- a sheet has 60 lines of 73 bytes for each page: 72 columns and a newline
   pub size : (row : List Operation) → Fits row → length (sheetOf row) ≡ pagesOf (length row) * pageSize
   pub newlines : (row : List Operation) → Fits row → (r : ℕ) → r < pagesOf (length row) * 60 → getD (sheetOf row) (73 * r + 72) 0 ≡ 10
   -- line 60 of each page holds its number, right-aligned

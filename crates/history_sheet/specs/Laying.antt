@@ -19,7 +19,7 @@ pub data SheetResult : Type 0 where
   pagesLaid : ℕ → SheetResult
   unordered : ℕ → ℕ → SheetResult
 
--- what the code's answer says, in the papers' words
+-- what the code's answer says
 abbrev pub laidResponse : Laid → Response SheetResult
 laidResponse (L.Pages n) = gives (pagesLaid n)
 laidResponse (L.Offending a b) = gives (unordered a b)
@@ -36,13 +36,13 @@ outcome x out = record { answer = x; out = out }
 unfoldable pub inOrder : List Operation → List Operation
 inOrder ops = map (λ e. e .operation) (rowOf ops)
 
--- operations in a row: their pages from the front of the area on, and what follows them as lent; 10, "lent area short"
+-- the pages of operations in a row, from the front of the area on; the bytes after them stay as lent; refusal 10, "lent area short"
 unfoldable pub laidOut : List Operation → List ℕ → Outcome
 laidOut row out =
     pick (ltb (length out) (pagesOf (length row) * pageSize)) (outcome (turnedDown 10) out)
     (outcome (gives (pagesLaid (pagesOf (length row)))) (sets out 0 (sheetOf row)))
 
--- what is judged of the history comes first, and needs no area
+-- the history is judged first, which needs no area
 unfoldable pub layingBy : Response Finding → List Operation → List ℕ → Outcome
 layingBy (turnedDown x) ops out = outcome (turnedDown x) out
 layingBy (gives (noOrder a b)) ops out = outcome (gives (unordered a b)) out

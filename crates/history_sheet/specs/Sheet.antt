@@ -50,7 +50,7 @@ alignedAll (w ∷ ws) (field ∷ fields) = aligned w field ∷ alignedAll ws fie
 unfoldable pub filled : List ℕ → List ℕ
 filled text = text ++ replicate (lineColumns - length text) 32
 
--- the line of the operation a at a place: the fields that a line of a history has, its place before them
+-- the line of the operation a at a place: the place, and then the fields that a line of a history has
 unfoldable pub operationLine : ℕ → Operation → List ℕ
 operationLine place a = filled (join 32 (alignedAll columns (decimal place ∷ fieldsOf a)))
 

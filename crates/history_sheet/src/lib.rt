@@ -1,4 +1,5 @@
 // The season sheet (document 02, F-5): a history that has an order, laid out on pages of 72 columns and 60 lines in a lent area.
+pub mod answers;
 pub mod line;
 pub mod number;
 pub mod page;
@@ -34,7 +35,7 @@ fn page_count(m: usize) -> usize
     (m + 58) / ON_PAGE
 }
 
-// Lays the sheet of the first m of the operations that lines names, where there is room for it.
+// Lays the sheet of the m operations that the first m entries of lines name, if there is room for it.
 fn put_sheet(out: &mut [u8], rows: [Operation; 64], lines: [u8; 64], m: usize) -> Laid
     requires { ⌜ Named rows lines m ⌝ }
     ensures { λ r. ⌜ outcome (laidResponse r) (now (out .exit)) ≡ laidOut (namedAll rows lines m) (now (out .entry)) ⌝ }

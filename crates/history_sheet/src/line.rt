@@ -12,7 +12,7 @@ ghost use Rattle.history_text.specs.Printed.{kindOf, InWidth};
 ghost use Rattle.history_sheet.specs.Sheet.{aligned, operationLine, ended, filled};
 ghost use Rattle.history_sheet.specs.Stages.{spaced};
 
-// The bytes that a line takes, its newline too.
+// How many bytes a line takes, with its newline.
 pub const LINE_SIZE: usize = 73;
 
 // W for a write, R for a read.

@@ -23,7 +23,7 @@ fn put_number(out: &mut [u8], at: usize, w: usize, n: u64)
     out[at + (k - 1)] = (x + 48) as u8;
 }
 
-// The same with the byte end after it.
+// The same, and the byte end after the number.
 pub fn put_field(out: &mut [u8], at: usize, w: usize, n: u64, end: u8)
     requires { ⌜ (at + w + 1 ≤ length (now out)) × (length (decimal n) ≤ w) ⌝ }
     ensures { λ _. ⌜ now (out .exit) ≡ sets (now (out .entry)) at (aligned w (decimal n) ++ (end ∷ [])) ⌝ }

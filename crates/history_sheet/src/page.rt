@@ -16,10 +16,10 @@ ghost use Rattle.history_sheet.specs.Stages.{named, namedAll, Named};
 // How many operations a page has.
 pub const ON_PAGE: usize = 59;
 
-// The bytes that a page takes: 60 lines.
+// How many bytes a page takes: 60 lines.
 pub const PAGE_SIZE: usize = 4380;
 
-// The lines of the operations of index first on, count of them.
+// Puts the lines of count operations, from index first on.
 fn put_operations(
     out: &mut [u8],
     at: usize,
@@ -42,7 +42,7 @@ fn put_operations(
     }
 }
 
-// Lines of spaces, count of them.
+// Puts count lines of spaces.
 fn put_blanks(out: &mut [u8], at: usize, count: usize)
     requires { ⌜ at + count * 73 ≤ length (now out) ⌝ }
     ensures { λ _. ⌜ now (out .exit) ≡ sets (now (out .entry)) at (joined (λ i. ended (filled [])) 0 count) ⌝ }

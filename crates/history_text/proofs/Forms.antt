@@ -87,7 +87,7 @@ is-kind : (a : Operation) → (isKind (kindOf a) ≡ true) × (isWrite (kindOf a
 unfolding isKind isWrite kindOf pick same
 is-kind a = by-test (a .write) (λ t. rw t (refl, refl)) (λ t. rw t (refl, refl))
 
--- as many numbers as there are widths are those of the record with them
+-- a record that is made of as many numbers as there are widths has these numbers
 numbers-back : (w : Bool) (x : List ℕ) → Within widths x → numbersIn (recordWith w x) ≡ x
 unfolding widths
 numbers-back w [] h = absurd h

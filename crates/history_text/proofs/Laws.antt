@@ -18,7 +18,7 @@ use Rattle.history_text.specs.declared.number.Field.the-variants.{Number
 
 -- ---- numbers
 
--- the last digit decides where the others make as much as the limit's
+-- the last digit decides if the digits before it make the same number as the limit's
 pub fits-equal : (v d l : ℕ) → v ≡ l / 10 → leb d (l % 10) ≡ leb (v * 10 + d) l
 fits-equal v d l e =
     by-test (leb d (l % 10))
@@ -37,7 +37,7 @@ digits-at : (limit v u i : ℕ) (s : List ℕ) → i < length s
     (pick (leb (v * 10 + digitOf (getD s i 0)) limit) (digitsOf limit (v * 10 + digitOf (getD s i 0)) (u + 1) (drop (suc i) s)) Bad)
 digits-at limit v u i s h = ap (digitsOf limit v u) (drop-cons s i 0 h) ∙ digits-cons limit v u (getD s i 0) (drop (suc i) s)
 
--- no digit, a digit that passes the limit, a digit more, and the text's end
+-- no digit, a digit that goes above the limit, one more digit, and the text's end
 pub digits-stop : (limit v u i : ℕ) (s : List ℕ) {d : ℕ} → i < length s → d ≡ digitOf (getD s i 0) → 9 < d → digitsOf limit v u (drop i s) ≡ Number v u
 digits-stop limit v u i s h e g = digits-at limit v u i s h ∙ sym (pick-yes _ _ _ refl (ap (ltb 9) (sym e) ∙ lt-ltb 9 _ g) refl)
 

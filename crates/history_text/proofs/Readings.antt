@@ -54,7 +54,7 @@ unfolding final
 final-bad h zero at s l g e t = absurd (omega arith)
 final-bad h (suc n) at s l g e t = ap (final h) (lines-at n at s l ∙ then-none _ _ _ (sym e ∙ t))
 
--- one line more
+-- one more line
 final-more : (h : History) (n at u : ℕ) (s : List ℕ) (a : Operation) {r : Line} {k : History} → at < length s → length s - at ≤ suc n
     → r ≡ operationOf (drop at s) → r ≡ L.Record a u → k ≡ added h a → final k (linesRead n (drop (at + u) s)) ≡ final h (linesRead (suc n) (drop at s))
 final-more h n at u s a l g e t q =
@@ -62,7 +62,7 @@ final-more h n at u s a l g e t q =
     ∙ ap (λ x. final (added h a) (linesRead n x)) (sym (drop-drop u at s))
     ∙ sym (ap (final h) (lines-at n at s l ∙ then-record _ _ _ a u (sym e ∙ t)) ∙ final-record h a (linesRead n (drop u (drop at s))))
 
--- a turn of the loop: some number of lines is enough for what is left
+-- a turn of the loop: some bound on the number of lines is enough for what is left
 pub final-next : (h : History) (n at u : ℕ) (s : List ℕ) (a : Operation) {r : Line} {k : History} {v : Reading} → at < length s → length s - at ≤ n
     → 1 ≤ u → u ≤ length s - at → r ≡ operationOf (drop at s) → r ≡ L.Record a u → k ≡ added h a → final h (linesRead n (drop at s)) ≡ v
     → (m : ℕ) × (length s - (at + u) ≤ m) × (final k (linesRead m (drop (at + u) s)) ≡ v)

@@ -12,7 +12,7 @@ unfoldable pub areDigits : List ℕ → Bool
 areDigits [] = true
 areDigits (c ∷ field) = pick (isDigit c) (areDigits field) false
 
--- the number that digits make after others, which make n
+-- the number that digits make if they follow others, which make n
 unfoldable pub valueFrom : ℕ → List ℕ → ℕ
 valueFrom n [] = n
 valueFrom n (c ∷ field) = valueFrom (n * 10 + (c - 48)) field

@@ -19,7 +19,7 @@ unfoldable pub longer : ℕ → List (List ℕ) → List (List ℕ)
 longer x [] = []
 longer x (piece ∷ pieces) = (x ∷ piece) ∷ pieces
 
--- the pieces between the bytes c of a text, one more than it has of these bytes
+-- the pieces into which the bytes c divide a text: one more than there are such bytes
 unfoldable pub split : ℕ → List ℕ → List (List ℕ)
 split c [] = [] ∷ []
 split c (x ∷ text) = pick (eqb x c) ([] ∷ split c text) (longer x (split c text))

@@ -1,5 +1,5 @@
--- How the code reads a line at the front of a text, and a text line by line. These are the stages of `judge_text`; what a line is, says Lines.antt, and
--- proofs/Link.antt that both are the same. Assumes nothing: these are definitions.
+-- How the code reads a line at the front of a text, and a text line by line. These are the stages of `judge_text`; Lines.antt says what a line is, and
+-- proofs/Link.antt shows that both agree. Assumes nothing: these are definitions.
 use Prim.Native.Nat.{ℕ, zero, suc, _+_, _≤_}
 use mathlib.Core.List.{List, [], _∷_}
 use lib.Dec.{eqb, ltb}
@@ -75,7 +75,7 @@ unfoldable pub thenLine : {A : Type 0} → Line → A → (Operation → ℕ →
 thenLine (L.Record a used) bad f = f a used
 thenLine L.Bad bad f = bad
 
--- the lines of a text, at most n of them; every line takes a byte, so that the text's length is enough for n
+-- the lines of a text, at most n of them; a line takes at least one byte, so the text's length is enough for n
 unfoldable pub linesRead : ℕ → List ℕ → Lines
 linesRead zero [] = Records []
 linesRead zero (c ∷ text) = Malformed

@@ -1,4 +1,4 @@
--- How the code reads a number at the front of a text. These are the stages of `read_field`; what a number is, says Decimals.antt.
+-- How the code reads a number at the front of a text. These are the stages of `read_field`; Decimals.antt says what a number is.
 -- Assumes nothing: these are definitions.
 use Prim.Native.Nat.{ℕ, _+_, _-_, _*_, _≤_}
 use mathlib.Core.List.{List, [], _∷_}
@@ -12,7 +12,7 @@ use Rattle.history_text.specs.declared.number.Field.the-variants.{Number
 unfoldable pub digitOf : ℕ → ℕ
 digitOf c = pick (ltb c 48) 10 (pick (ltb 57 c) 10 (c - 48))
 
--- the number that value and the digits at the front of a text make, and how many bytes were used; Bad where it passes limit
+-- the number that value and then the digits at the front of a text make, and how many bytes were used; Bad if it is above limit
 unfoldable pub digitsOf : ℕ → ℕ → ℕ → List ℕ → Field
 digitsOf limit value used [] = Number value used
 digitsOf limit value used (c ∷ text) =

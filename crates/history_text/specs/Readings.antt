@@ -1,4 +1,4 @@
--- What the code has read of a text, and the answer to that. These are stages of `judge_text`; what a text says, and what is answered, says Lines.antt.
+-- What the code has read of a text, and the answer to that. These are stages of `judge_text`; Lines.antt says what a text says, and what is answered.
 -- Assumes nothing: these are definitions.
 use mathlib.Core.Bool.{true, false}
 use Rattle.area.specs.Area.{pick}

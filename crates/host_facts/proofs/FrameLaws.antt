@@ -1,4 +1,4 @@
--- What a host is answered that asks of a frame, from what the code's calls promise. Assumes nothing.
+-- What a host is answered when it asks about a frame, from the promises of the functions that the code calls. Assumes nothing.
 use Prim.Native.Nat.{ℕ, zero, suc, _+_, _≤_, _<_}
 use native.Mathlib.Omega.{arith}
 use mathlib.Core.Path.{_≡_, refl, sym, ap, _∙_}
@@ -48,7 +48,7 @@ module _ (k : ℕ) where
   unfolding carriesTime
   others-carry n h = rw (ne-eqb _ _ n, le-leb _ _ h)
 
--- such a frame has a body of 8 bytes or more, and its time begins the body
+-- such a frame has a body of 8 bytes or more, which begins with the time
 record Timed (g : Params) (f : List ℕ) (k : ℕ) : Type 0 where
   pub time : timeOf (bodyIn g k f) ≡ pick (carriesTime k) (some (be8 f bodyAt)) none
   pub long : carriesTime k ≡ true → 8 ≤ bodyLength g k

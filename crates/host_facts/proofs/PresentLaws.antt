@@ -1,4 +1,4 @@
--- What a host is answered that asks for a server's present block, from what the code's calls promise. Assumes nothing.
+-- What a host is answered when it asks for a server's present block, from the promises of the functions that the code calls. Assumes nothing.
 use Prim.Native.Nat.{ℕ, _≤_, _<_}
 use mathlib.Core.Path.{_≡_, sym, ap, _∙_}
 use mathlib.Core.List.{List}

@@ -1,4 +1,4 @@
--- Of a frame that a party sends a host is told what the frame says: its kind, client and sequence, and its time. Assumes nothing.
+-- A host that asks about a frame that a party sent is told what the frame says: its kind, client and sequence, and its time. Assumes nothing.
 use Prim.Native.Nat.{ℕ, _+_, _*_, _≤_}
 use mathlib.Core.Path.{_≡_, refl, sym, ap, _∙_}
 use mathlib.Core.List.{List}

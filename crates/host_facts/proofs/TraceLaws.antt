@@ -1,4 +1,4 @@
--- What a host is answered that writes or reads an entry, from what the code's calls promise. Assumes nothing.
+-- What a host is answered when it writes or reads an entry, from the promises of the functions that the code calls. Assumes nothing.
 use Prim.Native.Nat.{ℕ, _+_, _*_, _%_, _≤_, _<_}
 use mathlib.Core.Path.{_≡_, refl, sym, ap, ap₂, _∙_}
 use mathlib.Core.List.{List}

@@ -1,5 +1,5 @@
--- The code's test for frames that carry a time. Nothing here has to be believed: that it says the same as `timeOf` of Frames.antt is shown in
--- proofs/FrameLaws.antt.
+-- The code's test for frames that carry a time. Nothing here has to be believed: proofs/FrameLaws.antt shows that it says the same as `timeOf` of
+-- Frames.antt.
 use Prim.Native.Nat.{ℕ}
 use mathlib.Core.Bool.{Bool, _||_, _&&_}
 use lib.Dec.{eqb, leb}

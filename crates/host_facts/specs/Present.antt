@@ -1,4 +1,4 @@
--- What a host is answered that asks for a server's present block: the part of the value it holds that this server keeps. These are definitions.
+-- What a host is answered when it asks for a server's present block: this server's block of the value that it holds. These are definitions.
 use Prim.Native.Nat.{ℕ}
 use mathlib.Core.List.{List}
 use lib.ListN.{length}
@@ -15,7 +15,7 @@ use Rattle.server_rules.specs.State.{presentBlock}
 use Rattle.layout.specs.Servers.{serverSize, serverIn}
 use Rattle.host_facts.specs.Outcomes.{Wrote, wrote}
 
--- 10, "lent area short": the record, the state area, the initial block, or the area for the block
+-- refusal 10, "lent area short": the record, the state area, the initial block, or the area for the block
 unfoldable pub blockGiven : Params → List ℕ → List ℕ → List ℕ → List ℕ → Wrote
 blockGiven g area initial state block =
     pick (ltb (length state) serverSize) (wrote 10 block)
@@ -24,7 +24,7 @@ blockGiven g area initial state block =
     (pick (ltb (length block) (width g)) (wrote 10 block)
     (wrote 0 (sets block 0 (presentBlock g (serverIn state .stamp) area initial))))))
 
--- 1 to 3 come first
+-- refusals 1 to 3 come first
 unfoldable pub blockBy : Verdict → Wrote → List ℕ → Wrote
 blockBy J.Fine x block = x
 blockBy (J.Bad r) x block = wrote (numberOf r) block

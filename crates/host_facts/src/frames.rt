@@ -3,9 +3,9 @@ use blocks::Params;
 use frame::Opened;
 use frame::Verdict;
 use frame::bounds::bounds_test;
-use frame::layout::BODY_AT;
 use frame::opener::open_frame;
 use frame::opener::opened_under;
+use frame::places::BODY_AT;
 use frame::refusals::number_of;
 ghost use mathlib.Core.Path.{_≡_};
 ghost use Rattle.frame.specs.Frames.{openingResponse};
@@ -16,7 +16,7 @@ ghost use Rattle.host_facts.specs.Outcomes.{wrote};
 // The bytes of a time.
 pub const TIME_BYTES: usize = 8;
 
-// What an opening is answered: the header's fields in the bytes from the second on, or the refusal's number.
+// The answer for a frame: the header's fields in the bytes from the second on, or the refusal's number.
 fn header_answer(o: Opened) -> u64
     ensures { λ r. ⌜ r ≡ headerAnswer (openingResponse o) ⌝ }
 {

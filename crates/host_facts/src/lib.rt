@@ -1,4 +1,4 @@
-// What a host may ask of a frame, of an entry of a trace and of a server's present block, each answered by one number.
+// What a host may ask about a frame, an entry of a trace or a server's present block; each is answered by one number.
 pub mod frames;
 pub mod present;
 pub mod traces;

@@ -3,7 +3,7 @@ use blocks::Params;
 use frame::Verdict;
 use frame::bounds::bounds_test;
 use frame::bounds::width;
-use frame::layout::AREA_BYTES;
+use frame::places::AREA_BYTES;
 use frame::refusals::number_of;
 use layout::fields::stamp_at;
 use layout::servers::SERVER_SIZE;

@@ -54,7 +54,7 @@ fn reading_answer(r: Reading) -> u64
     }
 }
 
-// The first entry of what is left of a trace: its sender and its bytes, or how the trace closes there.
+// The first entry of what is left of a trace: its sender and how many bytes it takes, or how the trace closes there.
 pub fn entry_read(l: &[u8]) -> u64
     ensures { λ r. ⌜ r ≡ entryReadCall (now (l .entry)) ⌝ }
 {
@@ -71,7 +71,7 @@ fn writing_answer(w: Writing) -> u64
     }
 }
 
-// An entry whose sender is nobody, for a frame of len bytes and an area of room bytes: 11, but 3 or 10 first.
+// An entry whose sender is nobody, for a frame of len bytes and an area of room bytes: refusal 11, but 3 or 10 first.
 fn nobody_answer(len: usize, room: usize) -> u64
     ensures { λ r. ⌜ r ≡ nobodyAnswer len room ⌝ }
 {

@@ -49,17 +49,22 @@ use Rattle.runs.proofs.Theorem.{theorem-sha256, sha256-size}
 use Rattle.layout.specs.Fields.{stampSize}
 use Rattle.layout.specs.Clients.{clientSize, clientBytes, clientIn}
 use Rattle.layout.specs.Servers.{serverSize, serverBytes, serverIn, slotBytes, readerBytes, scopeSets}
-use Rattle.answers.specs.Answers.{leftBy, clientAnswer, openAnswer, serverAnswer}
-use Rattle.answers.proofs.RefusalNumbers.{number-bounds}
+use Rattle.layout.specs.Left.{leftBy}
+use Rattle.site.specs.Answers.{clientAnswer, openAnswer}
+use Rattle.server_deliver.specs.Answers.{serverAnswer}
+use Rattle.server_deliver.specs.Records.{outcomeAt, constructedAt}
+use Rattle.server_deliver.proofs.Records.{whole-record}
+use Rattle.server_deliver.proofs.FreshRecords.{whole-made}
+use Rattle.server_deliver.proofs.RecordBack.{record-length, record-back, record-bytes, made-length, made-back, made-bytes, fresh-server}
+use Rattle.hosts.proofs.RefusalNumbers.{number-bounds}
 use Rattle.semduoli.specs.Calls.{Wrote, wrote, freshCall, Began, began, beganOf, stateAfter, readCall, writeCall}
 use Rattle.semduoli.specs.Handed.{senderOf, stampAfter, ClientGot, clientGotOf, clientCall}
-use Rattle.semduoli.specs.ServerCalls.{Made, made, madeOf, freshAfter, scopeAfter, makeCall, ServerGot, serverGot, serverGotOf, serverCall}
+use Rattle.semduoli.specs.ServerCalls.{madeOf, makeCall, ServerGot, serverGotOf, serverCall}
 use Rattle.semduoli.specs.Asked.{openOf, clientOpenCall}
 use Rattle.semduoli.proofs.Laws.{enough}
 use Rattle.semduoli.proofs.Handed.{client-whole, client-stamp-short}
-use Rattle.semduoli.proofs.RecordBack.{record-back, make-back, fresh-server}
 use Rattle.semduoli.proofs.ClientRecordBack.{fresh-back, read-back, write-back, client-record-back}
-use Rattle.semduoli.proofs.StayBytes.{fresh-bytes, read-bytes, write-bytes, client-call-bytes, make-bytes, server-call-bytes}
+use Rattle.semduoli.proofs.StayBytes.{fresh-bytes, read-bytes, write-bytes, client-call-bytes}
 use Rattle.hosts.specs.Hosts.{ServerHost, ClientHost, Hosts, Records, Lent, HostCall, serverDeliver, clientDeliver, beginRead, beginWrite, writeOpen}
 use Rattle.hosts.specs.Hosts.{lentBy, keptBy, first, hostStep, hosted, callOf, callsOf, Told, told, toldBy, toldIn, Fit, ServerSays, ClientSays}
 use Rattle.hosts.specs.Hosts.{HostsTheorem}
@@ -72,23 +77,16 @@ long-sets n l i vs h = subst (λ m. n ≤ m) (sym (length-sets l i vs)) h
 abbrev LongState : ℕ → List ℕ → Type 0
 LongState n l = n ≤ length l
 
-scope-long : (l : List ℕ) (c : ℕ) (x : Stamp) (y : Slot) (z : Reader) → serverSize ≤ length l → serverSize ≤ length (scopeSets l c x y z)
-unfolding scopeSets
-scope-long l c x y z h = long-sets serverSize _ _ (readerBytes z) (long-sets serverSize _ _ (slotBytes y) (long-sets serverSize l 0 (stampBytes x) h))
-
-module _ (g : Params) (me : ℕ) (from : Party) (f area initial state out to : List ℕ) where
-  server-long : serverSize ≤ length state → serverSize ≤ length (serverCall g me from f area initial state out to .state)
-  unfolding serverCall serverGotOf scopeAfter leftBy
-  server-long h =
-      either (λ (z : ServerGot). LongState serverSize (z .state)) (ltb (length state) serverSize) (serverGot _ area state out to) _ h
-      (either (LongState serverSize) _ state _ h (scope-long state _ _ _ _ h))
+module _ (g : Params) (me : ℕ) (from : Party) (f area initial state out to : List ℕ) (h : serverSize ≤ length state) where
+  server-long : serverSize ≤ length (serverCall g me from f area initial state out to .state)
+  unfolding serverCall
+  server-long = omega (arith, h, record-length g me from f area initial state out to h)
 
   -- the call, where the record's area is long enough
-  server-whole : serverSize ≤ length state
-      → serverCall g me from f area initial state out to
-      ≡ serverGotOf (SD.delivery digestOf g me (serverIn state) area initial from f out to) (getD f clientAt 0) state
+  server-whole : serverCall g me from f area initial state out to
+      ≡ serverGotOf (outcomeAt (SD.delivery digestOf g me (serverIn state) area initial from f out to) (getD f clientAt 0) state)
   unfolding serverCall
-  server-whole h = sym (enough (length state) serverSize _ _ h)
+  server-whole = sym (ap serverGotOf (whole-record g me from f area initial state out to h))
 
 after-long : (a : Response Progress) (s : Client) (state : List ℕ) → clientSize ≤ length state → clientSize ≤ length (stateAfter a s state)
 unfolding stateAfter leftBy
@@ -125,19 +123,17 @@ unfolding SD.construction SD.constructBy isTurnedDown
 made-fine H g i v a b e = ap (λ t. isTurnedDown (SD.constructBy H g i t v a b .reply)) e
 
 module _ (g : Params) (i : ℕ) (v a b state : List ℕ) (h : serverSize ≤ length state) where
-  make-whole : makeCall g i v a b state ≡ madeOf (SD.construction digestOf g i v a b) state
+  make-whole : makeCall g i v a b state ≡ madeOf (constructedAt (SD.construction digestOf g i v a b) state)
   unfolding makeCall
-  make-whole = sym (enough (length state) serverSize _ _ h)
+  make-whole = sym (ap madeOf (whole-made g i v a b state h))
 
   make-long : serverSize ≤ length (makeCall g i v a b state .state)
-  unfolding makeCall madeOf freshAfter leftBy
-  make-long =
-      either (λ (z : Made). LongState serverSize (z .state)) (ltb (length state) serverSize) (made _ a b state) _ h
-      (either (LongState serverSize) _ state _ h (long-sets serverSize state 0 (serverBytes (SD.construction digestOf g i v a b .server)) h))
+  unfolding makeCall
+  make-long = omega (arith, h, made-length g i v a b state h)
 
--- ---- what an answer says
+-- ---- what an answer's number says
 
--- a number of two bytes below a multiple of 2^16
+-- the lowest two bytes of a number
 low : (k m : ℕ) → k < 65536 → (k + 65536 * m) % 65536 ≡ k
 low k m h = omega arith
 
@@ -149,7 +145,7 @@ module _ (w r : ℕ) where
   open-read F.Acking = ap (λ x. eqb x 256 || eqb x 512) (low 512 w (omega arith))
   open-read F.Reading = ap (λ x. eqb x 256 || eqb x 512) (low 768 r (omega arith))
 
--- what semduoli_client_open answers tells whether a write is open
+-- the answer of semduoli_client_open says whether a write is open
 open-is : (state : List ℕ) → clientSize ≤ length state → writeOpen (clientOpenCall state) ≡ writing (clientIn state .phase)
 unfolding clientOpenCall openOf
 open-is state h =
@@ -159,7 +155,7 @@ open-is state h =
 refused-low : (r : Refusal) → eqb (numberOf r % 65536) 0 ≡ false
 refused-low r = let h = number-bounds r in ne-eqb (numberOf r % 65536) 0 (λ e. omega (arith, h .0, h .1, e))
 
--- what the beginning of a write answers tells whether it was begun
+-- the answer of semduoli_begin_write says whether the write was begun
 kept-by : (Z : Setup) (w : World) (n m : ℕ) (b : Verdict) (v old : List ℕ)
     → keptBy (clientAnswer n (answeredBy b (goesOn m))) v old ≡ valueBy Z w (answeredBy b (goesOn m)) v old
 unfolding clientAnswer pick
@@ -208,14 +204,14 @@ module _ (Z : Setup) where
     server-told : told (server-call .answer) (server-call .out) (server-call .to)
         ≡ (let r = SD.delivery H g i (w .servers i .server) (w .servers i .area) (initialOf Z i) from f out to in
         told (serverAnswer (r .reply)) (r .out) (r .to))
-    unfolding serverGotOf
+    unfolding outcomeAt
     server-told =
         ap (λ m. told (m .answer) (m .out) (m .to)) (server-whole g i from f (x .area) (x .initial) (x .state) out to (K .long))
         ∙ ap (λ r. told (serverAnswer (r .reply)) (r .out) (r .to)) server-same
 
     server-kept : Bytes f → ServerKept i (record { state = server-call .state; area = server-call .area; initial = x .initial })
         (step Z w (W.toServer i from f out to) .servers i)
-    unfolding serverGotOf RunsGoOn
+    unfolding outcomeAt serverCall RunsGoOn
     server-kept q =
         let G = runs-go-on Z w .server i from f out to in
         subst (ServerKept i _) (sym G) (record {
@@ -225,7 +221,7 @@ module _ (Z : Setup) where
             block = K .says .block;
           };
           long = server-long g i from f (x .area) (x .initial) (x .state) out to (K .long);
-          bytes = server-call-bytes g i from f (x .area) (x .initial) (x .state) out to (K .bytes) q;
+          bytes = record-bytes g i from f (x .area) (x .initial) (x .state) out to (K .long) (K .bytes) q;
         })
 
   -- ---- a client's calls
@@ -377,7 +373,7 @@ module _ (Z : Setup) where
           subst (λ z. ServerKept j z (step Z w k .servers j)) (sym (other-put (h .servers) i v j p))
           (subst (ServerKept j (h .servers j)) (sym (runs-go-on Z w .servers-stay k j (λ q. p (ap numberIn (sym e ∙ q))))) (old j is))
 
-  -- a client's call leaves the servers, and a server's the clients
+  -- a client's call leaves the servers as they were, and a server's call the clients
   servers-still : (h : Hosts) (w : World) (k : Call) (c : ℕ) → caller k ≡ P.Client c → ((j : ℕ) → Among (g .n) j → ServerKept j (h .servers j) (w .servers j))
       → (j : ℕ) → Among (g .n) j → ServerKept j (h .servers j) (step Z w k .servers j)
   unfolding RunsGoOn
@@ -398,7 +394,7 @@ module _ (Z : Setup) where
 
   module _ (R : Records) (S : Sound Z) (e : H ≡ digestOf) (L : Lent R) where
     first-server : (i : ℕ) → Among (g .n) i → ServerKept i (first Z R .servers i) (start Z .servers i)
-    unfolding first start madeOf
+    unfolding first start constructedAt makeCall
     first-server i is =
         let v = Z .initialValue in
         let a = Z .stateAreas i in
@@ -408,13 +404,13 @@ module _ (Z : Setup) where
         let whole = make-whole g i v a b (R .servers i) (L .server-room i) in record {
           says = record {
             server =
-                make-back g i v a b (R .servers i) (L .server-room i) step
+                made-back g i v a b (R .servers i) (L .server-room i) step
                 ∙ sym (ap (λ h. SD.construction h g i v a b .server) e ∙ fresh-server g i v a b);
             area = ap (λ m. m .area) whole ∙ ap (λ h. SD.construction h g i v a b .area) (sym e);
             block = ap (λ m. m .initial) whole ∙ ap (λ h. SD.construction h g i v a b .initial) (sym e);
           };
           long = make-long g i v a b (R .servers i) (L .server-room i);
-          bytes = make-bytes g i v a b (R .servers i) (L .server-bytes i);
+          bytes = made-bytes g i v a b (R .servers i) (L .server-room i) (L .server-bytes i);
         }
 
     first-client : (c : ℕ) → ClientKept (first Z R .clients c) (start Z .clients c)

@@ -19,7 +19,8 @@ use Rattle.runs.specs.Demand.{Demand3}
 use Rattle.layout.specs.Fields.{stampSize}
 use Rattle.layout.specs.Clients.{clientSize, clientIn}
 use Rattle.layout.specs.Servers.{serverSize, serverIn}
-use Rattle.answers.specs.Answers.{clientAnswer, serverAnswer}
+use Rattle.site.specs.Answers.{clientAnswer}
+use Rattle.server_deliver.specs.Answers.{serverAnswer}
 use Rattle.semduoli.specs.Calls.{freshCall, readCall, writeCall}
 use Rattle.semduoli.specs.Handed.{senderOf, stampAfter, clientCall}
 use Rattle.semduoli.specs.ServerCalls.{makeCall, serverCall}
@@ -56,8 +57,8 @@ pub record Lent (R : Records) : Type 0 where
 
 -- ---- their calls: semduoli_server_deliver, semduoli_client_deliver, semduoli_begin_read, semduoli_begin_write
 
--- Server or client; class and number of the named sender, and the frame; for a client what its host lends as a value where no write is open, the result
--- area and the stamp area; the out area and the to area. All of these are of any size and content.
+-- In this order: the number of the server or client; class and number of the sender that the host names, and the frame; for a client what its host lends
+-- as a value where no write is open, the result area and the stamp area; the out area and the to area. Size and content of all these are arbitrary.
 pub data HostCall : Type 0 where
   serverDeliver : ℕ → ℕ → ℕ → List ℕ → List ℕ → List ℕ → HostCall
   clientDeliver : ℕ → ℕ → ℕ → List ℕ → List ℕ → List ℕ → List ℕ → List ℕ → List ℕ → HostCall
@@ -72,7 +73,7 @@ writeOpen x = eqb (x % 65536) 256 || eqb (x % 65536) 512
 abbrev pub lentBy : ClientHost → List ℕ → List ℕ
 lentBy x lent = pick (writeOpen (clientOpenCall (x .state))) (x .value) lent
 
--- the value that it keeps from then on: v if the beginning of a write was answered "sent", which is no refusal and no other outcome
+-- the value that it keeps from then on: v if the write has begun, that is, if the two lowest bytes of the answer are 0; else the old one
 abbrev pub keptBy : ℕ → List ℕ → List ℕ → List ℕ
 keptBy answer v old = pick (eqb (answer % 65536) 0) v old
 
@@ -139,7 +140,7 @@ told x out to = record { answer = x; result = []; stamp = []; out = out; to = to
 module _ (Z : Setup) where
   open Setup Z using (H, g)
 
-  -- by the exported call
+  -- what the exported call tells
   unfoldable pub toldBy : Hosts → HostCall → Told
   toldBy h (serverDeliver i class j f out to) =
       let x = h .servers i in
@@ -152,7 +153,7 @@ module _ (Z : Setup) where
   toldBy h (beginRead c out to) = let m = readCall g c (h .clients c .state) out to in told (m .answer) (m .out) (m .to)
   toldBy h (beginWrite c v out to) = let m = writeCall g c v (h .clients c .state) out to in told (m .answer) (m .out) (m .to)
 
-  -- by the run, in whose world the party is
+  -- what the run says, of the party in its world
   unfoldable pub toldIn : World → HostCall → Told
   toldIn w (serverDeliver i class j f out to) =
       let r = SD.delivery H g i (w .servers i .server) (w .servers i .area) (initialOf Z i) (senderOf class j) f out to in
@@ -163,7 +164,7 @@ module _ (Z : Setup) where
   toldIn w (beginRead c out to) = let r = CB.readBeginning g c (w .clients c .client) out to in told (clientAnswer (g .n) (r .answer)) (r .out) (r .to)
   toldIn w (beginWrite c v out to) = let r = CB.writeBeginning g c (w .clients c .client) v out to in told (clientAnswer (g .n) (r .answer)) (r .out) (r .to)
 
--- of a server of the register; with 13 bytes for the stamp
+-- a server's call is on one of servers 1 to n, and a frame for a client comes with room for a stamp
 abbrev pub Fit : Setup → HostCall → Type 0
 Fit Z (serverDeliver i class j f out to) = Among (Z .g .n) i
 Fit Z (clientDeliver c class j f lent result stamp out to) = stampSize ≤ length stamp
@@ -191,6 +192,6 @@ pub record Hosted (Z : Setup) (R : Records) (ks : List HostCall) : Type 0 where
   -- and the reads and writes that hosts saw are in one row
   pub demand : Demand3 Z (callsOf ks)
 
--- whatever the false ones send: for every list of exported calls on the honest parties in which a frame named as an honest party's was sent by it
+-- for every list of exported calls on the honest parties in which each frame that is named as an honest party's was sent by it; false parties send anything
 unfoldable pub HostsTheorem : Type 0
 HostsTheorem = (Z : Setup) (R : Records) → Sound Z → Z .H ≡ digestOf → Lent R → (ks : List HostCall) → Admissible Z (callsOf ks) → Hosted Z R ks

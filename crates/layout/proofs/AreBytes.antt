@@ -1,4 +1,4 @@
--- A record's bytes are bytes, where its numbers are within their widths. Assumes nothing.
+-- What a record is written as are bytes, if its numbers are within their widths. Assumes nothing.
 use Prim.Native.Nat.{ℕ, _+_, _<_}
 use native.Mathlib.Omega.{arith}
 use mathlib.Core.Bool.{Bool, true, false}
@@ -107,7 +107,7 @@ blocks-bytes b =
     (Bytes-append y (e ++ r) (votes-bytes (b .echoes) (b .readies))
     (Bytes-append e r (numbers-bytes (b .echoed)) (numbers-bytes (b .readied)))))
 
--- a slot's are, whatever its numbers
+-- a slot's are, whatever its numbers are
 pub slot-bytes : (x : Slot) → Bytes (slotBytes x)
 unfolding slotBytes
 slot-bytes x = Bytes-append (bytes8 (x .sequence)) (blocksBytes (x .blocks)) (Bytes-bytes8 (x .sequence)) (blocks-bytes (x .blocks))

@@ -1,4 +1,4 @@
--- A client's record reads back from its bytes, wherever they stand. Assumes nothing.
+-- A client's record reads back from its bytes, wherever they are in a list. Assumes nothing.
 use Prim.Native.Nat.{ℕ, _+_, _≤_}
 use native.Mathlib.Omega.{arith}
 use mathlib.Core.Path.{_≡_, refl, ap, _∙_}
@@ -49,7 +49,7 @@ rows-at : (l : List ℕ) (i : ℕ) (xs : List Row) → Array 11 TypedRow xs → 
 unfolding rowsBytes rowsAt
 rows-at l i xs t p = row-at keptBytes keptAt 11 60 noRow TypedRow length-kept kept-at l i xs t p
 
--- what stands before the arrays
+-- the fields before the arrays
 record Head (l : List ℕ) (i w r : ℕ) (b : Bool) (p : Phase) : Type 0 where
   pub writes : be4 l i ≡ w
   pub reads : be4 l (i + 4) ≡ r
@@ -84,12 +84,12 @@ client-at l i s t p =
     let d = rows-at l (i + 109) (s .rows) (t .rows) p₃ in
     λ k. record { writes = a .writes k; reads = a .reads k; closed = a .closed k; phase = a .phase k; heard = b k; times = c k; rows = d k }
 
--- the record that its bytes say is the record
+-- a record that is written as bytes reads back
 pub client-back : (s : Client) → TypedClient s → clientIn (clientBytes s) ≡ s
 unfolding clientIn
 client-back s t = client-at (clientBytes s) 0 s t (alone (clientBytes s))
 
--- and so in an area in which it was stored
+-- and so it does from an area in which it was stored
 pub client-stored : (l : List ℕ) (i : ℕ) (s : Client) → TypedClient s → i + clientSize ≤ length l → clientAt (sets l i (clientBytes s)) i ≡ s
 client-stored l i s t h =
     let k : i + length (clientBytes s) ≤ length l = rw length-client h in

@@ -25,7 +25,7 @@ use Rattle.layout.specs.Clients.{clientSize, phaseByte, stampsBytes, kep
 use Rattle.layout.specs.Servers.{serverSize, blocksSize, slotSize, slotsSize, readerSize, readersSize, marksBytes}
 use Rattle.layout.specs.Servers.{votesBytes, blocksBytes, slotBytes, slotsBytes, readerBytes, readersBytes, serverBytes}
 
--- two parts, the one after the other
+-- two parts, one after the other
 pub both : (a b : List ℕ) (v w : ℕ) → length a ≡ v → length b ≡ w → length (a ++ b) ≡ v + w
 both a b v w e f = length-append a b ∙ ap₂ (λ x y. x + y) e f
 

@@ -8,3 +8,6 @@ pub mod ScopeBack
 pub mod TypedSteps
 pub mod TypedCalls
 pub mod AreBytes
+pub mod Left
+pub mod Stores
+pub mod Rewriting

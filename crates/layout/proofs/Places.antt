@@ -1,4 +1,4 @@
--- Stores one behind the other, and loops over arrays of elements of a fixed number of bytes. Assumes nothing.
+-- Stores one after the other, and loops over arrays whose elements have a fixed number of bytes. Assumes nothing.
 use Prim.Native.Nat.{ℕ, _+_, _*_}
 use native.Mathlib.Nat.{zero-add}
 use native.Mathlib.Omega.{arith}
@@ -12,15 +12,15 @@ use Rattle.area.proofs.Fills.{joined-snoc, length-joined}
 use Rattle.group.proofs.Lists.{table-end}
 pub use Rattle.group.proofs.Lists.{table-turn}
 
--- ---- stores, one behind the other
+-- ---- stores, one after the other
 
--- b from p on, behind the w bytes of a
+-- b from index p on, after the w bytes of a
 pub onto : (d l m : List ℕ) (i w p : ℕ) (a b : List ℕ) → length a ≡ w → p ≡ i + w → l ≡ sets d i a → m ≡ sets l p b → m ≡ sets d i (a ++ b)
 onto d l m i w p a b e h q r = r ∙ ap (λ z. sets l z b) h ∙ ap (λ z. sets z (i + w) b) q ∙ sets-next d i a b w e
 
 -- ---- a loop that stores an array
 
--- the turn j, at the place p
+-- turn j, which stores from index p on
 pub put-turn : (f : ℕ → List ℕ) (w : ℕ) (d l m : List ℕ) (i j p : ℕ) → ((k : ℕ) → length (f k) ≡ w) → p ≡ i + j * w
     → l ≡ sets d i (joined f 0 j) → m ≡ sets l p (f j) → m ≡ sets d i (joined f 0 (j + 1))
 put-turn f w d l m i j p e h a b =

@@ -1,4 +1,4 @@
--- A part of a layout is stored as its own parts are, one behind the other. Assumes nothing.
+-- A part of a layout is stored by storing its own parts one after the other. Assumes nothing.
 use Prim.Native.Nat.{ℕ, _+_}
 use native.Mathlib.Omega.{arith}
 use mathlib.Core.Path.{_≡_, refl}

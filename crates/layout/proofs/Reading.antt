@@ -1,4 +1,4 @@
--- What is read where bytes stand: of a flag, a number, a stamp, and of an array of anything of a fixed number of bytes. Assumes nothing.
+-- What is read from an index at which given bytes begin: a flag, a number, a stamp, and an array of anything with a fixed number of bytes. Assumes nothing.
 use Prim.Native.Nat.{ℕ, zero, suc, _+_, _*_, _<_, _≤_}
 use native.Mathlib.Nat.{not-suc-le-zero, add-zero, zero-add, add-suc, suc-add, suc-mul, add-assoc}
 use native.Mathlib.Omega.{arith}
@@ -18,9 +18,9 @@ use Rattle.layout.specs.Typed.{Word, Long, TypedStamp}
 use Rattle.server_rules.proofs.Within.{getD-every}
 use Rattle.server_rules.specs.WellFormed.{Every, Array}
 
--- ---- where bytes stand
+-- ---- bytes at an index of a list
 
--- the bytes a stand in l from index i on
+-- l has the bytes a from index i on
 pub record Stands (l : List ℕ) (i : ℕ) (a : List ℕ) : Type 0 where
   pub rest : List ℕ
   pub is : drop i l ≡ a ++ rest
@@ -102,7 +102,7 @@ stamp-at l i s t p =
 
 -- ---- arrays
 
--- of lists end to end, list k
+-- list k of lists that lie end to end
 entry-at : (F : ℕ → List ℕ) (w : ℕ) → ((k : ℕ) → length (F k) ≡ w) → (l : List ℕ) (m k s i : ℕ) → k < m → Stands l i (joined F s m)
     → Stands l (i + k * w) (F (s + k))
 unfolding joined

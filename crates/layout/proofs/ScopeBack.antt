@@ -40,17 +40,17 @@ outside l j (x ∷ a) k h =
 pub before : (l : List ℕ) (j : ℕ) (a : List ℕ) (i w : ℕ) → i + w ≤ j → Alike (sets l j a) l i w
 before l j a i w h = record { same = λ k p q. outside l j a k (λ u v. omega arith) }
 
--- the bytes behind it
+-- the bytes after it
 pub behind : (l : List ℕ) (j : ℕ) (a : List ℕ) (i w : ℕ) → j + length a ≤ i → Alike (sets l j a) l i w
 behind l j a i w h = record { same = λ k p q. outside l j a k (λ u v. omega arith) }
 
--- ---- what is read hangs on few bytes
+-- ---- what is read depends on few bytes only
 
--- what g reads at an index hangs on the w bytes from there on
+-- what g reads at an index depends only on the w bytes from there on
 pub record Spans {A : Type 0} (g : List ℕ → ℕ → A) (w : ℕ) : Type 0 where
   pub reads : (l m : List ℕ) (i : ℕ) → Alike l m i w → g l i ≡ g m i
 
--- it reads the same at j, within bytes that are the same
+-- g reads the same at j, which is within bytes that are the same
 within : {A : Type 0} {g : List ℕ → ℕ → A} {v : ℕ} {l m : List ℕ} {i w : ℕ} → Spans g v → Alike l m i w → (j : ℕ) → i ≤ j → j + v ≤ i + w → g l j ≡ g m j
 within {l = l} {m = m} s e j p q = s .reads l m j (record { same = λ k a b. e .same k (omega arith) (omega arith) })
 
@@ -102,7 +102,7 @@ apart i c j w k ne a b p q =
     ne (omega (arith, u, v))
 
 module _ {A : Type 0} (g : List ℕ → ℕ → A) (n w : ℕ) (s : Spans g w) where
-  -- an array hangs on its elements' bytes
+  -- an array depends only on the bytes of its elements
   pub row-spans : Spans (rowAt g n w) (n * w)
   unfolding rowAt
   row-spans = record {
@@ -114,7 +114,7 @@ module _ {A : Type 0} (g : List ℕ → ℕ → A) (n w : ℕ) (s : Spans g w) w
   unfolding rowAt
   length-row l i = length-table n (λ j. g l (i + j * w))
 
-  -- after a store at element c the array reads with that element set, if it reads back itself
+  -- after a store at element c the array reads with that element replaced, if the element itself reads back
   pub row-set : (l : List ℕ) (i c : ℕ) (a : List ℕ) (x : A) → c < n → length a ≡ w → g (sets l (i + c * w) a) (i + c * w) ≡ x
       → rowAt g n w (sets l (i + c * w) a) i ≡ set (rowAt g n w l i) c x
   row-set l i c a x h e b = ext-getD x (rowAt g n w m i) (set r c x) (length-row m i ∙ sym (length-set r c x ∙ length-row l i)) (λ j u.
@@ -165,7 +165,7 @@ blocks-spans = record {
       λ k. record { sent = a k; ready = b k; complete = c k; time = d k; echoes = f k; readies = g k; echoed = x k; readied = y k };
 }
 
--- a slot hangs on its own bytes
+-- a slot depends only on its own bytes
 pub slot-spans : Spans slotAt slotSize
 unfolding slotAt
 slot-spans = record {

@@ -1,4 +1,4 @@
--- A server's record reads back from its bytes, wherever they stand. Assumes nothing.
+-- A server's record reads back from its bytes, wherever they are in a list. Assumes nothing.
 use Prim.Native.Nat.{ℕ, _+_, _≤_}
 use native.Mathlib.Omega.{arith}
 use mathlib.Core.Path.{_≡_, refl}
@@ -78,7 +78,7 @@ blocks-at l i b t p =
       readied = g k;
     }
 
--- a slot reads back where its bytes stand
+-- a slot reads back from the index at which its bytes begin
 pub slot-at : (l : List ℕ) (i : ℕ) (x : Slot) → TypedSlot x → Stands l i (slotBytes x) → slotAt l i ≡ x
 unfolding slotAt slotBytes
 slot-at l i x t p =
@@ -122,12 +122,12 @@ server-at l i s t p =
     let c = readers-at l (i + readersPlace) (s .readers) (t .readers) p₂ in
     λ k. record { stamp = a k; slots = b k; readers = c k }
 
--- the record that its bytes say is the record
+-- a record that is written as bytes reads back
 pub server-back : (s : Server) → TypedServer s → serverIn (serverBytes s) ≡ s
 unfolding serverIn
 server-back s t = server-at (serverBytes s) 0 s t (alone (serverBytes s))
 
--- and so in an area in which it was stored
+-- and so it does from an area in which it was stored
 pub server-stored : (l : List ℕ) (i : ℕ) (s : Server) → TypedServer s → i + serverSize ≤ length l → serverAt (sets l i (serverBytes s)) i ≡ s
 server-stored l i s t h =
     let k : i + length (serverBytes s) ≤ length l = rw length-server h in

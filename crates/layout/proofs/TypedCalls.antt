@@ -49,7 +49,7 @@ module _ (l : List ℕ) (p : Bytes l) where
   unfolding keptAt stampsAt
   row-in i = record { count = be8-range l i p; stamps = array-row TypedStamp stampAt 4 13 l (stamp-in l p) (i + 8) }
 
-  -- the record that bytes say has its numbers within their widths
+  -- a record read from bytes has its numbers within their widths
   pub typed-client-in : TypedClient (clientIn l)
   unfolding clientIn clientAt flagsAt numbersAt rowsAt
   typed-client-in = record {
@@ -81,9 +81,9 @@ fresh-parts = record { heard = refl; times = fresh-times; rows = fresh-rows }
 pub typed-client-fresh : TypedClient freshClient
 typed-client-fresh = fresh-within clientWidths fresh-parts (omega arith)
 
--- ---- beginnings
+-- ---- an operation begins
 
--- an operation begins only where a number is left
+-- an operation begins only if a number is left for it
 number-left : (p : Phase) (last : ℕ) → idleTest p last ≡ J.Fine → Word (last + 1)
 number-left p last e =
     let u = fine-not (not (idle p)) R.Busy _ e .1 in
@@ -159,14 +159,14 @@ module _ (H : List ℕ → List ℕ) (g : Params) (me : ℕ) where
   }
 
   module _ (s : Client) (t : TypedClient s) (a value : List ℕ) (from : Party) where
-    -- the verdict is of 10 to 14; a frame that is turned down changes nothing
+    -- v is the verdict of refusals 10 to 14; a frame that is turned down changes nothing
     typed-judged : (v : Verdict) (m : Message) → FormedBody g (m .body) → TypedClient (effectBy H g me (judgedBy v m) s a value from .client)
     unfolding effectBy
     typed-judged J.Fine m h =
         step-within clientWidths H g me s a value (numberIn from) t (shape-of H g me s a value from m) (typed-grants (numberIn from) (m .body) h)
     typed-judged (J.Bad r) m h = t
 
-    -- p is of 1 to 3, u of 4 to 9, v of 10
+    -- p is the verdict of refusals 1 to 3, u of 4 to 9, v of 10
     typed-after : (f : List ℕ) (p u v : Verdict) → Bytes f → frameTest g f ≡ u
         → TypedClient (effectBy H g me (after p (judgeOpened H g me (openedBy u (headerIn f)) v s from f)) s a value from .client)
     unfolding effectBy judgeOpened opened
@@ -176,7 +176,7 @@ module _ (H : List ℕ → List ℕ) (g : Params) (me : ℕ) where
         let o = formed-opened g f (headerIn f) i (ap (λ (z : Verdict). openedBy z (headerIn f)) e) in
         typed-judged (andThen v (messageTest H g me s from (messageIn g (headerIn f) f))) (messageIn g (headerIn f) f) (o .body)
 
-    -- a delivery of bytes keeps a client's numbers within their widths
+    -- the delivery of a frame of bytes keeps a client's numbers within their widths
     pub typed-client-delivery : (f result out to : List ℕ) → Bytes f → TypedClient (delivery H g me s a value from f result out to .client)
     unfolding delivery outcomeOf delivered judge opened
     typed-client-delivery f result out to i =

@@ -1,4 +1,4 @@
--- A server's record that bytes say has its numbers within their widths, and a delivery of bytes keeps them there. Assumes nothing.
+-- A server's record read from bytes has its numbers within their widths, and the delivery of a frame of bytes keeps them there. Assumes nothing.
 use Prim.Native.Nat.{ℕ, zero, suc, _+_, _*_, _≤_}
 use native.Mathlib.Omega.{arith}
 use mathlib.Core.Path.{_≡_, refl, ap, _∙_}
@@ -40,7 +40,7 @@ module _ {A : Type 0} (P : A → Type 0) where
   every-table f i (suc m) p = (p i, every-table f (suc i) m p)
 
 module _ {A : Type 0} (P : A → Type 0) (g : List ℕ → ℕ → A) (m w : ℕ) (l : List ℕ) (p : (i : ℕ) → P (g l i)) where
-  -- an array is typed where all that may be read for an element is
+  -- all elements of an array have P if whatever may be read as an element has
   pub array-row : (i : ℕ) → Array m P (rowAt g m w l i)
   unfolding rowAt table
   array-row i = (length-table m (λ j. g l (i + j * w)), every-table P (λ j. g l (i + j * w)) 0 m (λ j. p (i + j * w)))
@@ -78,7 +78,7 @@ module _ (l : List ℕ) (p : Bytes l) where
   unfolding readerAt
   reader-in i = record { sequence = be4-range l i p; noted = stamp-in (i + 5) }
 
-  -- the record that bytes say has its numbers within their widths
+  -- a record read from bytes has its numbers within their widths
   pub typed-in : TypedServer (serverIn l)
   unfolding serverIn serverAt slotsAt readersAt
   typed-in = record {
@@ -104,7 +104,7 @@ body-in g kind f p =
     tt)))))))
 
 module _ (H : List ℕ → List ℕ) (g : Params) (me : ℕ) (s : Server) (t : TypedServer s) (a initial : List ℕ) (from : Party) where
-  -- what a step asks of the widths, for an operation whose number a frame can hold
+  -- what a step needs of the widths, for an operation whose number fits into a frame
   granted : (j c q : ℕ) (b : Body) → c ≤ 8 → Word q → TimeIn widths b → Grants widths H g me s a initial j c q b
   granted j c q b few w h = record {
     empty = record { flags = refl; time = omega arith };
@@ -114,7 +114,7 @@ module _ (H : List ℕ → List ℕ) (g : Params) (me : ℕ) (s : Server) (t : T
     leaves = λ k e z l. (record { time = omega (arith, l); writer = omega (arith, e); sequence = omega (arith, z) }, omega (arith, z));
   }
 
-  -- the verdict is of 10 to 14; a frame that is turned down changes nothing
+  -- v is the verdict of refusals 10 to 14; a frame that is turned down changes nothing
   typed-judged : (v room : Verdict) (m : Message) → m .client ≤ 8 → Word (m .sequence) → TimeIn widths (m .body)
       → andThen room (messageTest H g me s from m) ≡ v → TypedServer (effectBy H g me (judgedBy v m) s a initial from .server)
   unfolding effectBy messageTest
@@ -124,7 +124,7 @@ module _ (H : List ℕ → List ℕ) (g : Params) (me : ℕ) (s : Server) (t : T
       (granted (numberIn from) (m .client) (m .sequence) (m .body) few w h)
   typed-judged (J.Bad r) room m few w h e = t
 
-  -- p is of 1 to 3, u of 4 to 9, v of 10
+  -- p is the verdict of refusals 1 to 3, u of 4 to 9, v of 10
   typed-after : (f : List ℕ) (p u v : Verdict) → Bytes f → frameTest g f ≡ u
       → TypedServer (effectBy H g me (after p (judgeOpened H g me (openedBy u (headerIn f)) v s from f)) s a initial from .server)
   unfolding effectBy judgeOpened opened headerIn messageIn
@@ -135,7 +135,7 @@ module _ (H : List ℕ → List ℕ) (g : Params) (me : ℕ) (s : Server) (t : T
       typed-judged (andThen v (messageTest H g me s from (messageIn g (headerIn f) f))) v (messageIn g (headerIn f) f) (o .client-high)
       (be4-range f sequenceAt i) (body-in g (headerIn f .kind) f i) refl
 
-  -- a delivery of bytes keeps the record's numbers within their widths
+  -- the delivery of a frame of bytes keeps the record's numbers within their widths
   pub typed-delivery : (f out to : List ℕ) → Bytes f → TypedServer (delivery H g me s a initial from f out to .server)
   unfolding delivery outcomeOf delivered judge opened
   typed-delivery f out to i =

@@ -20,7 +20,7 @@ use Rattle.layout.specs.Fields.{flagByte, flagAt, stampSize, stampAt, ro
 abbrev pub clientSize : ℕ
 clientSize = 769
 
--- ---- the phase: 0 to 3 where it is written; a byte above 3 reads as idle
+-- ---- the phase: written as 0 to 3; a byte above 3 is read as idle
 
 unfoldable pub phaseByte : Phase → ℕ
 phaseByte F.Idle = 0
@@ -53,7 +53,7 @@ rowsAt l i = rowAt keptAt 11 60 l i
 
 -- ---- the record
 
--- what stands before the arrays
+-- the fields before the arrays
 unfoldable pub headBytes : ℕ → ℕ → Bool → Phase → List ℕ
 headBytes w r b p = bytes4 w ++ (bytes4 r ++ (flagByte b ∷ phaseByte p ∷ []))
 
@@ -72,6 +72,6 @@ clientAt l i = record {
   rows = rowsAt l (i + 109);
 }
 
--- the record that bytes say
+-- the record that the bytes say
 unfoldable pub clientIn : List ℕ → Client
 clientIn l = clientAt l 0

@@ -9,7 +9,7 @@ use Rattle.area.specs.Area.{pick, table, joined}
 use Rattle.area.specs.Numbers.{be4, be8, bytes8}
 use Rattle.frame.specs.declared.Stamp.{Stamp}
 
--- a flag is one byte: 1 or 0 where it is written, and set exactly if it is not 0 where it is read
+-- a flag is one byte: written as 1 or 0, and read as set exactly if the byte is not 0
 unfoldable pub flagByte : Bool → ℕ
 flagByte b = pick b 1 0
 
@@ -26,7 +26,7 @@ stampSize = 13
 unfoldable pub stampAt : List ℕ → ℕ → Stamp
 stampAt l i = record { time = be8 l i; writer = getD l (i + 8) 0; sequence = be4 l (i + 9) }
 
--- the m elements of an array, each by f, end to end; d lies past the array's end
+-- the m elements of an array, each written by f, end to end; d is written for an element past the array's end
 unfoldable pub rowBytes : {A : Type 0} → (A → List ℕ) → ℕ → A → List A → List ℕ
 rowBytes f m d xs = joined (λ j. f (getD xs j d)) 0 m
 

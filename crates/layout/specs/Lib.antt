@@ -2,3 +2,4 @@ pub mod Fields
 pub mod Clients
 pub mod Servers
 pub mod Typed
+pub mod Left

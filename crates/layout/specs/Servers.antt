@@ -19,7 +19,7 @@ use Rattle.layout.specs.Fields.{flagByte, flagAt, stampSize, stampAt, ro
 abbrev pub serverSize : ℕ
 serverSize = 2128
 
--- of what was counted, of a slot and of all slots
+-- sizes of what was counted of a write, of a slot and of all slots
 abbrev pub blocksSize : ℕ
 blocksSize = 209
 
@@ -29,7 +29,7 @@ slotSize = 217
 abbrev pub slotsSize : ℕ
 slotsSize = 1953
 
--- of a reader and of all readers
+-- sizes of a reader and of all readers
 abbrev pub readerSize : ℕ
 readerSize = 18
 
@@ -103,7 +103,7 @@ serverBytes s = stampBytes (s .stamp) ++ (slotsBytes (s .slots) ++ readersBytes 
 unfoldable pub serverAt : List ℕ → ℕ → Server
 serverAt l i = record { stamp = stampAt l i; slots = slotsAt l (i + slotsPlace); readers = readersAt l (i + readersPlace) }
 
--- the record that bytes say
+-- the record that the bytes say
 unfoldable pub serverIn : List ℕ → Server
 serverIn l = serverAt l 0
 

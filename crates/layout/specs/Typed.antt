@@ -30,7 +30,7 @@ pub record TypedRow (r : Row) : Type 0 where
   pub count : Long (r .count)
   pub stamps : Array 4 TypedStamp (r .stamps)
 
--- numbers of 32 bits, eleven servers' flags, numbers of 64 bits and rows
+-- the numbers of operations have 32 bits; there are 11 flags, 11 times of 64 bits and 11 rows
 abbrev pub clientWidths : C.Bounds
 clientWidths = record { number = Word; heard = λ l. length l ≡ 11; times = Array 11 Long; rows = Array 11 TypedRow }
 
@@ -43,7 +43,7 @@ pub record TypedReader (x : Reader) : Type 0 where
   pub sequence : Word (x .sequence)
   pub noted : TypedStamp (x .noted)
 
--- eleven servers' flags, numbers of 64 bits, stamps and readers
+-- there are 11 flags of servers; times and sequences have 64 bits
 abbrev pub widths : Bounds
 widths = record { flags = λ l. length l ≡ 11; time = Long; sequence = Long; stamp = TypedStamp; reader = TypedReader }
 

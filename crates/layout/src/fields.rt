@@ -88,7 +88,7 @@ pub fn flags_at(bytes: &[u8], at: usize) -> [bool; 11]
 // ---- a number for each server
 
 // Writes x into the 8 bytes from index at on.
-// (There is room, so the test fails always. With it the compiler writes the bytes of each number at once, and one by one without it.)
+// (There is always room, so the test never holds. With it the compiler writes the eight bytes at once, without it one by one.)
 fn put_number(x: u64, out: &mut [u8], at: usize)
     requires { ⌜ at + 8 ≤ length (now out) ⌝ }
     ensures { λ _. ⌜ now (out .exit) ≡ sets (now (out .entry)) at (bytes8 x) ⌝ }

@@ -18,7 +18,7 @@ use Rattle.order.proofs.Less.{true-false}
 use Rattle.order.proofs.Lists.{by-test, not-true, place-passes, none-passes, count-some, count-two}
 use Rattle.order.proofs.StampLaws.{false-true, same-stamp, stamp-same, zero-least}
 
--- the index of a line
+-- the operation at an index
 abbrev pub at : List Operation → ℕ → Operation
 at ops i = getD ops i noOperation
 
@@ -30,7 +30,7 @@ module _ (ops : List Operation) (A : Accepted ops) where
   unfolding malformed
   starts i h = leb-false _ _ (pick-not _ _ _ _ (λ q. false-true (sym q)) (formed i h) .0)
 
-  -- two writes of one stamp are in one line
+  -- no two lines have writes of the same stamp
   pub one-write : (i j : ℕ) → i < j → j < length ops → at ops i .write ≡ true → at ops j .write ≡ true → stamp (at ops i) ≡ stamp (at ops j) → ⊥
   unfolding malformed writings writes
   one-write i j h g w v e =
@@ -65,7 +65,7 @@ module _ (ops : List Operation) (A : Accepted ops) where
     found : (l : ℕ) → Line ops l → (p : ℕ) × (p < length row) × (inPlace ops row p ≡ inLine ops l)
     found l h = let w = O .whole .places l h in (w .0, w .1, ap (inLine ops) (w .2))
 
-    -- the earlier operation, in place p, would have to stand after the other, in place q
+    -- the earlier operation, in place p, would have to come after the other, in place q
     after : (p q : ℕ) (i : ℕ) → p < length row → q < length row → i < length ops → inPlace ops row p ≡ at ops i
         → less (stamp (inPlace ops row q)) (stamp (inPlace ops row p)) ≡ true → q < p
     after p q i hp hq hi e l =

@@ -10,4 +10,4 @@ pub mod Arranged
 pub mod Ranks
 pub mod Stages
 pub mod Theorems
-pub mod Answers
+pub mod Judgements

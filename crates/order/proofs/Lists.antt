@@ -1,4 +1,4 @@
--- What counting and searching tell of the elements of a list. Assumes nothing.
+-- What a count or a search says of the elements of a list. Assumes nothing.
 use mathlib.Core.Path.{_≡_, refl, ap, _∙_}
 use mathlib.Core.Bool.{Bool, true, false}
 use mathlib.Core.List.{List, [], _∷_}
@@ -52,7 +52,7 @@ place-passes f (x ∷ l) d h =
     (λ t. ap (λ k. f (getD (x ∷ l) k d)) (place-miss f x l t)
     ∙ place-passes f l d (let e = place-miss f x l t in omega arith))
 
--- none passes, and one does
+-- if `any` is false, no element passes
 pub none-passes : {A : Type 0} (f : A → Bool) (l : List A) (i : ℕ) (d : A) → any f l ≡ false → i < length l → f (getD l i d) ≡ false
 unfolding any
 none-passes f l i d e h =

@@ -4,7 +4,7 @@ use mathlib.Core.Bool.{Bool, true, false}
 use Rattle.area.specs.Area.{pick}
 pub use Rattle.area.proofs.Tests.{pick-yes, pick-no}
 
--- two equal outcomes
+-- both outcomes are equal
 pub pick-same : {A : Type 0} (b : Bool) (x : A) → pick b x x ≡ x
 unfolding pick
 pick-same true x = refl

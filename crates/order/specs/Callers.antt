@@ -1,4 +1,4 @@
--- What precedence is for two callers, request F-2: three cases that leave no pair out. Assumes nothing: this is a statement.
+-- What precedence is for two callers, request F-2: three cases that cover every pair. Assumes nothing: this is a statement.
 use mathlib.Core.Path.{_≡_}
 use mathlib.Core.Logic.{_⊎_}
 use lib.Dec.{ltb, leb}
@@ -10,5 +10,5 @@ pub record Precedence : Type 0 where
   pub unknown-caller : (a b : Operation) → (a .caller ≡ 0) ⊎ (b .caller ≡ 0) → precedes a b ≡ ltb (a .end) (b .start)
   -- the callers differ: the same
   pub other-caller : (a b : Operation) → (a .caller ≡ b .caller → ⊥) → precedes a b ≡ ltb (a .end) (b .start)
-  -- one caller, which is known: an end that is not above the other's start
+  -- both have the same caller, which is known: an end that is not above the other's start
   pub same-caller : (a b : Operation) → a .caller ≡ b .caller → (a .caller ≡ 0 → ⊥) → precedes a b ≡ leb (a .end) (b .start)

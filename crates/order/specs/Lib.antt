@@ -3,3 +3,4 @@ pub mod Histories
 pub mod Stages
 pub mod Callers
 pub mod Orders
+pub mod Answers

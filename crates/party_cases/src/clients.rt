@@ -1,5 +1,5 @@
-// At a client: refusal 10 for each lent area that is short by one byte, with the same call where it is long enough; and 16, with the last sequences before
-// it. Prints a line for each call. Four servers, one of them false, values of three bytes in blocks of two.
+// At a client: refusal 10 for each lent area that is short by one byte, beside the same call with an area that is long enough; and refusal 16, beside the
+// last sequences that are left. Prints a line for each call. n = 4, t = 1, k = 2, values of three bytes in blocks of two.
 use blocks::Params;
 use client::begin::begin_read;
 use client::begin::begin_write;
@@ -8,13 +8,13 @@ use client_deliver::deliver;
 use client_rules::Answer;
 use client_rules::Client;
 use frame::Party;
-use frame::layout::LAST_SEQUENCE;
-use frame::layout::ROWS_BYTES;
+use frame::places::LAST_SEQUENCE;
+use frame::places::ROWS_BYTES;
 use frame::refusals::number_of;
 ghost use Prim.Native.Nat.{_≤_};
 ghost use Rattle.frame.specs.Chunks.{rowsBytes};
 
-// The lengths that document 01 asks for: rows, result, four largest frames of 152 bytes, and their receivers.
+// The lengths that the areas must have: rows, result, four largest frames of 152 bytes, and their receivers.
 const ROWS: usize = ROWS_BYTES;
 
 const RESULT: usize = 3;
@@ -23,7 +23,7 @@ const OUT: usize = 608;
 
 const TO: usize = 8;
 
-// What lent areas hold before.
+// Every byte of a lent area before the call.
 const LENT: u8 = 0xa5;
 
 const VALUE: [u8; 3] = [1, 2, 3];

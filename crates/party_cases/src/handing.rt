@@ -7,8 +7,9 @@ use crate::trial::told;
 use case_text::text::bytes;
 use case_text::text::word_at;
 use frame::Party;
-use server::state::scope_of;
-use server::state::with_scope;
+use layout::servers::SERVER_SIZE;
+use layout::servers::put_scope;
+use layout::servers::scope_at;
 use server_deliver::deliver;
 use server_rules::Server;
 ghost use Prim.Native.Nat.{_≤_};
@@ -29,20 +30,18 @@ fn answered(
     requires { ⌜ expected ≤ length (now line) ⌝ }
 {
     let g = x.g;
-    let s = x.server;
-    let answer = deliver(s, g, x.me, from, f, area, initial, out, to);
-    let reply = answer.reply;
-    let server = answer.server;
+    let mut record = x.record;
+    let reply = deliver(g, x.me, from, f, area, initial, &mut record, out, to);
     replied(line, expected, reply, out, to, x.whole);
     Trial {
         g,
         me: x.me,
-        server,
+        record,
         whole: x.whole,
     }
 }
 
-// What the areas lent for sent frames hold before.
+// Every byte of the areas lent for what is sent, before the call.
 const LENT: u8 = 0x5a;
 
 // The frame from index at on comes from a party; out and to are the lengths of the areas lent for what is sent.
@@ -78,7 +77,7 @@ fn from_party(
     )
 }
 
-// deliver CLASS NUMBER AREA INITIAL OUT TO FRAME ANSWER, the lengths of the lent areas between the sender and the frame
+// deliver CLASS NUMBER AREA INITIAL OUT TO FRAME ANSWER: the sender's class and number, the lengths of the four lent areas, the frame, what is expected
 pub fn handed(line: &[u8], at: usize, x: Trial, area: &mut [u8], initial: &mut [u8]) -> Trial
     requires { ⌜ at ≤ length (now line) ⌝ }
 {
@@ -103,25 +102,35 @@ pub fn handed(line: &[u8], at: usize, x: Trial, area: &mut [u8], initial: &mut [
     )
 }
 
-// unready CLIENT: the own ready of the client's open write counts as not sent. No run makes such a record.
-pub fn unready(line: &[u8], at: usize, x: Trial) -> Trial
-    requires { ⌜ at ≤ length (now line) ⌝ }
+// Stores in the record that the server has not sent its ready for client c's open write.
+fn take_back(record: &mut [u8], c: usize)
+    requires { ⌜ c ≤ 8 ⌝ }
 {
-    let client = told(line, at);
-    let c = at_most(client.value, Server::CLIENTS);
-    let s = x.server;
-    let mut scope = scope_of(s, c);
+    if record.len() < SERVER_SIZE {
+        return;
+    }
+    let mut scope = scope_at(record, c);
     let mut slot = scope.slot;
     let mut b = slot.blocks;
     b.ready = false;
     slot.blocks = b;
     scope.slot = slot;
-    let server = with_scope(s, c, scope);
+    put_scope(scope, c, record);
+}
+
+// unready CLIENT: the record says that the server has not sent its ready for the client's open write. No run makes such a record.
+pub fn unready(line: &[u8], at: usize, x: Trial) -> Trial
+    requires { ⌜ at ≤ length (now line) ⌝ }
+{
+    let client = told(line, at);
+    let c = at_most(client.value, Server::CLIENTS);
+    let mut record = x.record;
+    take_back(&mut record, c);
     let g = x.g;
     Trial {
         g,
         me: x.me,
-        server,
+        record,
         whole: x.whole,
     }
 }

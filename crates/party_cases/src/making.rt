@@ -8,13 +8,13 @@ use case_text::report::result;
 use case_text::text::bytes;
 use case_text::text::put_bytes;
 use case_text::text::word_at;
-use server::setup::construct;
+use layout::servers::SERVER_SIZE;
+use server_deliver::fresh::fresh;
 use server_rules::Reply;
-use server_rules::Server;
 ghost use Prim.Native.Nat.{_≤_};
 ghost use lib.ListN.{length};
 
-// The reply: after 00 the first 128 bytes of the state area and the first of the initial one.
+// Prints the reply: a refusal's number, or 00, the first 128 bytes of the state area and the first byte of the initial block's area.
 fn stored(line: &[u8], expected: usize, reply: Reply, area: &[u8], initial: &[u8])
     requires { ⌜ expected ≤ length (now line) ⌝ }
 {
@@ -32,12 +32,12 @@ fn stored(line: &[u8], expected: usize, reply: Reply, area: &[u8], initial: &[u8
     result(b"fresh ", line, expected, &text[..end]);
 }
 
-// Server me of these parameters, with the value from index at on.
+// Makes server me with these parameters; its initial value is the word of the line from index at on.
 fn of_params(
     line: &[u8],
     at: usize,
     g: Params,
-    me: u8,
+    me: usize,
     area: &mut [u8],
     initial: &mut [u8],
 ) -> Trial
@@ -46,19 +46,18 @@ fn of_params(
     let v = word_at(line, at);
     let mut value = [0u8; 1024];
     let len = bytes(line, v.start, v.end, &mut value);
-    let made = construct(g, me, &value[..len], area, initial);
-    let reply = made.reply;
-    let server = made.server;
+    let mut record = [0u8; SERVER_SIZE];
+    let reply = fresh(g, me, &value[..len], area, initial, &mut record);
     stored(line, v.next, reply, area, initial);
     Trial {
         g,
         me,
-        server,
+        record,
         whole: false,
     }
 }
 
-// fresh N T K L ME AREA INITIAL VALUE ANSWER, the lengths of the lent areas between the own number and the value
+// fresh N T K L ME AREA INITIAL VALUE ANSWER: the parameters, the own number, the lengths of the two lent areas, the initial value, what is expected
 pub fn made(line: &[u8], at: usize, area: &mut [u8], initial: &mut [u8]) -> Trial
     requires { ⌜ at ≤ length (now line) ⌝ }
 {
@@ -81,7 +80,7 @@ pub fn made(line: &[u8], at: usize, area: &mut [u8], initial: &mut [u8]) -> Tria
         line,
         i.next,
         g,
-        (me.value % 256) as u8,
+        me.value,
         &mut area[..most],
         &mut initial[..whole],
     )

@@ -9,7 +9,7 @@ use server_rules::Reply;
 ghost use Prim.Native.Nat.{_≤_};
 ghost use lib.ListN.{length};
 
-// The bytes of the first count frames in out, as far as they are there, and at most 3000.
+// How many bytes the first count frames in out take: only whole frames, and at most 3000 bytes.
 fn sent_bytes(out: &[u8], count: usize) -> usize
     ensures { λ r. ⌜ (r ≤ length (now (out .entry))) × (r ≤ 3000) ⌝ }
 {
@@ -32,7 +32,7 @@ fn sent_bytes(out: &[u8], count: usize) -> usize
     at
 }
 
-// A refusal.
+// Prints a refusal, by its number.
 pub fn refused(kind: &[u8], line: &[u8], expected: usize, r: Refusal)
     requires { ⌜ expected ≤ length (now line) ⌝ }
 {
@@ -42,7 +42,7 @@ pub fn refused(kind: &[u8], line: &[u8], expected: usize, r: Refusal)
     result(kind, line, expected, &text[..end]);
 }
 
-// A step that sent count frames, of which the first m bytes of out and the first k of to are shown.
+// Prints a step that sent count frames, with the first m bytes of out and the first k bytes of to.
 fn stepped(line: &[u8], expected: usize, count: usize, out: &[u8], m: usize, to: &[u8], k: usize)
     requires { ⌜ (expected ≤ length (now line)) × (count ≤ 13) × (m ≤ length (now out)) × (m ≤ 3000) × (k ≤ length (now to)) × (k ≤ 64) ⌝ }
 {
@@ -54,7 +54,7 @@ fn stepped(line: &[u8], expected: usize, count: usize, out: &[u8], m: usize, to:
     result(b"deliver ", line, expected, &text[..end]);
 }
 
-// The frames alone, or the whole areas.
+// Prints a step with its frames and receivers alone, or with the whole areas.
 fn shown(line: &[u8], expected: usize, count: usize, out: &[u8], to: &[u8], whole: bool)
     requires { ⌜ (expected ≤ length (now line)) × (count ≤ 13) ⌝ }
 {

@@ -1,29 +1,28 @@
-// The server that is tried, and what a line says of it.
+// The server on which the cases run, and numbers read from a line.
 use blocks::Params;
 use case_text::text::number;
 use case_text::text::word_at;
 use frame::Party;
-use server_rules::Server;
+use layout::servers::SERVER_SIZE;
 ghost use Prim.Native.Nat.{_≤_};
 ghost use lib.ListN.{length};
 
 pub struct Trial {
     pub g: Params,
-    pub me: u8,
-    pub server: Server,
+    pub me: usize,
+    pub record: [u8; SERVER_SIZE],
     // whether a reply is shown with the whole areas that were lent for it
     pub whole: bool,
 }
 
-// A number of a line, and where its next word starts.
+// A number in a line, and where the next word starts.
 pub struct Reading {
     pub value: usize,
     pub next: usize,
 }
 
-// Before the first line.
+// The server before the first line: none is made yet.
 pub fn first() -> Trial {
-    let server = Server::fresh();
     Trial {
         g: Params {
             n: 0,
@@ -32,19 +31,19 @@ pub fn first() -> Trial {
             size: 0,
         },
         me: 0,
-        server,
+        record: [0; SERVER_SIZE],
         whole: false,
     }
 }
 
-// The same, with replies shown by their frames alone, or with the whole areas.
+// The same server, with replies shown by their frames alone, or with the whole areas.
 pub fn showing(x: Trial, whole: bool) -> Trial {
     let g = x.g;
-    let server = x.server;
+    let record = x.record;
     Trial {
         g,
         me: x.me,
-        server,
+        record,
         whole,
     }
 }

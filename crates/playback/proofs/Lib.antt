@@ -1,4 +1,6 @@
-pub mod Copies
+pub mod Moves
+pub mod ByteSteps
+pub mod AnswerCases
 pub mod Needs
 pub mod Outcomes
 pub mod Rooms
@@ -8,3 +10,5 @@ pub mod Turns
 pub mod Steps
 pub mod Telling
 pub mod Theorem
+pub mod Resumes
+pub mod Journal

@@ -1,4 +1,4 @@
--- The room that entries ask. Assumes nothing.
+-- The room that entries need. Assumes nothing.
 use Prim.Native.Nat.{ℕ, _+_, _*_, _/_, _≤_, _<_}
 use native.Mathlib.Omega.{arith}
 use native.Mathlib.Nat.{mul-le-mul, div-lt-iff-lt-mul}
@@ -12,7 +12,7 @@ use Rattle.frame.specs.declared.Verdict.the-variants as J
 use Rattle.frame.specs.Params.{largestFrame}
 use Rattle.playback.specs.Playback.{entryNeed, outTest}
 
--- a product of the code
+-- the product that the code computes is small
 pub product-small : (a b : ℕ) → a ≤ 19 → b ≤ 600 → a * b ≤ 11400
 product-small a b h g = mul-le-mul h g
 
@@ -20,7 +20,7 @@ pub need-is : (g : Params) (f : ℕ) → f ≡ largestFrame g → 3 + (g .n + 9)
 unfolding entryNeed
 need-is g f e = ap (λ x. 3 + (g .n + 9) * (x + 2)) e
 
--- division in place of a product, which may be larger than a number of the code
+-- a division in place of a product, which might not fit into a machine number
 module _ (g : Params) (need count out : ℕ) (e : need ≡ entryNeed g) (some : 1 ≤ need) where
   pub out-short : out / need < count → J.Bad R.Room ≡ outTest g count out
   unfolding outTest pick

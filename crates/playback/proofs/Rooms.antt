@@ -1,5 +1,5 @@
--- A step that has room enough does not depend on the areas that it is lent: reply, server, state area and what is sent are those of a playback's step. Assumes
--- nothing.
+-- A step with enough room does not depend on the areas that are lent to it: reply, server, state area and what is sent are those of a playback's step.
+-- Assumes nothing.
 use Prim.Native.Nat.{ℕ}
 use native.Mathlib.Omega.{arith}
 use mathlib.Core.Path.{_≡_, refl, sym, ap, _∙_}
@@ -29,7 +29,7 @@ use Rattle.playback.specs.Theorem.{Enough}
 
 -- ---- the test
 
--- 10 but for the out and to areas
+-- refusal 10 without the tests of the out and to areas
 abbrev areasTest : Params → ℕ → ℕ → Verdict
 areasTest g area initial = pick (ltb area areaBytes) (J.Bad R.Room) (pick (ltb initial (width g)) (J.Bad R.Room) J.Fine)
 
@@ -56,7 +56,7 @@ module _ (H : List ℕ → List ℕ) (g : Params) (me : ℕ) (initial : List ℕ
       ap (λ (v : Verdict). after (paramsTest g me (g .n)) (ST.judgeOpened H g me (opened g (e .frame)) v s (e .sender) (e .frame)))
       (roomy g (length a) (length initial) out to E ∙ sym (roomy g (length a) (length initial) (spareOut g) (spareTo g) (spare-enough g)))
 
-  -- what a reply says was sent is how much was sent
+  -- the reply says how many frames were sent
   counted : (j : Judged) → SD.replyCount (SD.replyOf H g me j (length (SD.effectBy H g me j s a initial (e .sender) .sends)))
       ≡ length (SD.effectBy H g me j s a initial (e .sender) .sends)
   unfolding SD.replyOf SD.effectBy SD.replyCount

@@ -1,4 +1,4 @@
--- What a step sends, as its areas hold it and as a report does. Assumes nothing.
+-- What a step sends: as it is in the step's areas, and as it is in a report. Assumes nothing.
 use Prim.Native.Nat.{ℕ, suc, _+_, _*_, _≤_}
 use native.Mathlib.Omega.{arith}
 use native.Mathlib.Nat.{suc-mul, mul-le-mul-right}
@@ -75,10 +75,19 @@ module _ (g : Params) (B : Bounded g) where
         addressed-few xs (f .1),
       ))
 
+  -- with their receivers, frames take no fewer bytes than without
+  pub addressed-more : (xs : List Sending) → length (frames xs) ≤ length (addressed xs)
+  unfolding frames addressed
+  addressed-more [] = omega arith
+  addressed-more (x ∷ xs) =
+      let p = partyBytes (x .receiver) in
+      let b = build (x .says) in
+      omega (arith, length-append b (frames xs), length-append p (b ++ addressed xs), length-append b (addressed xs), addressed-more xs)
+
   -- ---- the report
 
   module _ (xs : List Sending) (F : AllFormed g xs) (few : length xs ≤ g .n + 9) where
-    -- a report takes no more than is asked for an entry
+    -- a report takes no more room than is asked for an entry
     pub report-few : (r : Report) → r .sends ≡ xs → length (reportBytes r) ≤ entryNeed g
     unfolding reportBytes entryNeed
     report-few r e =

@@ -1,4 +1,4 @@
--- A server that is played is well formed: what it sends can be said in frames, and is not more than its room. Assumes nothing.
+-- A server that plays a trace stays well formed: what it sends can be written as frames, and has room. Assumes nothing.
 use Prim.Native.Nat.{ℕ, _+_, _≤_}
 use native.Mathlib.Omega.{arith}
 use mathlib.Core.Path.{sym, subst}

@@ -1,4 +1,5 @@
--- A playback is the steps one after the other, whatever areas they are lent; entries behind others go on from the server that those left. Assumes nothing.
+-- A playback is the steps one after the other, whatever areas are lent to them; entries after others go on from the server that those left.
+-- Assumes nothing.
 use Prim.Native.Nat.{ℕ}
 use mathlib.Core.Path.{_≡_, refl, sym, ap, ap₂, subst, _∙_}
 use mathlib.Core.List.{List, [], _∷_, _++_, append-assoc}
@@ -57,7 +58,7 @@ module _ (H : List ℕ → List ℕ) (g : Params) (me : ℕ) (initial : List ℕ
     pub server : serverAfter H g me initial s a e ≡ s
     pub area : areaAfter H g me initial s a e ≡ a
 
-  -- what a judgement leaves
+  -- the reply, given what the tests say of the frame
   abbrev replyBy : Server → List ℕ → TraceEntry → Judged → Response ℕ
   replyBy s a e j = SD.replyOf H g me j (length (SD.effectBy H g me j s a initial (e .sender) .sends))
 
@@ -90,7 +91,7 @@ module _ (H : List ℕ → List ℕ) (g : Params) (me : ℕ) (initial : List ℕ
       ap₂ (λ x y. played H g me initial x y es) (S .server) (S .area) in
       λ i. record { server = p i .server; area = p i .area; reports = S .report i ∷ p i .reports }
 
-  -- ---- entries behind others
+  -- ---- entries after others
 
   pub record Follows (s : Server) (a : List ℕ) (xs ys : List TraceEntry) : Type 0 where
     pub server : played H g me initial s a (xs ++ ys) .server

@@ -26,7 +26,7 @@ use Rattle.playback.specs.Theorem.{Posted, postedIn, behindPosted, toldI
 use Rattle.playback.proofs.Sends.{report-few}
 use Rattle.playback.proofs.Sound.{Sound, steps}
 
--- what is reported can be read: frames that are within their bounds, and few
+-- reports that can be read back: their frames are within their bounds, and not too many
 abbrev pub AllReported : Params → List Report → Type 0
 AllReported g [] = Unit {0}
 AllReported g (r ∷ rs) = AllFormed g (r .sends) × (length (r .sends) ≤ g .n + 9) × AllReported g rs
@@ -110,14 +110,14 @@ module _ (g : Params) (B : Bounded g) where
       ∙ (λ i. record { number = n; posted = P .0 i } ∷ toldIn m (P .1 i))
       ∙ ap (λ y. record { number = n; posted = map post xs } ∷ y) (told-back rs (f .2) l)
 
-  -- they take no more room than was asked for them
+  -- reports take no more room than was asked for them
   pub reports-few : (rs : List Report) → AllReported g rs → length (reportsBytes rs) ≤ length rs * entryNeed g
   unfolding reportsBytes
   reports-few [] f = omega arith
   reports-few (r ∷ rs) f =
       rw suc-mul (omega (arith, length-append (reportBytes r) (reportsBytes rs), report-few g B (r .sends) (f .0) (f .1) r refl, reports-few rs (f .2)))
 
-  -- ---- what is played is reported so
+  -- ---- the reports of a playback are such
 
   pub all-reported : (H : List ℕ → List ℕ) (me : ℕ) (initial : List ℕ) → width g ≤ length initial → (s : Server) (a : List ℕ) → Sound s a
       → (es : List TraceEntry) → AllFrames es → AllReported g (played H g me initial s a es .reports)

@@ -76,7 +76,7 @@ module _ (H : List ℕ → List ℕ) (g : Params) (me : ℕ) where
     fine-by (J.Bad q) y e = impossible (cc)
     fine-by J.Fine y e = refl
 
-    fine : (y : Summed) → playback H g me v trace a initial out .answer ≡ gives y → test ≡ J.Fine
+    pub fine : (y : Summed) → playback H g me v trace a initial out .answer ≡ gives y → test ≡ J.Fine
     unfolding playback
     fine y e = fine-by test y e
 
@@ -138,7 +138,7 @@ module _ (H : List ℕ → List ℕ) (g : Params) (me : ℕ) where
       let e : u ≡ traceBytes (traceOf u .entries) = r .is ∙ ap (λ l. traceBytes (traceOf u .entries) ++ l) n ∙ append-nil (traceBytes (traceOf u .entries)) in
       ap (λ l. traceOf (l ++ w) .entries) e ∙ ap (λ t. t .entries) (back (traceOf u .entries) (r .writable) w)
 
-  -- what was stored first is there, whatever is stored behind it
+  -- what was stored first is there, whatever is stored after it
   front-stored : (out l m : List ℕ) → length l ≤ length out → take (length l) (sets out 0 (l ++ m)) ≡ l
   front-stored out l m h =
       ap (take (length l)) (sets-append out 0 l m)

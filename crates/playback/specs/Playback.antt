@@ -22,7 +22,6 @@ use Rattle.playback.specs.declared.Ending.the-variants as E
 use Rattle.playback.specs.declared.Summary.{Summary}
 use Rattle.playback.specs.declared.Answer.{Answer}
 use Rattle.playback.specs.declared.Answer.the-variants as A
-use Rattle.playback.specs.declared.Playback.{Playback}
 use Rattle.playback.specs.Reports.{Report, reportsBytes}
 
 -- ---- the room
@@ -38,13 +37,13 @@ spareTo g = replicate (toRoom (serverFrames g)) 0
 unfoldable pub entryNeed : Params → ℕ
 entryNeed g = 3 + serverFrames g * (largestFrame g + 2)
 
--- 10: "summed over them it must hold" this; count entries are played, and the one at which the trace closes is not counted
+-- refusal 10: "summed over them it must hold" this; count entries are played, and the one at which the trace closes is not counted
 unfoldable pub outTest : Params → ℕ → ℕ → Verdict
 outTest g count out = pick (ltb out (count * entryNeed g)) (refused 10) J.Fine
 
 -- ---- the entries, one after the other
 
--- the server and its state area behind the last entry, and what is reported of each
+-- the server and its state area after the last entry, and what is reported of each
 pub record Played : Type 0 where
   pub server : Server
   pub area : List ℕ
@@ -58,7 +57,7 @@ module _ (H : List ℕ → List ℕ) (g : Params) (me : ℕ) where
     sends = delivered H g me s a initial (e .sender) (e .frame) (spareOut g) (spareTo g) .sends;
   }
 
-  -- the server and the area behind it
+  -- the server and its state area after the entry
   unfoldable pub serverAfter : List ℕ → Server → List ℕ → TraceEntry → Server
   serverAfter initial s a e = delivery H g me s a initial (e .sender) (e .frame) (spareOut g) (spareTo g) .server
 
@@ -74,7 +73,7 @@ module _ (H : List ℕ → List ℕ) (g : Params) (me : ℕ) where
 
   -- ---- the whole outcome
 
-  -- 1, 2, 3, 10
+  -- refusals 1, 2, 3, 10
   unfoldable pub playTest : List ℕ → Trace → ℕ → ℕ → ℕ → Verdict
   playTest v t area initial out = andThen (constructTest H g me v area initial) (outTest g (length (t .entries)) out)
 
@@ -82,7 +81,7 @@ module _ (H : List ℕ → List ℕ) (g : Params) (me : ℕ) where
   unfoldable pub playedFrom : Constructed → List TraceEntry → Played
   playedFrom x es = played (x .initial) (x .server) (x .area) es
 
--- where a playback ended: behind the last entry, or with a number at an entry: "Both close a result, name the entry counted from 1"
+-- where a playback ended: after the last entry, or with 22 or 23 at an entry: "Both close a result, name the entry counted from 1"
 pub data End : Type 0 where
   whole : End
   closedWith : ℕ → ℕ → End
@@ -92,7 +91,7 @@ endIn E.Whole = whole
 endIn (E.Malformed i) = closedWith (closingNumber C.Malformed) i
 endIn (E.Cut i) = closedWith (closingNumber C.Cut) i
 
--- behind count entries that were played, where the trace closes with the number n, or 0
+-- the end after count entries were played; n is the number with which the trace closes, 0 where it is whole
 unfoldable pub endingOf : ℕ → ℕ → End
 endingOf n count = pick (eqb n 0) whole (closedWith n (count + 1))
 
@@ -116,9 +115,6 @@ pub record Outcome : Type 0 where
   pub area : List ℕ
   pub initial : List ℕ
   pub out : List ℕ
-
-abbrev pub outcome : Playback → List ℕ → List ℕ → List ℕ → Outcome
-outcome r area initial out = record { answer = playbackResponse (r .answer); server = r .server; area = area; initial = initial; out = out }
 
 abbrev pub summaryOf : Trace → List Report → Summed
 summaryOf t rs = record { entries = length (t .entries); bytes = length (reportsBytes rs); ending = endingOf (t .closing) (length (t .entries)) }

@@ -42,7 +42,7 @@ AllEnough g (h ∷ hs) = Enough g (h .out) (h .to) × AllEnough g hs
 unfoldable pub entriesOf : List Handed → List TraceEntry
 entriesOf hs = map (λ h. h .entry) hs
 
--- the server and its state area behind the last step, and the outcome of each
+-- the server and its state area after the last step, and the outcome of each
 pub record Taken : Type 0 where
   pub server : Server
   pub area : List ℕ
@@ -94,7 +94,7 @@ unfoldable pub postedIn : ℕ → List ℕ → List Posted
 postedIn zero l = []
 postedIn (suc m) l = record { receiver = partyIn (getD l 0 0) (getD l 1 0); frame = part l 2 (2 + be2 l 2) } ∷ postedIn m (drop (4 + be2 l 2) l)
 
--- what stands behind them
+-- the bytes after them
 unfoldable pub behindPosted : ℕ → List ℕ → List ℕ
 behindPosted zero l = l
 behindPosted (suc m) l = behindPosted m (drop (4 + be2 l 2) l)
@@ -118,7 +118,7 @@ module _ (H : List ℕ → List ℕ) (g : Params) (me : ℕ) where
     abbrev pub reports : List Report
     reports = playedFrom H g me fresh (traceOf trace .entries) .reports
 
-    -- it is the steps, whatever areas these were lent
+    -- the playback p is the steps hs, whatever areas were lent to these
     pub record IsSteps (p : Outcome) (hs : List Handed) : Type 0 where
       pub server : p .server ≡ takenFrom H g me fresh hs .server
       pub area : p .area ≡ takenFrom H g me fresh hs .area
@@ -127,13 +127,13 @@ module _ (H : List ℕ → List ℕ) (g : Params) (me : ℕ) where
       -- and the out area reads back to the replies and the frames sent, with their receivers
       pub told : toldIn (length (traceOf trace .entries)) (p .out) ≡ map toldOf reports
 
-  -- the trace u ++ w is cut behind the last entry of u: what u's entries gave is given again, and w's entries go on from there
+  -- the trace u ++ w is cut after the last entry of u: what u's entries gave is given again, and w's entries go on from there
   pub record GoesOn (w : List ℕ) (p q : Outcome) (x : Summed) : Type 0 where
     pub server : q .server ≡ played H g me (p .initial) (p .server) (p .area) (traceOf w .entries) .server
     pub area : q .area ≡ played H g me (p .initial) (p .server) (p .area) (traceOf w .entries) .area
     pub out : take (x .bytes) (q .out) ≡ take (x .bytes) (p .out)
 
-  -- p plays a journal that has an entry for each of the steps hs, and gives the state that the server had behind the last of them
+  -- p plays a journal that has an entry for each of the steps hs, and gives the state that the server had after the last of them
   pub record Restarts (x : SD.Constructed) (hs : List Handed) (p : Outcome) : Type 0 where
     pub summary : Summed
     pub answer : p .answer ≡ gives summary
@@ -150,10 +150,10 @@ pub record Unchanged (p : Outcome) (a initial out : List ℕ) : Type 0 where
   pub out-as-lent : p .out ≡ out
 
 pub record Theorem (H : List ℕ → List ℕ) (g : Params) (me : ℕ) : Type 0 where
-  -- 1, 2, 3 and 10 refuse the call, and a refusal changes nothing
+  -- refusals 1, 2, 3 and 10: the call changes nothing
   pub refused : (v trace a initial out : List ℕ) (n : ℕ) → playback H g me v trace a initial out .answer ≡ turnedDown n
       → Unchanged (playback H g me v trace a initial out) a initial out
-  -- 10 of the out area exactly if it is shorter than the entries played ask; so a trace that closes at its first entry asks none
+  -- refusal 10 of the out area exactly if it is shorter than the entries played need; so a trace that closes at its first entry needs none
   pub room : (count out : ℕ) → (outTest g count out ≡ J.Fine → count * entryNeed g ≤ out) × (count * entryNeed g ≤ out → outTest g count out ≡ J.Fine)
   pub no-room : outTest g 0 0 ≡ J.Fine
   -- "They must equal the steps taken one after another, each with room enough"
@@ -170,11 +170,11 @@ pub record Theorem (H : List ℕ → List ℕ) (g : Params) (me : ℕ) : Type 0 
         reports = record { reply = turnedDown n; sends = [] } ∷ played H g me initial s a es .reports;
       }
   pub turned-down-bytes : (n : ℕ) → reportBytes (record { reply = turnedDown n; sends = [] }) ≡ n ∷ 0 ∷ 0 ∷ []
-  -- a trace cut behind an entry plays the same up to there
+  -- a trace that is cut after an entry plays the same up to there
   pub cut : (v u w a initial out out′ : List ℕ) → Bytes u → traceOf u .closing ≡ 0 → (x y : Summed)
       → playback H g me v u a initial out .answer ≡ gives x → playback H g me v (u ++ w) a initial out′ .answer ≡ gives y
       → GoesOn H g me w (playback H g me v u a initial out) (playback H g me v (u ++ w) a initial out′) x
-  -- so a journal that is played gives the state that the server had: what a restart needs. The areas of both are lent with the same bytes
+  -- so playing a journal gives the state that the server had: what a restart needs. The areas are lent with the same bytes both times
   pub restart : (v a initial out : List ℕ) (hs : List Handed) → SD.construction H g me v a initial .reply ≡ gives 0 → AllEnough g hs
       → AllWritable (entriesOf hs) → length hs * entryNeed g ≤ length out
       → Restarts H g me (SD.construction H g me v a initial) hs (playback H g me v (traceBytes (entriesOf hs)) a initial out)

@@ -7,19 +7,21 @@ use frame::Refusal;
 use frame::Verdict;
 use frame::bounds::largest_frame;
 use server::setup::construct_test;
-use server_rules::Server;
+use server_deliver::fresh::fresh_test;
 ghost use mathlib.Core.Path.{_≡_};
 ghost use Prim.Native.Nat.{_≤_, _<_};
 ghost use Rattle.frame.specs.Params.{Bounded};
 ghost use Rattle.sha256.specs.Hash.{digestOf};
 ghost use Rattle.entries.specs.Entries.{closingNumber};
-ghost use Rattle.playback.specs.Playback.{entryNeed, outTest, endIn, endingOf, outcome, playback};
-ghost use Rattle.playback.specs.Stages.{refusing};
+ghost use Rattle.playback.specs.Playback.{entryNeed, outTest, endIn, endingOf, playbackResponse};
+ghost use Rattle.playback.specs.Records.{bytesPlayed, bytePlayback};
 
+pub mod answers;
 pub mod player;
 pub mod reports;
+pub mod resume;
 
-// Where a playback ended: behind the last entry, or at one, counted from 1, that is malformed (22) or inside of which the trace ends (23).
+// Where a playback ended: after the last entry, or at one, counted from 1, that is malformed (22) or inside which the trace ends (23).
 pub enum Ending {
     Whole,
     Malformed(usize),
@@ -38,13 +40,7 @@ pub enum Answer {
     Refused(Refusal),
 }
 
-// The answer, and the server behind the last entry that was played; a fresh one where the call is refused.
-pub struct Playback {
-    pub answer: Answer,
-    pub server: Server,
-}
-
-// The bytes of the out area that an entry asks.
+// How many bytes of the out area are asked for an entry.
 fn entry_need(g: Params) -> usize
     requires { ⌜ Bounded g ⌝ }
     ensures { λ r. ⌜ (r ≡ entryNeed g) × (r ≤ 11403) × (1 ≤ r) ⌝ }
@@ -52,7 +48,7 @@ fn entry_need(g: Params) -> usize
     3 + (g.n + 9) * (largest_frame(g) + 2)
 }
 
-// 10, of an out area for count entries.
+// Refusal 10, of an out area for count entries.
 fn out_test(g: Params, count: usize, out: usize) -> Verdict
     requires { ⌜ Bounded g ⌝ }
     ensures { λ r. ⌜ r ≡ outTest g count out ⌝ }
@@ -64,8 +60,8 @@ fn out_test(g: Params, count: usize, out: usize) -> Verdict
     Verdict::Fine
 }
 
-// The trace closes behind count entries.
-fn ending_of(c: Closing, count: usize) -> Ending
+// The end of a playback whose trace closes after count entries.
+pub fn ending_of(c: Closing, count: usize) -> Ending
     requires { ⌜ count < 18446744073709551615 ⌝ }
     ensures { λ r. ⌜ endIn r ≡ endingOf (closingNumber c) count ⌝ }
 {
@@ -76,49 +72,42 @@ fn ending_of(c: Closing, count: usize) -> Ending
     }
 }
 
-fn refuse(r: Refusal) -> Playback
-    ensures { λ x. ⌜ x ≡ refusing r ⌝ }
-{
-    Playback {
-        answer: Answer::Refused(r),
-        server: Server::fresh(),
-    }
-}
-
-// Plays a trace back on a fresh server me whose initial value is value. The out area gets, for each entry, its answer and the frames it sent.
+// Plays a trace back on server me, made afresh from the initial value: writes its record, its area and initial block, and what each entry gave into out.
 pub fn play(
     g: Params,
-    me: u8,
+    me: usize,
     value: &[u8],
     trace: &[u8],
     area: &mut [u8],
     initial: &mut [u8],
+    state: &mut [u8],
     out: &mut [u8],
-) -> Playback
-    ensures { λ r. ⌜ outcome r (now (area .exit)) (now (initial .exit)) (now (out .exit))
-        ≡ playback digestOf g me (now (value .entry)) (now (trace .entry)) (now (area .entry)) (now (initial .entry)) (now (out .entry)) ⌝ }
+) -> Answer
+    ensures { λ r. ⌜ bytesPlayed (playbackResponse r) (now (area .exit)) (now (initial .exit)) (now (state .exit)) (now (out .exit))
+        ≡ bytePlayback digestOf g me (now (value .entry)) (now (trace .entry)) (now (area .entry)) (now (initial .entry))
+        (now (state .entry)) (now (out .entry)) ⌝ }
 {
-    let test = construct_test(g, me, value, area.len(), initial.len());
+    let fits = fresh_test(g, me, value.len(), state.len());
+    if let Verdict::Bad(r) = fits {
+        return Answer::Refused(r);
+    }
+    let test = construct_test(g, me as u8, value, area.len(), initial.len());
     if let Verdict::Bad(r) = test {
-        return refuse(r);
+        return Answer::Refused(r);
     }
     let found = survey(trace);
     let entries = found.count;
     let room = out_test(g, entries, out.len());
     if let Verdict::Bad(r) = room {
-        return refuse(r);
+        return Answer::Refused(r);
     }
-    let done = play_all(g, me, value, trace, area, initial, out);
-    let server = done.server;
+    let bytes = play_all(g, me, value, trace, area, initial, state, out);
     let closing = found.closing;
     let ending = ending_of(closing, entries);
     let summary = Summary {
         entries,
-        bytes: done.used,
+        bytes,
         ending,
     };
-    Playback {
-        answer: Answer::Played(summary),
-        server,
-    }
+    Answer::Played(summary)
 }

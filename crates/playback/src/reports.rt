@@ -2,12 +2,10 @@
 use frame::refusals::number_of;
 use server_rules::Reply;
 ghost use mathlib.Core.Path.{_≡_};
-ghost use mathlib.Core.List.{_++_};
 ghost use Prim.Native.Nat.{_+_, _*_, _≤_, _<_};
-ghost use lib.ListN.{length};
+ghost use lib.ListN.{length, drop};
 ghost use lib.Seq.{sets};
 ghost use Rattle.area.specs.Area.{part};
-ghost use Rattle.area.specs.Numbers.{be2};
 ghost use Rattle.server_rules.specs.Delivery.{replyResponse, replyNumber, replyCount};
 ghost use Rattle.playback.specs.Stages.{sentIn, Lie, reportIn};
 
@@ -31,48 +29,51 @@ fn reply_count(a: Reply) -> usize
     }
 }
 
-// The frame at index from of frames, after receiver i of those in to, goes to out at index at. The answer is the frame's length.
-fn put_frame(frames: &[u8], from: usize, to: &[u8], i: usize, out: &mut [u8], at: usize) -> usize
-    requires { ⌜ (from + 2 ≤ length (now frames)) × (from + (2 + be2 (now frames) from) ≤ length (now frames))
-        × (2 * i + 2 ≤ length (now to)) × (at + 2 + (2 + be2 (now frames) from) ≤ length (now out)) ⌝ }
-    ensures { λ r. ⌜ (r ≡ 2 + be2 (now (frames .entry)) from)
-        × (now (out .exit) ≡ sets (now (out .entry)) at
-        (part (now (to .entry)) (2 * i) 2 ++ part (now (frames .entry)) from (2 + be2 (now (frames .entry)) from))) ⌝ }
+// Copies n bytes within the area, from index from on to index at on, which is not before it: the last byte first.
+fn copy_up(area: &mut [u8], at: usize, from: usize, n: usize)
+    requires { ⌜ (from ≤ at) × (at + n ≤ length (now area)) ⌝ }
+    ensures { λ _. ⌜ now (area .exit) ≡ sets (now (area .entry)) at (part (now (area .entry)) from n) ⌝ }
 {
-    let size = 2 + area::read2(frames, from) as usize;
-    let k = 2 * i;
-    area::put(out, at, &to[k..k + 2]);
-    area::put(out, at + 2, &frames[from..from + size]);
-    size
+    let mut j = n;
+    while 0 < j {
+        j -= 1;
+        area[at + j] = area[from + j];
+    }
 }
 
-// The m frames that lie end to end in frames, each after its receiver, which lie in to, go to out from index at on. The answer is where they end.
-fn put_sent(m: usize, frames: &[u8], to: &[u8], out: &mut [u8], at: usize) -> usize
-    requires { ⌜ Lie m (now frames) × (2 * m ≤ length (now to)) × (at + length (sentIn m (now frames) (now to)) ≤ length (now out)) ⌝ }
-    ensures { λ r. ⌜ (now (out .exit) ≡ sets (now (out .entry)) at (sentIn m (now (frames .entry)) (now (to .entry))))
-        × (r ≡ at + length (sentIn m (now (frames .entry)) (now (to .entry)))) ⌝ }
+// The frames that are left lie end to end from index from on. They move up to index at on, each after its receiver: the last first, so that none is
+// written over before it has moved. Receiver i, which lies in to, is the first one's. The answer is where they end.
+fn spread(out: &mut [u8], from: usize, at: usize, to: &[u8], i: usize, left: usize) -> usize
+    requires { ⌜ (from ≤ at) × (from ≤ length (now out)) × Lie left (drop from (now out)) × (2 * (i + left) ≤ length (now to))
+        × (at + length (sentIn left (drop from (now out)) (drop (2 * i) (now to))) ≤ length (now out)) ⌝ }
+    ensures { λ r. ⌜ (now (out .exit) ≡ sets (now (out .entry)) at (sentIn left (drop from (now (out .entry))) (drop (2 * i) (now (to .entry)))))
+        × (r ≡ at + length (sentIn left (drop from (now (out .entry))) (drop (2 * i) (now (to .entry))))) ⌝ }
 {
-    let mut i: usize = 0;
-    let mut from: usize = 0;
-    let mut end = at;
-    while i < m {
-        let size = put_frame(frames, from, to, i, out, end);
-        from += size;
-        end += 2 + size;
-        i += 1;
+    if left == 0 {
+        return at;
     }
+    let size = 2 + area::read2(out, from) as usize;
+    let end = spread(out, from + size, at + 2 + size, to, i + 1, left - 1);
+    copy_up(out, at + 2, from, size);
+    let k = 2 * i;
+    area::put(out, at, &to[k..k + 2]);
     end
 }
 
-// The report of a reply, whose frames and receivers lie in frames and to. The answer is where it ends.
-pub fn put_report(a: Reply, frames: &[u8], to: &[u8], out: &mut [u8], at: usize) -> usize
-    requires { ⌜ Lie (replyCount (replyResponse a)) (now frames) × (2 * replyCount (replyResponse a) ≤ length (now to))
-        × (replyCount (replyResponse a) < 65536) × (at + length (reportIn (replyResponse a) (now frames) (now to)) ≤ length (now out)) ⌝ }
-    ensures { λ r. ⌜ (now (out .exit) ≡ sets (now (out .entry)) at (reportIn (replyResponse a) (now (frames .entry)) (now (to .entry))))
-        × (r ≡ at + length (reportIn (replyResponse a) (now (frames .entry)) (now (to .entry)))) ⌝ }
+// The bytes of a report before its frames: the answer's number, and how many frames were sent.
+pub const REPORT_HEAD: usize = 3;
+
+// The report of a reply, whose frames lie in out after the place of its head, and its receivers in to. The answer is where it ends.
+pub fn put_report(a: Reply, to: &[u8], out: &mut [u8], at: usize) -> usize
+    requires { ⌜ (at + 3 ≤ length (now out)) × Lie (replyCount (replyResponse a)) (drop (at + 3) (now out))
+        × (2 * replyCount (replyResponse a) ≤ length (now to)) × (replyCount (replyResponse a) < 65536)
+        × (at + length (reportIn (replyResponse a) (drop (at + 3) (now out)) (now to)) ≤ length (now out)) ⌝ }
+    ensures { λ r. ⌜ (now (out .exit) ≡ sets (now (out .entry)) at (reportIn (replyResponse a) (drop (at + 3) (now (out .entry))) (now (to .entry))))
+        × (r ≡ at + length (reportIn (replyResponse a) (drop (at + 3) (now (out .entry))) (now (to .entry)))) ⌝ }
 {
     let m = reply_count(a);
+    let end = spread(out, at + REPORT_HEAD, at + REPORT_HEAD, to, 0, m);
     out[at] = reply_number(a);
     area::write2(out, at + 1, m as u16);
-    put_sent(m, frames, to, out, at + 3)
+    end
 }

@@ -1,7 +1,7 @@
 -- Stamps keep the order in time: if a read or a write ended before another operation began, its stamp is not above the other's, and
 -- strictly below it where the other is a write. In every run of lawful calls, and for operations of honest clients.
--- Each server's present stamp only grows. What n - t servers answered to an operation that ended holds its stamp down from there on; an
--- operation that begins later hears n - t servers, of which one is honest and among the former. Assumes nothing.
+-- Each server's present stamp only grows. When an operation has ended, the honest ones of n - t servers have its stamp or a larger one from then on;
+-- an operation that begins later hears n - t servers, and one of these is honest and among the former. Assumes nothing.
 use Prim.Native.Nat.{ℕ, zero, suc, _+_, _*_, _-_, _≤_, _<_}
 use native.Mathlib.Omega.{arith}
 use native.Mathlib.Decide.{decLe}
@@ -263,7 +263,7 @@ module _ {K A S : Type 0} (Z : Stamps A S) (W : Views K A S) (n t : ℕ) (faulty
         write-write ks₀ ks x a m c q i₁ T₁ i d p T h r ac₁ l ac =
             above ks₀ ks x a m (stamped T₁ c q) (write-above ks₀ ks x a m c q i₁ T₁ r ac₁) i d p T h l ac
 
-        -- Reads of one key bear one stamp, so one digest list: keys tell writes apart.
+        -- Reads with the same key have the same stamp, and so the same digest list: keys tell writes apart.
         pub one-stamp : ((a b : A) (c q d p : ℕ) → key (stamped a c q) ≡ key (stamped b d p) → (c ≡ d) × (q ≡ p))
             → ((a : A) (c q : ℕ) → key initial < key (stamped a c q))
             → (ks : List K) → Run ks → Admissible ks → (c q d p : ℕ) (v w : S) → ReadEnded ks c q v → ReadEnded ks d p w → key v ≡ key w → v ≡ w

@@ -1,5 +1,5 @@
 -- What a run shows of stamps, reads and writes, and what one call may do to it.
--- K is a call, and a run is the list of its calls, latest first. S is a stamp with what else a value bears (its digest list). A is what a server
+-- K is a call, and a run is the list of its calls, latest first. S is a stamp with what else a value carries (its digest list). A is what a server
 -- accepts a write with: the time that the client sent, and what else the broadcasts agree on. Nothing here knows frames or areas.
 -- Throughout j is a server, c a client, q the number of its read or write, T a time. Assumes nothing.
 use Prim.Native.Nat.{ℕ, zero, suc, _-_, _≤_, _<_}

@@ -1,7 +1,7 @@
 -- Quorums, where n > 3t and at most t of the servers 1 to n are false:
 --   more than t servers have an honest one among them;
 --   two sets of n - t servers share an honest one;
---   the honest servers are n - t at least.
+--   there are at least n - t honest servers.
 -- All agreement in this register comes from the first two, and that all are served from the third. Assumes nothing.
 use Prim.Native.Nat.{ℕ, zero, suc, _+_, _*_, _-_, _≤_, _<_}
 use native.Mathlib.Omega.{arith}

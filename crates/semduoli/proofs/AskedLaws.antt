@@ -1,4 +1,4 @@
--- What a host is answered that asks of a record, from what the code's calls promise. Assumes nothing.
+-- What a host is answered when it asks something of a record, from what the code's calls promise. Assumes nothing.
 use Prim.Native.Nat.{ℕ, _*_, _%_, _<_, _≤_}
 use mathlib.Core.Path.{_≡_, ap, _∙_}
 use mathlib.Core.List.{List}
@@ -17,7 +17,7 @@ use Rattle.layout.specs.Fields.{stampSize, stampAt}
 use Rattle.layout.specs.Clients.{clientSize, clientAt, clientIn}
 use Rattle.layout.specs.Servers.{serverSize, serverAt, serverIn}
 use Rattle.semduoli.specs.Calls.{Wrote, wrote}
-use Rattle.answers.specs.Answers.{openAnswer}
+use Rattle.site.specs.Answers.{openAnswer}
 use Rattle.semduoli.specs.Asked.{openOf, clientOpenCall, serverStampCall, serverOpenCall}
 use Rattle.semduoli.proofs.Laws.{enough, short}
 

@@ -1,4 +1,4 @@
--- After a host's call of a client the record's bytes say the client that the call's definition leaves. Assumes nothing.
+-- After a host's call on a client the record's bytes say the client that the call's definition leaves. Assumes nothing.
 use Prim.Native.Nat.{ℕ, _≤_, _<_}
 use mathlib.Core.Path.{_≡_, refl, sym, ap, _∙_}
 use mathlib.Core.Bool.{Bool, true, false}
@@ -32,8 +32,9 @@ use Rattle.layout.specs.Clients.{clientSize, clientBytes, clientIn}
 use Rattle.layout.specs.Typed.{TypedClient}
 use Rattle.layout.proofs.ClientBack.{client-stored}
 use Rattle.layout.proofs.TypedCalls.{typed-client-in, typed-client-fresh, typed-read, typed-write, typed-client-delivery}
-use Rattle.answers.specs.Answers.{leftBy, testAnswer}
-use Rattle.answers.specs.Short.{readShort, valueShort, frameShort, stampShort}
+use Rattle.layout.specs.Left.{leftBy}
+use Rattle.site.specs.Answers.{testAnswer}
+use Rattle.site.specs.Short.{readShort, valueShort, frameShort, stampShort}
 use Rattle.semduoli.specs.Calls.{wrote, freshCall, Began, began, stateAfter, beganOf, readCall, writeCall}
 use Rattle.semduoli.specs.Handed.{stampAfter, clientGot, clientGotOf, clientCall}
 use Rattle.semduoli.proofs.Laws.{enough, short, ends}
@@ -53,7 +54,7 @@ module _ (a : Response Progress) (s : Client) (state : List ℕ) where
   says true e t long h = sym (h e)
   says false e t long h = stored-back state s t long
 
-  -- they say s, where a call that is turned down leaves the client as it was
+  -- the bytes say s, provided that a call that is turned down leaves the client as it was
   pub after-back : TypedClient s → clientSize ≤ length state → (isTurnedDown a ≡ true → s ≡ clientIn state) → clientIn (stateAfter a s state) ≡ s
   unfolding stateAfter leftBy
   after-back t long h = says (isTurnedDown a) refl t long h
@@ -102,12 +103,12 @@ module _ (state : List ℕ) where
       ap (λ z. clientIn (z .out)) (sym (enough (length state) clientSize (wrote 10 state) (wrote 0 (sets state 0 (clientBytes freshClient))) long))
       ∙ stored-back state freshClient typed-client-fresh long
 
-  -- the call is turned down where the area is short, and leaves the bytes as they were
+  -- where the area is short the call is turned down, and leaves the bytes as they were
   pub fresh-kept : length state < clientSize → freshCall state .out ≡ state
   unfolding freshCall
   fresh-kept h = ap (λ z. z .out) (sym (short (length state) clientSize (wrote 10 state) (wrote 0 (sets state 0 (clientBytes freshClient))) h))
 
--- ---- a beginning x of the client that the bytes say, and what the call answers where the area is short
+-- ---- the client that the bytes say begins an operation, with the outcome x; n is what the call answers where the area is short
 
 module _ (g : Params) (state out to : List ℕ) (n : ℕ) (x : Begun) where
   abbrev begins : Began
@@ -185,7 +186,7 @@ module _ (g : Params) (me : ℕ) (from : Party) (value f rows result stamp state
   abbrev pub keeps : List ℕ
   keeps = clientCall g me from value f rows result stamp state out to .state
 
-  -- a call one of whose areas for record and stamp is short leaves the bytes as they were; if the delivery leaves l, the call does
+  -- where the area for the record or the stamp is short the call leaves the bytes as they were; else what the delivery leaves
   keeps-by : (l : List ℕ) → state ≡ l → stateAfter (delivers .answer) (delivers .client) state ≡ l → keeps ≡ l
   unfolding clientCall clientGotOf
   keeps-by l p q =

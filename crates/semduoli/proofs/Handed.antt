@@ -17,8 +17,8 @@ use Rattle.client_rules.specs.declared.Client.{Client}
 use Rattle.client_rules.specs.Delivery.{Outcome, delivery}
 use Rattle.layout.specs.Fields.{stampSize}
 use Rattle.layout.specs.Clients.{clientSize, clientAt, clientIn}
-use Rattle.answers.specs.Answers.{testAnswer, clientAnswer}
-use Rattle.answers.specs.Short.{frameShort, stampShort}
+use Rattle.site.specs.Answers.{testAnswer, clientAnswer}
+use Rattle.site.specs.Short.{frameShort, stampShort}
 use Rattle.semduoli.specs.Calls.{wrote, stateAfter}
 use Rattle.semduoli.specs.Handed.{stampAfter, ClientGot, clientGot, clientGotOf, clientCall}
 use Rattle.semduoli.proofs.Laws.{enough, short}
@@ -32,7 +32,7 @@ stamp-case a b l o e p = p ∙ sym (ap (λ x. stampAfter (answerResponse x) l) e
 -- ---- a client
 
 module _ (g : Params) (me : ℕ) (from : Party) (value f rows result stamp state out to : List ℕ) where
-  -- what the call answers where the record's area is short, and where the stamp's is; and else
+  -- what the call gives where the record's area is short, where the stamp's is, and where both are long enough
   abbrev without-record : ClientGot
   without-record = clientGot (testAnswer (frameShort g me lastClient f)) rows result stamp state out to
 

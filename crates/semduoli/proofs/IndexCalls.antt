@@ -1,4 +1,4 @@
--- The outcomes of the calls of an index, from what its crates ensure. Assumes nothing.
+-- The outcomes of a host's calls on an index, from what the crates of the index promise. Assumes nothing.
 use mathlib.Core.Path.{_≡_, sym, ap, _∙_}
 use mathlib.Core.List.{List}
 use mathlib.Core.Option.{Option}
@@ -10,7 +10,7 @@ use Rattle.area.specs.Responses.{Response}
 use Rattle.accession_index.specs.Index.{searched}
 use Rattle.accession_bytes.specs.Layout.{indexSize, indexIn, stored, insertionIn}
 use Rattle.semduoli.specs.Calls.{wrote}
-use Rattle.answers.specs.Answers.{insertionAnswer, searchAnswer}
+use Rattle.accession_index.specs.Answers.{insertionAnswer, searchAnswer}
 use Rattle.semduoli.specs.Accession.{wroteOf, indexInsertCall, indexSearchCall}
 
 pub index-inserted : (value l o : List ℕ) (a : Response ℕ) (x : ℕ) → indexSize ≤ length l → stored a o ≡ insertionIn l value → x ≡ insertionAnswer a

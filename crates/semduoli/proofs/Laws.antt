@@ -1,4 +1,4 @@
--- The outcome of each exported call from what its code's calls promise. Assumes nothing.
+-- The outcome of each exported call, from the promises of the functions that its code calls. Assumes nothing.
 use Prim.Native.Nat.{ℕ, _<_, _≤_}
 use mathlib.Core.Path.{_≡_, refl, sym, ap, ap₂, subst, _∙_}
 use mathlib.Core.Bool.{Bool, true, false}
@@ -26,13 +26,17 @@ use Rattle.order.specs.Histories.{any, malformed, unlisted, offended, later, ea
 use Rattle.order.specs.Histories.{offending, ordered, judged}
 use Rattle.history_sheet.specs.Laying.{SheetResult, outcome as laidOutcome, laying}
 use Rattle.layout.specs.Clients.{clientSize, clientBytes, clientAt, clientIn}
-use Rattle.answers.specs.Answers.{codeAnswer, leftBy, testAnswer, clientAnswer, lineCount, historyAnswer, sheetAnswer}
-use Rattle.answers.specs.Short.{readShort, valueShort}
-use Rattle.answers.proofs.Left.{left-old, left-new}
+use Rattle.blocks.specs.Answers.{codeAnswer}
+use Rattle.site.specs.Answers.{testAnswer, clientAnswer}
+use Rattle.order.specs.Answers.{lineCount, historyAnswer}
+use Rattle.history_sheet.specs.Answers.{sheetAnswer}
+use Rattle.site.specs.Short.{readShort, valueShort}
+use Rattle.layout.specs.Left.{leftBy}
+use Rattle.layout.proofs.Left.{left-old, left-new}
 use Rattle.semduoli.specs.Calls.{wrote, digestCall, codeCall, judgedCall, historyCall, freshCall, began, stateAfter, beganOf, readCall, writeCall}
 use Rattle.semduoli.specs.Sheets.{sheetWrote, sheetCall}
 
--- where an area is long enough, or short
+-- an area of n bytes, of which m are needed, is long enough, or short
 module _ {A : Type 0} (n m : ℕ) (x y : A) where
   pub enough : m ≤ n → y ≡ pick (ltb n m) x y
   unfolding pick
@@ -42,7 +46,7 @@ module _ {A : Type 0} (n m : ℕ) (x y : A) where
   unfolding pick
   short h = sym (ap (λ b. pick b x y) (lt-ltb n m h))
 
--- a call has one of two ends; if each leaves l, the call does
+-- a call has one of two outcomes; if each leaves l, the call does
 pub ends : {C : Type 0} (f : C → List ℕ) (b : Bool) (x y : C) (l : List ℕ) → f x ≡ l → f y ≡ l → f (pick b x y) ≡ l
 unfolding pick
 ends f true x y l p q = p
@@ -63,7 +67,7 @@ code-done a o x y e p = ap (λ z. wrote z o) p ∙ ap codeCall e
 
 -- ---- histories
 
--- the line numbers of an answer are 64
+-- an answer has room for 64 line numbers
 abbrev Whole : Judgement → Type 0
 Whole v = length (v .lines) ≡ 64
 
@@ -155,7 +159,7 @@ fresh-done state o s h e p =
     ap (wrote 0) (p ∙ ap (λ z. sets state 0 (clientBytes z)) e)
     ∙ enough (length state) clientSize (wrote 10 state) (wrote 0 (sets state 0 (clientBytes freshClient))) h
 
--- what is kept is left as it was, or written
+-- the record is left as it was, or written
 module _ {A : Type 0} (a : Response A) (old new : List ℕ) (x y : ℕ) (b : Bool) (p : b ≡ isTurnedDown a) (e : x ≡ y) where
   pub keep-old : b ≡ true → wrote x old ≡ wrote y (leftBy a old new)
   keep-old q = ap₂ wrote e (left-old a old new b p q)
@@ -180,7 +184,7 @@ module _ (g : Params) (me : ℕ) (state out to : List ℕ) where
 
   module _ (s r : Client) (a : Response Progress) (x : ℕ) (st o u : List ℕ) (h : clientSize ≤ length state) (p : s ≡ clientAt state 0)
       (k : wrote x st ≡ wrote (clientAnswer (g .n) a) (stateAfter a r state)) where
-    -- the outcome of a beginning as f says it of the record that the bytes say
+    -- an operation begins: the call's outcome is what f gives for the client that the bytes say
     begun-done : (f : Client → Begun) → _≡_ {A = Begun} (record { answer = a; client = r; out = o; to = u }) (f s)
         → began x st o u ≡ beganOf g (f (clientIn state)) state
     unfolding beganOf clientIn

@@ -1,4 +1,4 @@
--- An own number above 255 is no party's: the call answers 1, and every lent byte stays. Assumes nothing.
+-- No client has an own number above 8: the call answers 1, and every lent byte stays. Assumes nothing.
 use Prim.Native.Nat.{ℕ, _<_}
 use native.Mathlib.Omega.{arith}
 use mathlib.Core.Path.{_≡_, refl, sym, ap, _∙_}
@@ -11,37 +11,26 @@ use Rattle.area.specs.Responses.{turnedDown, isTurnedDown}
 use Rattle.area.specs.Area.{pick}
 use Rattle.sha256.specs.Hash.{digestOf}
 use Rattle.blocks.specs.declared.Params.{Params}
-use Rattle.blocks.specs.Params.{partiesFit}
-use Rattle.blocks.proofs.Parameters.{parties-facts}
 use Rattle.frame.specs.declared.Party.{Party}
 use Rattle.frame.specs.declared.Verdict.{Verdict}
 use Rattle.frame.specs.declared.Refusal.the-variants as R
 use Rattle.frame.specs.declared.Verdict.the-variants as J
-use Rattle.frame.specs.declared.Opened.the-variants as O
 use Rattle.frame.specs.Refusals.{andThen}
+use Rattle.blocks.specs.Params.{partiesFit}
 use Rattle.frame.specs.Params.{ownTest, codeTest, paramsTest}
 use Rattle.frame.specs.Stamps.{lastClient}
-use Rattle.frame.specs.Frames.{clientAt, headerIn, openedBy}
 use Rattle.client_rules.specs.Tests.{valueTest}
 use Rattle.client_rules.specs.Beginning.{Begun, readTest, writeTest, openRead, openWrite, readBegun, writeBegun, readBeginning, writeBeginning}
 use Rattle.client_rules.specs.Delivery.{Outcome, delivery}
 use Rattle.client.proofs.Beginnings.{begin-refused}
 use Rattle.client_deliver.proofs.Deliveries.{call-refused}
-use Rattle.server_rules.specs.Delivery.{constructTest, constructBy, construction}
-use Rattle.server_rules.specs.Delivery as S
 use Rattle.server_rules.proofs.Within.{either}
-use Rattle.server_deliver.specs.Handed.{admitted}
-use Rattle.server_deliver.proofs.Openings.{refused-delivery}
 use Rattle.layout.specs.Clients.{clientSize, clientIn}
-use Rattle.layout.specs.Servers.{serverSize, serverIn}
-use Rattle.answers.specs.Answers.{leftBy, testAnswer, clientAnswer, serverAnswer}
-use Rattle.answers.specs.Short.{readShort, valueShort, frameShort, stampShort}
+use Rattle.layout.specs.Left.{leftBy}
+use Rattle.site.specs.Answers.{testAnswer, clientAnswer}
+use Rattle.site.specs.Short.{readShort, valueShort, frameShort, stampShort}
 use Rattle.semduoli.specs.Calls.{began, stateAfter, beganOf, readCall, writeCall}
 use Rattle.semduoli.specs.Handed.{stampAfter, clientGot, clientGotOf, clientCall}
-use Rattle.entries.specs.Entries.{traceOf}
-use Rattle.playback.specs.Playback.{playTest, playbackBy, playback}
-use Rattle.playback_bytes.specs.Calls.{playbackAnswer, playedAfter, playedBack, playedBackOf, playbackCall}
-use Rattle.semduoli.specs.ServerCalls.{freshAfter, scopeAfter, made, madeOf, makeCall, serverGot, serverGotOf, serverCall}
 
 -- ---- 1 is answered
 
@@ -61,14 +50,11 @@ module _ (g : Params) (me most : ℕ) where
   unfolding paramsTest
   params-out h = out-by (partiesFit (g .n) (g .t)) h
 
-module _ (g : Params) (me : ℕ) (h : 255 < me) where
+module _ (g : Params) (me : ℕ) (h : lastClient < me) where
   no-client : paramsTest g me lastClient ≡ J.Bad R.Parties
   no-client = params-out g me lastClient (λ e. omega (arith, h))
 
-  no-server : paramsTest g me (g .n) ≡ J.Bad R.Parties
-  no-server = params-out g me (g .n) (λ e. let m = parties-facts (g .n) (g .t) e .1 in omega (arith, h, m))
-
--- a test that begins with the parameters'
+-- a test of which the test of the parameters is the first part
 stops : (p : Verdict) (v : Verdict) → p ≡ J.Bad R.Parties → andThen p v ≡ J.Bad R.Parties
 stops p v e = ap (λ z. andThen z v) e
 
@@ -79,7 +65,7 @@ told p v e = sym (ap testAnswer (stops p v e))
 
 -- ---- a client
 
-module _ (g : Params) (me : ℕ) (h : 255 < me) where
+module _ (g : Params) (me : ℕ) (h : lastClient < me) where
   module _ (state out to : List ℕ) where
     begins-none : (x : Begun) → _≡_ {A = Begun} (record { answer = turnedDown 1; client = clientIn state; out = out; to = to }) x
         → began 1 state out to ≡ beganOf g x state
@@ -122,33 +108,3 @@ module _ (g : Params) (me : ℕ) (h : 255 < me) where
         (done-none (delivery digestOf g me (clientIn state) rows value from f result out to)
         (call-refused g me (clientIn state) rows value from f result out to (J.Bad R.Parties)
         (sym (stops (paramsTest g me lastClient) (valueTest g (clientIn state .phase) (length value)) p)) R.Parties refl)))
-
--- ---- a server
-
-module _ (g : Params) (me : ℕ) (h : 255 < me) where
-  pub make-none : (value area initial state : List ℕ) → made 1 area initial state ≡ makeCall g me value area initial state
-  unfolding makeCall valueShort madeOf construction constructTest constructBy serverAnswer freshAfter leftBy isTurnedDown pick
-  make-none value area initial state =
-      let p = no-server g me h in
-      either (λ z. made 1 area initial state ≡ z) (ltb (length state) serverSize) _ _ (ap (λ x. made x area initial state) (told (paramsTest g me (g .n)) _ p))
-      (ap (λ v. madeOf (constructBy digestOf g me v value area initial) state) (sym (stops (paramsTest g me (g .n)) _ p)))
-
-  pub playback-none : (value trace area initial state out : List ℕ) → playedBack 1 area initial state out ≡ playbackCall g me value trace area initial state out
-  unfolding playbackCall valueShort playedBackOf playback playTest playbackBy constructTest playbackAnswer playedAfter leftBy isTurnedDown pick
-  playback-none value trace area initial state out =
-      let p = no-server g me h in
-      either (λ z. playedBack 1 area initial state out ≡ z) (ltb (length state) serverSize) _ _
-      (ap (λ x. playedBack x area initial state out) (told (paramsTest g me (g .n)) _ p))
-      (ap (λ v. playedBackOf (playbackBy digestOf g me v value (traceOf trace) area initial out) state)
-      (sym (stops (constructTest digestOf g me value (length area) (length initial)) _ (stops (paramsTest g me (g .n)) _ p))))
-
-  module _ (from : Party) (f area initial state out to : List ℕ) where
-    pub server-none : serverGot 1 area state out to ≡ serverCall g me from f area initial state out to
-    unfolding serverCall frameShort serverGotOf serverAnswer scopeAfter leftBy isTurnedDown pick admitted
-    server-none =
-        let p = no-server g me h in
-        either (λ z. serverGot 1 area state out to ≡ z) (ltb (length state) serverSize) _ _
-        (ap (λ x. serverGot x area state out to) (told (paramsTest g me (g .n)) _ p))
-        (ap (λ (z : S.Outcome). serverGotOf z (getD f clientAt 0) state)
-        (refused-delivery digestOf g me (serverIn state) area initial from f out to (O.Refused R.Parties) R.Parties
-        (ap (λ v. openedBy v (headerIn f)) (sym (stops (paramsTest g me (g .n)) _ p))) refl))

@@ -13,17 +13,17 @@ use Rattle.server_rules.specs.State.{slotOf}
 use Rattle.layout.specs.Fields.{stampSize}
 use Rattle.layout.specs.Clients.{clientSize, clientIn}
 use Rattle.layout.specs.Servers.{serverSize, serverIn}
-use Rattle.answers.specs.Answers.{openAnswer}
+use Rattle.site.specs.Answers.{openAnswer}
 use Rattle.semduoli.specs.Calls.{Wrote, wrote}
 
--- the version of include/semduoli.h that these calls are those of
+-- the version of include/semduoli.h to which these calls belong
 abbrev pub headerVersion : ℕ
 headerVersion = 3
 
 unfoldable pub openOf : Client → ℕ
 openOf s = openAnswer (s .phase) (s .writes) (s .reads)
 
--- 10, "lent area short"
+-- refusal 10, "lent area short"
 unfoldable pub clientOpenCall : List ℕ → ℕ
 clientOpenCall state = pick (ltb (length state) clientSize) 10 (openOf (clientIn state))
 
@@ -34,7 +34,7 @@ serverStampCall state stamp =
     (pick (ltb (length stamp) stampSize) (wrote 10 stamp)
     (wrote 0 (sets stamp 0 (stampBytes (serverIn state .stamp)))))
 
--- the number of the write of client c that a server works on, 2^32 where none is left: 7, "client not 1 to 8", then 10
+-- the number of the write of client c that a server works on, 2^32 where none is left; refusal 7, "client not 1 to 8", then 10
 unfoldable pub serverOpenCall : ℕ → List ℕ → ℕ
 serverOpenCall c state =
     pick (ltb c 1) 7

@@ -18,8 +18,11 @@ use Rattle.client_rules.specs.Beginning.{Begun, readBeginning, writeBeginning}
 use Rattle.history_text.specs.Lines.{answerTo}
 use Rattle.order.specs.Histories.{Judgement}
 use Rattle.layout.specs.Clients.{clientSize, clientBytes, clientIn}
-use Rattle.answers.specs.Answers.{codeAnswer, leftBy, testAnswer, clientAnswer, lineCount, historyAnswer}
-use Rattle.answers.specs.Short.{readShort, valueShort}
+use Rattle.layout.specs.Left.{leftBy}
+use Rattle.blocks.specs.Answers.{codeAnswer}
+use Rattle.site.specs.Answers.{testAnswer, clientAnswer}
+use Rattle.order.specs.Answers.{lineCount, historyAnswer}
+use Rattle.site.specs.Short.{readShort, valueShort}
 pub use Rattle.host_facts.specs.Outcomes.{Wrote, wrote}
 
 abbrev pub params : ℕ → ℕ → ℕ → ℕ → Params
@@ -27,7 +30,7 @@ params n t k L = record { n = n; t = t; k = k; size = L }
 
 -- ---- calls that lend one area to be written
 
--- the digest of at most 256 bytes, 3 for more; 10, "lent area short"
+-- the digest of at most 256 bytes; refusal 3 for more; 10, "lent area short"
 unfoldable pub digestCall : List ℕ → List ℕ → Wrote
 digestCall m out = pick (ltb 256 (length m)) (wrote 3 out) (pick (ltb (length out) 32) (wrote 10 out) (wrote 0 (sets out 0 (digestOf m))))
 
@@ -40,7 +43,7 @@ encodeCall g value out = codeCall (encoding g value out)
 unfoldable pub decodeCall : Params → List ℕ → List ℕ → List ℕ → Wrote
 decodeCall g numbers blocks out = codeCall (decoding g numbers blocks out)
 
--- the line numbers of an order go to the front of the lent area; what is behind them stays as lent
+-- the line numbers of an order go to the front of the lent area; the bytes after them stay as lent
 unfoldable pub judgedCall : Judgement → List ℕ → Wrote
 judgedCall v lines = wrote (historyAnswer (v .answer)) (sets lines 0 (take (lineCount (v .answer)) (v .lines)))
 

@@ -17,11 +17,11 @@ use Rattle.client_rules.specs.Answers.{Progress, goesOn, writeEnds, writeCloses
 use Rattle.client_rules.specs.Delivery.{Outcome, delivery}
 use Rattle.layout.specs.Fields.{stampSize}
 use Rattle.layout.specs.Clients.{clientSize, clientIn}
-use Rattle.answers.specs.Answers.{testAnswer, clientAnswer}
-use Rattle.answers.specs.Short.{frameShort, stampShort}
+use Rattle.site.specs.Answers.{testAnswer, clientAnswer}
+use Rattle.site.specs.Short.{frameShort, stampShort}
 use Rattle.semduoli.specs.Calls.{stateAfter}
 
--- the sender as the host names it: class 0 is a client, class 1 a server. Client 255 is nobody: 11 turns its frames down.
+-- the sender as the host names it: class 0 is a client, class 1 a server. Client 255 is nobody: its frames are refused with 11.
 abbrev pub nobody : Party
 nobody = P.Client 255
 

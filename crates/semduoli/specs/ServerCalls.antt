@@ -1,30 +1,14 @@
--- The whole outcome of a host's calls of a server: the answer, and every byte of the areas that the host lends. These are definitions.
+-- The whole outcome of a host's calls on a server: the answer, and every byte of the areas that the host lends. These are definitions.
 use Prim.Native.Nat.{ℕ}
 use mathlib.Core.List.{List}
-use lib.ListN.{length, getD}
-use lib.Seq.{sets}
-use lib.Dec.{ltb}
-use Rattle.area.specs.Area.{pick}
-use Rattle.area.specs.Responses.{Response}
 use Rattle.sha256.specs.Hash.{digestOf}
 use Rattle.blocks.specs.declared.Params.{Params}
 use Rattle.frame.specs.declared.Party.{Party}
-use Rattle.frame.specs.Frames.{clientAt}
-use Rattle.server_rules.specs.declared.Scope.{Scope}
-use Rattle.server_rules.specs.declared.Server.{Server}
-use Rattle.server_rules.specs.Scopes.{scopeOf}
-use Rattle.server_rules.specs.Delivery.{Outcome, Constructed, delivery, construction}
-use Rattle.layout.specs.Servers.{serverSize, serverBytes, serverIn, scopeSets}
-use Rattle.answers.specs.Answers.{leftBy, testAnswer, serverAnswer}
-use Rattle.answers.specs.Short.{valueShort, frameShort}
-
--- a fresh record's bytes; "state and all lent bytes remain unchanged" where the call was turned down
-unfoldable pub freshAfter : Response ℕ → Server → List ℕ → List ℕ
-freshAfter a s state = leftBy a state (sets state 0 (serverBytes s))
-
--- the record's bytes after a step for client c that leaves the scope x: the stamp, and that client's slot and reader; the others' stay as lent
-unfoldable pub scopeAfter : Response ℕ → Scope → ℕ → List ℕ → List ℕ
-scopeAfter a x c state = leftBy a state (scopeSets state c (x .stamp) (x .slot) (x .reader))
+use Rattle.server_deliver.specs.Answers.{serverAnswer}
+use Rattle.server_deliver.specs.Records.{ByteOutcome, byteDelivery, ByteConstructed, byteConstruction}
+use Rattle.playback.specs.Answers.{playbackAnswer}
+use Rattle.playback.specs.Records.{BytesPlayed, bytePlayback}
+use Rattle.playback.specs.Resume.{areas, Resumption, byteResumption}
 
 -- ---- a fresh server
 
@@ -37,13 +21,11 @@ pub record Made : Type 0 where
 abbrev pub made : ℕ → List ℕ → List ℕ → List ℕ → Made
 made x area initial state = record { answer = x; area = area; initial = initial; state = state }
 
-unfoldable pub madeOf : Constructed → List ℕ → Made
-madeOf x state = made (serverAnswer (x .reply)) (x .area) (x .initial) (freshAfter (x .reply) (x .server) state)
+abbrev pub madeOf : ByteConstructed → Made
+madeOf x = made (serverAnswer (x .reply)) (x .area) (x .initial) (x .state)
 
 unfoldable pub makeCall : Params → ℕ → List ℕ → List ℕ → List ℕ → List ℕ → Made
-makeCall g me value area initial state =
-    pick (ltb (length state) serverSize) (made (testAnswer (valueShort g me (g .n) (length value))) area initial state)
-    (madeOf (construction digestOf g me value area initial) state)
+makeCall g me value area initial state = madeOf (byteConstruction digestOf g me value area initial state)
 
 -- ---- a frame is handed in
 
@@ -57,11 +39,44 @@ pub record ServerGot : Type 0 where
 abbrev pub serverGot : ℕ → List ℕ → List ℕ → List ℕ → List ℕ → ServerGot
 serverGot x area state out to = record { answer = x; area = area; state = state; out = out; to = to }
 
--- the frame names client c
-unfoldable pub serverGotOf : Outcome → ℕ → List ℕ → ServerGot
-serverGotOf x c state = serverGot (serverAnswer (x .reply)) (x .area) (scopeAfter (x .reply) (scopeOf (x .server) c) c state) (x .out) (x .to)
+abbrev pub serverGotOf : ByteOutcome → ServerGot
+serverGotOf x = serverGot (serverAnswer (x .reply)) (x .area) (x .state) (x .out) (x .to)
 
 unfoldable pub serverCall : Params → ℕ → Party → List ℕ → List ℕ → List ℕ → List ℕ → List ℕ → List ℕ → ServerGot
-serverCall g me from f area initial state out to =
-    pick (ltb (length state) serverSize) (serverGot (testAnswer (frameShort g me (g .n) f)) area state out to)
-    (serverGotOf (delivery digestOf g me (serverIn state) area initial from f out to) (getD f clientAt 0) state)
+serverCall g me from f area initial state out to = serverGotOf (byteDelivery digestOf g me from f area initial state out to)
+
+-- ---- a trace is played back
+
+pub record PlayedBack : Type 0 where
+  pub answer : ℕ
+  pub area : List ℕ
+  pub initial : List ℕ
+  pub state : List ℕ
+  pub out : List ℕ
+
+abbrev pub playedBack : ℕ → List ℕ → List ℕ → List ℕ → List ℕ → PlayedBack
+playedBack x area initial state out = record { answer = x; area = area; initial = initial; state = state; out = out }
+
+abbrev pub playedBackOf : BytesPlayed → PlayedBack
+playedBackOf x = playedBack (playbackAnswer (x .answer)) (x .area) (x .initial) (x .state) (x .out)
+
+unfoldable pub playbackCall : Params → ℕ → List ℕ → List ℕ → List ℕ → List ℕ → List ℕ → List ℕ → PlayedBack
+playbackCall g me value trace area initial state out = playedBackOf (bytePlayback digestOf g me value trace area initial state out)
+
+-- ---- a server goes on from a kept record
+
+pub record Resumed : Type 0 where
+  pub answer : ℕ
+  pub area : List ℕ
+  pub state : List ℕ
+  pub out : List ℕ
+  pub to : List ℕ
+
+abbrev pub resumedTo : ℕ → List ℕ → List ℕ → List ℕ → List ℕ → Resumed
+resumedTo x area state out to = record { answer = x; area = area; state = state; out = out; to = to }
+
+abbrev pub resumedOf : Resumption → Resumed
+resumedOf x = resumedTo (playbackAnswer (x .answer)) (x .areas .area) (x .areas .state) (x .areas .out) (x .areas .to)
+
+unfoldable pub resumeCall : Params → ℕ → List ℕ → List ℕ → List ℕ → List ℕ → List ℕ → List ℕ → Resumed
+resumeCall g me trace area initial state out to = resumedOf (byteResumption digestOf g me initial trace (areas area state out to))

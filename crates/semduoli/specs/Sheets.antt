@@ -2,7 +2,7 @@
 use Prim.Native.Nat.{ℕ}
 use mathlib.Core.List.{List}
 use Rattle.history_sheet.specs.Laying.{Outcome, laying}
-use Rattle.answers.specs.Answers.{sheetAnswer}
+use Rattle.history_sheet.specs.Answers.{sheetAnswer}
 use Rattle.semduoli.specs.Calls.{Wrote, wrote}
 
 unfoldable pub sheetWrote : Outcome → Wrote

@@ -1,6 +1,6 @@
 // The index of accession numbers, which the host keeps as bytes.
-use answers::index::insertion_answer;
-use answers::index::search_answer;
+use accession_index::answers::insertion_answer;
+use accession_index::answers::search_answer;
 ghost use mathlib.Core.Path.{_≡_};
 ghost use Rattle.semduoli.specs.Accession.{indexFreshCall, indexInsertCall, indexSearchCall};
 ghost use Rattle.semduoli.specs.Calls.{wrote};

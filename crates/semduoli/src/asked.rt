@@ -1,6 +1,5 @@
-// What a host may ask of a record.
-use answers::calls::open_answer;
-use frame::layout::CLIENTS;
+// What a host may ask of a record that it keeps.
+use frame::places::CLIENTS;
 use layout::clients::CLIENT_SIZE;
 use layout::clients::client_at;
 use layout::fields::STAMP_SIZE;
@@ -8,6 +7,7 @@ use layout::fields::put_stamp;
 use layout::fields::stamp_at;
 use layout::servers::SERVER_SIZE;
 use layout::servers::scope_at;
+use site::answers::open_answer;
 ghost use mathlib.Core.Path.{_≡_};
 ghost use Rattle.semduoli.specs.Calls.{wrote};
 ghost use Rattle.semduoli.specs.Asked.{headerVersion, clientOpenCall, serverStampCall, serverOpenCall};
@@ -49,7 +49,7 @@ pub extern "C" fn semduoli_server_stamp(state: &[u8], stamp: &mut [u8]) -> u64
     0
 }
 
-// The number of the write of a client that a server works on.
+// The number of the write that a server works on for a client.
 #[no_mangle]
 pub extern "C" fn semduoli_server_open(client: usize, state: &[u8]) -> u64
     ensures { λ r. ⌜ r ≡ serverOpenCall client (now (state .entry)) ⌝ }

@@ -1,29 +1,29 @@
 // A client, whose record the host keeps as bytes.
 use crate::senders::sender_of;
-use answers::calls::client_answer;
-use answers::calls::is_refusal;
-use answers::calls::test_answer;
-use answers::short::frame_short;
-use answers::short::read_short;
-use answers::short::stamp_short;
-use answers::short::value_short;
 use blocks::Params;
 use client::fresh::fresh_client;
 use client_rules::Answer;
 use client_rules::Client;
-use frame::layout::CLIENTS;
+use frame::places::CLIENTS;
 use layout::clients::CLIENT_SIZE;
 use layout::clients::client_at;
 use layout::clients::put_client;
 use layout::fields::STAMP_SIZE;
 use layout::fields::put_stamp;
+use site::answers::client_answer;
+use site::answers::is_refusal;
+use site::answers::test_answer;
+use site::short::frame_short;
+use site::short::read_short;
+use site::short::stamp_short;
+use site::short::value_short;
 ghost use mathlib.Core.Path.{_≡_};
 ghost use Prim.Native.Nat.{_≤_};
 ghost use lib.ListN.{length};
 ghost use Rattle.layout.specs.Fields.{stampSize};
 ghost use Rattle.layout.specs.Clients.{clientSize};
 ghost use Rattle.client_rules.specs.Answers.{answerResponse};
-ghost use Rattle.answers.specs.Answers.{clientAnswer};
+ghost use Rattle.site.specs.Answers.{clientAnswer};
 ghost use Rattle.semduoli.specs.Calls.{params, wrote, freshCall, began, stateAfter, readCall, writeCall};
 ghost use Rattle.semduoli.specs.Handed.{senderOf, stampAfter, clientGot, clientCall};
 
@@ -71,7 +71,7 @@ pub extern "C" fn semduoli_begin_read(
     ensures { λ r. ⌜ began r (now (state .exit)) (now (out .exit)) (now (to .exit))
         ≡ readCall (params n t k size) me (now (state .entry)) (now (out .entry)) (now (to .entry)) ⌝ }
 {
-    if 255 < me {
+    if CLIENTS < me {
         return 1;
     }
     let own = me as u8;
@@ -103,7 +103,7 @@ pub extern "C" fn semduoli_begin_write(
     ensures { λ r. ⌜ began r (now (state .exit)) (now (out .exit)) (now (to .exit))
         ≡ writeCall (params n t k size) me (now (value .entry)) (now (state .entry)) (now (out .entry)) (now (to .entry)) ⌝ }
 {
-    if 255 < me {
+    if CLIENTS < me {
         return 1;
     }
     let own = me as u8;
@@ -121,7 +121,7 @@ pub extern "C" fn semduoli_begin_write(
 
 // ---- a frame is handed in
 
-// Writes a completed read's stamp.
+// Writes the stamp of a completed read.
 fn put_read(a: Answer, stamp: &mut [u8])
     requires { ⌜ stampSize ≤ length (now stamp) ⌝ }
     ensures { λ _. ⌜ now (stamp .exit) ≡ stampAfter (answerResponse a) (now (stamp .entry)) ⌝ }
@@ -136,7 +136,7 @@ fn put_read(a: Answer, stamp: &mut [u8])
     }
 }
 
-// Delivers a frame to client me, whose open write's value is lent.
+// Delivers a frame to client me; where a write is open, its value is lent.
 #[no_mangle]
 pub extern "C" fn semduoli_client_deliver(
     n: usize,
@@ -159,7 +159,7 @@ pub extern "C" fn semduoli_client_deliver(
         ≡ clientCall (params n t k size) me (senderOf class sender) (now (value .entry)) (now (f .entry)) (now (rows .entry)) (now (result .entry))
         (now (stamp .entry)) (now (state .entry)) (now (out .entry)) (now (to .entry)) ⌝ }
 {
-    if 255 < me {
+    if CLIENTS < me {
         return 1;
     }
     let own = me as u8;
@@ -174,7 +174,7 @@ pub extern "C" fn semduoli_client_deliver(
         return test_answer(short);
     }
     let from = sender_of(class, sender);
-    let done = client_deliver::deliver(g, own, s, value, from, f, rows, result, out, to);
+    let done = site::lend(s, g, own, value, from, f, rows, result, out, to);
     let answer = done.answer;
     let after = done.client;
     put_read(answer, stamp);

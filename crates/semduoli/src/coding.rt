@@ -1,6 +1,6 @@
 // Digests and the block code.
-use answers::calls::code_answer;
 use blocks::Params;
+use blocks::answers::code_answer;
 ghost use mathlib.Core.Path.{_≡_};
 ghost use Rattle.semduoli.specs.Calls.{params, wrote, digestCall, encodeCall, decodeCall};
 
@@ -37,7 +37,7 @@ pub extern "C" fn semduoli_encode(
     code_answer(done)
 }
 
-// The value that k to n blocks, which lie end to end in blocks, with their numbers, are all blocks of, into the front of out; 21 if there is none.
+// Decodes k to n blocks, which lie end to end in blocks: the value that has them all goes to the front of out; refusal 21 if there is none.
 #[no_mangle]
 pub extern "C" fn semduoli_decode(
     n: usize,

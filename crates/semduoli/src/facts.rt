@@ -37,7 +37,7 @@ pub extern "C" fn semduoli_frame_time(
     frame_time(g, f, time)
 }
 
-// The sender and the bytes of the first entry of what is left of a trace.
+// The sender of the first entry of a trace, and how many bytes the entry takes; or how the trace closes there.
 #[no_mangle]
 pub extern "C" fn semduoli_entry_read(trace: &[u8]) -> u64
     ensures { λ r. ⌜ r ≡ entryReadCall (now (trace .entry)) ⌝ }

@@ -1,11 +1,11 @@
 // Histories as text.
-use answers::histories::history_answer;
-use answers::histories::line_count;
 use history_text::text::judge_text;
+use order::answers::history_answer;
+use order::answers::line_count;
 ghost use mathlib.Core.Path.{_≡_};
 ghost use Rattle.semduoli.specs.Calls.{wrote, historyCall};
 
-// Whether the operations of a history have an order; if so its line numbers go to the front of lines, which has 64 bytes at least.
+// Whether the operations of a history have an order; if so its line numbers go to the front of lines. Refusal 10 if lines has fewer than 64 bytes.
 #[no_mangle]
 pub extern "C" fn semduoli_judge(text: &[u8], lines: &mut [u8]) -> u64
     ensures { λ r. ⌜ wrote r (now (lines .exit)) ≡ historyCall (now (text .entry)) (now (lines .entry)) ⌝ }

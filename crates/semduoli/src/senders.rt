@@ -1,4 +1,4 @@
-// The sender of a frame, as two numbers.
+// The sender of a frame, which a host names by two numbers.
 use frame::Party;
 use frame::parties::party_in;
 ghost use mathlib.Core.Path.{_≡_};

@@ -4,7 +4,7 @@ use frame::Place;
 use frame::Stamp;
 use frame::bounds::width;
 use frame::entries::digests_at;
-use frame::layout::BLOCK_AT;
+use frame::places::BLOCK_AT;
 use frame::send::send_value;
 ghost use mathlib.Core.Path.{_≡_};
 ghost use mathlib.Core.List.{_∷_, []};

@@ -5,7 +5,7 @@ use frame::Refusal;
 use frame::Verdict;
 use frame::bounds::params_test;
 use frame::bounds::width;
-use frame::layout::AREA_BYTES;
+use frame::places::AREA_BYTES;
 use group::digesting::digests;
 use server_rules::Reply;
 use server_rules::Served;

@@ -1,4 +1,4 @@
--- The step of each kind is that of what the frame says. Assumes nothing.
+-- The step of each kind of frame is the step of the message that the frame says. Assumes nothing.
 use Prim.Native.Nat.{ℕ, _+_, _*_, _-_, _≤_, _<_}
 use native.Mathlib.Omega.{arith}
 use mathlib.Core.Path.{_≡_, refl, ap, sym, _∙_}
@@ -33,9 +33,9 @@ use Rattle.server.proofs.Scopes.{as-it-was}
 use Rattle.server_blocks.specs.Stage.{Carried}
 use Rattle.server_deliver.specs.Handed.{stepFor}
 
--- ---- the offer of a frame of a write
+-- ---- what a frame of a write (kinds 3 to 5) offers: a time, a digest list and a block
 
--- the length of the frame
+-- the length of such a frame
 pub offer-frame : (g : Params) (kind l : ℕ) → 3 ≤ kind → kind ≤ 5 → l ≡ bodyAt + bodyLength g kind → l ≡ offerAt + (32 * g .n + width g)
 unfolding bodyLength lengthOf pick
 offer-frame g kind l h k e =
@@ -44,7 +44,7 @@ offer-frame g kind l h k e =
     let z : l ≡ 9 + (8 + (32 * g .n + width g)) = e ∙ rw (lt-leb _ _ a, lt-leb _ _ b, le-leb _ _ k) in
     omega (arith, z)
 
--- the parts of a frame that the code lends
+-- the parts of such a frame that the code lends: digest list and block
 pub carried-in : (g : Params) (f : List ℕ) (w : ℕ) → w ≡ width g → length f ≡ offerAt + (32 * g .n + width g)
     → Carried g (length (take (offerAt + 32 * g .n - offerAt) (drop offerAt f)))
     (length (take (offerAt + 32 * g .n + w - (offerAt + 32 * g .n)) (drop (offerAt + 32 * g .n) f)))
@@ -61,7 +61,7 @@ offer-is g f T w t e =
     let b = part-at f (offerAt + 32 * g .n) w (width g) e in
     λ i. offer (t i) (entry (d i) (b i))
 
--- a kind up to 8 that is not retired
+-- a kind up to 8 that is not retired is at most 5
 pub used-kind : (kind : ℕ) → retired kind ≡ false → kind ≤ 8 → kind ≤ 5
 unfolding retired
 used-kind kind r h = go (decLe kind 5)
@@ -115,7 +115,7 @@ module _ (H : List ℕ → List ℕ) (k : Call) (s : Server) (a initial f out to
   unfolding bodyIn pick messageTest senderRight orderTest effect onBody onReadComplete
   is-read-complete e p = says readComplete (at 12 readComplete e refl) p
 
--- 2, 9 and 11: nobody sends them to a server
+-- kinds 2, 9 and 11 do not go to servers: refusal 11
 abbrev refusing : List ℕ → List ℕ → List ℕ → Server → Outcome
 refusing a out to s = record { reply = turnedDown 11; server = s; area = a; out = out; to = to }
 

@@ -1,6 +1,9 @@
 pub mod Openings
+pub mod Records
+pub mod FreshRecords
 pub mod OneClient
 pub mod Settling
 pub mod Votes
 pub mod KindSteps
 pub mod Writes
+pub mod RecordBack

@@ -18,12 +18,12 @@ use Rattle.server_rules.specs.Delivery.{outcomeOf, delivery}
 use Rattle.server_rules.proofs.Shapes as L
 use Rattle.server_deliver.proofs.Openings.{taken-is}
 
--- of the arrays, r differs from s at client c alone
+-- the arrays of r differ from those of s at client c alone
 record Only (c : ℕ) (s r : Server) : Type 0 where
   slots-are : r .slots ≡ set (s .slots) c (slotOf r c)
   readers-are : r .readers ≡ set (s .readers) c (readerOf r c)
 
--- what was stored is what is found there, also past the end
+-- storing x gives the same list as storing what is then read at that index, also past the end of the list
 found : {A : Type 0} (l : List A) (c : ℕ) (x d : A) → set l c x ≡ set l c (getD (set l c x) c d)
 found [] c x d = refl
 found (y ∷ l) zero x d = refl
@@ -39,7 +39,7 @@ module _ (s : Server) (c : ℕ) where
   reader-changed : (x : Reader) → Only c s (withReader s c x)
   reader-changed x = record { slots-are = sym (set-getD (s .slots) c noSlot); readers-are = found (s .readers) c x noReader }
 
-  -- a write of this client is accepted behind its counted frame
+  -- a write of this client is accepted after its frame was counted
   accepted : (x : Slot) (a : List ℕ) (w : Write) → w .client ≡ c → Only c s (accept (withSlot s c x) a w .server)
   unfolding accept
   accepted x a w e =

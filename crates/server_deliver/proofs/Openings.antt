@@ -1,11 +1,12 @@
--- From the tests 1 to 10 to the outcome of a delivery. Assumes nothing.
-use Prim.Native.Nat.{ℕ, _+_, _*_, _≤_}
+-- From the tests for refusals 1 to 10 to the outcome of a delivery. Assumes nothing.
+use Prim.Native.Nat.{ℕ, _+_, _*_, _≤_, _<_}
 use native.Mathlib.Omega.{arith}
 use mathlib.Core.Path.{_≡_, refl, ap, sym, _∙_}
 use mathlib.Core.List.{List}
 use lib.ListN.{length, getD}
 use lib.Dec.{ltb}
-use borrow.Author.Tests.{ltb-false}
+use borrow.Author.Tests.{ltb-false, lt-ltb, le-ltb}
+use Rattle.area.specs.Area.{pick}
 use Rattle.blocks.specs.declared.Params.{Params}
 use Rattle.frame.specs.declared.Header.{Header}
 use Rattle.frame.specs.declared.Opened.{Opened}
@@ -34,42 +35,57 @@ use Rattle.server_rules.specs.Delivery.{Outcome, outcome, effectBy, delivered, 
 use Rattle.server.specs.declared.Call.{Call}
 use Rattle.server.specs.declared.Taken.{Taken}
 use Rattle.server.specs.Stages.{outcomeIn, stepped, answered}
+use Rattle.layout.specs.Servers.{serverSize}
 use Rattle.server_deliver.specs.Handed.{Handed, admitted, stepFor}
+use Rattle.server_deliver.specs.Records.{roomsTest}
 
--- ---- the tests one after the other: p says what 1 to 3 find, t what 4 to 9 and v what 10
+-- ---- the tests one after the other: p is the verdict of refusals 1 to 3, t of 4 to 9, v of 10
 
 bad-opened : (v : Verdict) (h : Header) (r : Refusal) → openedBy v h ≡ O.Refused r → v ≡ J.Bad r
 bad-opened J.Fine h r e = impossible (cc e)
 bad-opened (J.Bad s) h r e = let q : s ≡ r = cc in ap J.Bad q
 
-module _ (g : Params) (me : ℕ) (f : List ℕ) (area initial out to : ℕ) where
-  all-said : (p t v : Verdict) → p ≡ paramsTest g me (g .n) → t ≡ frameTest g f → v ≡ roomTest g area initial out to
-      → openedBy (andThen p (andThen t v)) (headerIn f) ≡ admitted g me f area initial out to
+module _ (g : Params) (me : ℕ) (f : List ℕ) (state area initial out to : ℕ) where
+  -- the record's area is short, or long enough
+  room-short : state < serverSize → J.Bad R.Room ≡ roomsTest g state area initial out to
+  unfolding roomsTest pick
+  room-short h = rw (lt-ltb _ _ h)
+
+  room-long : serverSize ≤ state → roomTest g area initial out to ≡ roomsTest g state area initial out to
+  unfolding roomsTest pick
+  room-long h = rw (le-ltb _ _ h)
+
+  all-said : (p t v : Verdict) → p ≡ paramsTest g me (g .n) → t ≡ frameTest g f → v ≡ roomsTest g state area initial out to
+      → openedBy (andThen p (andThen t v)) (headerIn f) ≡ admitted g me f state area initial out to
   unfolding admitted
   all-said p t v e h i = λ l. openedBy (andThen (e l) (andThen (h l) (i l))) (headerIn f)
 
   module _ (p : Verdict) (e : p ≡ paramsTest g me (g .n)) where
-    pub out-of-bounds : (r : Refusal) → p ≡ J.Bad r → O.Refused r ≡ admitted g me f area initial out to
-    out-of-bounds r h = all-said (J.Bad r) (frameTest g f) (roomTest g area initial out to) (sym h ∙ e) refl refl
+    pub out-of-bounds : (r : Refusal) → p ≡ J.Bad r → O.Refused r ≡ admitted g me f state area initial out to
+    out-of-bounds r h = all-said (J.Bad r) (frameTest g f) (roomsTest g state area initial out to) (sym h ∙ e) refl refl
 
     module _ (h : p ≡ J.Fine) (q : Opened) (i : q ≡ opened g f) where
-      pub not-opened : (r : Refusal) → q ≡ O.Refused r → q ≡ admitted g me f area initial out to
+      pub not-opened : (r : Refusal) → q ≡ O.Refused r → q ≡ admitted g me f state area initial out to
       unfolding opened
       not-opened r j =
-          j ∙ all-said J.Fine (J.Bad r) (roomTest g area initial out to) (sym h ∙ e) (sym (bad-opened (frameTest g f) (headerIn f) r (sym i ∙ j))) refl
+          j ∙ all-said J.Fine (J.Bad r) (roomsTest g state area initial out to) (sym h ∙ e) (sym (bad-opened (frameTest g f) (headerIn f) r (sym i ∙ j))) refl
 
-      module _ (k : Header) (j : q ≡ O.Frame k) (v : Verdict) (l : v ≡ roomTest g area initial out to) where
+      module _ (k : Header) (j : q ≡ O.Frame k) where
         frame-fine : (frameTest g f ≡ J.Fine) × (headerIn f ≡ k)
         unfolding opened
         frame-fine = fine-opened (frameTest g f) (headerIn f) k (sym i ∙ j)
 
-        pub no-room : (r : Refusal) → v ≡ J.Bad r → O.Refused r ≡ admitted g me f area initial out to
-        no-room r m = all-said J.Fine J.Fine (J.Bad r) (sym h ∙ e) (sym (frame-fine .0)) (sym m ∙ l)
+        pub no-record : state < serverSize → O.Refused R.Room ≡ admitted g me f state area initial out to
+        no-record l = all-said J.Fine J.Fine (J.Bad R.Room) (sym h ∙ e) (sym (frame-fine .0)) (room-short l)
 
-        pub has-room : v ≡ J.Fine → O.Frame k ≡ admitted g me f area initial out to
-        has-room m = ap O.Frame (sym (frame-fine .1)) ∙ all-said J.Fine J.Fine J.Fine (sym h ∙ e) (sym (frame-fine .0)) (sym m ∙ l)
+        module _ (v : Verdict) (l : v ≡ roomTest g area initial out to) (n : serverSize ≤ state) where
+          pub no-room : (r : Refusal) → v ≡ J.Bad r → O.Refused r ≡ admitted g me f state area initial out to
+          no-room r m = all-said J.Fine J.Fine (J.Bad r) (sym h ∙ e) (sym (frame-fine .0)) (sym m ∙ l ∙ room-long n)
 
--- ---- what they leave of a frame that is let in
+          pub has-room : v ≡ J.Fine → O.Frame k ≡ admitted g me f state area initial out to
+          has-room m = ap O.Frame (sym (frame-fine .1)) ∙ all-said J.Fine J.Fine J.Fine (sym h ∙ e) (sym (frame-fine .0)) (sym m ∙ l ∙ room-long n)
+
+-- ---- what holds of a frame that passes them
 
 record Rooms (g : Params) (area initial out to : ℕ) : Type 0 where
   whole : areaBytes ≤ area
@@ -92,33 +108,47 @@ rooms-of g area initial out to e =
       };
     }
 
-record LetIn (g : Params) (me : ℕ) (f : List ℕ) (area initial out to : ℕ) (h : Header) : Type 0 where
+-- the record's area is long enough, and so are the others
+rooms-fine : (g : Params) (state area initial out to : ℕ) → roomsTest g state area initial out to ≡ J.Fine
+    → (serverSize ≤ state) × (roomTest g area initial out to ≡ J.Fine)
+unfolding roomsTest
+rooms-fine g state area initial out to e = let a = fine-not (ltb state serverSize) R.Room _ e in (ltb-false _ _ (a .0), a .1)
+
+record LetIn (g : Params) (me : ℕ) (f : List ℕ) (state area initial out to : ℕ) (h : Header) : Type 0 where
   params : Admitted g me (g .n)
   frame : frameTest g f ≡ J.Fine
+  whole : serverSize ≤ state
   rooms : Rooms g area initial out to
   header : headerIn f ≡ h
 
-module _ (g : Params) (me : ℕ) (f : List ℕ) (area initial out to : ℕ) (q : Opened) (e : q ≡ admitted g me f area initial out to) (h : Header)
-    (p : q ≡ O.Frame h) where
-  let-in : LetIn g me f area initial out to h
+module _ (g : Params) (me : ℕ) (f : List ℕ) (state area initial out to : ℕ) (q : Opened) (e : q ≡ admitted g me f state area initial out to)
+    (h : Header) (p : q ≡ O.Frame h) where
+  let-in : LetIn g me f state area initial out to h
   unfolding admitted
   let-in =
-      let A = fine-opened (andThen (paramsTest g me (g .n)) (andThen (frameTest g f) (roomTest g area initial out to))) (headerIn f) h (sym e ∙ p) in
-      let B = fine-both (paramsTest g me (g .n)) (andThen (frameTest g f) (roomTest g area initial out to)) (A .0) in
-      let C = fine-both (frameTest g f) (roomTest g area initial out to) (B .1) in
-      record { params = admitted-of g me (g .n) (B .0); frame = C .0; rooms = rooms-of g area initial out to (C .1); header = A .1 }
+      let A = fine-opened (andThen (paramsTest g me (g .n)) (andThen (frameTest g f) (roomsTest g state area initial out to))) (headerIn f) h (sym e ∙ p) in
+      let B = fine-both (paramsTest g me (g .n)) (andThen (frameTest g f) (roomsTest g state area initial out to)) (A .0) in
+      let C = fine-both (frameTest g f) (roomsTest g state area initial out to) (B .1) in
+      let D = rooms-fine g state area initial out to (C .1) in
+      record {
+        params = admitted-of g me (g .n) (B .0);
+        frame = C .0;
+        whole = D .0;
+        rooms = rooms-of g area initial out to (D .1);
+        header = A .1;
+      }
 
-  -- the client that it names
+  -- the client that the frame names
   pub client-named : getD f clientAt 0 ≡ h .client
   unfolding headerIn
   client-named = ap (λ (k : Header). k .client) (let-in .header)
 
--- what its step may ask for
-pub handed : (k : Call) (f : List ℕ) (area initial out to : ℕ) (q : Opened) → q ≡ admitted (k .params) (k .me) f area initial out to → q ≡ O.Frame (k .header)
-    → Handed k (length f) area out to × (width (k .params) ≤ initial)
+-- what the step of such a frame may rely on
+pub handed : (k : Call) (f : List ℕ) (state area initial out to : ℕ) (q : Opened) → q ≡ admitted (k .params) (k .me) f state area initial out to
+    → q ≡ O.Frame (k .header) → Handed k (length f) area out to × (width (k .params) ≤ initial) × (serverSize ≤ state)
 unfolding opened
-handed k f area initial out to q e p =
-    let L = let-in (k .params) (k .me) f area initial out to q e (k .header) p in
+handed k f state area initial out to q e p =
+    let L = let-in (k .params) (k .me) f state area initial out to q e (k .header) p in
     let F = opens-facts (k .params) f (k .header) (ap (λ (z : Verdict). openedBy z (headerIn f)) (L .frame) ∙ ap O.Frame (L .header)) in
     let A = L .params in
     let S = L .rooms in (
@@ -132,17 +162,13 @@ handed k f area initial out to q e p =
         frame-is = F .length-is;
       },
       S .initial-whole,
+      L .whole,
     )
 
 -- ---- the outcome
 
--- what the step left of the scope is put back
-pub put-back : (s : Server) (c : ℕ) (r : Taken) (w : Server) (a out to : List ℕ) (x : Outcome) → w ≡ withScope s c (r .scope) → outcomeIn s c r a out to ≡ x
-    → outcome (record { reply = r .reply; server = w }) a out to ≡ x
-put-back s c r w a out to x e p = ap (λ (z : Server). outcome (record { reply = r .reply; server = z }) a out to) e ∙ p
-
 module _ (H : List ℕ → List ℕ) (g : Params) (me : ℕ) (s : Server) (a initial : List ℕ) (from : Party) (f out to : List ℕ) where
-  -- 11 to 14 come behind 1 to 10
+  -- refusals 11 to 14 come after 1 to 10
   judged-after : (p t v : Verdict) (h : Header)
       → after p (judgeOpened H g me (openedBy t h) v s from f)
       ≡ judgedBy (andThen (andThen p (andThen t v)) (messageTest H g me s from (messageIn g h f))) (messageIn g h f)
@@ -152,7 +178,7 @@ module _ (H : List ℕ → List ℕ) (g : Params) (me : ℕ) (s : Server) (a ini
   judged-after J.Fine J.Fine (J.Bad r) h = refl
   judged-after J.Fine J.Fine J.Fine h = refl
 
-  -- what the tests 1 to 10 say
+  -- the verdict of the tests for refusals 1 to 10
   abbrev before : Verdict
   before = andThen (paramsTest g me (g .n)) (andThen (frameTest g f) (roomTest g (length a) (length initial) (length out) (length to)))
 
@@ -172,7 +198,7 @@ module _ (H : List ℕ → List ℕ) (g : Params) (me : ℕ) (s : Server) (a ini
       go J.Fine q = cc
       go (J.Bad r) q = impossible (cc)
 
-  -- the outcome, what the tests leave of the frame being known
+  -- the outcome, given what the tests say of the frame
   abbrev by : Judged → Outcome
   by j = outcomeOf H g me j (effectBy H g me j s a initial from) out to
 
@@ -189,21 +215,42 @@ module _ (H : List ℕ → List ℕ) (g : Params) (me : ℕ) (s : Server) (a ini
   answered-by (J.Bad r) m = refl
   answered-by J.Fine m = refl
 
-  -- 1 to 10: nothing is changed
-  pub refused-delivery : (q : Opened) (r : Refusal) → q ≡ admitted g me f (length a) (length initial) (length out) (length to)
-      → q ≡ O.Refused r → outcome (record { reply = Y.Refused r; server = s }) a out to ≡ delivery H g me s a initial from f out to
-  unfolding admitted
-  refused-delivery q r e p =
-      refused-by r
-      ∙ delivery-by (J.Bad r) (bad-opened before (headerIn f) r (sym e ∙ p))
+  -- refusals 1 to 10: nothing is changed
+  pub refused-delivery : (r : Refusal) → before ≡ J.Bad r → outcome (record { reply = Y.Refused r; server = s }) a out to
+      ≡ delivery H g me s a initial from f out to
+  refused-delivery r e = refused-by r ∙ delivery-by (J.Bad r) e
 
-  -- 11 to 14, and the step
-  pub taken-delivery : (h : Header) (q : Opened) (x : Outcome) → q ≡ admitted g me f (length a) (length initial) (length out) (length to) → q ≡ O.Frame h
+  -- refusals 11 to 14, and the step
+  pub taken-delivery : (h : Header) (x : Outcome) → before ≡ J.Fine → headerIn f ≡ h
       → x ≡ stepFor H (record { params = g; me = me; from = from; header = h }) s a initial f out to → x ≡ delivery H g me s a initial from f out to
-  unfolding admitted stepFor
-  taken-delivery h q x e p i =
-      let A = fine-opened before (headerIn f) h (sym e ∙ p) in
+  unfolding stepFor
+  taken-delivery h x e p i =
       i
       ∙ answered-by (messageTest H g me s from (messageIn g h f)) (messageIn g h f)
-      ∙ ap (λ (z : Header). by (judgedBy (messageTest H g me s from (messageIn g z f)) (messageIn g z f))) (sym (A .1))
-      ∙ delivery-by J.Fine (A .0)
+      ∙ ap (λ (z : Header). by (judgedBy (messageTest H g me s from (messageIn g z f)) (messageIn g z f))) (sym p)
+      ∙ delivery-by J.Fine e
+
+-- ---- the tests of a frame handed to a server whose record is lent as bytes, where these are long enough
+
+module _ (g : Params) (me : ℕ) (f : List ℕ) (state area initial out to : ℕ) (q : Opened) (e : q ≡ admitted g me f state area initial out to) where
+  -- the tests for refusals 1 to 10 without the record's area
+  abbrev pub tests : Verdict
+  tests = andThen (paramsTest g me (g .n)) (andThen (frameTest g f) (roomTest g area initial out to))
+
+  same-tests : serverSize ≤ state → andThen (paramsTest g me (g .n)) (andThen (frameTest g f) (roomsTest g state area initial out to)) ≡ tests
+  same-tests h = ap (λ (v : Verdict). andThen (paramsTest g me (g .n)) (andThen (frameTest g f) v)) (sym (room-long g me f state area initial out to h))
+
+  pub refused-tests : serverSize ≤ state → (r : Refusal) → q ≡ O.Refused r → tests ≡ J.Bad r
+  unfolding admitted
+  refused-tests h r p = sym (same-tests h) ∙ bad-opened _ (headerIn f) r (sym e ∙ p)
+
+  -- and where they are short
+  pub short-tests : state < serverSize → (r : Refusal) → q ≡ O.Refused r → andThen (paramsTest g me (g .n)) (andThen (frameTest g f) (J.Bad R.Room)) ≡ J.Bad r
+  unfolding admitted
+  short-tests h r p =
+      ap (λ (v : Verdict). andThen (paramsTest g me (g .n)) (andThen (frameTest g f) v)) (room-short g me f state area initial out to h)
+      ∙ bad-opened _ (headerIn f) r (sym e ∙ p)
+
+  pub fine-tests : serverSize ≤ state → (h : Header) → q ≡ O.Frame h → (tests ≡ J.Fine) × (headerIn f ≡ h)
+  unfolding admitted
+  fine-tests l h p = let A = fine-opened _ (headerIn f) h (sym e ∙ p) in (sym (same-tests l) ∙ A .0, A .1)

@@ -27,7 +27,7 @@ use Rattle.server.specs.Stages.{slotIn, Holds, left, counts, Handled, handled, 
 use Rattle.server.proofs.Scopes.{slot-set}
 use Rattle.server.proofs.Answers.{refused-is, step-is, none-sent}
 
--- ---- what the handling of a frame tells
+-- ---- what counting a frame gives
 
 module _ (n : Counted) (x : Slot) (a a′ out out′ to to′ : List ℕ) (p : Counting) where
   -- it was turned down, and all is as it was
@@ -49,9 +49,9 @@ module _ (n : Counted) (x : Slot) (a a′ out out′ to to′ : List ℕ) (p : C
   counted (J.Bad s) h e = absurd (bad-fine s (sym (ap (λ (z : Handled). z .verdict) h) ∙ e))
   counted J.Fine h e = (refl, (λ i. left (h i .slot) (h i .area) (h i .box)))
 
--- ---- the slot is stored, and then what can be accepted is
+-- ---- the slot is stored, and then the write is accepted if it can be
 
--- frames behind those that were sent before
+-- frames that are sent after others
 behind-moved : (p : Counting) (r : Effect) (q : Outbox) → moved r (sent q (p .sends)) ≡ moved (behind p r) q
 unfolding moved
 behind-moved p r q = ap (progress (r .server) (r .area)) (sent-append q (p .sends) (r .sends))
@@ -75,7 +75,7 @@ module _ (g : Params) (w : Server) (c : ℕ) (s : Scope) (rs : List Reader) (k :
         (λ d. outcomeIn w c (record { reply = Y.Refused r; scope = s }) (i d) (j d) (l d)) ∙ refused-is v v r w c s a x out to (k .scope) refl u
 
     module _ (e : n .verdict ≡ J.Fine) (y : Scope) (f : y ≡ slotIn s (n .slot)) where
-      -- behind the client's own frame
+      -- after the client's own frame
       pub stored-write : (r : Taken) → r .reply ≡ Y.Step (n .place .count) → r .scope ≡ y
           → outcomeIn w c r a′ out′ to′ ≡ answered v w a (settle g w c send p) out to
       unfolding settle freed counts
@@ -87,7 +87,7 @@ module _ (g : Params) (w : Server) (c : ℕ) (s : Scope) (rs : List Reader) (k :
           ∙ behind-moved p (sendOnly (withSlot w c (p .slot)) (p .area) []) (outbox out to firstPlace) in
           step-is v v w a a′ (settle g w c send p) out to out′ to′ c y (n .place) r refl u b i j
 
-      -- behind an echo or a ready
+      -- after an echo or a ready
       pub freed-write : (z : Stage) → ((t : Server) (b : List ℕ) → freed g z t b c ≡ free g t b c) → c < 9
           → (y′ : Scope) (p′ : Place) (a″ out″ to″ : List ℕ)
           → ((t : Server) → Holds t c y rs → progress (withScope t c y′) a″ (outbox out″ to″ p′) ≡ moved (free g t a′ c) (outbox out′ to′ (n .place)))

@@ -42,7 +42,7 @@ vote-says g f (suc (suc zero)) l h = absurd (omega (arith, l))
 vote-says g f (suc (suc (suc zero))) l h = absurd (omega (arith, l))
 vote-says g f (suc (suc (suc (suc (suc (suc n)))))) l h = absurd (omega (arith, h))
 
--- behind an echo or a ready what can be accepted is
+-- after an echo or a ready the write is accepted if it can be
 pub vote-frees : (g : Params) (kind c : ℕ) (s : Server) (a : List ℕ) → freed g (voteStage kind) s a c ≡ free g s a c
 unfolding voteStage pick freed
 vote-frees g kind c s a = go (eqb kind 4)

@@ -1,7 +1,6 @@
--- The step of a frame of a write: turned down, its slot stored, or what can be accepted behind it accepted. Assumes nothing.
+-- The step of a frame of a write: it is turned down, or its slot is stored, and then the write is accepted if it can be. Assumes nothing.
 use Prim.Native.Nat.{ℕ, _<_}
 use mathlib.Core.Path.{_≡_, refl, ap, sym, _∙_}
-use mathlib.Core.Bool.{true, false}
 use mathlib.Core.List.{List}
 use Rattle.frame.specs.declared.Place.{Place}
 use Rattle.frame.specs.declared.Refusal.{Refusal}
@@ -17,15 +16,12 @@ use Rattle.server_rules.specs.declared.Server.{Server}
 use Rattle.server_rules.specs.declared.Reply.the-variants as Y
 use Rattle.server_rules.specs.Scopes.{withScope}
 use Rattle.server_rules.specs.Tests.{messageTest}
-use Rattle.server_rules.specs.Steps.{Effect, effect, accept, free, freed, settle}
+use Rattle.server_rules.specs.Steps.{Effect, effect, free, freed, settle}
 use Rattle.server_rules.specs.Delivery.{Outcome}
 use Rattle.server.specs.declared.Call.{Call}
 use Rattle.server.specs.declared.Counted.{Counted}
 use Rattle.server.specs.declared.Taken.{Taken}
 use Rattle.server.specs.Stages.{slotIn, Holds, handled, handledBy, blockFrame, progress, moved, outcomeIn, answered}
-use Rattle.server_accept.specs.declared.Freed.{Freed}
-use Rattle.server_accept.specs.Telling.{ripeIn, writeIn, Freeing}
-use Rattle.server_accept.proofs.Acceptance.{unripe, ripened}
 use Rattle.server_deliver.specs.Handed.{storedBy, stepFor}
 use Rattle.server_deliver.proofs.Settling.{refused-write, stored-write, freed-write}
 use Rattle.server_deliver.proofs.Votes.{counting, vote-handled, vote-effect}
@@ -53,7 +49,7 @@ module _ (H : List ℕ → List ℕ) (k : Call) (s : Scope) (rs : List Reader) (
   abbrev c : ℕ
   c = k .header .client
 
-  -- what the tests 11 to 14 say
+  -- the verdict of the tests for refusals 11 to 14
   abbrev test : Verdict
   test = messageTest H (k .params) (k .me) w (k .from) (message c (k .header .sequence) (blockIs z o))
 
@@ -77,27 +73,13 @@ module _ (H : List ℕ → List ℕ) (k : Call) (s : Scope) (rs : List Reader) (
         (stored-write (k .params) w c s rs K n a a′ out out′ to to′ (counting H k a w z o) test on-server e y q r j p)
 
     module _ (l : (t : Server) (b : List ℕ) → freed (k .params) z t b c ≡ free (k .params) t b c) (b : c < 9) where
-      write-freed : (y′ : Scope) (p′ : Place) (a″ out″ to″ : List ℕ)
+      pub write-freed : (y′ : Scope) (p′ : Place) (a″ out″ to″ : List ℕ)
           → ((t : Server) → Holds t c y rs
           → progress (withScope t c y′) a″ (outbox out″ to″ p′) ≡ moved (free (k .params) t a′ c) (outbox out′ to′ (n .place)))
           → (r : Taken) → r .reply ≡ Y.Step (p′ .count) → r .scope ≡ y′ → outcomeIn w c r a″ out″ to″ ≡ stepFor H k w a i f out to
       write-freed y′ p′ a″ out″ to″ F r j p =
           says-it _ _ (vote-effect H k a w z o i)
           (freed-write (k .params) w c s rs K n a a′ out out′ to to′ (counting H k a w z o) test on-server e y q z l b y′ p′ a″ out″ to″ F r j p)
-
-      -- nothing can be accepted, though the frame was a server's
-      pub write-waits : ripeIn (n .slot) ≡ false → (r : Taken) → r .reply ≡ Y.Step (n .place .count) → r .scope ≡ y
-          → outcomeIn w c r a′ out′ to′ ≡ stepFor H k w a i f out to
-      write-waits u r j p =
-          write-freed y (n .place) a′ out′ to′ (λ t K. unripe (k .params) t c y rs a′ _ K (ap (λ (x : Scope). ripeIn (x .slot)) q ∙ u)) r j p
-
-      -- the write is accepted
-      pub write-ripe : ripeIn (n .slot) ≡ true → (v : Freed) (a″ out″ to″ : List ℕ)
-          → Freeing y rs c (λ t. accept t a′ (writeIn (k .params) y c a′)) (outbox out′ to′ (n .place)) v a″ out″ to″
-          → (r : Taken) → r .reply ≡ Y.Step (v .place .count) → r .scope ≡ v .scope → outcomeIn w c r a″ out″ to″ ≡ stepFor H k w a i f out to
-      write-ripe u v a″ out″ to″ F r j p =
-          write-freed (v .scope) (v .place) a″ out″ to″
-          (λ t K. ripened (k .params) t c y rs a′ _ K _ (ap (λ (x : Scope). ripeIn (x .slot)) q ∙ u) (F t K)) r j p
 
   -- the client's own frame
   pub write-own : z ≡ send → (r : Taken) → r ≡ storedBy (n .verdict) s (n .slot) (n .place) → outcomeIn w c r a′ out′ to′ ≡ stepFor H k w a i f out to

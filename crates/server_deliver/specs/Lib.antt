@@ -1,1 +1,3 @@
+pub mod Records
 pub mod Handed
+pub mod Answers

@@ -3,7 +3,7 @@ use crate::fresh::fresh_reader;
 use crate::fresh::fresh_slot;
 use frame::Refusal;
 use frame::Stamp;
-use frame::layout;
+use frame::places;
 use frame::stamps::zero_stamp;
 ghost use mathlib.Core.Path.{_≡_};
 ghost use Rattle.server_rules.specs.State.{freshServer};
@@ -43,12 +43,12 @@ pub struct Server {
 }
 
 impl Server {
-    pub const CLIENTS: usize = layout::CLIENTS;
+    pub const CLIENTS: usize = places::CLIENTS;
 
     // Slots and readers are at their client's number; place 0 is nobody's.
-    pub const PLACES: usize = layout::CLIENTS + 1;
+    pub const PLACES: usize = places::CLIENTS + 1;
 
-    pub const LAST_TIME: u64 = layout::LAST_TIME;
+    pub const LAST_TIME: u64 = places::LAST_TIME;
 
     // A fresh server: stamp 0, client 0 and sequence 0; every client's write 1 is open.
     pub fn fresh() -> Server

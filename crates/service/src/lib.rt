@@ -1,1 +1,1 @@
-// Theory only: in a finished run what one honest server accepted all accepted, and so an honest client's write, in proofs/.
+// Theory only: in a finished run all honest servers accepted what one of them accepted, and every honest client's write, in proofs/.

@@ -21,7 +21,7 @@ nextWord w t = add (add (add (sigma1 (getD w (t - 2) 0)) (getD w (t - 7) 0)) (si
 unfoldable pub longer : List ℕ → List ℕ
 longer w = w ++ (nextWord w (length w) ∷ [])
 
--- w with n words more
+-- w with n more words
 unfoldable pub extended : ℕ → List ℕ → List ℕ
 extended zero w = w
 extended (suc n) w = longer (extended n w)

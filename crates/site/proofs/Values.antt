@@ -1,4 +1,4 @@
--- The machine values of what a delivery is lent, and what the by-value step ensures of its outcome. Assumes nothing.
+-- The machine values of what is lent to a delivery, and what the step by value promises of its outcome. Assumes nothing.
 use mathlib.Core.Path.{_≡_}
 use Prim.Native.Nat.{ℕ}
 use mathlib.Core.List.{List}
@@ -51,14 +51,14 @@ answer-val = EL.val N.the-type N′.the-laws
 abbrev pub answered-val : Answered → Val
 answered-val = LL.val S.the-type S′.the-laws
 
--- the last bytes of the four areas
+-- the bytes that the four areas hold at the end
 pub record Last : Type 0 where
   pub area : List ℕ
   pub result : List ℕ
   pub out : List ℕ
   pub to : List ℕ
 
--- a delivery's outcome r, with the last bytes y of areas that were lent with the bytes x and keep their lengths
+-- a delivery's outcome r, where the areas were lent with the bytes x and hold the bytes y at the end; they keep their lengths
 pub record Told (g : Params) (me : ℕ) (h : Client) (v : List ℕ) (who : Party) (f : List ℕ) (x : Last) (r : Answered) (y : Last) : Type 0 where
   pub said : outcome r (y .area) (y .result) (y .out) (y .to) ≡ delivery digestOf g me h (x .area) v who f (x .result) (x .out) (x .to)
   pub area-long : length (y .area) ≡ length (x .area)
@@ -70,7 +70,7 @@ pub record Told (g : Params) (me : ℕ) (h : Client) (v : List ℕ) (who : Party
 abbrev pub bytes : RefT (List ℕ) → RefT (List ℕ) → RefT (List ℕ) → RefT (List ℕ) → Last
 bytes x₁ x₂ x₃ x₄ = record { area = x₁ .now; result = x₂ .now; out = x₃ .now; to = x₄ .now }
 
--- what says the last bytes
+-- that the areas hold these bytes at the end
 abbrev pub Ends : RefT (List ℕ) → RefT (List ℕ) → RefT (List ℕ) → RefT (List ℕ) → Last → Fml
 Ends x₁ x₂ x₃ x₄ y =
     fsep (finally u8 (x₁ .name) (y .area)) (fsep (finally u8 (x₂ .name) (y .result)) (fsep (finally u8 (x₃ .name) (y .out)) (fsep (finally u8

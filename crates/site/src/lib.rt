@@ -1,4 +1,7 @@
-// The client's record lent to a delivery, which updates it.
+// The client's record lent to a delivery, which updates it; a client's answers to a host.
+pub mod answers;
+pub mod short;
+
 use blocks::Params;
 use client_rules::Answer;
 use client_rules::Answered;
@@ -8,7 +11,7 @@ ghost use mathlib.Core.Path.{_≡_};
 ghost use Rattle.sha256.specs.Hash.{digestOf};
 ghost use Rattle.client_rules.specs.Delivery.{outcome, delivery};
 
-// Delivers a frame to the client whose record is lent: the step by value, whose record is stored.
+// Delivers a frame to the client whose record is lent: takes the step by value, and stores the record that it returns.
 pub fn deliver(
     rec: &mut Client,
     g: Params,
@@ -30,7 +33,7 @@ pub fn deliver(
     stepped.answer
 }
 
-// The same for a record by value, which is lent for the call, so that callers need no proof by hand about the reference.
+// The same with the record by value: it is lent to deliver for the call, so that callers need no proof by hand about a reference.
 pub fn lend(
     s: Client,
     g: Params,

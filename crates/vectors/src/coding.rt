@@ -50,14 +50,14 @@ fn front_at(line: &[u8], at: usize) -> Front
     }
 }
 
-// An area to lend, its bytes marked so that those that a call leaves are seen.
+// An area to lend, filled with one byte, so that it is seen which bytes a call leaves as they were.
 fn marked() -> [u8; 2560]
     ensures { λ r. ⌜ 2560 ≡ length r ⌝ }
 {
     [0xee; 2560]
 }
 
-// The number of an answer, or 0 where nothing is turned down.
+// The number of an answer: the refusal's, or 0 if the call was not turned down.
 fn answer_number(answer: Coded) -> u8 {
     let Coded::Refused(f) = answer else {
         return 0;

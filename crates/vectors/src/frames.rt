@@ -1,4 +1,4 @@
-// Frames: what opening one finds, as document 01's number or, after 00, the frame's kind, client and sequence.
+// Frames: the refusal's number (document 01) if one does not open, or 00 and then its kind, client and sequence.
 use blocks::Params;
 use case_text::report::result;
 use case_text::text::bytes;
@@ -11,7 +11,7 @@ use frame::refusals::number_of;
 ghost use Prim.Native.Nat.{_≤_};
 ghost use lib.ListN.{length};
 
-// Document 01's number, or 0 of a frame that opens.
+// Document 01's number of the refusal, or 0 for a frame that opens.
 fn opened_number(o: Opened) -> u8 {
     match o {
         Opened::Refused(r) => number_of(r),

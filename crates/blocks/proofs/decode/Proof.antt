@@ -1,4 +1,4 @@
--- A refusal is handed back; a value is stored once all blocks are known to be its blocks. Assumes nothing.
+-- A refusal is returned; a value is stored once all blocks are known to be its blocks. Assumes nothing.
 use mathlib.Core.Path.{sym, ap, _∙_}
 use Prim.Native.Nat.{ℕ, _*_}
 use lib.ListN.{length}

@@ -1,4 +1,4 @@
--- A refusal is handed back; else the blocks are stored. Assumes nothing.
+-- A refusal is returned; else the blocks are stored. Assumes nothing.
 use mathlib.Core.Path.{sym, _∙_}
 use Rattle.blocks.specs.Calls.{encoding}
 use Rattle.blocks.proofs.CallLaws.{encodes, turned-down, carried-out}

@@ -5,6 +5,7 @@ use lib.ListN.{length}
 use native.Mathlib.Omega.{arith}
 use borrow.Author.Needs.{needs}
 use Rattle.frame.specs.Chunks.{areaBytes, rowsBytes}
+use Rattle.layout.specs.Servers.{serverSize}
 use Rattle.hall.proofs.read_script.Statement.{statement}
 use Rattle.hall.proofs.read_script.Tie as tie
 use Rattle.hall.proofs.read_script.Reads as reads
@@ -16,12 +17,12 @@ use Rattle.hall.proofs.parties.no_hall.Reads as no-hall-reads
 use Rattle.hall.proofs.take_piece.Reads as take-piece-reads
 
 abbrev Inv-loop : tie.InvT-loop
-Inv-loop fd bytes₀ areas₀ initials₀ rows₀ values₀ text₀ r₀ failed₀ left₀ bytes areas initials rows values text r failed left =
-    (length bytes ≡ length bytes₀) × (length areas ≡ length areas₀) × (length initials ≡ length initials₀) × (length rows ≡ length rows₀) × (length values ≡ length values₀) × (length text ≡ length text₀)
-    × (length areas ≡ 11 * areaBytes) × (length initials ≡ 11 * 256) × (length rows ≡ 9 * rowsBytes) × (length values ≡ 9 * 256)
+Inv-loop fd bytes₀ areas₀ initials₀ records₀ rows₀ values₀ text₀ r₀ failed₀ left₀ bytes areas initials records rows values text r failed left =
+    (length bytes ≡ length bytes₀) × (length areas ≡ length areas₀) × (length initials ≡ length initials₀) × (length records ≡ length records₀) × (length rows ≡ length rows₀) × (length values ≡ length values₀) × (length text ≡ length text₀)
+    × (length areas ≡ 11 * areaBytes) × (length initials ≡ 11 * 256) × (length records ≡ 11 * serverSize) × (length rows ≡ 9 * rowsBytes) × (length values ≡ 9 * 256)
 
 abbrev μ-loop : tie.MeasureT-loop
-μ-loop fd bytes₀ areas₀ initials₀ rows₀ values₀ text₀ r₀ failed₀ left₀ bytes areas initials rows values text r failed left = left
+μ-loop fd bytes₀ areas₀ initials₀ records₀ rows₀ values₀ text₀ r₀ failed₀ left₀ bytes areas initials records rows values text r failed left = left
 
 no-hall-requires : tie.Need-no-hall-requires Inv-loop μ-loop
 no-hall-requires c κs = search needs
@@ -86,6 +87,12 @@ same-length-11 c = search needs
 same-length-12 : tie.Need-same-length-12 Inv-loop μ-loop
 same-length-12 c = search needs
 
+same-length-13 : tie.Need-same-length-13 Inv-loop μ-loop
+same-length-13 c = search needs
+
+same-length-14 : tie.Need-same-length-14 Inv-loop μ-loop
+same-length-14 c = search needs
+
 returns-2 : tie.Need-returns-2 Inv-loop μ-loop
 returns-2 c = search needs
 
@@ -109,11 +116,13 @@ read-script-spec =
     same-length-4
     same-length-5
     same-length-6
-    returns
     same-length-7
+    returns
     same-length-8
     same-length-9
     same-length-10
     same-length-11
     same-length-12
+    same-length-13
+    same-length-14
     returns-2)

@@ -1,4 +1,4 @@
--- Safe and ending; the piece goes on behind. Assumes nothing.
+-- Safe and ending; the place in the piece moves forward. Assumes nothing.
 use native.Mathlib.Omega.{arith}
 use borrow.Author.Needs.{needs}
 use Rattle.hall.proofs.take_next.Statement.{statement}
@@ -32,10 +32,13 @@ same-length-5 c = search needs
 same-length-6 : tie.Need-same-length-6
 same-length-6 c = search needs
 
+same-length-7 : tie.Need-same-length-7
+same-length-7 c = search needs
+
 returns : tie.Need-returns
 returns c =
-    let n = c .before .before .before .before .before .before .before .before .before .before .before .before .before .before .before .before .before .before .before .before .before .next-ask .ensures in
-    let s = c .before .before .before .before .before .before .before .before .before .before .step .ensures in
+    let n = c .before .before .before .before .before .before .before .before .before .before .before .before .before .before .before .before .before .before .before .before .before .before .before .before .next-ask .ensures in
+    let s = c .before .before .before .before .before .before .before .before .before .before .before .before .step .ensures in
     (omega (arith, n, s), omega (arith, n, s))
 
 pub take-next-spec : {M : Type 1} → statement M
@@ -50,4 +53,5 @@ take-next-spec =
     same-length-4
     same-length-5
     same-length-6
+    same-length-7
     returns)

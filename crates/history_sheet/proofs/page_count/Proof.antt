@@ -1,4 +1,4 @@
--- None, and some. Assumes nothing.
+-- No operations, or some. Assumes nothing.
 use Rattle.history_sheet.proofs.Pages.{no-operations, some-operations}
 use native.Mathlib.Omega.{arith}
 use borrow.Author.Needs.{needs}

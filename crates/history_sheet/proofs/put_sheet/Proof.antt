@@ -1,4 +1,4 @@
--- Room or not. Assumes nothing.
+-- The area is long enough, or it is not. Assumes nothing.
 use Rattle.history_sheet.specs.Stages.{namedAll}
 use Rattle.history_sheet.proofs.Pages.{named-count, pages-begin}
 use Rattle.history_sheet.proofs.Layings.{sheet-short, sheet-laid}

@@ -1,4 +1,4 @@
--- The product is small. Assumes nothing.
+-- The product fits into a machine number. Assumes nothing.
 use Prim.Native.Nat.{_+_}
 use Rattle.playback.proofs.Needs.{product-small, need-is}
 use native.Mathlib.Omega.{arith}

@@ -1,9 +1,7 @@
--- A frame that is not let in is turned down; one that is let in takes its step on its client's scope. Assumes nothing.
+-- A frame that does not pass the tests 1 to 10 is turned down; one that does takes its step on its client's scope. Assumes nothing.
 use mathlib.Core.Path.{refl, sym, _∙_}
-use lib.ListN.{length-map}
-use Rattle.server_rules.proofs.Slot as S
-use Rattle.sha256.specs.Hash.{digestOf}
-use Rattle.server_deliver.proofs.Openings.{handed, refused-delivery, taken-delivery, put-back}
+use Rattle.server_deliver.proofs.Openings.{handed}
+use Rattle.server_deliver.proofs.Records.{refused-bytes, taken-bytes}
 use native.Mathlib.Omega.{arith}
 use borrow.Author.Needs.{needs}
 use Rattle.server_deliver.proofs.deliver.Statement.{statement}
@@ -18,30 +16,37 @@ enum-known-opened c = search needs
 enum-known-opened-2 : tie.Need-enum-known-opened-2
 enum-known-opened-2 c = search needs
 
-returns : tie.Need-returns
-returns c =
-    let a = c .before .before .before .before .before .before .before .before .before .args in
-    refused-delivery digestOf (a .g) (a .me) (a .s) (a .area .now) (a .initial .now) (a .from) (a .f .now) _ _ _ _ (c .before .before .before .admit .ensures) (c .before .opened .given .1)
-
 cast-c : tie.Need-cast-c
 cast-c c = search needs
 
-scope-of-requires : tie.Need-scope-of-requires
-scope-of-requires c κs =
-    let a = c .before .before .before .before .before .before .before .before .before .before .args in
-    let P = handed (record { params = a .g; me = a .me; from = a .from; header = _ }) (a .f .now) _ _ _ _ _ (c .before .before .before .before .admit .ensures) (c .before .before .opened2 .given .1) in
-    omega (arith, P .0 .lent .client-high)
+scope-at-requires : tie.Need-scope-at-requires
+scope-at-requires c κs =
+    let a = c .before .before .before .before .before .before .before .before .before .before .before .before .args in
+    let P = handed (record { params = a .g; me = a .me; from = a .from; header = _ }) (a .f .now) _ _ _ _ _ _ (c .before .before .before .before .before .admit .ensures) (c .before .before .before .opened2 .given .1) in
+    (P .2, P .0 .lent .client-high)
+
+cast-t27 : tie.Need-cast-t27
+cast-t27 c =
+    let a = c .before .before .before .before .before .before .before .before .before .before .before .before .before .args in
+    let P = handed (record { params = a .g; me = a .me; from = a .from; header = _ }) (a .f .now) _ _ _ _ _ _ (c .before .before .before .before .before .before .admit .ensures) (c .before .before .before .before .opened2 .given .1) in
+    record { fits = omega (arith, P .0 .own-high, P .0 .lent .bounded .servers-high) }
 
 step-of-kind-requires : tie.Need-step-of-kind-requires
 step-of-kind-requires c κs =
-    let a = c .before .before .before .before .before .before .before .before .before .before .before .before .before .before .before .args in
-    handed (record { params = a .g; me = a .me; from = a .from; header = _ }) (a .f .now) _ _ _ _ _ (c .before .before .before .before .before .before .before .before .before .admit .ensures) (c .before .before .before .before .before .before .before .opened2 .given .1)
+    let a = c .before .before .before .before .before .before .before .before .before .before .before .before .before .before .before .before .before .args in
+    handed (record { params = a .g; me = a .me; from = a .from; header = _ }) (a .f .now) _ _ _ _ _ _ (c .before .before .before .before .before .before .before .before .before .before .admit .ensures) (c .before .before .before .before .before .before .before .before .opened2 .given .1)
 
-with-scope-requires : tie.Need-with-scope-requires
-with-scope-requires c κs =
-    let a = c .before .before .before .before .before .before .before .before .before .before .before .before .before .before .before .before .before .before .before .before .before .before .before .args in
-    let P = handed (record { params = a .g; me = a .me; from = a .from; header = _ }) (a .f .now) _ _ _ _ _ (c .before .before .before .before .before .before .before .before .before .before .before .before .before .before .before .before .before .admit .ensures) (c .before .before .before .before .before .before .before .before .before .before .before .before .before .before .before .opened2 .given .1) in
-    omega (arith, P .0 .lent .client-high)
+keep-requires : tie.Need-keep-requires
+keep-requires c κs =
+    let a = c .before .before .before .before .before .before .before .before .before .before .before .before .before .before .before .before .before .before .before .before .before .before .before .before .before .before .args in
+    let P = handed (record { params = a .g; me = a .me; from = a .from; header = _ }) (a .f .now) _ _ _ _ _ _ (c .before .before .before .before .before .before .before .before .before .before .before .before .before .before .before .before .before .before .before .admit .ensures) (c .before .before .before .before .before .before .before .before .before .before .before .before .before .before .before .before .before .opened2 .given .1) in
+    (P .2, P .0 .lent .client-high)
+
+returns : tie.Need-returns
+returns c =
+    let a = c .before .before .before .before .before .before .before .before .before .before .args in
+    refused-bytes (a .g) (a .me) (a .from) (a .f .now) (a .area .now) (a .initial .now) (a .state .now) (a .out .now) (a .to .now) _
+    (c .before .before .before .admit .ensures) _ (c .before .opened .given .1)
 
 same-length : tie.Need-same-length
 same-length c = search needs
@@ -52,13 +57,14 @@ same-length-2 c = search needs
 same-length-3 : tie.Need-same-length-3
 same-length-3 c = search needs
 
+same-length-4 : tie.Need-same-length-4
+same-length-4 c = search needs
+
 returns-2 : tie.Need-returns-2
 returns-2 c =
-    let a = c .before .before .before .before .before .before .before .before .before .before .before .before .before .before .before .before .before .before .before .before .before .before .before .before .args in
-    let r = c .before .before .before .before .before .before .before .before .step-of-kind in
-    taken-delivery digestOf (a .g) (a .me) (a .s) (a .area .now) (a .initial .now) (a .from) (a .f .now) _ _ _ _ _ (c .before .before .before .before .before .before .before .before .before .before .before .before .before .before .before .before .before .before .admit .ensures) (c .before .before .before .before .before .before .before .before .before .before .before .before .before .before .before .before .opened2 .given .1)
-    (put-back (a .s) _ (r .result) _ _ _ _ _ (c .with-scope .ensures)
-    (r .ensures (a .s) (record { many = sym (length-map (a .s .slots) (S.the-field .into)) ∙ c .before .before .before .before .before .before .before .before .before .before .before .before .before .before .before .before .before .before .before .before .before .before .before .before .good .0 .1 .1 .1 .0 .1 .0 .1; scope = c .before .before .before .before .before .before .before .before .before .before .before .before .before .scope-of .ensures; readers = refl })))
+    let a = c .before .before .before .before .before .before .before .before .before .before .before .before .before .before .before .before .before .before .before .before .before .before .before .before .before .before .before .before .before .args in
+    taken-bytes (a .g) (a .me) (a .from) (a .f .now) (a .area .now) (a .initial .now) (a .state .now) (a .out .now) (a .to .now) _
+    (c .before .before .before .before .before .before .before .before .before .before .before .before .before .before .before .before .before .before .before .before .before .before .admit .ensures) _ _ (c .before .before .before .before .before .before .before .before .before .before .before .step-of-kind .result) _ _ _ _ (c .before .before .before .before .before .before .before .before .before .before .before .before .before .before .before .before .before .before .before .before .opened2 .given .1) (c .before .before .before .before .before .before .before .before .before .before .before .before .before .before .before .before .scope-at .ensures) (c .before .before .before .before .before .before .before .before .before .before .before .step-of-kind .ensures) (c .before .before .keep .ensures)
 
 pub deliver-spec : {M : Type 1} → statement M
 deliver-spec =
@@ -68,11 +74,13 @@ deliver-spec =
     enum-known-opened
     enum-known-opened-2
     cast-c
-    scope-of-requires
+    scope-at-requires
+    cast-t27
     step-of-kind-requires
-    with-scope-requires
+    keep-requires
     returns
     same-length
     same-length-2
     same-length-3
+    same-length-4
     returns-2)

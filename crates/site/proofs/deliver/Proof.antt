@@ -1,6 +1,6 @@
--- `site::deliver` meets its contract: a walk of its code in the program logic, by hand. The borrow of the record is opened, the record is copied out, the by-value
--- step is called with it and with all that is lent, and the borrow is closed at the record that the step returned. Nothing is kept of the parameters that the step
--- takes over: of the four `&mut` areas there is what says their last bytes (`gave-slice`), of the others nothing (`stay-dropped`).
+-- `site::deliver` meets its contract: a walk of its code in the program logic, by hand. The borrow of the record is opened, the record is copied out, the
+-- step by value is called with it and with all that is lent, and the borrow is closed with the record that the step returned. Of the parameters that the
+-- step takes over nothing is kept, but that the four `&mut` areas end with the bytes that the step left (`gave-slice`; of the others: `stay-dropped`).
 -- All that the proof knows of the step is that it meets its contract. Assumes nothing.
 use mathlib.Core.Path.{_≡_, refl, ap}
 use Prim.Native.Nat.{ℕ, _<_, _^_}
@@ -136,7 +136,7 @@ module _ {M : Type 1} (𝓤 : URA M) (H : Heap 𝓤) (A : Atoms 𝓤) (W : Given
   abbrev Others : Fml
   Others = owns (G.the-row ∷ u8 ∷ byte-types) (args .1) (vals .1)
 
-  -- with the record between them they are what the step asks
+  -- with the record among them they are what the step requires
   asked : ent 𝓤 (⋆ 𝓤 H A (Tokens ∷ ‵ (T.the-row .own h (record-val h ∷ [])) ∷ ‵ Others ∷ [])) (Step 𝓤 H A at-mem run .pre passing)
   asked =
       qed W (Tokens ∷ ‵ (T.the-row .own h (record-val h ∷ [])) ∷ ‵ Others ∷ []) ∵ move ! (2 ∷ []) $ fsplit ! $ move ! (1 ∷ []) $ fsplit ! $

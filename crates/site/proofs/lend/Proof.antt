@@ -1,5 +1,5 @@
--- `site::lend` meets its contract: a walk of its code in the program logic, by hand. The memory of a local record is lent by `&mut` for a lifetime of the call, and
--- comes back at the record's last value, which is returned beside the answer. Nothing is kept of the parameters that `deliver` takes over.
+-- `site::lend` meets its contract: a walk of its code in the program logic, by hand. The memory of a local record is lent by `&mut` for a lifetime within
+-- the call, and comes back with the record's last value, which is returned with the answer. Nothing is kept of the parameters that `deliver` takes over.
 -- All that the proof knows of `deliver` is that it meets its contract. Assumes nothing.
 use mathlib.Core.Path.{_≡_, refl, ap}
 use Prim.Native.Nat.{ℕ, _<_, _^_}

@@ -1,4 +1,4 @@
--- No more rows than the array has. Assumes nothing.
+-- There are no more rows than the array has. Assumes nothing.
 use Prim.Native.Nat.{_-_, _≤_}
 use mathlib.Core.Path.{_≡_}
 use lib.ListN.{length}

@@ -1,4 +1,4 @@
--- The rest gives the same answer. Assumes nothing.
+-- After each turn, what is left of the numbers gives the same answer as all of them. Assumes nothing.
 use Prim.Native.Nat.{_-_}
 use mathlib.Core.Path.{_≡_, refl, sym, _∙_}
 use lib.ListN.{length, drop}

@@ -1,4 +1,4 @@
--- After i turns the sum of the first i rows, each times its block's byte, is the polynomial whose further values are 0. Assumes nothing.
+-- After i turns the sum of the first i rows, each times its block's byte, is the polynomial with these values, and 0 at the other points. Assumes nothing.
 use mathlib.Core.Path.{_≡_, refl, sym, ap, _∙_}
 use Prim.Native.Nat.{ℕ, _+_, _-_, _*_, _≤_}
 use lib.ListN.{length, length-replicate}

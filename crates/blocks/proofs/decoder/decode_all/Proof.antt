@@ -1,4 +1,4 @@
--- The first k blocks give a value, with whose blocks all are compared. Assumes nothing.
+-- The first k blocks give a value, and all blocks are compared with the blocks of that value. Assumes nothing.
 use mathlib.Core.Path.{sym, ap, _∙_}
 use Prim.Native.Nat.{ℕ, _*_}
 use lib.ListN.{length}

@@ -1,4 +1,4 @@
--- The unit's polynomial is built in a local array and stored. Assumes nothing.
+-- The polynomial of a unit vector is built in a local array and stored. Assumes nothing.
 use mathlib.Core.Path.{sym, ap, _∙_}
 use Prim.Native.Nat.{ℕ, _+_, _*_}
 use lib.ListN.{length}

@@ -1,4 +1,4 @@
--- The rest gives the same answer. Assumes nothing.
+-- After each turn, what is left of the blocks gives the same answer as all of them. Assumes nothing.
 use Prim.Native.Nat.{ℕ, _+_, _-_, _*_, _≤_}
 use native.Mathlib.Nat.{zero-mul}
 use mathlib.Core.Path.{_≡_, refl, sym, ap, _∙_}

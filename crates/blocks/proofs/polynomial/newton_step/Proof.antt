@@ -1,4 +1,4 @@
--- Where the value is right already nothing is added; otherwise the step is the definition's. Assumes nothing.
+-- Where the value is already right nothing is added; otherwise the step is the definition's. Assumes nothing.
 use mathlib.Core.Path.{ap, sym, _∙_}
 use Rattle.field.specs.Field.{_⊕_}
 use Rattle.blocks.specs.Poly.{newtonStep}

@@ -1,5 +1,5 @@
--- `pause` meets its contract: a walk of its code in the program logic, by hand. The memory of its two locals is lent to `nanosleep`, the first by `&` and the second by
--- `&mut`, each for a lifetime of the call, and comes back. All that the proof knows of `nanosleep` is its contract. Assumes nothing.
+-- `pause` meets its contract: a walk of its code in the program logic, by hand. The memory of its two locals is lent to `nanosleep`, the first by `&` and
+-- the second by `&mut`, each for a lifetime within the call, and comes back. All that the proof knows of `nanosleep` is its contract. Assumes nothing.
 use mathlib.Core.Path.{refl}
 use Prim.Native.Nat.{ℕ, zero}
 use native.Mathlib.Omega.{arith}
@@ -55,7 +55,7 @@ use Rattle.console.proofs.patience.pause as it
 use Rattle.console.proofs.patience.pause.Statement as stated
 use Rattle.console.proofs.patience.pause.Code as code
 
--- so many nanoseconds, below a second
+-- a span of n nanoseconds, less than a second
 abbrev span : ℕ → timespec
 span n = record { «tv_sec» = pos 0; «tv_nsec» = pos n }
 

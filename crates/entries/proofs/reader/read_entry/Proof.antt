@@ -1,4 +1,4 @@
--- By the tests, in their order; else an entry begins the bytes. Assumes nothing.
+-- By the tests, in their order; else the bytes begin with an entry. Assumes nothing.
 use mathlib.Core.Path.{sym, _∙_}
 use Rattle.entries.proofs.Fronts.{sound-of, begins-of, whole-read, malformed-read, cut-read, entry-read}
 use native.Mathlib.Omega.{arith}

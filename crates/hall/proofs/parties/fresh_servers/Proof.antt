@@ -8,13 +8,13 @@ use Rattle.hall.proofs.parties.fresh_servers.Statement.{statement}
 use Rattle.hall.proofs.parties.fresh_servers.Tie as tie
 use Rattle.hall.proofs.parties.fresh_servers.Reads as reads
 use Rattle.hall.proofs.parties.fresh_servers.Lts as lts
-use Rattle.server.proofs.setup.construct.Reads as construct-reads
+use Rattle.server_deliver.proofs.fresh.fresh.Reads as fresh-reads
 
 abbrev Inv-loop : tie.InvT-loop
-Inv-loop g value areas₀ initials₀ j₀ areas initials j = (j ≤ 11) × Servers areas initials
+Inv-loop g value areas₀ initials₀ records₀ j₀ areas initials records j = (j ≤ 11) × Servers areas initials records
 
 abbrev μ-loop : tie.MeasureT-loop
-μ-loop g value areas₀ initials₀ j₀ areas initials j = 11 - j
+μ-loop g value areas₀ initials₀ records₀ j₀ areas initials records j = 11 - j
 
 loop-holds : tie.Need-loop-holds Inv-loop μ-loop
 loop-holds c = search needs
@@ -25,35 +25,47 @@ mul-at c = search needs
 mul-first : tie.Need-mul-first Inv-loop μ-loop
 mul-first c = search needs
 
-cast-construct : tie.Need-cast-construct Inv-loop μ-loop
-cast-construct c = search needs
+mul-own : tie.Need-mul-own Inv-loop μ-loop
+mul-own c = search needs
 
-add-construct : tie.Need-add-construct Inv-loop μ-loop
-add-construct c = search needs
+add-fresh : tie.Need-add-fresh Inv-loop μ-loop
+add-fresh c = search needs
 
-sub-construct : tie.Need-sub-construct Inv-loop μ-loop
-sub-construct c = search needs
+sub-fresh : tie.Need-sub-fresh Inv-loop μ-loop
+sub-fresh c = search needs
 
-part-construct-start : tie.Need-part-construct-start Inv-loop μ-loop
-part-construct-start c = search needs
+part-fresh-start : tie.Need-part-fresh-start Inv-loop μ-loop
+part-fresh-start c = search needs
 
-part-construct-end : tie.Need-part-construct-end Inv-loop μ-loop
-part-construct-end c = search needs
+part-fresh-end : tie.Need-part-fresh-end Inv-loop μ-loop
+part-fresh-end c = search needs
 
-add-construct-2 : tie.Need-add-construct-2 Inv-loop μ-loop
-add-construct-2 c = search needs
+add-fresh-2 : tie.Need-add-fresh-2 Inv-loop μ-loop
+add-fresh-2 c = search needs
 
-sub-construct-2 : tie.Need-sub-construct-2 Inv-loop μ-loop
-sub-construct-2 c = search needs
+sub-fresh-2 : tie.Need-sub-fresh-2 Inv-loop μ-loop
+sub-fresh-2 c = search needs
 
-part-construct-start-2 : tie.Need-part-construct-start-2 Inv-loop μ-loop
-part-construct-start-2 c = search needs
+part-fresh-start-2 : tie.Need-part-fresh-start-2 Inv-loop μ-loop
+part-fresh-start-2 c = search needs
 
-part-construct-end-2 : tie.Need-part-construct-end-2 Inv-loop μ-loop
-part-construct-end-2 c = search needs
+part-fresh-end-2 : tie.Need-part-fresh-end-2 Inv-loop μ-loop
+part-fresh-end-2 c = search needs
 
-construct-requires : tie.Need-construct-requires Inv-loop μ-loop
-construct-requires c κs = search needs
+add-fresh-3 : tie.Need-add-fresh-3 Inv-loop μ-loop
+add-fresh-3 c = search needs
+
+sub-fresh-3 : tie.Need-sub-fresh-3 Inv-loop μ-loop
+sub-fresh-3 c = search needs
+
+part-fresh-start-3 : tie.Need-part-fresh-start-3 Inv-loop μ-loop
+part-fresh-start-3 c = search needs
+
+part-fresh-end-3 : tie.Need-part-fresh-end-3 Inv-loop μ-loop
+part-fresh-end-3 c = search needs
+
+fresh-requires : tie.Need-fresh-requires Inv-loop μ-loop
+fresh-requires c κs = search needs
 
 enum-known-reply : tie.Need-enum-known-reply Inv-loop μ-loop
 enum-known-reply c = search needs
@@ -64,17 +76,23 @@ same-length c = search needs
 same-length-2 : tie.Need-same-length-2 Inv-loop μ-loop
 same-length-2 c = search needs
 
+same-length-3 : tie.Need-same-length-3 Inv-loop μ-loop
+same-length-3 c = search needs
+
 returns : tie.Need-returns Inv-loop μ-loop
 returns c = search needs
 
 enum-told : tie.Need-enum-told Inv-loop μ-loop
 enum-told c = search needs
 
-same-length-3 : tie.Need-same-length-3 Inv-loop μ-loop
-same-length-3 c = search needs
-
 same-length-4 : tie.Need-same-length-4 Inv-loop μ-loop
 same-length-4 c = search needs
+
+same-length-5 : tie.Need-same-length-5 Inv-loop μ-loop
+same-length-5 c = search needs
+
+same-length-6 : tie.Need-same-length-6 Inv-loop μ-loop
+same-length-6 c = search needs
 
 returns-2 : tie.Need-returns-2 Inv-loop μ-loop
 returns-2 c = search needs
@@ -88,11 +106,14 @@ loop-less c = search needs
 loop-again : tie.Need-loop-again Inv-loop μ-loop
 loop-again c = search needs
 
-same-length-5 : tie.Need-same-length-5 Inv-loop μ-loop
-same-length-5 c = search needs
+same-length-7 : tie.Need-same-length-7 Inv-loop μ-loop
+same-length-7 c = search needs
 
-same-length-6 : tie.Need-same-length-6 Inv-loop μ-loop
-same-length-6 c = search needs
+same-length-8 : tie.Need-same-length-8 Inv-loop μ-loop
+same-length-8 c = search needs
+
+same-length-9 : tie.Need-same-length-9 Inv-loop μ-loop
+same-length-9 c = search needs
 
 returns-3 : tie.Need-returns-3 Inv-loop μ-loop
 returns-3 c = search needs
@@ -106,27 +127,34 @@ fresh-servers-spec =
     loop-holds
     mul-at
     mul-first
-    cast-construct
-    add-construct
-    sub-construct
-    part-construct-start
-    part-construct-end
-    add-construct-2
-    sub-construct-2
-    part-construct-start-2
-    part-construct-end-2
-    construct-requires
+    mul-own
+    add-fresh
+    sub-fresh
+    part-fresh-start
+    part-fresh-end
+    add-fresh-2
+    sub-fresh-2
+    part-fresh-start-2
+    part-fresh-end-2
+    add-fresh-3
+    sub-fresh-3
+    part-fresh-start-3
+    part-fresh-end-3
+    fresh-requires
     enum-known-reply
     same-length
     same-length-2
+    same-length-3
     returns
     enum-told
-    same-length-3
     same-length-4
+    same-length-5
+    same-length-6
     returns-2
     add-j
     loop-less
     loop-again
-    same-length-5
-    same-length-6
+    same-length-7
+    same-length-8
+    same-length-9
     returns-3)

@@ -1,4 +1,4 @@
--- What the digits that are left would make of the columns that are left stays the same. Assumes nothing.
+-- After each turn, storing the digits that are left in the columns that are left would still give the whole number. Assumes nothing.
 use mathlib.Core.Path.{_≡_, refl, sym, ap, _∙_}
 use Prim.Native.Nat.{ℕ, _+_, _-_, _/_, _^_, _<_, _≤_}
 use lib.ListN.{length, set, length-set}

@@ -1,4 +1,4 @@
--- One line more a turn. Assumes nothing.
+-- Each turn stores one more line. Assumes nothing.
 use mathlib.Core.Path.{_≡_, refl, _∙_}
 use mathlib.Core.List.{[]}
 use Prim.Native.Nat.{_-_, _≤_}

@@ -1,4 +1,4 @@
--- One page more a turn. Assumes nothing.
+-- Each turn stores one more page. Assumes nothing.
 use mathlib.Core.Path.{_≡_, refl, _∙_}
 use Prim.Native.Nat.{_-_, _≤_}
 use lib.ListN.{length}

@@ -1,4 +1,4 @@
--- The parts are stored one behind the other. Assumes nothing.
+-- The parts are stored one after the other. Assumes nothing.
 use borrow.Author.Needs.{needs}
 use Rattle.layout.proofs.Puts.{kept-put}
 use Rattle.layout.proofs.clients.put_row.Statement.{statement}

@@ -1,4 +1,4 @@
--- The stamp is read at its place, and entry c of the slots and of the readers alone at its place. Assumes nothing.
+-- The stamp is read at its place, and of the slots and of the readers only entry c, at its place. Assumes nothing.
 use Prim.Native.Nat.{ℕ, _+_, _*_, _≤_}
 use native.Mathlib.Omega.{arith}
 use mathlib.Core.Path.{_≡_, sym, _∙_}

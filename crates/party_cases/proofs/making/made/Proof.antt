@@ -32,9 +32,6 @@ at-most-requires c κs = search needs
 at-most-requires-2 : tie.Need-at-most-requires-2
 at-most-requires-2 c κs = search needs
 
-cast-of-params : tie.Need-cast-of-params
-cast-of-params c = search needs
-
 slice-relend-prefix-of-params : tie.Need-slice-relend-prefix-of-params
 slice-relend-prefix-of-params c = search needs
 
@@ -72,7 +69,6 @@ made-spec =
     told-requires-7
     at-most-requires
     at-most-requires-2
-    cast-of-params
     slice-relend-prefix-of-params
     slice-aggregate-of-params
     slice-relend-prefix-of-params-2

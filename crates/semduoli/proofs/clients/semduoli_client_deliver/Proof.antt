@@ -38,8 +38,8 @@ returns-3 c = client-stamp-short _ _ _ _ _ _ _ _ _ _ _ (c .before .before .befor
 sender-of-requires : tie.Need-sender-of-requires
 sender-of-requires c κs = search needs
 
-deliver-requires : tie.Need-deliver-requires
-deliver-requires c κs = search needs
+lend-requires : tie.Need-lend-requires
+lend-requires c κs = search needs
 
 put-read-requires : tie.Need-put-read-requires
 put-read-requires c κs = search needs
@@ -66,7 +66,7 @@ same-length-7 : tie.Need-same-length-7
 same-length-7 c = search needs
 
 returns-4 : tie.Need-returns-4
-returns-4 c = client-done _ _ _ _ _ _ _ _ _ _ _ (c .before .before .before .before .before .before .before .before .before .before .before .before .before .before .before .before .before .before .before .before .before .before .before .before .before .before .if2 .left) _ _ _ _ _ _ _ _ _ _ _ (c .before .before .before .before .before .before .before .before .before .before .before .before .before .before .before .before .before .before .before .before .before .before .before .if3 .left) (c .before .before .before .before .before .before .before .before .before .before .before .before .before .before .before .before .before .before .before .before .before .before .sender-of .ensures) (c .before .before .before .before .before .before .before .before .before .before .before .before .before .before .before .before .before .before .before .before .before .before .before .before .client-at .ensures) (c .before .before .before .before .before .before .before .before .before .before .before .before .before .before .before .before .before .deliver .ensures) (c .before .before .before .before .before .before .put-read .ensures) (c .before .before .keep .ensures)
+returns-4 c = client-done _ _ _ _ _ _ _ _ _ _ _ (c .before .before .before .before .before .before .before .before .before .before .before .before .before .before .before .before .before .before .before .before .before .before .before .before .before .before .if2 .left) _ _ _ _ _ _ _ _ _ _ _ (c .before .before .before .before .before .before .before .before .before .before .before .before .before .before .before .before .before .before .before .before .before .before .before .if3 .left) (c .before .before .before .before .before .before .before .before .before .before .before .before .before .before .before .before .before .before .before .before .before .before .sender-of .ensures) (c .before .before .before .before .before .before .before .before .before .before .before .before .before .before .before .before .before .before .before .before .before .before .before .before .client-at .ensures) (c .before .before .before .before .before .before .before .before .before .before .before .before .before .before .before .before .before .lend .ensures) (c .before .before .before .before .before .before .put-read .ensures) (c .before .before .keep .ensures)
 
 pub semduoli-client-deliver-spec : {M : Type 1} → statement M
 semduoli-client-deliver-spec =
@@ -83,7 +83,7 @@ semduoli-client-deliver-spec =
     same-length
     returns-3
     sender-of-requires
-    deliver-requires
+    lend-requires
     put-read-requires
     keep-requires
     same-length-2

@@ -1,4 +1,4 @@
--- An echo or a ready is handled as what the frame says. Assumes nothing.
+-- An echo or a ready is counted as the message that the frame says. Assumes nothing.
 use mathlib.Core.Path.{ap, _∙_}
 use lib.ListN.{length}
 use Rattle.sha256.specs.Hash.{digestOf}

@@ -1,4 +1,4 @@
--- The client's own offer: turned down, or its slot is stored. Assumes nothing.
+-- The client's own frame of its write: turned down, or its slot is stored. Assumes nothing.
 use mathlib.Core.Path.{refl, ap, _∙_}
 use lib.ListN.{length}
 use Rattle.sha256.specs.Hash.{digestOf}

@@ -1,21 +1,18 @@
 -- A server's frame of a write is turned down, or counted, and then the write is accepted if it can be. Assumes nothing.
 use mathlib.Core.Path.{ap, sym, _∙_}
-use borrow.Author.Tests.{not-true, not-false}
 use Rattle.sha256.specs.Hash.{digestOf}
 use Rattle.frame.specs.Frames.{offerIn}
 use Rattle.server_rules.specs.declared.Scope.{Scope}
-use Rattle.server_accept.specs.Telling.{ripeIn}
-use Rattle.server_accept.proofs.Acceptance.{ripe-time}
 use Rattle.server_blocks.specs.Stage.{voteStage}
 use Rattle.server_deliver.proofs.Votes.{vote-says, vote-frees, vote-sequence}
-use Rattle.server_deliver.proofs.Writes.{write-refused, write-waits, write-ripe}
+use Rattle.server_deliver.proofs.Writes.{write-refused, write-freed}
 use native.Mathlib.Omega.{arith}
 use borrow.Author.Needs.{needs}
 use Rattle.server_deliver.proofs.kinds.step_of_vote.Statement.{statement}
 use Rattle.server_deliver.proofs.kinds.step_of_vote.Tie as tie
 
 count-vote-requires : tie.Need-count-vote-requires
-count-vote-requires c κs = search needs
+count-vote-requires c κs = let P = c .before .before .before .before .before .before .before .before .before .before .pre in (P .0, P .2, P .3)
 
 enum-known-v : tie.Need-enum-known-v
 enum-known-v c = search needs
@@ -31,10 +28,11 @@ same-length-3 c = search needs
 
 returns : tie.Need-returns
 returns c =
-    let a = c .before .before .before .before .before .before .before .before .before .before .before .before .before .before .before .before .before .before .before .args in
-    let P = c .before .before .before .before .before .before .before .before .before .before .before .before .before .before .before .before .before .before .before .pre in
+    let a = c .before .before .before .before .before .before .before .before .before .before .before .before .before .before .before .before .before .before .before .before .args in
+    let P = c .before .before .before .before .before .before .before .before .before .before .before .before .before .before .before .before .before .before .before .before .pre in
     let k = a .k in
-    λ i w K. write-refused digestOf k (a .s) (a .readers) _ (a .area .now) _ (a .f .now) _ _ _ _ (voteStage (k .header .kind)) (offerIn (k .params) (a .f .now)) (vote-says (k .params) (a .f .now) (k .header .kind) (P .1) (P .2)) (c .before .before .before .before .before .before .before .before .before .count-vote .ensures .handles) i w K _ (c .before .v .given .1)
+    λ i w K. write-refused digestOf k (a .s) _ _ (a .area .now) _ (a .f .now) _ _ _ _ (voteStage (k .header .kind)) (offerIn (k .params) (a .f .now))
+    (vote-says (k .params) (a .f .now) (k .header .kind) (P .2) (P .3)) (c .before .before .before .before .before .before .before .before .before .count-vote .ensures .handles) i w K _ (c .before .v .given .1)
 
 enum-told : tie.Need-enum-told
 enum-told c = search needs
@@ -42,67 +40,44 @@ enum-told c = search needs
 slot-in-requires : tie.Need-slot-in-requires
 slot-in-requires c κs = search needs
 
-is-ripe-requires : tie.Need-is-ripe-requires
-is-ripe-requires c κs = search needs
+settle-requires : tie.Need-settle-requires
+settle-requires c κs =
+    let a = c .before .before .before .before .before .before .before .before .before .before .before .before .before .before .before .before .before .before .before .before .before .before .before .before .before .args in
+    let P = c .before .before .before .before .before .before .before .before .before .before .before .before .before .before .before .before .before .before .before .before .before .before .before .before .before .pre .0 .lent in
+    let e = vote-sequence digestOf (a .k) (a .s .slot) _ (a .area .now) _ _ _ _ _ _ _ (c .before .before .before .before .before .before .before .before .before .before .before .before .before .before .count-vote .ensures .handles) (c .before .before .before .before .before .before .enum-told .given .1) in
+    let y = ap (λ (u : Scope). u .slot .sequence) (c .before .before .before .slot-in .ensures) ∙ e in (
+      record {
+        bounded = P .bounded;
+        client-low = P .client-low;
+        client-high = P .client-high;
+        whole = omega (arith, P .whole, c .before .before .before .before .before .before .before .before .before .before .before .before .before .before .count-vote .kept .1 .1 .1 .0);
+        room = c .before .before .before .before .before .before .before .before .before .before .before .before .before .before .count-vote .ensures .room;
+      },
+      omega (arith, y, c .before .before .before .before .before .before .before .before .before .before .before .before .before .before .before .before .before .before .before .before .before .before .before .before .before .pre .4),
+      c .before .before .before .before .before .before .before .before .before .before .before .before .before .before .before .before .before .before .before .before .before .before .before .before .before .pre .1,
+    )
 
 taken-requires : tie.Need-taken-requires
 taken-requires c κs = search needs
 
 same-length-4 : tie.Need-same-length-4
-same-length-4 c = c .before .before .before .before .before .before .before .before .before .before .before .before .before .before .count-vote .kept .1 .1 .1 .0
+same-length-4 c = c .before .before .before .before .before .before .before .before .before .settle .kept .1 .1 .1 .1 .0 ∙ c .before .before .before .before .before .before .before .before .before .before .before .before .before .before .before .before .before .before .before .before .before .before .before .before .count-vote .kept .1 .1 .1 .0
 
 same-length-5 : tie.Need-same-length-5
-same-length-5 c = c .before .before .before .before .before .before .before .before .before .before .before .before .before .before .count-vote .kept .1 .1 .1 .1 .0
+same-length-5 c = c .before .before .before .before .before .before .before .before .before .settle .kept .1 .1 .1 .1 .1 .0 ∙ c .before .before .before .before .before .before .before .before .before .before .before .before .before .before .before .before .before .before .before .before .before .before .before .before .count-vote .kept .1 .1 .1 .1 .0
 
 same-length-6 : tie.Need-same-length-6
-same-length-6 c = c .before .before .before .before .before .before .before .before .before .before .before .before .before .before .count-vote .kept .1 .1 .1 .1 .1 .0
+same-length-6 c = c .before .before .before .before .before .before .before .before .before .settle .kept .1 .1 .1 .1 .1 .1 .0 ∙ c .before .before .before .before .before .before .before .before .before .before .before .before .before .before .before .before .before .before .before .before .before .before .before .before .count-vote .kept .1 .1 .1 .1 .1 .0
 
 returns-2 : tie.Need-returns-2
 returns-2 c =
-    let a = c .before .before .before .before .before .before .before .before .before .before .before .before .before .before .before .before .before .before .before .before .before .before .before .before .args in
-    let P = c .before .before .before .before .before .before .before .before .before .before .before .before .before .before .before .before .before .before .before .before .before .before .before .before .pre in
+    let a = c .before .before .before .before .before .before .before .before .before .before .before .before .before .before .before .before .before .before .before .before .before .before .before .before .before .before .before .before .before .before .before .before .before .before .before .args in
+    let P = c .before .before .before .before .before .before .before .before .before .before .before .before .before .before .before .before .before .before .before .before .before .before .before .before .before .before .before .before .before .before .before .before .before .before .before .pre in
     let k = a .k in
-    λ i w K. write-waits digestOf k (a .s) (a .readers) _ (a .area .now) _ (a .f .now) _ _ _ _ (voteStage (k .header .kind)) (offerIn (k .params) (a .f .now)) (vote-says (k .params) (a .f .now) (k .header .kind) (P .1) (P .2)) (c .before .before .before .before .before .before .before .before .before .before .before .before .before .before .count-vote .ensures .handles) i w K (c .before .before .before .before .before .before .enum-told .given .1) _ (c .before .before .before .slot-in .ensures)
-    (vote-frees (k .params) (k .header .kind) (k .header .client)) (omega (arith, P .0 .lent .client-high)) (sym (c .before .before .is-ripe .ensures) ∙ not-true _ (c .before .if1 .taken)) _ (c .taken .ensures .0) (c .taken .ensures .1)
-
-accept-requires : tie.Need-accept-requires
-accept-requires c κs =
-    let a = c .before .before .before .before .before .before .before .before .before .before .before .before .before .before .before .before .before .before .before .before .before .before .before .before .before .before .args in
-    let P = c .before .before .before .before .before .before .before .before .before .before .before .before .before .before .before .before .before .before .before .before .before .before .before .before .before .before .pre .0 .lent in
-    let e = vote-sequence digestOf (a .k) (a .s .slot) _ (a .area .now) _ _ _ _ _ _ _ (c .before .before .before .before .before .before .before .before .before .before .before .before .before .before .before .before .count-vote .ensures .handles) (c .before .before .before .before .before .before .before .before .enum-told .given .1) in
-    let q = c .before .before .before .before .before .slot-in .ensures in
-    let y = ap (λ (u : Scope). u .slot .sequence) q ∙ e in
-    let r = sym (c .before .before .before .before .is-ripe .ensures) ∙ not-false _ (c .before .before .before .if1 .left) in (
-      record {
-        bounded = P .bounded;
-        client-low = P .client-low;
-        client-high = P .client-high;
-        whole = omega (arith, P .whole, c .before .before .before .before .before .before .before .before .before .before .before .before .before .before .before .before .count-vote .kept .1 .1 .1 .0);
-        room = c .before .before .before .before .before .before .before .before .before .before .before .before .before .before .before .before .count-vote .ensures .room;
-      },
-      ripe-time _ (ap (λ (u : Scope). ripeIn (u .slot)) q ∙ r),
-      omega (arith, y, c .before .before .before .before .before .before .before .before .before .before .before .before .before .before .before .before .before .before .before .before .before .before .before .before .before .before .pre .3),
-    )
-
-taken-requires-2 : tie.Need-taken-requires-2
-taken-requires-2 c κs = search needs
-
-same-length-7 : tie.Need-same-length-7
-same-length-7 c = c .before .before .before .before .before .before .before .before .before .accept .kept .1 .1 .1 .1 .0 ∙ c .before .before .before .before .before .before .before .before .before .before .before .before .before .before .before .before .before .before .before .before .before .before .before .before .before .before .count-vote .kept .1 .1 .1 .0
-
-same-length-8 : tie.Need-same-length-8
-same-length-8 c = c .before .before .before .before .before .before .before .before .before .accept .kept .1 .1 .1 .1 .1 .0 ∙ c .before .before .before .before .before .before .before .before .before .before .before .before .before .before .before .before .before .before .before .before .before .before .before .before .before .before .count-vote .kept .1 .1 .1 .1 .0
-
-same-length-9 : tie.Need-same-length-9
-same-length-9 c = c .before .before .before .before .before .before .before .before .before .accept .kept .1 .1 .1 .1 .1 .1 .0 ∙ c .before .before .before .before .before .before .before .before .before .before .before .before .before .before .before .before .before .before .before .before .before .before .before .before .before .before .count-vote .kept .1 .1 .1 .1 .1 .0
-
-returns-3 : tie.Need-returns-3
-returns-3 c =
-    let a = c .before .before .before .before .before .before .before .before .before .before .before .before .before .before .before .before .before .before .before .before .before .before .before .before .before .before .before .before .before .before .before .before .before .before .before .before .args in
-    let P = c .before .before .before .before .before .before .before .before .before .before .before .before .before .before .before .before .before .before .before .before .before .before .before .before .before .before .before .before .before .before .before .before .before .before .before .before .pre in
-    let k = a .k in
-    λ i w K. write-ripe digestOf k (a .s) (a .readers) _ (a .area .now) _ (a .f .now) _ _ _ _ (voteStage (k .header .kind)) (offerIn (k .params) (a .f .now)) (vote-says (k .params) (a .f .now) (k .header .kind) (P .1) (P .2)) (c .before .before .before .before .before .before .before .before .before .before .before .before .before .before .before .before .before .before .before .before .before .before .before .before .before .before .count-vote .ensures .handles) i w K (c .before .before .before .before .before .before .before .before .before .before .before .before .before .before .before .before .before .before .enum-told .given .1) _ (c .before .before .before .before .before .before .before .before .before .before .before .before .before .before .before .slot-in .ensures)
-    (vote-frees (k .params) (k .header .kind) (k .header .client)) (omega (arith, P .0 .lent .client-high)) (sym (c .before .before .before .before .before .before .before .before .before .before .before .before .before .before .is-ripe .ensures) ∙ not-false _ (c .before .before .before .before .before .before .before .before .before .before .before .before .before .if1 .left)) _ _ _ _ (c .before .before .before .before .before .before .before .before .before .accept .ensures) _ (c .taken2 .ensures .0) (c .taken2 .ensures .1)
+    λ i w K. write-freed digestOf k (a .s) _ _ (a .area .now) _ (a .f .now) _ _ _ _ (voteStage (k .header .kind)) (offerIn (k .params) (a .f .now))
+    (vote-says (k .params) (a .f .now) (k .header .kind) (P .2) (P .3)) (c .before .before .before .before .before .before .before .before .before .before .before .before .before .before .before .before .before .before .before .before .before .before .before .before .count-vote .ensures .handles) i w K (c .before .before .before .before .before .before .before .before .before .before .before .before .before .before .before .before .enum-told .given .1) _ (c .before .before .before .before .before .before .before .before .before .before .before .before .before .slot-in .ensures)
+    (vote-frees (k .params) (k .header .kind) (k .header .client)) (omega (arith, P .0 .lent .client-high)) _ _ _ _ _ (c .before .before .before .before .before .before .before .before .before .settle .ensures) _
+    (c .taken .ensures .0) (c .taken .ensures .1)
 
 pub step-of-vote-spec : {M : Type 1} → statement M
 step-of-vote-spec =
@@ -116,15 +91,9 @@ step-of-vote-spec =
     returns
     enum-told
     slot-in-requires
-    is-ripe-requires
+    settle-requires
     taken-requires
     same-length-4
     same-length-5
     same-length-6
-    returns-2
-    accept-requires
-    taken-requires-2
-    same-length-7
-    same-length-8
-    same-length-9
-    returns-3)
+    returns-2)

@@ -14,11 +14,11 @@ same-length-2 c = search needs
 
 returns : tie.Need-returns
 returns c =
-    let a = c .before .before .before .before .before .before .before .before .before .before .before .before .before .before .args in
-    λ i. c .before .before .before .before .step-of-send .ensures (a .readers) (a .area .now) i
+    let a = c .before .before .before .before .before .before .before .before .before .before .before .before .before .before .before .args in
+    λ i. c .before .before .before .before .step-of-send .ensures _ (a .area .now) i
 
 step-of-vote-requires : tie.Need-step-of-vote-requires
-step-of-vote-requires c κs = let P = c .before .before .before .before .before .before .before .before .before .before .pre in (P .0, omega (arith, P .1, c .before .before .before .if1 .left), P .2, omega (arith, c .before .before .before .before .struct-known .given))
+step-of-vote-requires c κs = let P = c .before .before .before .before .before .before .before .before .before .before .before .pre in (P .0, P .1, omega (arith, P .2, c .before .before .before .if1 .left), P .3, omega (arith, c .before .before .before .before .struct-known .given))
 
 same-length-3 : tie.Need-same-length-3
 same-length-3 c = search needs

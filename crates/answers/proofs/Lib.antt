@@ -1,4 +1,0 @@
-pub mod Cases
-pub mod Left
-pub mod RefusalNumbers
-pub mod ShortLaws

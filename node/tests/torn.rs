@@ -14,6 +14,7 @@ use semduoli::cluster::Cluster;
 use semduoli::core::Core;
 use semduoli::events::{exit, Action, Event, Now, Start};
 use semduoli::log::{batch_at, segment_read, BATCH_HEAD};
+use semduoli::records::{self, Record};
 use semduoli::settings::{Settings, BLOCK};
 use semduoli::status::Status;
 use std::collections::VecDeque;
@@ -67,12 +68,19 @@ impl Folder {
     }
 }
 
-/// Where each batch of the log begins, and its bytes without the zeros behind it.
-fn batches(log: &[u8]) -> Vec<(usize, usize)> {
+/// A batch of the log: where it begins, its bytes without the zeros behind it, and whether a party took a step in it.
+struct Span {
+    at: usize,
+    length: usize,
+    steps: bool,
+}
+
+fn batches(log: &[u8]) -> Vec<Span> {
     let id = segment_read(log, 1).expect("a segment").id;
     let (mut found, mut at) = (vec![], BLOCK as usize);
     while let Some(batch) = batch_at(&id, log, at) {
-        found.push((at, BATCH_HEAD + batch.payload.len()));
+        let steps = records::read(batch.payload).any(|r| matches!(r, Ok(Record::Step { .. })));
+        found.push(Span { at, length: BATCH_HEAD + batch.payload.len(), steps });
         at += batch.bytes.len();
     }
     found
@@ -92,10 +100,10 @@ fn a_torn_batch_is_cut_at_every_byte_and_a_bit_turned_in_an_earlier_one_is_seen(
     let text = fs::read_to_string(path.join("cluster.toml")).expect("a cluster file");
     let folder = Folder { cluster: Cluster::parse(&text).expect("a good one"), path };
     let mut log = fs::read(folder.path.join(LOG)).expect("a log");
-    // the log up to its last batch that has something in it
+    // the log up to its last batch with a step: places and signs alone may follow
     let found = batches(&log);
-    let last = found.iter().rposition(|(_, length)| *length > BATCH_HEAD + 100).expect("a batch with steps");
-    let (at, length) = found[last];
+    let last = found.iter().rposition(|batch| batch.steps).expect("a batch with a step");
+    let Span { at, length, .. } = found[last];
     log[at + length..].fill(0);
     assert!(last > 20, "{last} batches");
     torn(&folder, &log, at, length);
@@ -126,8 +134,8 @@ fn torn(folder: &Folder, log: &[u8], at: usize, length: usize) {
     assert!(cuts + 8 > tried, "{cuts} of {tried}");
 }
 
-fn turned(folder: &Folder, log: &[u8], earlier: &[(usize, usize)]) {
-    for (i, (at, length)) in earlier.iter().enumerate() {
+fn turned(folder: &Folder, log: &[u8], earlier: &[Span]) {
+    for (i, Span { at, length, .. }) in earlier.iter().enumerate() {
         let mut damaged = log.to_vec();
         damaged[at + (i * 37) % length] ^= 1 << (i % 8);
         assert_eq!(folder.start(&damaged).end.err(), Some(exit::DAMAGED), "batch {i}");

@@ -1,8 +1,8 @@
 /* A host that does what include/semduoli.h asks of one. Four servers and two clients of a register, each with a file that holds all that belongs to it;
  * links that lose and repeat frames, those to one server so often that it lags behind; a false server that, besides what it must, sends frames of
- * far-off writes for ever, and at last closes a client's writing; parties that are started again from their files. The host writes down what its
- * clients saw, by its own clock, and has it judged. The argument names the folder of the files. The exit status is 0 if every operation ended, no read by
- * a disagreement, and what was seen has an order. */
+ * far-off writes for ever, and names an enormous time wherever it can, which nobody counts; parties that are started again from their files. The host
+ * writes down what its clients saw, by its own clock, and has it judged. The argument names the folder of the files. The exit status is 0 if every
+ * operation ended, no read by a disagreement, and what was seen has an order. */
 #define _POSIX_C_SOURCE 200809L
 #include <errno.h>
 #include <fcntl.h>
@@ -122,31 +122,40 @@ static uint64_t sequence_of(const struct parcel *q)
     return SEMDUOLI_HEADER_SEQUENCE(semduoli_frame_header(N, T, K, SIZE, q->frame, q->length));
 }
 
-/* the frames of an answer are to be sent, and stay until they are confirmed */
+/* the frames of an answer are to be sent, and stay until they are confirmed; but for reports to clients that this register does not have */
 static void add_sent(struct party *p, uint64_t answer, const uint8_t *out, const uint8_t *to)
 {
     make_room(p, p->unsent_count + SEMDUOLI_COUNT(answer));
-    for (unsigned i = 0; i < SEMDUOLI_COUNT(answer); i++) {
+    for (unsigned i = 0; i < SEMDUOLI_COUNT(answer); i++, out += semduoli_frame_length(out)) {
+        const uint8_t *receiver = to + SEMDUOLI_RECEIVER * i;
+        if (receiver[0] == SEMDUOLI_CLASS_CLIENT && receiver[1] > CLIENTS)
+            continue;
         struct parcel *q = &p->unsent[p->unsent_count++];
         q->from[0] = p->class_;
         q->from[1] = p->number;
-        memcpy(q->to, to + SEMDUOLI_RECEIVER * i, SEMDUOLI_RECEIVER);
+        memcpy(q->to, receiver, SEMDUOLI_RECEIVER);
         q->length = semduoli_frame_length(out);
         memcpy(q->frame, out, q->length);
-        out += q->length;
     }
+}
+
+/* Whether a later frame of its kind goes from this server to the same receiver and makes this one needless: a later report has a larger time; of the other
+ * kinds the sequences say it. */
+static int is_superseded(const struct party *s, const struct parcel *q, unsigned kind)
+{
+    for (const struct parcel *later = q + 1; later < s->unsent + s->unsent_count; later++)
+        if (!memcmp(later->to, q->to, sizeof q->to) && kind_of(later) == kind &&
+            (kind == SEMDUOLI_KIND_REPORT || sequence_of(later) + (kind != SEMDUOLI_KIND_VALUE) > sequence_of(q)))
+            return 1;
+    return 0;
 }
 
 /* Whether nobody needs a frame any more that is not confirmed: rule 7 of include/semduoli.h. (That only four values of a read are needed is not used.) */
 static int is_needless(const struct party *p, const struct parcel *q)
 {
     unsigned kind = kind_of(q), open;
-    if (q->to[0] == SEMDUOLI_CLASS_CLIENT) { /* from a server: a later one of its kind goes there */
-        for (const struct parcel *later = q + 1; later < p->unsent + p->unsent_count; later++)
-            if (!memcmp(later->to, q->to, sizeof q->to) && kind_of(later) == kind && sequence_of(later) + (kind != SEMDUOLI_KIND_VALUE) > sequence_of(q))
-                return 1;
-        return 0;
-    }
+    if (q->to[0] == SEMDUOLI_CLASS_CLIENT || kind == SEMDUOLI_KIND_REPORT)
+        return is_superseded(p, q, kind);
     if (p->class_ == SEMDUOLI_CLASS_SERVER)
         return kind == SEMDUOLI_KIND_ECHO && sequence_of(q) < SEMDUOLI_SEQUENCE(semduoli_server_open(client_of(q), p->state, SEMDUOLI_SERVER));
     open = SEMDUOLI_OUTCOME(semduoli_client_open(p->state, SEMDUOLI_CLIENT));
@@ -366,14 +375,24 @@ static void send_false(uint8_t j, unsigned round)
     arrive(&q);
 }
 
-/* The false server's frame to client 2: a stamp with the largest time there is. It closes the client's fourth write, and all writes after it. */
-static void close_writing(void)
+/* The false server's frame of this kind to a party: a stamp for client 2's fourth write, or a report, with the largest time there is. One server's word is
+ * not enough: the time is left uncounted, and the write goes on with those of the others. */
+static void push_ahead(uint8_t kind, uint8_t class_, uint8_t number)
 {
     const struct parcel q = {{SEMDUOLI_CLASS_SERVER, FALSE_SERVER},
-                             {SEMDUOLI_CLASS_CLIENT, 2},
-                             {0, 15, 1, 2, 2, 0, 0, 0, 4, 255, 255, 255, 255, 255, 255, 255, 255},
+                             {class_, number},
+                             {0, 15, 1, kind, 2, 0, 0, 0, 4, 255, 255, 255, 255, 255, 255, 255, 255},
                              17};
     arrive(&q);
+}
+
+/* names that time wherever it can: as a stamp to client 2, as a report to client 1 and to every server */
+static void push_all_ahead(void)
+{
+    push_ahead(SEMDUOLI_KIND_STAMP, SEMDUOLI_CLASS_CLIENT, 2);
+    push_ahead(SEMDUOLI_KIND_REPORT, SEMDUOLI_CLASS_CLIENT, 1);
+    for (uint8_t j = 1; j <= N; j++)
+        push_ahead(SEMDUOLI_KIND_REPORT, SEMDUOLI_CLASS_SERVER, j);
 }
 
 /* ---- the run */
@@ -427,7 +446,7 @@ int main(int count, char **arguments)
             open |= begin(&clients[c], scripts[c], &at[c]);
             send_all(&clients[c]);
         }
-        close_writing();
+        push_all_ahead();
         for (uint8_t j = 1; j <= N; j++) {
             send_all(&servers[j]);
             send_false(j, round);

@@ -14,7 +14,7 @@ static size_t n, t, k, taken, added, refused;
 static uint8_t out[SEMDUOLI_OUT_MOST], to[SEMDUOLI_TO_MOST], result[SIZE], stamp[SEMDUOLI_STAMP];
 static const uint8_t *value;
 
-/* puts the frames of an answer at the end of those that wait */
+/* puts the frames of an answer at the end of those that wait, but for reports to clients that this register does not have */
 static void send_frames(uint8_t sender_class, uint8_t sender, uint64_t answer)
 {
     const uint8_t *frame = out;
@@ -22,14 +22,16 @@ static void send_frames(uint8_t sender_class, uint8_t sender, uint64_t answer)
         fprintf(stderr, "more than %d frames wait\n", WAITING);
         exit(1);
     }
-    for (unsigned i = 0; i < SEMDUOLI_COUNT(answer); i++) {
+    for (unsigned i = 0; i < SEMDUOLI_COUNT(answer); i++, frame += semduoli_frame_length(frame)) {
+        const uint8_t *receiver = to + SEMDUOLI_RECEIVER * i;
+        if (receiver[0] == SEMDUOLI_CLASS_CLIENT && receiver[1] > CLIENTS)
+            continue;
         struct parcel *p = &waiting[added++ % WAITING];
         p->from[0] = sender_class;
         p->from[1] = sender;
-        memcpy(p->to, to + SEMDUOLI_RECEIVER * i, SEMDUOLI_RECEIVER);
+        memcpy(p->to, receiver, SEMDUOLI_RECEIVER);
         p->length = semduoli_frame_length(frame);
         memcpy(p->frame, frame, p->length);
-        frame += p->length;
     }
 }
 

@@ -28,7 +28,7 @@ static void show_sizes(void)
               IS_SIZE(SEMDUOLI_SERVER) && IS_SIZE(SEMDUOLI_CLIENT) && IS_SIZE(SEMDUOLI_AREA) && IS_SIZE(SEMDUOLI_ROWS) && IS_SIZE(SEMDUOLI_STAMP) &&
               IS_SIZE(SEMDUOLI_LINES) && IS_SIZE(SEMDUOLI_PAGE) && IS_SIZE(SEMDUOLI_INDEX) && IS_SIZE(SEMDUOLI_PLAYBACK_OUT(n, k, size, entries)) &&
               IS_SIZE(SEMDUOLI_TIME) && IS_SIZE(SEMDUOLI_ENTRY_HEAD) && IS_SIZE(SEMDUOLI_ENTRY(size)) && IS_SIZE(SEMDUOLI_ENTRY_FRAME_MOST) &&
-              IS_SIZE(SEMDUOLI_RECEIVER) && IS_SIZE(SEMDUOLI_REPLY_HEAD);
+              IS_SIZE(SEMDUOLI_RECEIVER) && IS_SIZE(SEMDUOLI_REPLY_HEAD) && IS_SIZE(SEMDUOLI_SERVER_FRAMES(n));
     printf("%sout of %d entries played back: %llu bytes\n", all ? "" : "a size is no size_t; ", entries,
            (unsigned long long)SEMDUOLI_PLAYBACK_OUT(n, k, size, entries));
 }
@@ -62,10 +62,12 @@ static void show_frame(const char *name, const uint8_t *frame, size_t length)
 static void ask_of_frames(void)
 {
     const uint8_t stamp[] = {0, 15, 1, 2, 8, 0xff, 0xff, 0xff, 0xff, 0xff, 0xff, 0xff, 0xff, 0xff, 0xff, 0xff, 0xfe}, retired[] = {0, 7, 1, 6, 2, 0, 0, 0, 5};
+    const uint8_t report[] = {0, 15, 1, 13, 2, 0, 0, 0, 5, 0, 0, 0, 0, 0, 0, 0, 9};
     uint8_t time[SEMDUOLI_TIME];
     show_frame("stamp", stamp, sizeof stamp);
     show_frame("stamp, cut", stamp, sizeof stamp - 1);
     show_frame("retired kind", retired, sizeof retired);
+    show_frame("report", report, sizeof report);
     printf("time, area short: %u\n", (unsigned)semduoli_frame_time(N, T, K, SIZE, stamp, sizeof stamp, time, sizeof time - 1));
     printf("header, n = 3: %u\n", (unsigned)semduoli_frame_header(3, T, K, SIZE, stamp, sizeof stamp));
 }
@@ -177,18 +179,19 @@ static struct client clients[CLIENTS + 1];
 static struct parcel waiting[WAITING];
 static size_t taken, added, refused;
 
-/* puts the frames that a party sent after those that wait */
+/* puts the frames that a party sent after those that wait, but for reports to clients that are not there */
 static void add_sent(uint8_t sender_class, uint8_t sender, uint64_t answer, const uint8_t *out, const uint8_t *to)
 {
-    size_t at = 0;
-    for (unsigned i = 0; i < SEMDUOLI_COUNT(answer); i++) {
+    for (unsigned i = 0; i < SEMDUOLI_COUNT(answer); i++, out += semduoli_frame_length(out)) {
+        const uint8_t *receiver = to + SEMDUOLI_RECEIVER * i;
+        if (receiver[0] == SEMDUOLI_CLASS_CLIENT && receiver[1] > CLIENTS)
+            continue;
         struct parcel *p = &waiting[added++ % WAITING];
         p->from[0] = sender_class;
         p->from[1] = sender;
-        memcpy(p->to, to + SEMDUOLI_RECEIVER * i, SEMDUOLI_RECEIVER);
-        p->length = semduoli_frame_length(out + at);
-        memcpy(p->frame, out + at, p->length);
-        at += p->length;
+        memcpy(p->to, receiver, SEMDUOLI_RECEIVER);
+        p->length = semduoli_frame_length(out);
+        memcpy(p->frame, out, p->length);
     }
 }
 

@@ -28,9 +28,14 @@ mod semduoli {
             22 + DIGEST * self.n + self.block()
         }
 
+        // The frames of a server's step at most.
+        pub fn server_frames(&self) -> usize {
+            9 * self.n + 136
+        }
+
         // How many bytes the out area needs to play back this many entries.
         pub fn playback_out(&self, entries: usize) -> usize {
-            entries * (REPLY_HEAD + (self.n + 9) * (self.frame() + RECEIVER))
+            entries * (REPLY_HEAD + self.server_frames() * (self.frame() + RECEIVER))
         }
     }
 
@@ -284,6 +289,7 @@ fn ask_of_frames(g: &semduoli::Params) {
     show_frame(g, "stamp", &stamp);
     show_frame(g, "stamp, cut", &stamp[..16]);
     show_frame(g, "retired kind", &[0, 7, 1, 6, 2, 0, 0, 0, 5]);
+    show_frame(g, "report", &[0, 15, 1, 13, 2, 0, 0, 0, 5, 0, 0, 0, 0, 0, 0, 0, 9]);
     println!("time, area short: {}", semduoli::frame_time(g, &stamp, &mut [0; semduoli::TIME - 1]).0);
     println!("header, n = 3: {}", semduoli::frame_header(&semduoli::Params { n: 3, ..*g }, &stamp).0);
 }
@@ -422,19 +428,21 @@ impl Run {
         (vec![0; frames * self.g.frame()], vec![0; semduoli::RECEIVER * frames])
     }
 
-    // Puts the frames that a party sent after those that wait.
+    // Puts the frames that a party sent after those that wait, but for reports to clients that are not there.
     fn add_sent(&mut self, from: semduoli::Party, answer: &semduoli::Answer, out: &[u8], to: &[u8]) {
         let mut at = 0;
         for receiver in to.chunks_exact(semduoli::RECEIVER).take(answer.count()) {
             let length = semduoli::frame_length(&out[at..]);
             let to = semduoli::Party(receiver[0].into(), receiver[1].into());
-            self.waiting.push_back(Parcel { from, to, frame: out[at..at + length].to_vec() });
+            if to.0 == semduoli::CLASS_SERVER || to.1 < self.clients.len() {
+                self.waiting.push_back(Parcel { from, to, frame: out[at..at + length].to_vec() });
+            }
             at += length;
         }
     }
 
     fn hand_to_server(&mut self, p: &Parcel) -> semduoli::Answer {
-        let (mut out, mut to) = self.areas(self.g.n + 9);
+        let (mut out, mut to) = self.areas(self.g.server_frames());
         let s = &mut self.servers[p.to.1];
         let answer = semduoli::server_deliver(&self.g, p.to.1, p.from, &p.frame, &mut s.area, &s.initial, &mut s.state, &mut out, &mut to);
         self.add_sent(p.to, &answer, &out, &to);
@@ -513,7 +521,7 @@ impl Run {
 
     // What server 1 answers to client 1's get-stamp from this sender, with only the first bytes of the frame and of the record lent.
     fn hand_get_stamp(&mut self, name: &str, class: usize, sender: usize, frame: usize, state: usize) {
-        let (mut out, mut to) = self.areas(self.g.n + 9);
+        let (mut out, mut to) = self.areas(self.g.server_frames());
         let f = [0, 7, 1, 1, 1, 0, 0, 0, 1];
         let from = semduoli::Party(class, sender);
         let s = &mut self.servers[1];
@@ -539,7 +547,7 @@ impl Run {
     // Hands client 2's next get-stamp, the first bytes of an entry, to server 3, which goes on from its record; the to area lacks short_by.
     fn go_on(&mut self, trace: usize, short_by: usize) {
         let entry = [0, 12, 1, 0, 2, 0, 7, 1, 1, 2, 0, 0, 0, 6];
-        let (mut out, mut to) = self.areas(self.g.n + 9);
+        let (mut out, mut to) = self.areas(self.g.server_frames());
         let (s, lent) = (&mut self.servers[3], to.len() - short_by);
         let answer = semduoli::server_resume(&self.g, 3, &entry[..trace], &mut s.area, &s.initial, &mut s.state, &mut out, &mut to[..lent]);
         println!("resume: refusal {}, closed by {}, entries {}", answer.refusal(), answer.outcome(), answer.entries());

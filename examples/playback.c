@@ -243,6 +243,7 @@ static void print_header(unsigned kind, unsigned client, unsigned long long sequ
         [SEMDUOLI_KIND_GET_STAMP] = "get-stamp", [SEMDUOLI_KIND_STAMP] = "stamp", [SEMDUOLI_KIND_SEND] = "send",
         [SEMDUOLI_KIND_ECHO] = "echo",           [SEMDUOLI_KIND_READY] = "ready", [SEMDUOLI_KIND_ACK] = "ack",
         [SEMDUOLI_KIND_READ] = "read",           [SEMDUOLI_KIND_VALUE] = "value", [SEMDUOLI_KIND_READ_COMPLETE] = "read-complete",
+        [SEMDUOLI_KIND_REPORT] = "report",
     };
     if (kind < sizeof kinds / sizeof *kinds && kinds[kind])
         printf("%s", kinds[kind]);

@@ -27,7 +27,8 @@
  *    anything but 10 and 13, or is kept there to be handed in again. Repeats do no harm, in any order: they are answered 12, a get-stamp is answered again.
  *    An operation may stay open as long as a frame between honest parties is missing.
  * 3. Hand a frame that a server answered 13 in again when its sequence has come: when semduoli_server_open of the client that the frame names is the
- *    frame's sequence or above (semduoli_frame_header tells both). And bound what is kept of such frames: a false party can make 13s for ever. Keep at
+ *    frame's sequence or above (semduoli_frame_header tells both). A step may accept the writes of several clients, also of clients that its frame does
+ *    not name: look at all eight after each step. And bound what is kept of such frames: a false party can make 13s for ever. Keep at
  *    most some, say four, for each sender and client; what is beyond is dropped and not confirmed, and comes again by its sender's resending.
  * 4. Authenticate the links. What is proved takes it that the class and number of a frame's sender are true: a frame is handed in as that party's
  *    whose key or connection it came by, never as the party's that the frame itself names.
@@ -40,12 +41,17 @@
  *      at a client   1 when its write no longer awaits stamps, 3 when its write has ended, 10 when its read has ended, 12 when a later read has begun.
  *                    So 2n frames at most are kept: those of the open operation, and the last read-completes.
  *      at a server, to a client   of 2 and of 9 all but the one of the highest sequence; of 11 those of lower sequences than the highest, and of this
- *                    all but the four with the largest stamps. So six for each client.
- *      at a server, to a server   4 when this server has accepted the write: when semduoli_server_open of its client is above its sequence.
+ *                    all but the four with the largest stamps; of 13 all but the one of the largest time. So seven for each client.
+ *      at a server, to a server   4 when this server has accepted the write: when semduoli_server_open of its client is above its sequence; of 13 all but
+ *                    the one of the largest time.
  *    What is left, the ready frames (5), has no bound: one for each write and each server that has not confirmed it, about 32n + 17 bytes and a block.
  *    To a server that is away they grow with every write, and all are needed: it takes the writes of a client one after the other, and nothing else
  *    brings it the ones that it missed. A server to which they were dropped lags for good and counts as one of the t false ones. (What is
  *    proved of operations that end takes it that every frame arrives; that these are not needed follows from the steps, and is not proved.)
+ * 8. Carry reports, the frames of kind 13, to every client, also to one that has begun nothing: whenever a server's time grows it reports it to servers 1 to
+ *    n and clients 1 to 8. The client's host hands a report in like any other frame, by semduoli_client_deliver, and stores the record that it changes.
+ *    A write counts a server's reply only once t + 1 servers have reported that time, so a client without reports may wait for ever. A report may end that
+ *    wait: then the write goes out in its answer. For a number that no client has, and none will have, reports may be dropped.
  *
  * For hosts in Rust semduoli.rs declares the same calls and numbers. examples/first.c is a small host, and examples/bank.c one that does all of this.
  */
@@ -62,8 +68,10 @@ extern "C" {
 /* The version of this header. It rises when a call, the meaning of an answer or of a kept byte changes, not when a call is added; semduoli_version
  * answers that of the linked library. Version 2 carries a write's time with its blocks: records and frames of version 1 mean something else to it,
  * so all parties of a register change together, and start afresh. Version 3 looks at every block: a decode takes k to n of them and answers 21 where
- * they disagree, and a read may end with SEMDUOLI_DISAGREEMENT; records and frames are those of version 2. */
-#define SEMDUOLI_VERSION 3
+ * they disagree, and a read may end with SEMDUOLI_DISAGREEMENT; records and frames are those of version 2. Version 4 vouches for times: servers send
+ * reports, records are longer and a server's out area larger. To a party of version 3 a report is no frame, and what is proved is proved from fresh
+ * starts: all parties of a register change together, and start afresh. */
+#define SEMDUOLI_VERSION 4
 
 /* ---- bounds */
 
@@ -76,8 +84,8 @@ extern "C" {
 
 #define SEMDUOLI_DIGEST ((size_t)32)
 /* the records of a server and of a client: state */
-#define SEMDUOLI_SERVER ((size_t)2128)
-#define SEMDUOLI_CLIENT ((size_t)769)
+#define SEMDUOLI_SERVER ((size_t)2216)
+#define SEMDUOLI_CLIENT ((size_t)857)
 /* what a server keeps of digests and blocks, area, and a client of the values that an open read has received, rows */
 #define SEMDUOLI_AREA ((size_t)97344)
 #define SEMDUOLI_ROWS ((size_t)23040)
@@ -90,9 +98,11 @@ extern "C" {
 #define SEMDUOLI_FRAME_MOST SEMDUOLI_FRAME(SEMDUOLI_SERVERS_MOST, 1, SEMDUOLI_SIZE_MOST)
 /* the receiver of a frame: its class, and its number */
 #define SEMDUOLI_RECEIVER ((size_t)2)
-/* the areas out and to: n + 9 largest frames of a server's call, n of a client's, and the receiver of each */
-#define SEMDUOLI_SERVER_OUT(n, k, size) (((size_t)(n) + 9) * SEMDUOLI_FRAME(n, k, size))
-#define SEMDUOLI_SERVER_TO(n) (SEMDUOLI_RECEIVER * ((size_t)(n) + 9))
+/* the frames of a server's call at most: n readies, and for each of eight writes 8 values, an ack and n + 8 reports */
+#define SEMDUOLI_SERVER_FRAMES(n) (9 * (size_t)(n) + 136)
+/* the areas out and to: so many largest frames of a server's call, n of a client's, and the receiver of each */
+#define SEMDUOLI_SERVER_OUT(n, k, size) (SEMDUOLI_SERVER_FRAMES(n) * SEMDUOLI_FRAME(n, k, size))
+#define SEMDUOLI_SERVER_TO(n) (SEMDUOLI_RECEIVER * SEMDUOLI_SERVER_FRAMES(n))
 #define SEMDUOLI_CLIENT_OUT(n, k, size) ((size_t)(n) * SEMDUOLI_FRAME(n, k, size))
 #define SEMDUOLI_CLIENT_TO(n) (SEMDUOLI_RECEIVER * (size_t)(n))
 #define SEMDUOLI_OUT_MOST SEMDUOLI_SERVER_OUT(SEMDUOLI_SERVERS_MOST, 1, SEMDUOLI_SIZE_MOST)
@@ -144,7 +154,7 @@ enum semduoli_refusal {
     SEMDUOLI_REFUSED_LENGTH = 3,      /* size out of bounds, or value not that long; message or frame too long */
     SEMDUOLI_REFUSED_FRAMING = 4,     /* frame under 9 bytes, or length field wrong */
     SEMDUOLI_REFUSED_VERSION = 5,     /* frame's version not 1 */
-    SEMDUOLI_REFUSED_KIND = 6,        /* frame's kind not 1 to 5 or 9 to 12 */
+    SEMDUOLI_REFUSED_KIND = 6,        /* frame's kind not 1 to 5 or 9 to 13 */
     SEMDUOLI_REFUSED_OWNER = 7,       /* frame's client not 1 to 8, or sequence 0; a client that is asked for not 1 to 8 */
     SEMDUOLI_REFUSED_BODY = 8,        /* frame's body length wrong for its kind */
     SEMDUOLI_REFUSED_CONTENT = 9,     /* stamp parts mixed, writer above 8, or blocks not fit */
@@ -187,7 +197,8 @@ enum semduoli_refusal {
 #define SEMDUOLI_CLASS_CLIENT 0
 #define SEMDUOLI_CLASS_SERVER 1
 
-/* the kinds of frames: 1, 3, 10 and 12 go from a client to a server, 2, 9 and 11 from a server to a client, 4 and 5 between servers */
+/* the kinds of frames: 1, 3, 10 and 12 go from a client to a server, 2, 9 and 11 from a server to a client, 4 and 5 between servers, 13 from a server to
+ * all servers and all clients */
 #define SEMDUOLI_KIND_GET_STAMP 1
 #define SEMDUOLI_KIND_STAMP 2
 #define SEMDUOLI_KIND_SEND 3
@@ -197,6 +208,7 @@ enum semduoli_refusal {
 #define SEMDUOLI_KIND_READ 10
 #define SEMDUOLI_KIND_VALUE 11
 #define SEMDUOLI_KIND_READ_COMPLETE 12
+#define SEMDUOLI_KIND_REPORT 13
 
 /* whether a frame carries a time */
 #define SEMDUOLI_NO_TIME 0
@@ -324,12 +336,13 @@ uint64_t semduoli_index_search(uint64_t number, const uint8_t *index, size_t ind
  * would open it; one that does not open says nothing but the number by which it is turned down. Refusals: 1 to 9. */
 
 /* The kind of a frame, SEMDUOLI_HEADER_KIND(answer), one of SEMDUOLI_KIND_..; the client that it names, SEMDUOLI_HEADER_CLIENT(answer), 1 to 8; and the
- * sequence of that client's operation, SEMDUOLI_HEADER_SEQUENCE(answer): of a write in kinds 1 to 5 and 9, of a read in kinds 10 to 12. */
+ * sequence of that client's operation, SEMDUOLI_HEADER_SEQUENCE(answer): of a write in kinds 1 to 5, 9 and 13, of a read in kinds 10 to 12. A report
+ * names the write that raised the server's time, whoever receives it. */
 uint64_t semduoli_frame_header(size_t n, size_t t, size_t k, size_t size, const uint8_t *frame, size_t frame_length);
 
 /* The time that a frame carries. SEMDUOLI_HAS_TIME: it is in the first SEMDUOLI_TIME bytes of time, and semduoli_stamp_time(time) is its number: of kind
- * 2 that of the server's stamp, of 3 to 5 the one that the write goes by (its stamp has one more), of 11 that of the value's stamp. SEMDUOLI_NO_TIME: a
- * frame of its kind carries none, and time stays as lent. Refusals: also 10, after the others. */
+ * 2 that of the server's stamp, of 3 to 5 the one that the write goes by (its stamp has one more), of 11 that of the value's stamp, of 13 that of the
+ * server's stamp after the write. SEMDUOLI_NO_TIME: a frame of its kind carries none, and time stays as lent. Refusals: also 10, after the others. */
 uint64_t semduoli_frame_time(size_t n, size_t t, size_t k, size_t size, const uint8_t *frame, size_t frame_length, uint8_t *time, size_t time_length);
 
 /* ---- a server, of which the host keeps, beside the record, the area of SEMDUOLI_AREA bytes and its block of the initial value, initial */
@@ -340,8 +353,13 @@ uint64_t semduoli_frame_time(size_t n, size_t t, size_t k, size_t size, const ui
 uint64_t semduoli_server_fresh(size_t n, size_t t, size_t k, size_t size, size_t me, const uint8_t *value, size_t value_length, uint8_t *area,
                                size_t area_length, uint8_t *initial, size_t initial_length, uint8_t *state, size_t state_length);
 
-/* Hands a frame to server me. The count says how many frames are sent, 0 to n + 9; out has SEMDUOLI_SERVER_OUT bytes at least, to has
- * SEMDUOLI_SERVER_TO. Of the record only the stamp and what it has of the client that the frame names are written. Refusals: 1 to 14. */
+/* Hands a frame to server me. The count says how many frames are sent, 0 to SEMDUOLI_SERVER_FRAMES(n); out has SEMDUOLI_SERVER_OUT bytes at least, to has
+ * SEMDUOLI_SERVER_TO. A write that is complete waits until its time is vouched for: t + 1 servers have reported it or a larger one, or the server's own
+ * time has come to it. What a step frees is accepted in that step, by rising client number and from the lowest again after each. In out each accepted
+ * write has its values, its ack and, if the server's time grew, its reports to servers 1 to n and clients 1 to 8, after any ready frames. Of the record
+ * only the stamp, the sender's report, what it has of the client that the frame names, and the open writes of the clients whose writes are accepted are
+ * written.
+ * Refusals: 1 to 14. */
 uint64_t semduoli_server_deliver(size_t n, size_t t, size_t k, size_t size, size_t me, size_t sender_class, size_t sender, const uint8_t *frame,
                                  size_t frame_length, uint8_t *area, size_t area_length, const uint8_t *initial, size_t initial_length,
                                  uint8_t *state, size_t state_length, uint8_t *out, size_t out_length, uint8_t *to, size_t to_length);
@@ -412,7 +430,7 @@ uint64_t semduoli_begin_write(size_t n, size_t t, size_t k, size_t size, size_t 
  *   SEMDUOLI_SENT            nothing has ended; the count says how many frames are sent, 0 or n. With n a write goes out, in frames of kind
  *                            3: its stamp is their time (semduoli_frame_time) plus 1, me, and their sequence
  *   SEMDUOLI_WRITTEN         the write has ended; nothing is sent
- *   SEMDUOLI_OUT_OF_STAMPS   the write has closed as out of stamps: one of the first n - t servers that answered has the largest time there is,
+ *   SEMDUOLI_OUT_OF_STAMPS   the write has closed as out of stamps: of the n - t replies or more that count one has the largest time there is,
  *                            2^64 - 1. Nothing is sent, the value is written nowhere, and the client writes no more: each further write is refused by 17
  *   SEMDUOLI_VALUE           the read has ended; its value is in the first size bytes of result, its stamp in the first SEMDUOLI_STAMP bytes of stamp,
  *                            and n frames are sent, as the count says
@@ -425,9 +443,14 @@ uint64_t semduoli_begin_write(size_t n, size_t t, size_t k, size_t size, size_t 
  * from that read; keep the client's areas, the frames it was handed and the servers' traces for the staff; find the machine at fault (semduoli_playback)
  * before results of this register are relied upon. The client itself is ready: another read may be begun, and may give a value.
  *
- * One false server can close a client's writing for good: it answers a get-stamp with the time 2^64 - 1, and is among the first n - t. With the time
- * 2^64 - 2 the write goes through, the servers then hold a stamp of the largest time, and every client's next write closes. Nothing that was written is
- * lost, and reads go on; but no call opens such a client, or such a register, for writing again. Request F-9 is to end this. */
+ * A write that waits for stamps counts a server's first reply only once t + 1 servers have reported that time or a larger one, in a stamp or in a report,
+ * and takes the largest time that counts. So false servers, t at most, cannot push the numbering ahead: it is proved, from fresh starts, that the times of
+ * all writes that took effect have no gap, so that the largest of them is at most their number. An enormous time that a false server names is left uncounted.
+ * SEMDUOLI_OUT_OF_STAMPS then takes 2^64 - 1 writes that took effect; where it comes earlier, more than t servers are false, a sender was not true, or a
+ * party went on after losing its state. Nothing that was written is lost, and reads go on; but no call opens such a client for writing again.
+ *
+ * A report may come at any time, for any client's write: without an open operation, in a read and while acks are awaited it is kept and sends nothing. One
+ * that is not higher than what that server has told before is 12. */
 uint64_t semduoli_client_deliver(size_t n, size_t t, size_t k, size_t size, size_t me, size_t sender_class, size_t sender, const uint8_t *value,
                                  size_t value_length, const uint8_t *frame, size_t frame_length, uint8_t *rows, size_t rows_length,
                                  uint8_t *result, size_t result_length, uint8_t *stamp, size_t stamp_length, uint8_t *state, size_t state_length,

@@ -1,9 +1,10 @@
 /* stack: the stack that the library's calls use, as a table for docs/PERFORMANCE.md. A whole write and then a whole read, all parties honest and
- * frames in the order sent, what a host asks of each frame, and what server 1 was handed, played back and handed to a fresh server again. Each call
- * is made on a thread of its own, whose stack is painted before; the lowest byte that is no longer paint says how deep the call went. What an empty
- * thread uses is subtracted; it ends some 70 bytes deeper than it begins, and so much is missing from a figure (0 is a call that goes no deeper),
- * while the frame that makes the call is in it. Bytes below the lowest written one that a call reserves are not seen, nor are paths that this run
- * does not take. Link with -z now: else the first calls of memcpy would count the linker's work. */
+ * frames in the order sent, what a host asks of each frame, and what server 1 was handed, played back and handed to a fresh server again; then a
+ * report that frees eight writes in one step, with eight clients listening. Each call is made on a thread of its own, whose stack is painted before;
+ * the lowest byte that is no longer paint says how deep the call went. What an empty thread uses is subtracted; it ends some 70 bytes deeper than it
+ * begins, and so much is missing from a figure (0 is a call that goes no deeper), while the frame that makes the call is in it. Bytes below the
+ * lowest written one that a call reserves are not seen, nor are paths that this run does not take. Link with -z now: else the first calls of memcpy
+ * would count the linker's work. */
 #define _XOPEN_SOURCE 700
 #include <pthread.h>
 #include <stdio.h>
@@ -19,15 +20,15 @@ static const struct set {
 } sets[2] = {{N, 3, K, SIZE}, {4, 1, 2, 64}};
 static struct set p; /* that is being measured */
 
-/* the rows of the table; rows 1 to 12 are a server's deliveries by the frame's kind, of which 2, 9 and 11 go to clients and 6 to 8 are retired */
-enum { SERVER_FRESH = 0, CLIENT_FRESH = 13, BEGIN_READ, BEGIN_WRITE, CLIENT_DELIVER, PLAYBACK, SERVER_RESUME, ENTRY_WRITE, ENTRY_READ, SERVER_BLOCK,
+/* the rows of the table; rows 1 to 13 are a server's deliveries by the frame's kind, of which 2, 9 and 11 go to clients and 6 to 8 are retired */
+enum { SERVER_FRESH = 0, CLIENT_FRESH = 14, BEGIN_READ, BEGIN_WRITE, CLIENT_DELIVER, PLAYBACK, SERVER_RESUME, ENTRY_WRITE, ENTRY_READ, SERVER_BLOCK,
        FRAME_HEADER, FRAME_TIME, TABLE };
 
 static const char *const names[TABLE] = {
     "server_fresh", "server_deliver, kind 1", NULL, "server_deliver, kind 3", "server_deliver, kind 4", "server_deliver, kind 5",
     NULL, NULL, NULL, NULL, "server_deliver, kind 10", NULL,
-    "server_deliver, kind 12", "client_fresh", "begin_read", "begin_write", "client_deliver", "playback", "server_resume", "entry_write",
-    "entry_read", "server_block", "frame_header", "frame_time"};
+    "server_deliver, kind 12", "server_deliver, kind 13", "client_fresh", "begin_read", "begin_write", "client_deliver", "playback", "server_resume",
+    "entry_write", "entry_read", "server_block", "frame_header", "frame_time"};
 static size_t deepest[TABLE];
 static int made[TABLE];
 
@@ -189,19 +190,21 @@ static void measure(size_t row, void *(*call)(void *), void *of)
 
 /* ---- a run */
 
-/* puts the frames that the last call sent after those that wait */
+/* puts the frames that the last call sent after those that wait, but for reports to clients that are not there */
 static void add_sent(const uint8_t *sender)
 {
-    size_t at = 0;
-    for (unsigned i = 0; i < SEMDUOLI_COUNT(answer); i++) {
+    size_t at = 0, length;
+    for (unsigned i = 0; i < SEMDUOLI_COUNT(answer); i++, at += length) {
+        length = semduoli_frame_length(out + at);
+        if (to[2 * i] == SEMDUOLI_CLASS_CLIENT && to[2 * i + 1] != ME)
+            continue;
         struct parcel *f = &waiting[added++ % WAITING];
         if (added - taken > WAITING)
             fail("too many frames wait");
         memcpy(f->from, sender, 2);
         memcpy(f->to, to + 2 * i, 2);
-        f->length = semduoli_frame_length(out + at);
-        memcpy(f->frame, out + at, f->length);
-        at += f->length;
+        f->length = length;
+        memcpy(f->frame, out + at, length);
     }
 }
 
@@ -278,6 +281,63 @@ static void whole_run(void)
         fail("a server has no block");
 }
 
+/* ---- the step that does most: a report frees eight writes, and eight clients listen */
+
+enum { CLIENTS = 8, HEADER = 9 };
+
+/* a frame to server 1 of a client's operation 1, with the first bytes of body */
+static struct parcel frame_to(uint8_t class, uint8_t number, uint8_t kind, uint8_t client, const uint8_t *body, size_t length)
+{
+    struct parcel f = {.from = {class, number}, .to = {SEMDUOLI_CLASS_SERVER, 1}, .length = HEADER + length};
+    const size_t counted = f.length - 2;
+    const uint8_t header[HEADER] = {(uint8_t)(counted / 256), (uint8_t)(counted % 256), 1, kind, client, 0, 0, 0, 1};
+    memcpy(f.frame, header, HEADER);
+    memcpy(f.frame + HEADER, body, length);
+    return f;
+}
+
+static void hand_in(struct parcel f)
+{
+    look_at(&f);
+    measure(SEMDUOLI_HEADER_KIND(answer), server_deliver, &f);
+    if (SEMDUOLI_REFUSAL(answer))
+        fail("a frame is refused");
+}
+
+/* time 1, the digests of the value's blocks, and room for a block; the blocks */
+static void offer_made(uint8_t *body, uint8_t *blocks)
+{
+    const size_t block = SEMDUOLI_BLOCK(p.k, p.size);
+    body[SEMDUOLI_TIME - 1] = 1;
+    if (semduoli_encode(p.n, p.t, p.k, p.size, value, p.size, blocks, p.n * block))
+        fail("the value has no blocks");
+    for (size_t j = 0; j < p.n; j++)
+        if (semduoli_digest(blocks + j * block, block, body + SEMDUOLI_TIME + j * SEMDUOLI_DIGEST, SEMDUOLI_DIGEST))
+            fail("a block has no digest");
+}
+
+static void full_step(void)
+{
+    static uint8_t body[SEMDUOLI_FRAME(N, K, SIZE)], blocks[SEMDUOLI_BLOCKS(N, K, SIZE)];
+    const size_t block = SEMDUOLI_BLOCK(p.k, p.size), at = SEMDUOLI_TIME + p.n * SEMDUOLI_DIGEST;
+    uint8_t me = 1;
+    memset(body, 0, sizeof body);
+    offer_made(body, blocks);
+    measure(SERVER_FRESH, server_fresh, &me);
+    for (uint8_t c = 1; c <= CLIENTS; c++) {
+        hand_in(frame_to(SEMDUOLI_CLASS_CLIENT, c, 10, c, body, 0));
+        for (uint8_t j = 1; j <= p.n; j++) {
+            memcpy(body + at, blocks + (j - 1) * block, block);
+            hand_in(frame_to(SEMDUOLI_CLASS_SERVER, j, 5, c, body, at + block));
+        }
+    }
+    for (uint8_t j = 1; j <= p.t + 1; j++)
+        hand_in(frame_to(SEMDUOLI_CLASS_SERVER, j, 13, 1, body, SEMDUOLI_TIME));
+    /* of the eight stamps, which rise, the first alone raises the time; each is told to all listeners, and acknowledged */
+    if (SEMDUOLI_COUNT(answer) != CLIENTS * (CLIENTS + 1) + p.n + CLIENTS)
+        fail("the report does not free eight writes");
+}
+
 int main(void)
 {
     printf("\n### Stack");
@@ -285,6 +345,7 @@ int main(void)
         p = sets[i];
         printf("%s n = %zu, t = %zu, k = %zu, L = %zu", i ? " and" : ",", p.n, p.t, p.k, p.size);
         whole_run();
+        full_step();
     }
     printf("\n\n| call | stack, bytes |\n|---|---|\n");
     for (size_t row = 0; row < TABLE; row++) {

@@ -1,7 +1,7 @@
 # Writes the scripts of this folder for the hall program, NAME.in, with what must be answered, NAME.out: single calls at a client and at a server, each
 # expected answer worked out here from the specification. Run it in this folder.
-from frames import (ECHO, READY, RETIRED, SEND, SERVERS, Code, ack, block, block_of, blocks, complete, entry, frame, get_stamp, read, stamp, time, value,
-                    value_of)
+from frames import (ECHO, READY, RETIRED, SEND, SERVERS, Code, ack, block, block_of, blocks, complete, entry, frame, get_stamp, read, report, stamp, time,
+                    value, value_of)
 
 VALUE, OTHER, THIRD = bytes([1, 2, 3]), bytes([10, 11, 12]), bytes([1, 2, 4])
 LAST = 2**64 - 1
@@ -31,6 +31,16 @@ class Script:
 
 def to_all(f, servers=SERVERS):
     return [(f's {j}', f(j)) for j in servers]
+
+
+def reports(c, q, t, servers=SERVERS):
+    """The reports of a server whose time grew to t by client c's write q."""
+    return [(f's {j}', report(c, q, t)) for j in servers] + [(f'c {i}', report(c, q, t)) for i in range(1, 9)]
+
+
+def taken(c, q, t, servers=SERVERS):
+    """What is sent where client c's write q is accepted without listeners, and the time grows to t."""
+    return [(f'c {c}', ack(c, q))] + reports(c, q, t, servers)
 
 
 def retired(client):
@@ -91,8 +101,9 @@ def turned_down(s):
     of(b'\0\7\1', 4)
     of(b'\0\10' + ack(2, 1)[2:], 4)
     of(frame(9, 2, 1, version=2), 5)
-    for kind in (0, 13):
+    for kind in (0, 14, 255):
         of(frame(kind, 2, 1), 6)
+        of(frame(kind, 2, 1, time(5)), 6)
     for f in retired(2):
         of(f, 6)
     of(frame(6, 2, 1, time(5), version=2), 5)
@@ -101,20 +112,23 @@ def turned_down(s):
     of(frame(9, 2, 0), 7)
     of(frame(9, 2, 1, b'\0'), 8)
     of(frame(2, 2, 1), 8)
+    of(frame(13, 2, 1), 8)
     for t, writer, sequence in ((3, 0, 1), (0, 2, 1), (3, 2, 0), (3, 9, 1)):
         of(value(2, 1, t, writer, sequence, VALUE, 1), 9)
     of(get_stamp(2, 1), 11)
     of(stamp(2, 1, 5), 11, c=3)
     for sender in ('c 2', 's 0', 's 5'):
         of(stamp(2, 1, 5), 11, sender)
+        of(report(2, 1, 5), 11, sender)
     of(stamp(2, 2, 5), 12)
+    of(report(2, 1, 0), 12)
     of(ack(2, 1), 12)
     of(value(2, 1, 5, 2, 1, VALUE, 1), 12)
     of(stamp(3, 1, 5), 12, c=3)
 
 
 def writes(s):
-    """Client 4 writes twice."""
+    """Client 4 writes twice. A reply counts once two servers have reported its time or more, and the largest that counts is taken."""
     def stamped(j, q, t, sent=()):
         s.step(f'C 4 s {j} {stamp(4, q, t).hex()}', sent)
 
@@ -125,7 +139,8 @@ def writes(s):
     stamped(1, 1, 5)
     s.refused(f'C 4 s 1 {stamp(4, 1, 6).hex()}', 12)
     stamped(2, 1, 9)
-    stamped(4, 1, 7, spread(1, 9))
+    stamped(4, 1, 7)
+    stamped(3, 1, 8, spread(1, 8))
     s.refused(f'C 4 s 3 {stamp(4, 1, 8).hex()}', 12)
     s.step(f'C 4 s 1 {ack(4, 1).hex()}')
     s.refused(f'C 4 s 1 {ack(4, 1).hex()}', 12)
@@ -136,7 +151,10 @@ def writes(s):
     s.refused(f'C 4 s 3 {stamp(4, 1, 9).hex()}', 12)
     stamped(3, 2, LAST - 1)
     stamped(1, 2, 0)
-    stamped(2, 2, 0, spread(2, LAST - 1))
+    stamped(2, 2, 0)
+    # a server that has not replied: its report lifts the count past n - t
+    s.step(f'C 4 s 4 {report(7, 3, LAST - 2).hex()}')
+    s.step(f'C 4 s 4 {report(7, 3, LAST - 1).hex()}', spread(2, LAST - 1))
     s.refused(f'C 4 s 2 {ack(4, 1).hex()}', 12)
 
 
@@ -145,10 +163,55 @@ def closes(s):
     s.step('C 5 write 010203', to_all(lambda j: get_stamp(5, 1)))
     s.step(f'C 5 s 2 {stamp(5, 1, 0).hex()}')
     s.step(f'C 5 s 3 {stamp(5, 1, LAST).hex()}')
-    s.step(f'C 5 s 4 {stamp(5, 1, 3).hex()}', last='out of stamps')
+    s.step(f'C 5 s 4 {stamp(5, 1, 3).hex()}')
+    s.step(f'C 5 s 1 {report(5, 1, LAST).hex()}', last='out of stamps')
     s.refused(f'C 5 s 1 {stamp(5, 1, 3).hex()}', 12)
     s.refused('C 5 write 010203', 17)
+    s.step(f'C 5 s 4 {report(2, 6, 4).hex()}')
+    s.refused(f'C 5 s 4 {report(2, 6, 4).hex()}', 12)
     s.step('C 5 read', to_all(lambda j: read(5, 1)))
+
+
+def vouched(s):
+    """Clients 7 and 8: which reports are kept, also by a client that began nothing, and what counts by them."""
+    def told(c, j, t, sent=None, last=None):
+        line = f'C {c} s {j} {report(3, 4, t).hex()}'
+        s.refused(line, 12) if sent is None else s.step(line, sent, last)
+
+    # equal and lower ones are 12, also where no operation is open; so is 0 from a server that has not reported
+    for t, sent in ((0, None), (6, []), (6, None), (5, None), (0, None), (9, []), (8, None)):
+        told(7, 1, t, sent)
+    # a stamp that is turned down is no report; one that counts is
+    s.refused(f'C 7 s 2 {stamp(7, 1, 50).hex()}', 12)
+    s.step('C 7 write 010203', to_all(lambda j: get_stamp(7, 1)))
+    s.refused(f'C 7 s 2 {stamp(7, 2, 50).hex()}', 12)
+    s.step(f'C 7 s 2 {stamp(7, 1, 8).hex()}')
+    s.refused(f'C 7 s 2 {stamp(7, 1, 50).hex()}', 12)
+    told(7, 2, 8)
+    told(7, 2, 49, [])
+    # a first reply below the server's report keeps its own time, and leaves the report
+    s.step(f'C 7 s 1 {stamp(7, 1, 3).hex()}')
+    told(7, 1, 9)
+    s.step(f'C 7 s 4 {stamp(7, 1, 60).hex()}')
+    # 8 and 3 count, 60 is reported once; a report alone is no reply
+    told(7, 3, 59, [])
+    told(7, 3, 60, to_all(lambda j: block(SEND, 7, 1, 60, VALUE, j)))
+    told(7, 3, 61, [])
+    for j in (1, 2):
+        s.step(f'C 7 s {j} {ack(7, 1).hex()}')
+    s.step(f'C 7 s 3 {ack(7, 1).hex()}', last='written')
+    # kept across operations: 60 counts at once where servers 3 and 4 have reported it
+    told(7, 4, 61, [])
+    s.step('C 7 write 010203', to_all(lambda j: get_stamp(7, 2)))
+    s.step(f'C 7 s 1 {stamp(7, 2, 61).hex()}')
+    s.step(f'C 7 s 2 {stamp(7, 2, 49).hex()}')
+    s.step(f'C 7 s 3 {stamp(7, 2, 0).hex()}', to_all(lambda j: block(SEND, 7, 2, 61, VALUE, j)))
+    # an enormous time is left, and the write goes on without it; a time 0 needs no report
+    s.step('C 8 write 010203', to_all(lambda j: get_stamp(8, 1)))
+    s.step(f'C 8 s 4 {stamp(8, 1, 2**63).hex()}')
+    for j in (1, 2):
+        s.step(f'C 8 s {j} {stamp(8, 1, 0).hex()}')
+    s.step(f'C 8 s 3 {stamp(8, 1, 0).hex()}', to_all(lambda j: block(SEND, 8, 1, 0, VALUE, j)))
 
 
 def reads(s):
@@ -196,12 +259,18 @@ class Server:
         line = f'S {self.me} {sender} {f.hex()}'
         self.script.refused(line, result) if isinstance(result, int) else self.script.step(line, result)
 
+    def vouch(self, t):
+        """Servers 1 and 3 report a time, t + 1 where t is 1; it frees nothing."""
+        for j in (1, 3):
+            self.got(f's {j}', report(6, 2, t), [])
+
 
 def refusals(s):
     """Frames to a fresh server: 4 to 9, 11."""
     asked = get_stamp(1, 5)
     for f, number in ((asked[:8], 4), (asked + b'\0', 4), (frame(1, 1, 5, version=2), 5), (frame(7, 1, 1, time(5), version=2), 5), (frame(0, 1, 5), 6),
-                      (frame(13, 1, 5), 6), (frame(1, 0, 5), 7), (frame(1, 9, 5), 7), (frame(1, 1, 0), 7), (frame(1, 1, 5, b'\0'), 8),
+                      (frame(14, 1, 5), 6), (frame(14, 1, 5, time(5)), 6), (frame(13, 1, 5), 8), (frame(13, 1, 5, time(5) + b'\0'), 8),
+                      (frame(1, 0, 5), 7), (frame(1, 9, 5), 7), (frame(1, 1, 0), 7), (frame(1, 1, 5, b'\0'), 8),
                       (frame(3, 1, 1, time(5) + entry(OTHER, 2) + b'\0'), 8), (frame(3, 1, 1, time(5) + entry(OTHER, 2)[:-1]), 8),
                       (frame(3, 1, 1, entry(OTHER, 2)), 8)):
         s.got('c 1', f, number)
@@ -217,6 +286,9 @@ def refusals(s):
     s.got('s 0', block(ECHO, 1, 1, 5, OTHER, 1), 11)
     s.got('s 5', block(READY, 1, 1, 5, OTHER, 4), 11)
     s.got('s 2', block(SEND, 1, 1, 5, OTHER, 2), 11)
+    for sender in ('c 1', 's 0', 's 5'):
+        s.got(sender, report(1, 1, 5), 11)
+    s.got('s 1', report(1, 1, 0), 12)
 
 
 def accepted(s):
@@ -238,11 +310,12 @@ def accepted(s):
     s.got('s 3', block(ECHO, 1, 1, 5, OTHER, 3), [])
     s.got('s 4', block(ECHO, 1, 1, 5, OTHER, 4), to_all(lambda j: block(READY, 1, 1, 5, OTHER, 2)))
 
-    # acceptance: values by rising client number, and the ack
+    # acceptance: values by rising client number, the ack, and reports to servers and then to clients
+    s.vouch(5)
     for j in (1, 3):
         s.got(f's {j}', block(READY, 1, 1, 5, OTHER, j), [])
     s.got('s 1', block(READY, 1, 1, 5, OTHER, 1), 12)
-    s.got('s 4', block(READY, 1, 1, 5, OTHER, 4), [(f'c {c}', value(c, 1, 6, 1, 1, OTHER, 2)) for c in (3, 4, 5, 8)] + [('c 1', ack(1, 1))])
+    s.got('s 4', block(READY, 1, 1, 5, OTHER, 4), [(f'c {c}', value(c, 1, 6, 1, 1, OTHER, 2)) for c in (3, 4, 5, 8)] + taken(1, 1, 6))
     s.got('s 2', block(READY, 1, 1, 5, OTHER, 2), 12)
 
     # afterwards: a read is completed, the stamp is the new one, and write 2 is open
@@ -271,7 +344,8 @@ def other_times(s):
         s.got(f's {j}', block(READY, 1, 1, j, OTHER, j), [])
     s.got('s 3', block(READY, 1, 1, 1, OTHER, 3), to_all(lambda j: block(READY, 1, 1, 1, OTHER, 2)))
     s.got('s 2', block(READY, 1, 1, 1, OTHER, 2), 12)
-    s.got('s 4', block(READY, 1, 1, 1, OTHER, 4), [('c 1', ack(1, 1))])
+    s.vouch(1)
+    s.got('s 4', block(READY, 1, 1, 1, OTHER, 4), taken(1, 1, 2))
     s.got('c 1', get_stamp(1, 1), [('c 1', stamp(1, 1, 2))])
 
 
@@ -282,7 +356,8 @@ def other_lists(s):
     for j, v in ((1, OTHER), (2, THIRD)):
         s.got(f's {j}', block(READY, 2, 1, 5, v, j), [])
     s.got('s 3', block(READY, 2, 1, 5, THIRD, 3), to_all(lambda j: block(READY, 2, 1, 5, THIRD, 2)))
-    s.got('s 4', block(READY, 2, 1, 5, THIRD, 4), [('c 2', ack(2, 1))])
+    s.vouch(5)
+    s.got('s 4', block(READY, 2, 1, 5, THIRD, 4), taken(2, 1, 6))
     s.got('c 8', read(8, 1), [('c 8', value(8, 1, 6, 2, 1, THIRD, 2))])
     s.got('c 8', complete(8, 1), [])
 
@@ -295,21 +370,24 @@ def two_groups(s):
         s.got(f's {j}', block(READY, 3, 1, 8, THIRD, j), [] if j == 1 else to_all(lambda i: block(READY, 3, 1, 8, THIRD, 2)))
     s.got('s 4', block(ECHO, 3, 1, 7, OTHER, 4), [])
     s.got('c 3', block(SEND, 3, 1, 7, OTHER, 2), to_all(lambda j: block(ECHO, 3, 1, 7, OTHER, 2)))
-    s.got('s 4', block(READY, 3, 1, 8, THIRD, 4), [('c 3', ack(3, 1))])
+    s.vouch(8)
+    s.got('s 4', block(READY, 3, 1, 8, THIRD, 4), taken(3, 1, 9))
     s.got('c 8', get_stamp(8, 1), [('c 8', stamp(8, 1, 9))])
-    # the other way round, in its next write: three echoes of one group send the ready, three readies of the other are accepted
+    # the other way round, in its next write: three echoes of one group send the ready, three readies of the other are accepted, the own time being 9
     for j in (1, 3):
         s.got(f's {j}', block(ECHO, 3, 2, 9, OTHER, j), [])
     s.got('s 4', block(ECHO, 3, 2, 9, OTHER, 4), to_all(lambda j: block(READY, 3, 2, 9, OTHER, 2)))
     for j in (1, 3):
         s.got(f's {j}', block(READY, 3, 2, 9, THIRD, j), [])
-    s.got('s 4', block(READY, 3, 2, 9, THIRD, 4), [('c 3', ack(3, 2))])
+    s.got('s 4', block(READY, 3, 2, 9, THIRD, 4), taken(3, 2, 10))
     s.got('c 8', read(8, 2), [('c 8', value(8, 2, 10, 3, 2, THIRD, 2))])
     s.got('c 8', complete(8, 2), [])
 
 
 def last_time(s):
-    """Client 4: a completed time of 2^64 - 1 is never accepted. Frames of that sequence count as before, and only that client waits; 2^64 - 2 is accepted."""
+    """Client 4: a completed time of 2^64 - 1 is never accepted, though it be reported. Frames of that sequence count as before, and only that client waits;
+    2^64 - 2 is accepted."""
+    s.vouch(LAST)
     for j in (1, 3, 4):
         s.got(f's {j}', block(READY, 4, 1, LAST, OTHER, j), to_all(lambda i: block(READY, 4, 1, LAST, OTHER, 2)) if j == 3 else [])
     s.got('s 1', block(READY, 4, 1, LAST, OTHER, 1), 12)
@@ -323,7 +401,7 @@ def last_time(s):
     s.got('c 8', get_stamp(8, 2), [('c 8', stamp(8, 2, 10))])
     for j in (1, 3):
         s.got(f's {j}', block(READY, 5, 1, LAST - 1, OTHER, j), to_all(lambda i: block(READY, 5, 1, LAST - 1, OTHER, 2)) if j == 3 else [])
-    s.got('s 4', block(READY, 5, 1, LAST - 1, OTHER, 4), [('c 5', ack(5, 1))])
+    s.got('s 4', block(READY, 5, 1, LAST - 1, OTHER, 4), taken(5, 1, LAST))
     s.got('c 8', get_stamp(8, 3), [('c 8', stamp(8, 3, LAST))])
 
 
@@ -340,14 +418,74 @@ def thresholds(name, n, t, k, v):
     assert k > t + 1
     script.say(f'hall {n} {t} {k} {len(v)} {v.hex()}', 'ready')
     s = Server(script, n)
+    s.vouch(4)
     for j in range(1, k + t + 1):
-        sent = to_all(lambda i: block(READY, 1, 1, 4, v, n, code), code.servers) if j == k else [('c 1', ack(1, 1))] if j == k + t else []
+        sent = to_all(lambda i: block(READY, 1, 1, 4, v, n, code), code.servers) if j == k else taken(1, 1, 5, code.servers) if j == k + t else []
         s.got(f's {j}', block(READY, 1, 1, 4, v, j, code), sent)
     s.got('c 1', get_stamp(1, 1), [('c 1', stamp(1, 1, 5))])
     # of echoes n - t, at another server
     s = Server(script, 1)
     for j in range(1, n - t + 1):
         s.got(f's {j}', block(ECHO, 1, 1, 4, v, j, code), to_all(lambda i: block(READY, 1, 1, 4, v, 1, code), code.servers) if j == n - t else [])
+    script.write()
+
+
+# ---- writes that wait
+
+def completed(s, c, q, t, sent=()):
+    """Readies of servers 1, 3 and 4 complete client c's write q with the incoming time t at server 2; the last one makes it send."""
+    for j in (1, 3):
+        s.got(f's {j}', block(READY, c, q, t, OTHER, j), to_all(lambda i: block(READY, c, q, t, OTHER, 2)) if j == 3 else [])
+    s.got('s 4', block(READY, c, q, t, OTHER, 4), list(sent))
+
+
+def freed_by_reports(s):
+    """Two servers' reports of its time or more free a write: not one's, not lower ones, not a server's twice; its own counts when it comes back."""
+    completed(s, 3, 1, 4)
+    for j, t in ((1, 3), (3, 3), (4, 3), (1, 4), (1, 9)):
+        s.got(f's {j}', report(6, 2, t), [])
+    for t in (9, 8, 4, 0):
+        s.got('s 1', report(6, 2, t), 12)
+    # the write waits in its slot: a later one is 13, its own frames count, a late kind 3 is echoed
+    s.got('c 3', block(SEND, 3, 2, 4, OTHER, 2), 13)
+    s.got('s 2', block(READY, 3, 1, 4, OTHER, 2), [])
+    s.got('s 2', block(READY, 3, 1, 4, OTHER, 2), 12)
+    s.got('c 3', block(SEND, 3, 1, 4, OTHER, 2), to_all(lambda j: block(ECHO, 3, 1, 4, OTHER, 2)))
+    s.got('s 2', report(6, 2, 4), taken(3, 1, 5))
+    s.got('s 2', report(3, 1, 5), [])
+    s.got('c 8', get_stamp(8, 1), [('c 8', stamp(8, 1, 5))])
+
+
+def freed_by_time(s):
+    """The own time, which is 5, frees a write of 5 at once; one of less is accepted without a report, and replaces nothing; an equal time with a larger
+    writer replaces, and is not reported either."""
+    completed(s, 1, 1, 5, taken(1, 1, 6))
+    completed(s, 4, 1, 2, [('c 4', ack(4, 1))])
+    completed(s, 5, 1, 5, [('c 5', ack(5, 1))])
+    s.got('c 8', read(8, 1), [('c 8', value(8, 1, 6, 5, 1, OTHER, 2))])
+
+
+def freed_together(s):
+    """Writes of clients 1, 4, 5 and 7 wait, client 8 listens. A report frees client 4's, which raises the time so that client 1's is accepted, and from there
+    on the scan begins anew; client 7's waits on."""
+    for c, q, t in ((1, 2, 8), (4, 2, 7), (5, 2, 7), (7, 1, 20)):
+        completed(s, c, q, t)
+    s.got('s 3', report(6, 2, 7), [('c 8', value(8, 1, 8, 4, 2, OTHER, 2))] + taken(4, 2, 8) + [('c 8', value(8, 1, 9, 1, 2, OTHER, 2))] + taken(1, 2, 9)
+          + [('c 8', value(8, 1, 8, 5, 2, OTHER, 2)), ('c 5', ack(5, 2))])
+    s.got('c 8', complete(8, 1), [])
+    # a completion frees others too, of lower clients and of higher ones
+    completed(s, 4, 3, 11)
+    completed(s, 5, 3, 10)
+    completed(s, 1, 3, 9, taken(1, 3, 10) + taken(5, 3, 11) + taken(4, 3, 12))
+    # an enormous time that one server reports, or replies, frees nothing
+    s.got('s 4', report(6, 2, LAST), [])
+    s.got('c 8', get_stamp(8, 2), [('c 8', stamp(8, 2, 12))])
+
+
+def waiting():
+    script = opened('waiting')
+    for part in (freed_by_reports, freed_by_time, freed_together):
+        part(Server(script, 2))
     script.write()
 
 
@@ -427,10 +565,11 @@ def disagreement():
 bounds()
 disagreement()
 client = opened('client')
-for part in (busy, turned_down, writes, closes, reads):
+for part in (busy, turned_down, writes, closes, vouched, reads):
     part(client)
 client.write()
 at_server()
 groups()
+waiting()
 thresholds('k3', 5, 1, 3, VALUE)
 thresholds('k8', 10, 1, 8, bytes(range(20)))

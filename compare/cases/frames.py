@@ -69,6 +69,7 @@ def block_of(stage, c, q, t, row, j): return frame(3 + stage, c, q, time(t) + en
 def ack(c, q): return frame(9, c, q)
 def read(c, q): return frame(10, c, q)
 def complete(c, q): return frame(12, c, q)
+def report(c, q, t): return frame(13, c, q, time(t))
 
 
 def value(c, q, t, writer, sequence, v, j):

@@ -218,7 +218,7 @@ for n, t, k, length, numbers in ((7, 2, 3, 64, (7, 1, 6, 2, 5, 3, 4)), (10, 3, 4
 
 def body_length(n, k, length, kind):
     entry = 32 * n + block_length(k, length)
-    return {2: 8, 3: 8 + entry, 4: 8 + entry, 5: 8 + entry, 11: 13 + entry}.get(kind, 0)
+    return {2: 8, 3: 8 + entry, 4: 8 + entry, 5: 8 + entry, 11: 13 + entry, 13: 8}.get(kind, 0)
 
 
 # request F-4: "Kinds 6, 7 and 8 are retired and get 6"
@@ -234,7 +234,7 @@ def opened(n, t, k, length, frame):
     version, kind, client, sequence = frame[2], frame[3], frame[4], int.from_bytes(frame[5:9], 'big')
     if version != 1:
         return '05'
-    if not 1 <= kind <= 12 or kind in retired:
+    if not 1 <= kind <= 13 or kind in retired:
         return '06'
     if not 1 <= client <= 8 or sequence == 0:
         return '07'
@@ -273,7 +273,7 @@ opening(6, 2, 1, 3, good, '01')
 opening(7, 2, 1, 3, good, '00010200000005')
 opening(4, 1, 3, 3, good, '02')
 opening(4, 1, 2, 257, good, '03')
-for hexadecimal, number in (('000701', '04'), ('000702010200000005', '05'), ('0007010d0200000005', '06'), ('000701010000000005', '07'), ('00080101020000000500', '08')):
+for hexadecimal, number in (('000701', '04'), ('000702010200000005', '05'), ('0007010e0200000005', '06'), ('000701010000000005', '07'), ('00080101020000000500', '08')):
     opening(*small, bytes.fromhex(hexadecimal), number)
 opening(*small, frame(11, 2, 5, value_body(3, 0, 1)), '09')
 
@@ -283,8 +283,8 @@ for size in range(13):
     if size >= 2:
         opening(*small, (size - 2).to_bytes(2, 'big') + (good[2:] + bytes(3))[:size - 2])
 
-comment('Every kind with the right body, and one byte shorter and longer; a length field one off; kinds 0, 13 and 255')
-for kind in (1, 2, 3, 4, 5, 9, 10, 11, 12):
+comment('Every kind with the right body, and one byte shorter and longer; a length field one off; kinds 0, 14 and 255')
+for kind in (1, 2, 3, 4, 5, 9, 10, 11, 12, 13):
     right = body_length(4, 2, 3, kind)
     body = value_body(1, 1, 1) if kind == 11 else filled(right)
     assert len(body) == right
@@ -294,7 +294,7 @@ for kind in (1, 2, 3, 4, 5, 9, 10, 11, 12):
     opening(*small, frame(kind, 8, 1, body + bytes(1)), '08')
 for change in (-1, 1, 2, 256):
     opening(*small, (7 + change).to_bytes(2, 'big') + good[2:], '04')
-for kind in (0, 13, 255):
+for kind in (0, 14, 255):
     opening(*small, frame(kind, 2, 5), '06')
 
 comment('Kinds 3 to 5: any time before a list of 4 digests and a block of 2 bytes; not without a time')
@@ -302,6 +302,10 @@ for kind in (3, 4, 5):
     for time in (0, 1, 2**64 - 1):
         opening(*small, frame(kind, 2, 5, time.to_bytes(8, 'big') + filled(130)), f'00{kind:02x}0200000005')
     opening(*small, frame(kind, 2, 5, filled(130)), '08')
+
+comment('Kind 13: any time')
+for time in (0, 1, 2**64 - 1):
+    opening(*small, frame(13, 2, 5, time.to_bytes(8, 'big')), '000d0200000005')
 
 comment('Retired kinds, with a time, with nothing, with a list and a block, and with both')
 for kind in retired:

@@ -7,7 +7,7 @@ use std::rc::Rc;
 #[rustfmt::skip]
 #[path = "../../include/semduoli.rs"]
 mod raw;
-use raw::{DIGEST, KIND_ACK, KIND_READY, KIND_SEND, KIND_STAMP, KIND_VALUE, LINES, OUT_OF_STAMPS, SENT, VALUE, WRITTEN};
+use raw::{DIGEST, KIND_ACK, KIND_READY, KIND_REPORT, KIND_SEND, KIND_STAMP, KIND_VALUE, LINES, OUT_OF_STAMPS, SENT, VALUE, WRITTEN};
 
 pub const CLIENT: u8 = raw::CLASS_CLIENT;
 pub const SERVER: u8 = raw::CLASS_SERVER;
@@ -18,8 +18,6 @@ const SERVER_RECORD: usize = raw::SERVER;
 const SERVER_AREA: usize = raw::AREA;
 const CLIENT_RECORD: usize = raw::CLIENT;
 const CLIENT_ROWS: usize = raw::ROWS;
-/// Frames beside n that a server's step may send: a value to each client, and an ack.
-const SERVER_FURTHER: usize = 9;
 const PAGES_MOST: usize = 2 * raw::PAGE;
 const INDEX: usize = raw::INDEX;
 /// Values that an index takes.
@@ -76,6 +74,12 @@ impl Parameters {
     pub fn frame_most(&self) -> usize {
         22 + DIGEST * self.n + self.block()
     }
+
+    /// The frames that a server's step may send: n readies, and for each client's write a value to each client, an ack, and a report to each party.
+    fn frames_most(&self) -> usize {
+        let clients = usize::from(CLIENTS);
+        self.n + clients * (clients + 1 + self.n + clients)
+    }
 }
 
 /// A frame that a step sends. Frames with the same bytes share them.
@@ -131,6 +135,11 @@ pub fn owner(frame: &[u8]) -> u8 {
     }
 }
 
+/// Whether a frame is a report of a server's time, which answers no operation.
+pub fn is_report(frame: &[u8]) -> bool {
+    matches!(head(frame), Some((KIND_REPORT, _, _)))
+}
+
 /// The sequence that a frame's owner must have come to for it to be handed in.
 pub fn sequence(frame: &[u8]) -> u64 {
     head(frame).map_or(0, |(_, _, sequence)| u64::from(sequence))
@@ -168,6 +177,8 @@ pub fn older(older: &[u8], newer: &[u8]) -> Older {
         }
         // a client's sequences rise: only a false one is answered a smaller one later, and it may lose the larger
         (Some((x @ (KIND_STAMP | KIND_ACK), a, _)), Some((y, b, _))) if x == y && a == b => Older::Stale,
+        // a server's time rises, whoever's write raises it
+        (Some((KIND_REPORT, _, _)), Some((KIND_REPORT, _, _))) => Older::Stale,
         _ => Older::Keep,
     }
 }
@@ -185,7 +196,7 @@ pub struct Room {
 
 impl Room {
     pub fn new(p: &Parameters) -> Room {
-        let frames = p.n + SERVER_FURTHER;
+        let frames = p.frames_most();
         Room { out: vec![0; frames * p.frame_most()], to: vec![0; 2 * frames] }
     }
 

@@ -197,9 +197,11 @@ impl State {
     }
 
     /// What a client's step means for its open operation: its outcome, if it has ended.
-    fn follow(&mut self, client: u8, from: Party, step: &Step) -> Option<Outcome> {
+    fn follow(&mut self, client: u8, from: Party, frame: &[u8], step: &Step) -> Option<Outcome> {
         let open = self.desks.get_mut(&client)?.open.as_mut()?;
-        open.heard.insert(from.number);
+        if !sem::is_report(frame) {
+            open.heard.insert(from.number);
+        }
         if let Some(stamp) = step.sent.first().and_then(|s| sem::write_stamp(&s.frame, client)) {
             open.stamp = stamp;
             open.heard.clear();
@@ -251,7 +253,7 @@ impl State {
                 let sent = self.send_live(stream.to, &step.sent, now, fx);
                 records::step(&mut fx.batch, &stream, number, &frame, &sent);
                 if stream.to.class == CLIENT {
-                    self.end_live(stream, &step, now, fx);
+                    self.end_live(stream, &frame, &step, now, fx);
                 } else {
                     self.wake(stream.to, fx);
                 }
@@ -270,9 +272,9 @@ impl State {
         bytes
     }
 
-    fn end_live(&mut self, stream: StreamId, step: &Step, now: Now, fx: &mut Effects) {
+    fn end_live(&mut self, stream: StreamId, frame: &[u8], step: &Step, now: Now, fx: &mut Effects) {
         let client = stream.to.number;
-        let Some(outcome) = self.follow(client, stream.from, step) else { return };
+        let Some(outcome) = self.follow(client, stream.from, frame, step) else { return };
         let (code, stamp) = ended_parts(&outcome);
         if let Some(ended) = self.end(client, outcome, now.wall) {
             let stamp = sem::stamp_bytes(&stamp);
@@ -392,7 +394,7 @@ impl State {
         }
         self.streams.answered(&stream, number + 1, own);
         if stream.to.class == CLIENT {
-            self.ending = self.follow(stream.to.number, stream.from, &step).map(|o| (stream.to.number, o));
+            self.ending = self.follow(stream.to.number, stream.from, frame, &step).map(|o| (stream.to.number, o));
         }
         Ok(())
     }

@@ -477,6 +477,23 @@ mod tests {
         assert_eq!((o.owed(to(1)), o.spots.len()), (0, 0));
     }
 
+    /// Of a server's reports the last has the largest time, whoever's writes they name; to a server all of them go.
+    #[test]
+    fn a_client_is_owed_the_last_report() {
+        let report = |client, time| -> Rc<[u8]> { vec![0, 15, 1, 13, client, 0, 0, 0, 1, 0, 0, 0, 0, 0, 0, 0, time].into() };
+        let mut o = Out::default();
+        o.push(to(CLIENT), short(9, 1), 0);
+        for time in 1..5 {
+            o.push(to(CLIENT), report(time, time), 0);
+        }
+        assert_eq!(o.near.iter().map(|o| o.number).collect::<Vec<_>>(), [0, 4]);
+        let mut s = Out::default();
+        for time in 1..5 {
+            s.push(to(1), report(1, time), 0);
+        }
+        assert_eq!(s.owed(to(1)), 4);
+    }
+
     #[test]
     fn numbers_out_of_the_window_are_seen() {
         let mut i = In::default();

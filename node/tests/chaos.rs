@@ -13,7 +13,7 @@ use semduoli::random::Random;
 use serde_json::{json, Value};
 use std::collections::BTreeMap;
 use std::path::PathBuf;
-use std::sync::atomic::{AtomicBool, Ordering};
+use std::sync::atomic::{AtomicBool, AtomicUsize, Ordering};
 use std::sync::Arc;
 use std::time::{Duration, Instant};
 
@@ -24,6 +24,10 @@ const HOOKS: [&str; 8] = ["torn", "torn", "torn", "torn", "torn", "lost", "writt
 const LONG: u64 = 60;
 const CUT_LEAST: usize = 20;
 const LONGER: u32 = 4;
+/// Operations of a run, at least; and those that end between two disturbances, or so much time goes by: how fast the machine is does not matter.
+const OPERATIONS_LEAST: usize = 100;
+const OPERATIONS_BETWEEN: usize = 10;
+const PATIENCE: Duration = Duration::from_secs(5);
 
 fn setting(name: &str, usual: u64) -> u64 {
     std::env::var(name).ok().and_then(|v| v.parse().ok()).unwrap_or(usual)
@@ -103,7 +107,7 @@ impl Client {
         self.seen.values.push((stamp, written.or(read).expect("a value")));
     }
 
-    fn work(mut self, seed: u64, stop: &AtomicBool) -> Seen {
+    fn work(mut self, seed: u64, stop: &AtomicBool, ended: &AtomicUsize) -> Seen {
         let mut random = Random::new(seed + u64::from(self.number));
         let mut count = 0u32;
         while !stop.load(Ordering::Relaxed) || self.open.is_some() {
@@ -111,9 +115,11 @@ impl Client {
             let mut value = [self.number; LENGTH];
             value[..4].copy_from_slice(&count.to_be_bytes());
             let value: String = value.iter().map(|b| format!("{b:02x}")).collect();
+            let before = self.seen.lines.len();
             if !self.go_on((random.below(3) == 0).then_some(value)) {
                 std::thread::sleep(Duration::from_millis(20));
             }
+            ended.fetch_add(self.seen.lines.len() - before, Ordering::Relaxed);
         }
         self.seen
     }
@@ -167,6 +173,16 @@ impl Chaos {
         self.count.hooks.get("torn").copied().unwrap_or(0)
     }
 
+    /// Time in which enough servers are there for operations to end.
+    fn pause(&mut self, ended: &AtomicUsize) {
+        let (before, since) = (ended.load(Ordering::Relaxed), Instant::now());
+        std::thread::sleep(Duration::from_millis(self.random.below(250)));
+        while ended.load(Ordering::Relaxed) < before + OPERATIONS_BETWEEN && since.elapsed() < PATIENCE {
+            std::thread::sleep(Duration::from_millis(20));
+            self.raise();
+        }
+    }
+
     fn disturb(&mut self) {
         let names = self.nodes.names();
         // the desk less often than a server
@@ -207,20 +223,21 @@ fn chaos(name: &str, (n, t, k): (usize, usize, usize), seconds: u64) {
         chaos.start(&name);
     }
     let (stop, start) = (Arc::new(AtomicBool::new(false)), Instant::now());
+    let ended = Arc::new(AtomicUsize::new(0));
     let clients: Vec<_> = (1..=CLIENTS)
         .map(|number| {
             let client = Client { number, folder: chaos.nodes.at("desk"), start, desk: None, open: None, seen: Seen::default() };
-            let stop = stop.clone();
-            std::thread::spawn(move || client.work(seed, &stop))
+            let (stop, ended) = (stop.clone(), ended.clone());
+            std::thread::spawn(move || client.work(seed, &stop, &ended))
         })
         .collect();
     let least = if seconds < LONG { 0 } else { CUT_LEAST as u32 };
     let span = Duration::from_secs(seconds);
-    while start.elapsed() < span || (chaos.torn() < least && start.elapsed() < span * LONGER) {
+    let too_little = |chaos: &Chaos| chaos.torn() < least || ended.load(Ordering::Relaxed) <= OPERATIONS_LEAST;
+    while start.elapsed() < span || (too_little(&chaos) && start.elapsed() < span * LONGER) {
         chaos.raise();
         chaos.disturb();
-        // time in which enough servers are there for operations to end
-        std::thread::sleep(Duration::from_millis(chaos.random.below(250)));
+        chaos.pause(&ended);
     }
     // now all run undisturbed
     for name in chaos.nodes.names() {
@@ -237,7 +254,7 @@ fn chaos(name: &str, (n, t, k): (usize, usize, usize), seconds: u64) {
     let cut: usize = chaos.nodes.names().iter().map(|name| chaos.nodes.notes(name).matches("was cut off at byte").count()).sum();
     println!("{name}: {operations} operations, {:?}, {cut} torn tails cut off, served {} s after the start", chaos.count, served.as_secs());
     assert!(cut >= least as usize, "{cut} torn tails in {seconds} s");
-    assert!(operations > 100 && chaos.count.starts as usize > chaos.nodes.names().len(), "too little happened: {operations}");
+    assert!(operations > OPERATIONS_LEAST && chaos.count.starts as usize > chaos.nodes.names().len(), "too little happened: {operations}");
     verify(&chaos.nodes);
 }
 

@@ -14,7 +14,7 @@ use std::collections::BTreeMap;
 use std::io::{Read, Write};
 use std::net::TcpStream;
 use std::path::Path;
-use std::sync::atomic::{AtomicBool, Ordering};
+use std::sync::atomic::{AtomicBool, AtomicUsize, Ordering};
 use std::sync::Arc;
 use std::time::{Duration, Instant};
 
@@ -23,6 +23,13 @@ const FALSE: u8 = 4;
 const ATTACK: Duration = Duration::from_secs(8);
 const MEMORY_MOST: u64 = 2 << 20;
 const PATIENCE: Duration = Duration::from_secs(10);
+/// On a slow machine an attack goes on until it and the operations beside it are so many, for so many times as long at most.
+const LONGER: u32 = 10;
+const MESSAGES: u64 = 12_000;
+const OPERATIONS: usize = 60;
+const OPERATIONS_OF_EIGHT: usize = 600;
+/// The first part of an attack does a third of it.
+const FIRST: f64 = 1.0 / 3.0;
 
 fn tls(folder: Option<&Path>) -> SslContext {
     let mut c = SslContext::builder(SslMethod::tls()).expect("a context");
@@ -156,8 +163,8 @@ fn burst(evil: &mut Evil, random: &mut Random) -> u64 {
     count
 }
 
-/// A client that reads and writes until it is stopped; its history.
-fn client(folder: &Path, number: u8, start: Instant, stop: &AtomicBool) -> Vec<Line> {
+/// A client that reads and writes until it is stopped; its history. It counts what has ended.
+fn client(folder: &Path, number: u8, start: Instant, stop: &AtomicBool, ended: &AtomicUsize) -> Vec<Line> {
     let mut desk = Desk::new(folder).expect("the desk's socket");
     let tick = || (start.elapsed().as_micros() / 10) as u32;
     let mut lines = vec![];
@@ -168,6 +175,7 @@ fn client(folder: &Path, number: u8, start: Instant, stop: &AtomicBool) -> Vec<L
         let part = |name: &str| answer["stamp"][name].as_u64().expect("a stamp");
         let stamp = Stamp { time: part("time"), writer: part("writer") as u8, sequence: part("sequence") as u32 };
         lines.push(Line { write, start: begin, end: tick().max(begin + 1), stamp, caller: number });
+        ended.fetch_add(1, Ordering::Relaxed);
     }
     lines
 }
@@ -193,14 +201,11 @@ struct Attack<'a> {
 }
 
 impl Attack<'_> {
-    fn go_on(&mut self, long: Duration) {
-        let until = Instant::now() + long;
-        while Instant::now() < until {
-            let server = 1 + self.random.below(3) as u8;
-            if let Some(mut evil) = Evil::new(self.nodes, server, |_| {}) {
-                self.links += 1;
-                self.messages += burst(&mut evil, &mut self.random);
-            }
+    fn go_on(&mut self) {
+        let server = 1 + self.random.below(3) as u8;
+        if let Some(mut evil) = Evil::new(self.nodes, server, |_| {}) {
+            self.links += 1;
+            self.messages += burst(&mut evil, &mut self.random);
         }
     }
 }
@@ -216,18 +221,25 @@ const SERVERS: [&str; 3] = ["s1", "s2", "s3"];
 /// Clients that read and write until they are stopped.
 struct Clients {
     stop: Arc<AtomicBool>,
+    ended: Arc<AtomicUsize>,
     threads: Vec<std::thread::JoinHandle<Vec<Line>>>,
 }
 
 impl Clients {
     fn begin(nodes: &Nodes, count: u8) -> Clients {
         let (stop, start) = (Arc::new(AtomicBool::new(false)), Instant::now());
+        let ended = Arc::new(AtomicUsize::new(0));
         let begin = |number: u8| {
-            let (stop, folder) = (stop.clone(), nodes.at("desk"));
-            std::thread::spawn(move || client(&folder, number, start, &stop))
+            let (stop, ended, folder) = (stop.clone(), ended.clone(), nodes.at("desk"));
+            std::thread::spawn(move || client(&folder, number, start, &stop, &ended))
         };
         let threads = (1..=count).map(begin).collect();
-        Clients { stop, threads }
+        Clients { stop, ended, threads }
+    }
+
+    /// How many operations have ended.
+    fn ended(&self) -> usize {
+        self.ended.load(Ordering::Relaxed)
     }
 
     /// Stops them: all that they did has an order. How many operations it was.
@@ -241,11 +253,18 @@ impl Clients {
     }
 }
 
-/// Runs an attack: what a first part costs is buffers; a second must cost nothing more.
-fn within_memory(nodes: &Nodes, mut attack: impl FnMut(Duration)) {
-    attack(ATTACK / 2);
+/// Runs an attack: what a first part costs is buffers; a second must cost nothing more. The attack goes on a little at each call, and says how much of all
+/// that is wanted has happened.
+fn within_memory(nodes: &Nodes, long: Duration, mut attack: impl FnMut() -> f64) {
+    let mut part = |long: Duration, wanted: f64| {
+        let (since, mut happened) = (Instant::now(), 0.0);
+        while since.elapsed() < long || (happened < wanted && since.elapsed() < long * LONGER) {
+            happened = attack();
+        }
+    };
+    part(long / 2, FIRST);
     let before = SERVERS.map(|name| nodes.memory(name));
-    attack(ATTACK);
+    part(long, 1.0);
     for (name, before) in SERVERS.iter().zip(before) {
         let after = nodes.memory(name);
         println!("{name}: {before} bytes before, {after} after");
@@ -258,7 +277,10 @@ fn a_false_node_costs_no_memory_and_no_order() {
     let nodes = three_and_a_desk("evil");
     let clients = Clients::begin(&nodes, 2);
     let mut attack = Attack { nodes: &nodes, random: Random::new(5), messages: 0, links: 0 };
-    within_memory(&nodes, |long| attack.go_on(long));
+    within_memory(&nodes, ATTACK, || {
+        attack.go_on();
+        (attack.messages as f64 / MESSAGES as f64).min(clients.ended() as f64 / OPERATIONS as f64)
+    });
     let (messages, links, operations) = (attack.messages, attack.links, clients.end());
     println!("{messages} messages by {links} links; {operations} operations beside them");
     assert!(messages > 10_000 && operations > 50, "too little happened: {messages}, {operations}");
@@ -277,15 +299,13 @@ fn a_node_that_never_acknowledges_costs_no_memory() {
         for l in &links {
             l.stream.get_ref().set_nonblocking(true).expect("no waiting");
         }
-        let mut taken = 0;
-        within_memory(&nodes, |long| {
-            let (until, mut room) = (Instant::now() + long / 2, [0; 16 * 1024]);
-            while Instant::now() < until {
-                for l in links.iter_mut().filter(|_| reads) {
-                    taken += l.stream.read(&mut room).unwrap_or(0);
-                }
-                std::thread::sleep(Duration::from_millis(5));
+        let (mut taken, mut room) = (0, [0; 16 * 1024]);
+        within_memory(&nodes, ATTACK / 2, || {
+            for l in links.iter_mut().filter(|_| reads) {
+                taken += l.stream.read(&mut room).unwrap_or(0);
             }
+            std::thread::sleep(Duration::from_millis(5));
+            clients.ended() as f64 / OPERATIONS_OF_EIGHT as f64
         });
         let operations = clients.end();
         let status = nodes.wait_until("s1", "has the link", |s| s["partners"].as_array().is_some_and(|p| p.iter().any(|p| p["name"] == "s4")));

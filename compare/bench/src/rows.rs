@@ -180,7 +180,7 @@ struct Moment {
 
 /// What a frame does to server 1, in words.
 fn what(p: &Params, host: &Host<Server>, from: Party, frame: &[u8]) -> Option<&'static str> {
-    let (mut out, mut to) = (vec![0; p.server_room()], vec![0; 2 * (p.n + 9)]);
+    let (mut out, mut to) = (vec![0; p.server_room()], vec![0; 2 * p.server_frames()]);
     let (mut server, mut area) = (host.server, host.area.clone());
     let done = server.deliver(p, 1, &host.initial, &mut area, from, frame, &mut out, &mut to).ok()?;
     Some(match (frame[3], done.frames > 0) {
@@ -188,7 +188,8 @@ fn what(p: &Params, host: &Host<Server>, from: Party, frame: &[u8]) -> Option<&'
         (3, _) => "kind 3, echo sent",
         (4, false) => "kind 4, kept",
         (4, true) => "kind 4, ready sent",
-        _ if done.outcome == Outcome::Accepted => "kind 5, accepted",
+        (13, _) => "kind 13, kept",
+        _ if matches!(done.outcome, Outcome::Accepted(_)) => "kind 5, accepted",
         (_, false) => "kind 5, kept",
         (_, true) => "kind 5, ready sent",
     })
@@ -215,7 +216,7 @@ fn moments(p: Params) -> Vec<Moment> {
     };
     direct("kind 10", build(CLIENT as u8, 1, Body::Read));
     direct("kind 12", build(CLIENT as u8, 1, Body::ReadComplete));
-    direct("refused, kind 13", vec![0, 7, 1, 13, 1, 0, 0, 0, 1]);
+    direct("refused, kind 14", vec![0, 7, 1, 14, 1, 0, 0, 0, 1]);
     moments.sort_by_key(|moment| moment.frame[3]);
     moments
 }
@@ -226,7 +227,7 @@ const TURN: usize = 16;
 
 pub fn server_steps<S: Side>(p: Params) -> Vec<Row> {
     let step = |mut m: Moment| {
-        let (mut out, mut to) = (vec![0; p.server_room()], vec![0; 2 * (p.n + 9)]);
+        let (mut out, mut to) = (vec![0; p.server_room()], vec![0; 2 * p.server_frames()]);
         let record = S::server(&m.host.server);
         let mut servers = vec![record; TURN];
         let name = name(m.what, &p);

@@ -4,7 +4,7 @@
 use crate::system::{fresh, Host};
 use linked::calls;
 use register::flat::{Client, Done, Outcome, Server, STATE_AREA};
-use register::layout::{client_in, put_client, put_scope, put_server, scope_in, CLIENT, SERVER, STAMP};
+use register::layout::{client_in, put_client, put_server, put_step, scope_in, CLIENT, SERVER, STAMP};
 use register::params::MAX_SERVERS;
 use register::{accession, blocks, sha256, Params, Party, Refusal};
 
@@ -89,7 +89,7 @@ pub trait Side: 'static {
 
 fn told(answer: Result<Done, Refusal>) -> Told {
     let done = answer.ok()?;
-    Some((done.frames, !matches!(done.outcome, Outcome::Going | Outcome::Accepted)))
+    Some((done.frames, !matches!(done.outcome, Outcome::Going | Outcome::Accepted(_))))
 }
 
 /// Plain Rust, records in memory.
@@ -131,7 +131,7 @@ impl Side for Plain {
     }
 }
 
-/// Plain Rust, records as bytes: read before a step, written after it, a server's in the scope of the client that the frame names.
+/// Plain Rust, records as bytes: read before a step, written after it, of a server's only what the step needs and what it may change.
 pub struct Bytes;
 
 impl Side for Bytes {
@@ -154,11 +154,11 @@ impl Side for Bytes {
     fn to_server(bytes: &mut [u8; SERVER], handed: Handed, initial: &[u8], area: &mut [u8]) -> Told {
         let h = handed;
         let frame = Server::admit(h.p, h.own, initial, area, h.frame, h.out, h.to).ok()?;
-        let client = frame.client as usize;
-        let mut server = scope_in(bytes, client);
-        let told = told(server.step(h.p, h.own, initial, area, h.from, frame, h.out, h.to))?;
-        put_scope(&server, client, bytes);
-        Some(told)
+        let accepts = matches!(frame.body.kind(), 4 | 5 | 13);
+        let mut server = scope_in(bytes, frame.client as usize, accepts);
+        let done = server.step(h.p, h.own, initial, area, h.from, frame, h.out, h.to).ok()?;
+        put_step(&server, h.from, h.frame, done.outcome, bytes);
+        told(Ok(done))
     }
 
     fn to_client(

@@ -43,7 +43,7 @@ pub fn fresh(p: &Params, own: usize, value: &[u8]) -> Host<Server> {
 impl<S: Side> System<S> {
     pub fn new(p: Params, initial_value: &[u8]) -> System<S> {
         // Enough for a call of any party, by the rules of any state of the library.
-        let frames = 2 * p.n + 9;
+        let frames = p.server_frames();
         System {
             p,
             hosts: (1..=p.n).map(|j| S::host(&p, j, initial_value)).collect(),
@@ -57,17 +57,19 @@ impl<S: Side> System<S> {
         }
     }
 
-    /// Takes the frames of the out area.
+    /// Takes the frames of the out area, but for reports to clients that are not there.
     fn post(&mut self, from: Party, frames: usize) {
         let mut at = 0;
         for receiver in self.to.chunks(2).take(frames) {
             let length = 2 + u16::from_be_bytes([self.out[at], self.out[at + 1]]) as usize;
             let number = receiver[1] as usize;
             let to = if receiver[0] == 0 { Party::Client(number) } else { Party::Server(number) };
-            self.sent.frames.push((from, to, length));
+            if receiver[0] == 1 || number == CLIENT {
+                self.sent.frames.push((from, to, length));
+                self.sent.bytes.extend_from_slice(&self.out[at..at + length]);
+            }
             at += length;
         }
-        self.sent.bytes.extend_from_slice(&self.out[..at]);
     }
 
     /// An operation, and the delivery of everything that it causes; it must end. `look` sees each frame before its delivery.

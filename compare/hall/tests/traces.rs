@@ -35,16 +35,18 @@ fn scripts(folder: &str) -> Vec<String> {
 #[test]
 fn traces() {
     let names = scripts("../traces");
-    assert_eq!(names.len(), 24);
+    assert_eq!(names.len(), 27);
     let disagreements = ["disagreement-1", "disagreement-2", "disagreement-3", "many-false"];
-    for laid_out in ["late-send", "half-done", "two-groups", "echo-again"].into_iter().chain(disagreements) {
+    let reports = ["client-reports", "server-reports", "falling", "seven", "gives-way", "top", "all-told"];
+    let laid_out = ["late-send", "half-done", "two-groups", "echo-again", "big-step-4", "report-step-4"];
+    for laid_out in laid_out.into_iter().chain(disagreements).chain(reports) {
         assert!(names.iter().any(|name| name == laid_out), "no {laid_out}");
     }
 }
 
 #[test]
 fn cases() {
-    assert_eq!(scripts("../cases").len(), 7);
+    assert_eq!(scripts("../cases").len(), 8);
 }
 
 /// What a script shows: parties that are wrong in this do not answer it as it asks.
@@ -68,6 +70,28 @@ fn wrong_variants_differ() {
         (Variant::DisagreementOpen, "cases/disagreement"),
         (Variant::NoDigest, "cases/disagreement"),
         (Variant::StampAlone, "cases/disagreement"),
+        (Variant::FewReports, "cases/waiting"),
+        (Variant::FewReports, "traces/server-reports"),
+        (Variant::CountsItself, "cases/waiting"),
+        (Variant::OwnTimeLess, "cases/waiting"),
+        (Variant::NewTimeVouched, "cases/waiting"),
+        (Variant::OneAcceptance, "cases/waiting"),
+        (Variant::OneAcceptance, "traces/seven"),
+        (Variant::NamedAlone, "cases/waiting"),
+        (Variant::NamedAlone, "traces/seven"),
+        (Variant::OnePass, "cases/waiting"),
+        (Variant::ClientsNotTold, "cases/server"),
+        (Variant::OwnerTold, "cases/server"),
+        (Variant::IncomingReported, "cases/server"),
+        (Variant::LatestReport, "cases/waiting"),
+        (Variant::LatestReport, "cases/client"),
+        (Variant::LatestReport, "traces/falling"),
+        (Variant::FewReportsCount, "cases/client"),
+        (Variant::CountsAtOnce, "cases/client"),
+        (Variant::LargestOfAll, "cases/client"),
+        (Variant::NoRecount, "cases/client"),
+        (Variant::ReportOwner, "cases/client"),
+        (Variant::ReportOwner, "traces/client-reports"),
     ] {
         let path = Path::new(env!("CARGO_MANIFEST_DIR")).join("..").join(script);
         let input = std::fs::read(path.with_extension("in")).unwrap();

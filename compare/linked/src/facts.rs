@@ -12,7 +12,7 @@ use register::Party;
 
 fn time_of(body: &Body) -> Option<u64> {
     match *body {
-        Body::Stamp { time } | Body::Block { time, .. } => Some(time),
+        Body::Stamp { time } | Body::Block { time, .. } | Body::Report { time } => Some(time),
         Body::Value { stamp, .. } => Some(stamp.time),
         Body::GetStamp | Body::Ack | Body::Read | Body::ReadComplete => None,
     }

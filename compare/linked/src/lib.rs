@@ -186,7 +186,7 @@ fn bits(answer: Result<Done, Refusal>) -> u64 {
         Err(refusal) => refusal.number() as u64,
         Ok(done) => {
             let outcome = match done.outcome {
-                Outcome::Going | Outcome::Accepted => 0,
+                Outcome::Going | Outcome::Accepted(_) => 0,
                 Outcome::Written => 1,
                 Outcome::OutOfStamps => 2,
                 Outcome::Value(_) => 3,

@@ -4,9 +4,8 @@
 
 use crate::{bits, calls, same_answer, same_bytes, Difference, Seen};
 use register::flat::{self, Done, Outcome};
-use register::frame::client_named;
 use register::layout::{
-    client_in, put_client, put_scope, put_server, put_stamp, server_in, stamp_in, CLIENT, SERVER, STAMP,
+    client_in, put_client, put_server, put_stamp, put_step, server_in, stamp_in, CLIENT, SERVER, STAMP,
 };
 use register::{Params, Refusal};
 use simulate::run::{parameters_of, run, Options, Summary};
@@ -85,8 +84,8 @@ impl OtherServer for Server {
         let twin = self.twin.deliver(p, own, initial, &mut self.twin_area, from, frame, out, to);
         let told = told(answer, twin, &[])?;
         same_sent(&sending, &sent)?;
-        if told.is_ok() {
-            put_scope(&self.twin, client_named(frame), &mut expected);
+        if let Ok(done) = twin {
+            put_step(&self.twin, from, frame, done.outcome, &mut expected);
         }
         same_bytes("state", &self.state, &expected)?;
         self.compare(area)?;

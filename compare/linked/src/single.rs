@@ -4,9 +4,9 @@ use crate::calls::{raw::VERSION, Sender};
 use crate::{bits, calls, pattern, same_answer, same_bytes, Difference, Seen};
 use register::any::{bounds, client_call, server_call, ClientAct, ClientCall};
 use register::flat::{self, Done, Operation, Outcome, STATE_AREA};
-use register::frame::{client_named, open};
+use register::frame::open;
 use register::layout::{
-    client_in, put_client, put_scope, put_server, put_stamp, server_in, CLIENT, SERVER, STAMP,
+    client_in, put_client, put_server, put_stamp, put_step, server_in, CLIENT, SERVER, STAMP,
 };
 use register::random::Random;
 use register::{Party, Refusal};
@@ -114,8 +114,8 @@ pub fn server(seed: u64) -> Result<Seen, Difference> {
     } else {
         let answer =
             c.server.deliver(&c.p, c.own, &c.initial, &mut c.area, c.from, &c.frame, &mut c.out, &mut c.to);
-        if answer.is_ok() {
-            put_scope(&c.server, client_named(&c.frame), &mut expected_state);
+        if let Ok(done) = answer {
+            put_step(&c.server, c.from, &c.frame, done.outcome, &mut expected_state);
         }
         bits(answer)
     };

@@ -50,13 +50,14 @@ pub(crate) fn some_frame(p: &Params, client: usize, random: &mut Random) -> Vec<
         stamp = Stamp::default();
     }
     let stage = random.pick(&[Stage::Send, Stage::Echo, Stage::Ready]);
-    let body = match random.below(9) {
+    let body = match random.below(10) {
         0 => Body::GetStamp,
         1 => Body::Stamp { time },
         2 | 3 => Body::Block { stage, time, digests: &digests, block: &block },
         4 => Body::Ack,
         5 => Body::Read,
         6 => Body::ReadComplete,
+        7 => Body::Report { time: random.pick(&[0, 1, 2, 2, 3, u64::MAX]) },
         _ => Body::Value { stamp, digests: &digests, block: &block },
     };
     let client = if random.chance(1, 10) { random.range(0, 9) } else { client };
@@ -111,7 +112,9 @@ fn some_stamp(random: &mut Random) -> Stamp {
 /// Gives a server any flags and times, of a run or of none.
 fn scramble_server(server: &mut Server, random: &mut Random) {
     server.stamp = some_stamp(random);
+    server.reports = some_times(random);
     for slot in &mut server.slots {
+        slot.open = random.pick(&[1, 1, 2, u32::MAX as u64, flat::NONE_OPEN, u64::MAX]);
         for flag in [&mut slot.sent, &mut slot.ready, &mut slot.complete] {
             *flag = random.chance(1, 2);
         }
@@ -128,9 +131,10 @@ fn scramble_server(server: &mut Server, random: &mut Random) {
     }
 }
 
-/// Gives a client any counts, times and rows; the stamps of a row differ.
+/// Gives a client any counts, times, reports and rows; the stamps of a row differ.
 fn scramble_client(client: &mut Client, random: &mut Random) {
     (client.counted, client.times) = (some_flags(random), some_times(random));
+    client.reports = some_times(random);
     for (kept, row) in client.kept.iter_mut().zip(&mut client.stamps) {
         *kept = random.range(0, KEPT) as u64;
         let first = random.range(1, 2) as u64;
@@ -185,6 +189,20 @@ fn lay_group(
     (Party::Server(j), build(client as u8, random.pick(&[1, 1, 1, 2]), body))
 }
 
+/// Lays complete writes in most clients' slots, some of which the server's time or its reports vouch for, and gives a report.
+fn lay_waiting(p: &Params, client: usize, server: &mut Server, random: &mut Random) -> (Party, Vec<u8>) {
+    let time = random.range(0, 3) as u64;
+    server.stamp = Stamp { time, writer: (time > 0) as u8, sequence: (time > 0) as u32 };
+    server.reports = std::array::from_fn(|_| random.below(8) as u64);
+    for slot in &mut server.slots {
+        slot.open = random.pick(&[1, 1, 1, 2, 9, u32::MAX as u64, flat::NONE_OPEN, u64::MAX]);
+        slot.complete = random.chance(2, 3);
+        slot.time = random.pick(&[0, 1, 2, 3, 4, 5, 6, u64::MAX - 1, u64::MAX]);
+    }
+    let (time, j) = (random.pick(&[0, 1, 2, 3, 4, 5, 6, 7, u64::MAX]), random.range(1, p.n));
+    (Party::Server(j), build(client as u8, random.pick(&[1, 1, 2, 7]), Body::Report { time }))
+}
+
 /// A frame handed to a server, with everything lent.
 #[derive(Clone, Debug, PartialEq, Eq)]
 pub struct ServerCall {
@@ -217,17 +235,19 @@ pub fn server_call(random: &mut Random) -> ServerCall {
     server.slots[client].open = random.pick(&[1, 1, 2]);
     let (from, frame) = if bounds.is_none() && random.chance(1, 3) {
         lay_group(&p, client, &mut server.slots[client], &mut area, random)
+    } else if bounds.is_none() && random.chance(1, 6) {
+        lay_waiting(&p, client, &mut server, random)
     } else {
         (some_party(client, random), some_frame(&p, client, random))
     };
     initial.truncate(some_size(sane.block(), random));
     area.resize(some_size(STATE_AREA, random), 9);
     let out = vec![4; some_size(sane.server_room(), random)];
-    let to = vec![5; some_size(2 * (sane.n + 9), random)];
+    let to = vec![5; some_size(2 * sane.server_frames(), random)];
     let short = initial.len() < sane.block()
         || area.len() < STATE_AREA
         || out.len() < sane.server_room()
-        || to.len() < 2 * (sane.n + 9);
+        || to.len() < 2 * sane.server_frames();
     ServerCall { p, own, from, frame, server, initial, area, out, to, bounds, short }
 }
 
@@ -264,6 +284,26 @@ fn lay_rows(
     }
     let body = Body::Value { stamp, digests: &digests, block: &blocks[from - 1] };
     (Party::Server(from), build(own as u8, 1, body))
+}
+
+/// Opens a client's write in its first part with replies of most servers and reports of all, and gives a stamp or a report of a further one.
+fn lay_stamps(p: &Params, own: usize, client: &mut Client, random: &mut Random) -> (Party, Vec<u8>) {
+    let top = random.pick(&[3, 3, 3, u64::MAX]);
+    let some = |random: &mut Random| random.pick(&[0, 1, 2, top - 1, top]);
+    client.operation = Operation::Stamps;
+    client.writes = 1;
+    let from = random.range(1, p.n);
+    let (stamp, time) = (random.chance(1, 2), some(random));
+    for j in 1..=p.n {
+        client.counted[j] = (j != from || !stamp) && random.chance(3, 4);
+        (client.times[j], client.reports[j]) = (some(random), some(random));
+        if random.chance(3, 4) {
+            client.reports[j] = client.reports[j].max(client.times[j]);
+        }
+    }
+    let body = if stamp { Body::Stamp { time } } else { Body::Report { time } };
+    let owner = if stamp || random.chance(1, 2) { own } else { random.range(1, CLIENTS) };
+    (Party::Server(from), build(owner as u8, random.pick(&[1, 1, 1, 2]), body))
 }
 
 /// What a client is to do.
@@ -315,6 +355,8 @@ pub fn client_call(random: &mut Random) -> ClientCall {
     let act = random.pick(&[ClientAct::Read, ClientAct::Write, ClientAct::Deliver, ClientAct::Deliver]);
     let (from, frame) = if bounds.is_none() && rows.len() >= ROWS_AREA && random.chance(1, 16) {
         lay_rows(&p, own, &mut client, &mut rows, random)
+    } else if bounds.is_none() && random.chance(1, 10) {
+        lay_stamps(&p, own, &mut client, random)
     } else {
         (some_party(3, random), some_frame(&p, 3, random))
     };

@@ -1,10 +1,10 @@
-//! The client, written for clarity: write and read of Figures 1 and 2 with document 01's steps, and the end of a read as request F-7
-//! has it.
+//! The client, written for clarity: write and read of Figures 1 and 2 with document 01's steps, the end of a read as request F-7
+//! has it, and the counting of stamps as request F-9 has it.
 
 use crate::blocks::encoded;
 use crate::frame::{build, open, Body, Frame, Stage, Stamp};
 use crate::params::{Params, Party, Refusal, Send, DIGEST};
-use crate::server::{digest_list, value_of_group};
+use crate::server::{digest_list, reported, value_of_group};
 use crate::sha256::digest;
 use crate::variant::Variant;
 use std::collections::{BTreeMap, BTreeSet};
@@ -22,7 +22,7 @@ pub struct Kept {
 #[derive(Clone, Debug, PartialEq, Eq)]
 pub enum Operation {
     None,
-    /// A write that waits for stamps.
+    /// A write that waits for stamps: the first reply of each server, counted or not.
     Stamps(BTreeMap<usize, u64>),
     /// A write that waits for acks.
     Acks(BTreeSet<usize>),
@@ -56,6 +56,8 @@ pub struct Client {
     pub reads: u32,
     pub out_of_stamps: bool,
     pub operation: Operation,
+    /// The highest time that each server reported, across operations; place j − 1 is server j's.
+    pub reports: Vec<u64>,
     /// Acks counted, for the variant that counts a server twice.
     acks: usize,
 }
@@ -71,6 +73,7 @@ impl Client {
             reads: 0,
             out_of_stamps: false,
             operation: Operation::None,
+            reports: vec![0; p.n],
             acks: 0,
         })
     }
@@ -147,11 +150,14 @@ impl Client {
             Party::Server(j) if 1 <= j && j <= self.p.n => j,
             _ => return Err(Refusal::Sender),
         };
-        if frame.client as usize != self.own {
+        // A report names the write that raised the server's time, whoever's it is.
+        let anyones = matches!(frame.body, Body::Report { .. }) && self.variant != Variant::ReportOwner;
+        if frame.client as usize != self.own && !anyones {
             return Err(Refusal::Sender);
         }
         match frame.body {
             Body::Stamp { time } => self.stamp(server, &frame, time, value),
+            Body::Report { time } => self.report(server, time, value),
             Body::Ack => self.ack(server, &frame),
             Body::Value { stamp, digests, block } => {
                 let kept = Kept { stamp, digests: digests.to_vec(), block: block.to_vec() };
@@ -162,24 +168,63 @@ impl Client {
     }
 
     fn stamp(&mut self, server: usize, frame: &Frame, time: u64, value: &[u8]) -> Result<Step, Refusal> {
-        let p = self.p;
         let stale = self.variant == Variant::StaleStamp && frame.sequence < self.writes;
         let Operation::Stamps(times) = &mut self.operation else { return Err(Refusal::Old) };
         if (frame.sequence != self.writes && !stale) || times.contains_key(&server) {
             return Err(Refusal::Old);
         }
         times.insert(server, time);
-        if times.len() < p.most() {
+        self.keep_report(server, time);
+        Ok(self.gather(value))
+    }
+
+    /// The higher of two reports of a server is kept.
+    fn keep_report(&mut self, server: usize, time: u64) {
+        let kept = &mut self.reports[server - 1];
+        *kept = if self.variant == Variant::LatestReport { time } else { time.max(*kept) };
+    }
+
+    fn report(&mut self, server: usize, time: u64, value: &[u8]) -> Result<Step, Refusal> {
+        let latest = self.variant == Variant::LatestReport;
+        if time <= self.reports[server - 1] && !latest {
+            return Err(Refusal::Old);
+        }
+        self.keep_report(server, time);
+        if self.variant == Variant::NoRecount {
             return Ok(Step { sends: Vec::new(), outcome: Outcome::Going });
         }
-        let mut sorted: Vec<u64> = times.values().copied().collect();
+        Ok(self.gather(value))
+    }
+
+    /// The times of the replies that count: t + 1 servers have reported such a time or more.
+    fn counted(&self, times: &BTreeMap<usize, u64>) -> Vec<u64> {
+        let least = match self.variant {
+            Variant::CountsAtOnce => 0,
+            Variant::FewReportsCount => self.p.t,
+            _ => self.p.t + 1,
+        };
+        times.values().copied().filter(|&time| reported(&self.reports, time, least)).collect()
+    }
+
+    /// Where a write waits for stamps and n − t of them count, the blocks go out with the largest time that counts.
+    fn gather(&mut self, value: &[u8]) -> Step {
+        let p = self.p;
+        let nothing = Step { sends: Vec::new(), outcome: Outcome::Going };
+        let Operation::Stamps(times) = &self.operation else { return nothing };
+        let mut sorted = self.counted(times);
+        if sorted.len() < p.most() {
+            return nothing;
+        }
+        if self.variant == Variant::LargestOfAll {
+            sorted = times.values().copied().collect();
+        }
         sorted.sort();
         let place = if self.variant == Variant::SmallerTime { p.t + 1 } else { 1 };
         let largest = sorted[sorted.len() - place];
         if largest == u64::MAX {
             self.operation = Operation::None;
             self.out_of_stamps = true;
-            return Ok(Step { sends: Vec::new(), outcome: Outcome::OutOfStamps });
+            return Step { sends: Vec::new(), outcome: Outcome::OutOfStamps };
         }
         self.operation = Operation::Acks(BTreeSet::new());
         let blocks = encoded(&p, value);
@@ -189,7 +234,7 @@ impl Client {
             let body = Body::Block { stage: Stage::Send, time, digests: &digests, block };
             Send { to: Party::Server(j), frame: build(self.own as u8, self.writes, body) }
         };
-        Ok(Step { sends: (1..=p.n).map(send).collect(), outcome: Outcome::Going })
+        Step { sends: (1..=p.n).map(send).collect(), outcome: Outcome::Going }
     }
 
     fn ack(&mut self, server: usize, frame: &Frame) -> Result<Step, Refusal> {

@@ -20,12 +20,27 @@ pub enum Stage {
 #[derive(Clone, Copy, Debug, PartialEq, Eq)]
 pub enum Body<'a> {
     GetStamp,
-    Stamp { time: u64 },
-    Block { stage: Stage, time: u64, digests: &'a [u8], block: &'a [u8] },
+    Stamp {
+        time: u64,
+    },
+    Block {
+        stage: Stage,
+        time: u64,
+        digests: &'a [u8],
+        block: &'a [u8],
+    },
     Ack,
     Read,
-    Value { stamp: Stamp, digests: &'a [u8], block: &'a [u8] },
+    Value {
+        stamp: Stamp,
+        digests: &'a [u8],
+        block: &'a [u8],
+    },
     ReadComplete,
+    /// The time that a server has come to.
+    Report {
+        time: u64,
+    },
 }
 
 #[derive(Clone, Copy, Debug, PartialEq, Eq)]
@@ -36,6 +51,10 @@ pub struct Frame<'a> {
 }
 
 pub const HEADER: usize = 9;
+/// Where a frame's kind is, and the kinds that tell a server's time.
+pub const KIND_AT: usize = 3;
+pub const STAMP: u8 = 2;
+pub const REPORT: u8 = 13;
 
 impl Body<'_> {
     pub fn kind(&self) -> u8 {
@@ -47,18 +66,19 @@ impl Body<'_> {
             Body::Read => 10,
             Body::Value { .. } => 11,
             Body::ReadComplete => 12,
+            Body::Report { .. } => 13,
         }
     }
 }
 
 /// Kinds 6, 7 and 8 are retired.
 fn is_kind(kind: u8) -> bool {
-    matches!(kind, 1..=5 | 9..=12)
+    matches!(kind, 1..=5 | 9..=13)
 }
 
 fn body_length(p: &Params, kind: u8) -> usize {
     match kind {
-        2 => 8,
+        2 | 13 => 8,
         3..=5 => 8 + p.list() + p.block(),
         11 => 13 + p.list() + p.block(),
         _ => 0,
@@ -126,7 +146,8 @@ pub fn open<'a>(p: &Params, bytes: &'a [u8]) -> Result<Frame<'a>, Refusal> {
             let (digests, block) = body[13..].split_at(p.list());
             Body::Value { stamp, digests, block }
         }
-        _ => Body::ReadComplete,
+        12 => Body::ReadComplete,
+        _ => Body::Report { time: time(body) },
     };
     Ok(Frame { client, sequence, body })
 }
@@ -145,7 +166,7 @@ pub fn write(frame: &Frame, area: &mut [u8]) -> usize {
     let rest = put(rest, &frame.sequence.to_be_bytes());
     let rest = match frame.body {
         Body::GetStamp | Body::Ack | Body::Read | Body::ReadComplete => rest,
-        Body::Stamp { time } => put(rest, &time.to_be_bytes()),
+        Body::Stamp { time } | Body::Report { time } => put(rest, &time.to_be_bytes()),
         Body::Block { time, digests, block, .. } => put(put(put(rest, &time.to_be_bytes()), digests), block),
         Body::Value { stamp, digests, block } => {
             let rest = put(rest, &stamp.time.to_be_bytes());
@@ -190,19 +211,20 @@ mod tests {
             Stamp { time: time.max(1), writer: random.range(1, 8) as u8, sequence }
         };
         let stage = random.pick(&[Stage::Send, Stage::Echo, Stage::Ready]);
-        let body = match random.below(7) {
+        let body = match random.below(8) {
             0 => Body::GetStamp,
             1 => Body::Stamp { time },
             2 => Body::Block { stage, time, digests: &digests, block: &block },
             3 => Body::Ack,
             4 => Body::Read,
             5 => Body::Value { stamp, digests: &digests, block: &block },
+            6 => Body::Report { time },
             _ => Body::ReadComplete,
         };
         build(random.range(1, 8) as u8, (random.word() as u32).max(1), body)
     }
 
-    /// Kinds 0, 6 to 8 and above 12 are 6, whatever client, sequence and body they have; the others are not.
+    /// Kinds 0, 6 to 8 and above 13 are 6, whatever client, sequence and body they have; the others are not.
     #[test]
     fn kinds_that_open() {
         let p = Params::new(4, 1, 2, 3);
@@ -210,10 +232,22 @@ mod tests {
             for (client, sequence, body) in [(2, 5, 0), (2, 5, 8), (0, 5, 0), (9, 5, 3), (2, 0, 138)] {
                 let mut bytes = vec![0, 7 + body, 1, kind, client, 0, 0, 0, sequence];
                 bytes.resize(9 + body as usize, 0);
-                let retired = kind == 0 || (6..=8).contains(&kind) || kind > 12;
+                let retired = kind == 0 || (6..=8).contains(&kind) || kind > 13;
                 assert_eq!(open(&p, &bytes) == Err(Refusal::Kind), retired, "kind {kind}, client {client}");
             }
         }
+    }
+
+    /// A report is of 17 bytes; the request's example of a kind that is none is 0E.
+    #[test]
+    fn report_frames() {
+        let p = Params::new(4, 1, 2, 3);
+        let body = Body::Report { time: 0x0102030405060708 };
+        let mut bytes = vec![0, 15, 1, 13, 2, 0, 0, 0, 5, 1, 2, 3, 4, 5, 6, 7, 8];
+        assert_eq!(build(2, 5, body), bytes);
+        assert_eq!(open(&p, &bytes), Ok(Frame { client: 2, sequence: 5, body }));
+        bytes[3] = 0x0e;
+        assert_eq!(open(&p, &bytes), Err(Refusal::Kind));
     }
 
     /// A frame of a write: the time stands before the digest list.

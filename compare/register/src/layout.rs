@@ -1,25 +1,28 @@
 //! The records of `flat` as bytes of a fixed layout, as the static library's hosts lend them. Numbers are big-endian, a flag is one
 //! byte, a stamp is time (8), writer (1) and sequence (4).
 //!
-//! A server: its stamp, 9 slots, 9 readers. A slot: the open sequence (8); the flags sent, ready, complete; the time of the complete
+//! A server: its stamp, 9 slots, 9 readers, 11 reports (8 each). A slot: the open sequence (8); the flags sent, ready, complete; the time of the complete
 //! write (8); 11 flags of echoes and 11 of readies; the times of both (11 of 8 each). A reader: the newest sequence (4), listening, the
 //! noted stamp.
 //!
 //! A client: writes and reads (4 each), out of stamps, the open operation (0 none, 1 awaits stamps, 2 awaits acks, 3 read), 11 flags
-//! of servers counted, their 11 times, and 11 rows, each a count (8) and 4 stamps.
+//! of servers counted, their 11 times, 11 rows, each a count (8) and 4 stamps, and 11 reports (8 each).
 //!
-//! A server's step for a client reads the stamp, that client's slot and all readers, and changes the stamp, that slot and that
-//! client's reader at most: the client's scope.
+//! A client's scope in a server's record is the stamp, that client's slot and its reader. A server's step changes one report, or the scope of the
+//! client that its frame names; and the stamp and the slots of the clients whose writes it accepts.
 
 use crate::client::KEPT;
-use crate::flat::{Client, Operation, Reader, Server, Slot, DESKS, SEATS};
-use crate::frame::Stamp;
+use crate::flat::{Client, Operation, Outcome, Reader, Server, Slot, DESKS, SEATS};
+use crate::frame::{client_named, Stamp, KIND_AT, REPORT};
+use crate::params::Party;
 
-pub const SERVER: usize = reader_at(DESKS);
-pub const CLIENT: usize = 769;
+pub const SERVER: usize = report_at(SEATS);
+pub const CLIENT: usize = 857;
 pub const STAMP: usize = 13;
 const SLOT: usize = 8 + 3 + 8 + 2 * SEATS + 2 * 8 * SEATS;
 const READER: usize = 4 + 1 + STAMP;
+/// Where a slot has the flag of its complete write, whose time is behind it.
+const COMPLETE_AT: usize = 8 + 2;
 
 /// Where a client's slot begins in a server's record: behind the stamp.
 const fn slot_at(client: usize) -> usize {
@@ -29,6 +32,11 @@ const fn slot_at(client: usize) -> usize {
 /// Where a client's reader begins: behind all slots.
 const fn reader_at(client: usize) -> usize {
     slot_at(DESKS) + READER * client
+}
+
+/// Where a server's report begins: behind all readers.
+const fn report_at(server: usize) -> usize {
+    reader_at(DESKS) + 8 * server
 }
 
 /// What is still to be read.
@@ -136,6 +144,7 @@ pub fn server_in(bytes: &[u8]) -> Server {
         stamp: source.stamp(),
         slots: std::array::from_fn::<Slot, DESKS, _>(|_| source.slot()),
         readers: source.readers(),
+        reports: source.times(),
     }
 }
 
@@ -143,16 +152,32 @@ pub fn server_in(bytes: &[u8]) -> Server {
 const EMPTY: Server = {
     let stamp = Stamp { time: 0, writer: 0, sequence: 0 };
     let reader = Reader { newest: 0, listening: false, noted: stamp };
-    Server { stamp, slots: [Slot::fresh(0); DESKS], readers: [reader; DESKS] }
+    Server { stamp, slots: [Slot::fresh(0); DESKS], readers: [reader; DESKS], reports: [0; SEATS] }
 };
 
-/// What a step for a client (0 to 8) needs of the server that the first bytes say; the other slots are empty.
-pub fn scope_in(bytes: &[u8], client: usize) -> Server {
+/// What a step for a client (0 to 8) needs of the server that the first bytes say; one that may accept writes (kinds 4, 5 and 13) also the reports,
+/// and of the other slots which write is complete.
+pub fn scope_in(bytes: &[u8], client: usize, accepts: bool) -> Server {
     let mut server = EMPTY;
     server.stamp = Source(bytes).stamp();
     server.slots[client] = Source(&bytes[slot_at(client)..]).slot();
     server.readers = Source(&bytes[reader_at(0)..]).readers();
+    if accepts {
+        put_waiting(&mut server, bytes, client);
+    }
     server
+}
+
+/// Reads the reports, and the complete writes of the other clients.
+fn put_waiting(server: &mut Server, bytes: &[u8], client: usize) {
+    for (c, slot) in server.slots.iter_mut().enumerate().filter(|(c, _)| *c != client) {
+        let at = &bytes[slot_at(c)..slot_at(c + 1)];
+        if at[COMPLETE_AT] != 0 {
+            let (open, time) = (Source(at).eight(), Source(&at[COMPLETE_AT + 1..]).eight());
+            *slot = Slot { complete: true, time, ..Slot::fresh(open) };
+        }
+    }
+    server.reports = Source(&bytes[report_at(0)..]).times();
 }
 
 /// Writes a server to the first bytes.
@@ -161,13 +186,33 @@ pub fn put_server(server: &Server, bytes: &mut [u8]) {
     target.stamp(&server.stamp);
     server.slots.iter().for_each(|slot| target.slot(slot));
     server.readers.iter().for_each(|reader| target.reader(reader));
+    target.times(&server.reports);
 }
 
-/// Writes what a step for a client may have changed of a server: its stamp, and the client's slot and reader. Other bytes stay.
-pub fn put_scope(server: &Server, client: usize, bytes: &mut [u8]) {
+/// Writes a server's stamp and a client's slot. Other bytes stay.
+fn put_slot(server: &Server, client: usize, bytes: &mut [u8]) {
     Target(bytes).stamp(&server.stamp);
     Target(&mut bytes[slot_at(client)..]).slot(&server.slots[client]);
+}
+
+/// Writes a client's scope of a server: its stamp, and the client's slot and reader. Other bytes stay.
+fn put_scope(server: &Server, client: usize, bytes: &mut [u8]) {
+    put_slot(server, client, bytes);
     Target(&mut bytes[reader_at(client)..]).reader(&server.readers[client]);
+}
+
+/// Writes what a step may have changed of a server: one report, if the frame is a report, or else the scope of the client that it names;
+/// and the stamp and the slots of the clients whose writes it accepted. Other bytes stay.
+pub fn put_step(server: &Server, from: Party, frame: &[u8], outcome: Outcome, bytes: &mut [u8]) {
+    match from {
+        Party::Server(j) if frame[KIND_AT] == REPORT => {
+            Target(&mut bytes[report_at(j)..]).put(server.reports[j].to_be_bytes());
+        }
+        _ => put_scope(server, client_named(frame), bytes),
+    }
+    if let Outcome::Accepted(clients) = outcome {
+        (0..DESKS).filter(|&c| clients[c]).for_each(|c| put_slot(server, c, bytes));
+    }
 }
 
 /// The client that the first bytes say; an unknown operation is none.
@@ -186,7 +231,8 @@ pub fn client_in(bytes: &[u8]) -> Client {
         *count = source.eight();
         *row = std::array::from_fn(|_| source.stamp());
     }
-    Client { operation, writes, reads, out_of_stamps, counted, times, kept, stamps }
+    let reports = source.times();
+    Client { operation, writes, reads, out_of_stamps, counted, times, kept, stamps, reports }
 }
 
 /// Writes a stamp to the first bytes.
@@ -218,6 +264,7 @@ pub fn put_client(client: &Client, bytes: &mut [u8]) {
         target.put(count.to_be_bytes());
         row.iter().for_each(|stamp| target.stamp(stamp));
     }
+    target.times(&client.reports);
 }
 
 #[cfg(test)]
@@ -228,7 +275,7 @@ mod tests {
     /// The sizes that docs/PROTOCOL.md names.
     #[test]
     fn sizes() {
-        assert_eq!((SLOT, READER, SERVER), (217, 18, 2128));
+        assert_eq!((SLOT, READER, SERVER), (217, 18, 2216));
     }
 
     /// Bytes that a record wrote are read back to it and written again, and a record's bytes fill its size.
@@ -257,10 +304,13 @@ mod tests {
         let mut random = Random::new(2);
         for client in (0..DESKS).cycle().take(100) {
             let given = random.bytes(SERVER);
-            let (whole, scope) = (server_in(&given), scope_in(&given, client));
+            let (whole, scope) = (server_in(&given), scope_in(&given, client, true));
             assert_eq!(scope.stamp, whole.stamp);
             assert_eq!(scope.slots[client], whole.slots[client]);
-            assert_eq!(scope.readers, whole.readers);
+            assert_eq!((scope.readers, scope.reports), (whole.readers, whole.reports));
+            for (a, b) in scope.slots.iter().zip(&whole.slots).filter(|(_, whole)| whole.complete) {
+                assert_eq!((a.open, a.complete, a.time), (b.open, b.complete, b.time));
+            }
             let (mut canonical, mut bytes) = (vec![0; SERVER], given.clone());
             put_server(&whole, &mut canonical);
             put_scope(&scope, client, &mut bytes);

@@ -65,7 +65,7 @@ impl Refusal {
             Refusal::ValueLength => "L out of bounds, or a value not L long",
             Refusal::FrameLength => "a frame under 9 bytes, or its length field wrong",
             Refusal::Version => "version not 1",
-            Refusal::Kind => "kind not 1 to 5 or 9 to 12",
+            Refusal::Kind => "kind not 1 to 5 or 9 to 13",
             Refusal::Operation => "client not 1 to 8, or sequence 0",
             Refusal::BodyLength => "body length wrong for the kind",
             Refusal::Parts => "stamp parts mixed, or blocks that cannot be decoded",
@@ -182,8 +182,14 @@ impl Params {
         22 + self.list() + self.block()
     }
 
+    /// The most frames that a server's step is lent room for: n readies, and for each of eight acceptances 8 values, an ack and n + 8
+    /// reports.
+    pub fn server_frames(&self) -> usize {
+        9 * self.n + 136
+    }
+
     pub fn server_room(&self) -> usize {
-        (self.n + 9) * self.largest()
+        self.server_frames() * self.largest()
     }
 
     pub fn client_room(&self) -> usize {

@@ -2,7 +2,6 @@
 //! words with the clear server and can be told to be wrong by a hair; `play_lent` does the same on `flat`'s records and lent areas.
 
 use crate::flat;
-use crate::frame::client_named;
 use crate::layout;
 use crate::params::{Params, Party, Refusal, Send};
 use crate::server::Server;
@@ -140,7 +139,7 @@ pub fn entries(trace: &[u8]) -> (Vec<Entry<'_>>, Closing) {
 
 /// Bytes that each entry played asks of the out area.
 pub fn need(p: &Params) -> usize {
-    REPLY + (p.n + 9) * (p.largest() + RECEIVER)
+    REPLY + p.server_frames() * (p.largest() + RECEIVER)
 }
 
 /// Whether an out area of that many bytes holds so many entries: the product may be above any number, so it is not taken.
@@ -292,7 +291,7 @@ pub fn play_lent(
         return Err(Refusal::Room);
     }
     let mut server = flat::Server::fresh(p, own, value, initial, area)?;
-    let (mut sent, mut to) = (vec![0; p.server_room()], vec![0; 2 * (p.n + 9)]);
+    let (mut sent, mut to) = (vec![0; p.server_room()], vec![0; 2 * p.server_frames()]);
     let mut bytes = 0;
     for entry in &entries {
         let Entry { from, frame } = *entry;
@@ -318,7 +317,7 @@ impl Kept {
             && self.area.len() >= flat::STATE_AREA
             && initial >= p.block()
             && self.out.len() >= p.server_room()
-            && self.to.len() >= 2 * (p.n + 9)
+            && self.to.len() >= 2 * p.server_frames()
     }
 }
 
@@ -339,8 +338,8 @@ pub fn resume_lent(
     let Kept { state, area, out, to } = kept;
     for &Entry { from, frame } in &entries {
         let mut server = layout::server_in(state);
-        if server.deliver(p, own, initial, area, from, frame, out, to).is_ok() {
-            layout::put_scope(&server, client_named(frame), state);
+        if let Ok(done) = server.deliver(p, own, initial, area, from, frame, out, to) {
+            layout::put_step(&server, from, frame, done.outcome, state);
         }
     }
     Ok(Done { played: entries.len(), bytes: 0, closing })
@@ -384,6 +383,6 @@ mod tests {
                 assert!(!has_room(&p, entries, entries * need(&p) - 1));
             }
         }
-        assert_eq!(need(&Params::new(10, 1, 1, 256)), 3 + 19 * 600);
+        assert_eq!(need(&Params::new(10, 1, 1, 256)), 3 + 226 * 600);
     }
 }

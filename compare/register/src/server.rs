@@ -1,4 +1,4 @@
-//! The server, written for clarity: what document 01, "Steps", and requests F-4 and F-7 say, with ordinary
+//! The server, written for clarity: what document 01, "Steps", and requests F-4, F-7 and F-9 say, with ordinary
 //! collections.
 
 use crate::blocks::{decode, decode_into, encoded};
@@ -72,16 +72,19 @@ pub struct Reader {
 /// A write that a server accepted in a step.
 #[derive(Clone, Debug, PartialEq, Eq)]
 pub struct Accepted {
+    pub client: usize,
+    pub sequence: u32,
     pub stamp: Stamp,
     pub own: Dispersed,
     /// Present stamp, digests and block were replaced.
     pub replaced: bool,
 }
 
+/// The frames sent, and the writes accepted, both in their order.
 #[derive(Clone, Debug, Default, PartialEq, Eq)]
 pub struct Step {
     pub sends: Vec<Send>,
-    pub accepted: Option<Accepted>,
+    pub accepted: Vec<Accepted>,
 }
 
 #[derive(Clone, Debug, PartialEq, Eq)]
@@ -94,6 +97,13 @@ pub struct Server {
     /// Place c − 1 is client c's.
     pub slots: Vec<Slot>,
     pub readers: Vec<Reader>,
+    /// The highest time that each server reported; place j − 1 is server j's.
+    pub reports: Vec<u64>,
+}
+
+/// At least so many of the reports are of this time or more.
+pub fn reported(reports: &[u64], time: u64, least: usize) -> bool {
+    reports.iter().filter(|&&report| report >= time).count() >= least
 }
 
 /// The digests of all blocks, end to end.
@@ -150,6 +160,7 @@ impl Server {
             present,
             slots: vec![Slot::fresh(1); CLIENTS],
             readers: vec![Reader::default(); CLIENTS],
+            reports: vec![0; p.n],
         })
     }
 
@@ -175,6 +186,7 @@ impl Server {
             }
             Body::Read => self.read(&frame),
             Body::ReadComplete => self.read_complete(&frame),
+            Body::Report { time } => self.report(number, time),
             Body::Stamp { .. } | Body::Ack | Body::Value { .. } => Err(Refusal::Sender),
         }
     }
@@ -185,7 +197,9 @@ impl Server {
         let right = match (frame.body, from) {
             (Body::GetStamp | Body::Read | Body::ReadComplete, Party::Client(c))
             | (Body::Block { stage: Send, .. }, Party::Client(c)) => c == frame.client as usize,
-            (Body::Block { stage: Echo | Ready, .. }, Party::Server(j)) => 1 <= j && j <= self.p.n,
+            (Body::Block { stage: Echo | Ready, .. } | Body::Report { .. }, Party::Server(j)) => {
+                1 <= j && j <= self.p.n
+            }
             _ => false,
         };
         if right {
@@ -250,7 +264,7 @@ impl Server {
                     return Ok(Step::default());
                 }
                 let echo = Body::Block { stage: Stage::Echo, time: said.time, digests, block };
-                return Ok(Step { sends: self.to_all(frame, echo), accepted: None });
+                return Ok(Step { sends: self.to_all(frame, echo), accepted: Vec::new() });
             }
             Stage::Echo => slot.echoes.insert(from, said.clone()),
             Stage::Ready => slot.readies.insert(from, said.clone()),
@@ -309,16 +323,84 @@ impl Server {
             let time = slot.sent.filter(|_| variant == Variant::SentTime).unwrap_or(time);
             slot.complete = Some(Proposal { time, dispersed: own });
         }
-        self.accept(frame, &mut step);
+        self.free(frame.client as usize, &mut step);
         step
     }
 
-    /// Acceptance, if the write is complete and its time is below 2^64 − 1.
-    fn accept(&mut self, frame: &Frame, step: &mut Step) {
-        let slot = &self.slots[frame.client as usize - 1];
-        let Some(Proposal { time, dispersed: own }) = slot.complete.clone() else { return };
-        let Some(time) = time.checked_add(1) else { return };
-        let stamp = Stamp { time, writer: frame.client, sequence: frame.sequence };
+    /// A server reported its time: kept if it is higher than its last one. It may free writes that wait.
+    fn report(&mut self, from: usize, time: u64) -> Result<Step, Refusal> {
+        let latest = self.variant == Variant::LatestReport;
+        if time <= self.reports[from - 1] && !latest {
+            return Err(Refusal::Old);
+        }
+        self.reports[from - 1] = time;
+        let mut step = Step::default();
+        self.free(0, &mut step);
+        Ok(step)
+    }
+
+    /// t + 1 servers have reported this incoming time or more, or the own time reaches it.
+    fn vouched(&self, time: u64) -> bool {
+        let Server { p, own, variant, .. } = *self;
+        let mut least = p.t + 1;
+        let mut reports = self.reports.clone();
+        match variant {
+            Variant::FewReports => least = p.t,
+            Variant::CountsItself => reports[own - 1] = u64::MAX,
+            _ => {}
+        }
+        let own_time = match variant {
+            Variant::OwnTimeLess => self.stamp.time.saturating_add(1),
+            _ => self.stamp.time,
+        };
+        let time = if variant == Variant::NewTimeVouched { time + 1 } else { time };
+        time <= own_time || reported(&reports, time, least)
+    }
+
+    /// Whether this client's write may be accepted: complete, its time below 2^64 − 1 and vouched, its sequence one that a stamp can hold.
+    pub fn is_free(&self, client: usize) -> bool {
+        let slot = &self.slots[client - 1];
+        slot.open <= u32::MAX as u64
+            && slot.complete.as_ref().is_some_and(|said| said.time < u64::MAX && self.vouched(said.time))
+    }
+
+    /// Accepts the lowest client's write that may be accepted, and from the lowest again, until none is left. The step's frame was of
+    /// client `named`'s write, or, at 0, of none.
+    fn free(&mut self, named: usize, step: &mut Step) {
+        match self.variant {
+            Variant::OnePass => {
+                for client in 1..=CLIENTS {
+                    if self.is_free(client) {
+                        self.accept(client, step);
+                    }
+                }
+            }
+            Variant::OneAcceptance => {
+                if let Some(client) = (1..=CLIENTS).find(|&client| self.is_free(client)) {
+                    self.accept(client, step);
+                }
+            }
+            Variant::NamedAlone => {
+                if (1..=CLIENTS).contains(&named) && self.is_free(named) {
+                    self.accept(named, step);
+                }
+            }
+            _ => {
+                while let Some(client) = (1..=CLIENTS).find(|&client| self.is_free(client)) {
+                    self.accept(client, step);
+                }
+            }
+        }
+    }
+
+    /// Accepts a client's complete write: the new stamp has its time + 1. The values go to listeners, the ack to the owner, and, if the
+    /// server's time grew, its reports to all servers and then to all clients.
+    fn accept(&mut self, client: usize, step: &mut Step) {
+        let slot = &self.slots[client - 1];
+        let Some(Proposal { time: incoming, dispersed: own }) = slot.complete.clone() else { return };
+        let (owner, sequence) = (client as u8, slot.open as u32);
+        let stamp = Stamp { time: incoming + 1, writer: owner, sequence };
+        let grown = stamp.time > self.stamp.time;
         let replaced = stamp > self.stamp || self.variant == Variant::StampFalls;
         if replaced {
             self.stamp = stamp;
@@ -331,17 +413,36 @@ impl Server {
                 step.sends.push(Send { to: Party::Client(i + 1), frame });
             }
         }
-        let owner = frame.client as usize;
-        let ack = build(frame.client, frame.sequence, Body::Ack);
-        step.sends.push(Send { to: Party::Client(owner), frame: ack });
-        self.slots[owner - 1] = Slot::fresh(frame.sequence as u64 + 1);
-        step.accepted = Some(Accepted { stamp, own, replaced });
+        let ack = build(owner, sequence, Body::Ack);
+        step.sends.push(Send { to: Party::Client(client), frame: ack });
+        if grown {
+            self.send_reports(owner, sequence, incoming, step);
+        }
+        self.slots[client - 1] = Slot::fresh(sequence as u64 + 1);
+        step.accepted.push(Accepted { client, sequence, stamp, own, replaced });
+    }
+
+    /// The server's time grew by this write, whose incoming time is named.
+    fn send_reports(&self, owner: u8, sequence: u32, incoming: u64, step: &mut Step) {
+        let time = match self.variant {
+            Variant::IncomingReported => incoming,
+            _ => self.stamp.time,
+        };
+        let frame = build(owner, sequence, Body::Report { time });
+        let told = |client: &usize| match self.variant {
+            Variant::ClientsNotTold => false,
+            Variant::OwnerTold => *client == owner as usize,
+            _ => true,
+        };
+        let servers = (1..=self.p.n).map(Party::Server);
+        let receivers = servers.chain((1..=CLIENTS).filter(told).map(Party::Client));
+        step.sends.extend(receivers.map(|to| Send { to, frame: frame.clone() }));
     }
 
     fn answer(&self, frame: &Frame, body: Body) -> Step {
         let bytes = build(frame.client, frame.sequence, body);
         let to = Party::Client(frame.client as usize);
-        Step { sends: vec![Send { to, frame: bytes }], accepted: None }
+        Step { sends: vec![Send { to, frame: bytes }], accepted: Vec::new() }
     }
 
     fn get_stamp(&self, frame: &Frame) -> Step {

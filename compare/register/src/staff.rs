@@ -44,6 +44,7 @@ fn frame_words(frame: &[u8]) -> String {
         10 => "read".to_string(),
         11 => "value".to_string(),
         12 => "read-complete".to_string(),
+        13 => "report".to_string(),
         other => format!("kind {other}"),
     };
     format!("{kind} of client {client}, sequence {}", u32::from_be_bytes([a, b, c, d]))

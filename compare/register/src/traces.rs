@@ -42,7 +42,7 @@ fn some_handed(p: &Params, own: usize, random: &mut Random) -> Vec<Handed> {
         let client = random.range(1, 3);
         let number = random.pick(&[1, 1, 2, 3]);
         let from = Party::Client(client);
-        match random.below(8) {
+        match random.below(9) {
             0..=2 => {
                 handed.extend(some_write(p, own, client as u8, sequences[client], random));
                 sequences[client] += 1;
@@ -51,6 +51,13 @@ fn some_handed(p: &Params, own: usize, random: &mut Random) -> Vec<Handed> {
             4 => handed.push((from, build(client as u8, number, Body::Read))),
             5 => handed.push((from, build(client as u8, number, Body::ReadComplete))),
             6 => handed.push((some_party(client, random), some_frame(p, client, random))),
+            7 => {
+                // Most servers report a time: it may free writes that wait.
+                let time = random.pick(&[0, 1, 2, 5, 6, u64::MAX - 1, u64::MAX]);
+                for j in (1..=p.n).filter(|_| random.chance(2, 3)) {
+                    handed.push((Party::Server(j), build(client as u8, number, Body::Report { time })));
+                }
+            }
             _ if !handed.is_empty() => handed.push(handed[random.below(handed.len())].clone()),
             _ => {}
         }
@@ -175,7 +182,7 @@ pub fn resume_call(random: &mut Random) -> ResumeCall {
     made.area.resize(some_size(STATE_AREA, random), 0xdd);
     made.initial.resize(some_size(sane.block(), random), 0xdd);
     let out = (0..some_size(sane.server_room(), random)).map(|i| i as u8 ^ 0xbb).collect();
-    let to = vec![0xaa; some_size(2 * (sane.n + 9), random)];
+    let to = vec![0xaa; some_size(2 * sane.server_frames(), random)];
     let kept = Kept { state: made.state, area: made.area, out, to };
     ResumeCall { p, own, initial: made.initial, trace, kept }
 }

@@ -47,10 +47,42 @@ pub enum Variant {
     StampFalls,
     /// Server: kind 3 is not echoed after the own ready.
     LateSendSilent,
+    /// Server: t reports suffice.
+    FewReports,
+    /// Server: it counts itself beside t reports of others.
+    CountsItself,
+    /// Server: an own time of one less than the incoming time suffices.
+    OwnTimeLess,
+    /// Server: the new time, one more than the incoming one, has to be vouched.
+    NewTimeVouched,
+    /// Server: one write is accepted in a step.
+    OneAcceptance,
+    /// Server: only the write that a frame names is looked at.
+    NamedAlone,
+    /// Server: the scan goes on after an acceptance, and does not begin anew.
+    OnePass,
+    /// Server: reports go to servers only.
+    ClientsNotTold,
+    /// Server: reports go to the owner of the write alone, of the clients.
+    OwnerTold,
+    /// Server: the incoming time is reported.
+    IncomingReported,
+    /// Server and client: the latest report of a server is kept.
+    LatestReport,
+    /// Client: a reply counts once t servers have reported its time or more.
+    FewReportsCount,
+    /// Client: a reply counts at once.
+    CountsAtOnce,
+    /// Client: the largest of all replies is taken, once n − t of them count.
+    LargestOfAll,
+    /// Client: a report lifts no count.
+    NoRecount,
+    /// Client: a report has to name the client as its owner.
+    ReportOwner,
 }
 
 impl Variant {
-    pub const WRONG: [Variant; 21] = [
+    pub const WRONG: [Variant; 37] = [
         Variant::SmallerTime,
         Variant::StaleStamp,
         Variant::FewRows,
@@ -72,5 +104,21 @@ impl Variant {
         Variant::NoListeners,
         Variant::StampFalls,
         Variant::LateSendSilent,
+        Variant::FewReports,
+        Variant::CountsItself,
+        Variant::OwnTimeLess,
+        Variant::NewTimeVouched,
+        Variant::OneAcceptance,
+        Variant::NamedAlone,
+        Variant::OnePass,
+        Variant::ClientsNotTold,
+        Variant::OwnerTold,
+        Variant::IncomingReported,
+        Variant::LatestReport,
+        Variant::FewReportsCount,
+        Variant::CountsAtOnce,
+        Variant::LargestOfAll,
+        Variant::NoRecount,
+        Variant::ReportOwner,
     ];
 }

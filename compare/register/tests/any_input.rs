@@ -3,8 +3,8 @@
 
 use register::any::{client_call, server_call, ClientAct, ServerCall};
 use register::flat::{Operation, Outcome, ROWS_AREA};
-use register::frame::{client_named, open};
-use register::layout::{put_scope, put_server, scope_in, server_in, SERVER};
+use register::frame::{client_named, open, KIND_AT, REPORT};
+use register::layout::{put_server, put_step, scope_in, server_in, SERVER};
 use register::random::Random;
 use register::Refusal;
 
@@ -25,7 +25,7 @@ fn servers() {
         if let Ok(done) = answer {
             let slot = |call: &ServerCall| call.server.slots[client_named(&call.frame)].complete;
             readies += (done.frames >= c.p.n && c.out[3] == 5) as usize;
-            accepted += (done.outcome == Outcome::Accepted) as usize;
+            accepted += matches!(done.outcome, Outcome::Accepted(_)) as usize;
             completed += (!slot(&before) && slot(&c)) as usize;
         }
         let opening = || open(&c.p, &c.frame).err().map(Refusal::number);
@@ -40,33 +40,43 @@ fn servers() {
     assert!(readies > 500 && accepted > 500 && completed > 50, "{readies}, {accepted}, {completed}");
 }
 
-/// A server's step on the scope of the client that the frame names is the step on the whole record.
+/// What a server's step reads of its record, and what it may change: one report, or else the scope of the client that the frame names, and
+/// the stamp and the slots of the clients whose writes it accepts.
 #[test]
-fn scopes() {
+fn changed_parts() {
     let mut random = Random::new(9);
+    let (mut several, mut freed) = (0, 0);
     for round in 0..20_000 {
         let mut c = server_call(&mut random);
-        let mut d = c.clone();
-        let (client, mut bytes) = (client_named(&d.frame), [0; SERVER]);
-        put_server(&d.server, &mut bytes);
-        d.server = scope_in(&bytes, client);
-        let whole =
-            c.server.deliver(&c.p, c.own, &c.initial, &mut c.area, c.from, &c.frame, &mut c.out, &mut c.to);
-        let scope =
-            d.server.deliver(&d.p, d.own, &d.initial, &mut d.area, d.from, &d.frame, &mut d.out, &mut d.to);
-        assert_eq!(whole, scope, "round {round}");
-        if scope.is_ok() {
-            put_scope(&d.server, client, &mut bytes);
+        let (mut bytes, mut after) = ([0; SERVER], [0; SERVER]);
+        put_server(&c.server, &mut bytes);
+        assert_eq!(server_in(&bytes), c.server, "round {round}");
+        let (p, own, from) = (c.p, c.own, c.from);
+        let accepts = matches!(c.frame.get(KIND_AT), Some(4 | 5 | &REPORT));
+        let mut d = ServerCall { server: scope_in(&bytes, client_named(&c.frame), accepts), ..c.clone() };
+        let answer =
+            c.server.deliver(&p, own, &c.initial, &mut c.area, from, &c.frame, &mut c.out, &mut c.to);
+        let scope = d.server.deliver(&p, own, &d.initial, &mut d.area, from, &d.frame, &mut d.out, &mut d.to);
+        assert_eq!(answer, scope, "round {round}");
+        if let Ok(done) = answer {
+            put_step(&d.server, from, &c.frame, done.outcome, &mut bytes);
+            if let Outcome::Accepted(clients) = done.outcome {
+                several += (clients.iter().filter(|&&accepted| accepted).count() > 1) as usize;
+                freed += (c.frame[KIND_AT] == REPORT) as usize;
+            }
         }
-        d.server = server_in(&bytes);
-        assert!(c == d, "round {round}");
+        put_server(&c.server, &mut after);
+        d.server = c.server;
+        assert!(bytes == after && c == d, "round {round}");
     }
+    assert!(several > 500 && freed > 300, "{several}, {freed}");
 }
 
 #[test]
 fn clients() {
     let mut random = Random::new(8);
     let mut seen = [0; 20];
+    let (mut sent, mut closed, mut lifted) = (0, 0, 0);
     for round in 0..20_000 {
         let before = client_call(&mut random);
         let mut c = before.clone();
@@ -100,6 +110,12 @@ fn clients() {
                     &mut c.to,
                     &mut c.value,
                 );
+                if let Ok(done) = answer {
+                    let went = done.frames > 0 && c.out[KIND_AT] == 3;
+                    sent += went as usize;
+                    lifted += (went && c.frame[KIND_AT] == REPORT) as usize;
+                    closed += (done.outcome == Outcome::OutOfStamps) as usize;
+                }
                 let length = if writing { wrong_length } else { None };
                 let opening = || open(&c.p, &c.frame).err().map(Refusal::number);
                 let all_short = short || c.rows.len() < ROWS_AREA || c.value.len() < c.sane.l;
@@ -120,4 +136,8 @@ fn clients() {
     }
     let reached = (0..=12).chain(14..=17).all(|n| seen[n] > 0);
     assert!(reached, "{seen:?}");
+    assert!(
+        sent > 30 && closed > 10 && lifted > 10,
+        "{sent} writes go out, {lifted} by a report, {closed} close"
+    );
 }

@@ -15,7 +15,7 @@ use std::path::Path;
 const P: Params = Params { n: 4, t: 1, k: 2, l: 1 };
 const OWN: usize = 3;
 const INITIAL: [u8; 1] = [7];
-const NEED: usize = 1992;
+const NEED: usize = 26_319;
 
 const ASKED: &str = "000c 01 00 02 000701010200000005";
 const TOLD: &str = "00 0001 00 02 000f01020200000005 0000000000000000";
@@ -312,15 +312,18 @@ fn cut_behind_an_entry() {
     }
 }
 
-/// The trace of examples/playback.hex, an entry a line: a write and a read at server 3, with frames that are turned down, closed by 22.
+/// The trace of examples/playback.hex, an entry a line: a write and a read at server 3, a further write that waits until two servers
+/// have reported its time, with frames that are turned down, closed by 22.
 fn staff_trace() -> Vec<Vec<u8>> {
     let blocks = encoded(&STAFF, &[0xc0, 0xff, 0xee]);
     let digests = digest_list(&blocks);
-    let said = |stage, sequence, j: usize, block: usize| {
-        let body = Body::Block { stage, time: 0, digests: &digests, block: &blocks[block - 1] };
-        let from = if stage == Stage::Send { Party::Client(2) } else { Party::Server(j) };
-        write_entry(from, &build(2, sequence, body))
+    let told = |stage, client, sequence, time, j: usize, block: usize| {
+        let body = Body::Block { stage, time, digests: &digests, block: &blocks[block - 1] };
+        let from = if stage == Stage::Send { Party::Client(client) } else { Party::Server(j) };
+        write_entry(from, &build(client as u8, sequence, body))
     };
+    let said = |stage, sequence, j, block| told(stage, 2, sequence, 0, j, block);
+    let reported = |j, time| write_entry(Party::Server(j), &build(2, 1, Body::Report { time }));
     let asked = |from, client, sequence, body| write_entry(from, &build(client, sequence, body));
     let mut retired = build(2, 1, Body::GetStamp);
     retired[3] = 6;
@@ -342,6 +345,14 @@ fn staff_trace() -> Vec<Vec<u8>> {
         asked(Party::Client(200), 2, 2, Body::GetStamp),
         write_entry(Party::Client(2), &[]),
         write_entry(Party::Client(2), &retired),
+        reported(3, 1),
+        reported(1, 1),
+        told(Stage::Ready, 4, 1, 2, 1, 1),
+        told(Stage::Ready, 4, 1, 2, 2, 2),
+        told(Stage::Ready, 4, 1, 2, 4, 4),
+        reported(1, 2),
+        reported(1, 1),
+        reported(2, 2),
         asked(Party::Client(5), 5, 1, Body::ReadComplete),
         vec![0, 3, 2],
     ]

@@ -36,7 +36,7 @@ impl Lent {
         room: usize,
     ) -> Result<usize, u8> {
         let mut out = vec![0; room];
-        let mut to = vec![0; 40];
+        let mut to = vec![0; 2 * (9 * 10 + 136)];
         self.server
             .deliver(&p, own, &self.initial, &mut self.area, from, frame, &mut out, &mut to)
             .map(|done| done.frames)
@@ -85,7 +85,8 @@ fn examples_of_the_table() {
     assert_eq!(to_server(owner, &[]), Err(4));
     assert_eq!(to_server(owner, &with(|f| f[1] = 8)), Err(4));
     assert_eq!(to_server(owner, &with(|f| f[2] = 2)), Err(5));
-    assert_eq!(to_server(owner, &with(|f| f[3] = 13)), Err(6));
+    assert_eq!(to_server(owner, &with(|f| f[3] = 0x0e)), Err(6));
+    assert_eq!(to_server(owner, &with(|f| f[3] = 0x0d)), Err(8));
     assert_eq!(to_server(owner, &with(|f| f[3] = 0)), Err(6));
     // Retired kinds are 6 before 7 and 8, from anybody.
     for kind in 6..=8 {
@@ -209,7 +210,20 @@ fn a_clients_write() {
     let frame = build(3, 1, stamp(2));
     assert_eq!(client.deliver(Party::Server(4), &frame, &[7, 8], room), Err(Refusal::ValueLength));
     assert_eq!(client.deliver(Party::Client(4), &frame, &[7, 8, 9], room), Err(Refusal::Sender));
+    // Three have replied, and t + 1 = 2 servers have reported each time but 9.
     let step = client.deliver(Party::Server(4), &frame, &[7, 8, 9], room).unwrap();
+    assert!(step.sends.is_empty());
+    // A report of 9 is what is missing, of anybody's write and of a server that has not replied.
+    let report = |time| build(6, 3, Body::Report { time });
+    for (from, frame) in [(Party::Server(5), report(9)), (Party::Client(3), report(9))] {
+        assert_eq!(client.deliver(from, &frame, &[7, 8, 9], room), Err(Refusal::Sender));
+    }
+    for (from, time) in [(1, 4), (1, 3), (2, 9), (3, 0)] {
+        assert_eq!(client.deliver(Party::Server(from), &report(time), &[7, 8, 9], room), Err(Refusal::Old));
+    }
+    assert!(client.deliver(Party::Server(3), &report(8), &[7, 8, 9], room).unwrap().sends.is_empty());
+    assert_eq!(client.deliver(Party::Server(3), &report(9), &[7, 8], room), Err(Refusal::ValueLength));
+    let step = client.deliver(Party::Server(3), &report(9), &[7, 8, 9], room).unwrap();
     let blocks = blocks::encoded(&P, &[7, 8, 9]);
     let digests = digest_list(&blocks);
     assert_eq!(step.sends.len(), 4);
@@ -298,6 +312,9 @@ impl Spread {
     }
 }
 
+/// The frames of an acceptance without listeners that raises the time, at n = 4.
+const ACK_AND_REPORTS: usize = 1 + 4 + 8;
+
 /// A server in both styles, which agree on the frames sent.
 struct Both {
     p: Params,
@@ -319,7 +336,7 @@ impl Both {
     /// The frames that a frame makes the server send, or the refusal's number.
     fn deliver(&mut self, from: Party, frame: &[u8]) -> Result<Vec<(Party, Vec<u8>)>, u8> {
         let (room, p) = (self.p.server_room(), self.p);
-        let (mut out, mut to) = (vec![0; room], vec![0; 2 * (p.n + 9)]);
+        let (mut out, mut to) = (vec![0; room], vec![0; 2 * p.server_frames()]);
         let (initial, area) = (&self.initial, &mut self.area);
         let flat = self.flat.deliver(&p, self.own, initial, area, from, frame, &mut out, &mut to);
         let clear = self.clear.deliver(from, frame, room).map_err(Refusal::number);
@@ -328,6 +345,13 @@ impl Both {
         let bytes: Vec<u8> = sends.iter().flatten().flat_map(|(_, frame)| frame.clone()).collect();
         assert_eq!(out[..bytes.len()], bytes);
         sends
+    }
+
+    /// Servers 3 and 4 report a time: t + 1 where t is 1.
+    fn vouch(&mut self, time: u64) {
+        for j in 3..=4 {
+            assert_eq!(self.from(j, &build(5, 1, Body::Report { time })), 0);
+        }
     }
 
     /// How many frames server j's frame makes the server send.
@@ -350,7 +374,8 @@ fn largest_times() {
     for (time, accepted) in [(u64::MAX - 1, true), (u64::MAX, false)] {
         let mut server = Both::fresh(P, 1);
         let write = spread(&P, &[7, 8, 9]);
-        for (j, sent) in [(2, 0), (3, 4), (4, accepted as usize)] {
+        server.vouch(time);
+        for (j, sent) in [(2, 0), (3, 4), (4, accepted as usize * ACK_AND_REPORTS)] {
             assert_eq!(server.from(j, &write.frame(Stage::Ready, j, 1, time)), sent);
         }
         assert_eq!(server.clear.stamp.time, if accepted { u64::MAX } else { 0 });
@@ -364,6 +389,7 @@ fn largest_times() {
             assert_eq!(server.from(j, &other.frame(Stage::Echo, j, 1, 5)), 0);
         }
         assert_eq!(server.from(1, &other.frame(Stage::Ready, 1, 1, 5)), 0);
+        assert_eq!(server.from(2, &build(2, 1, Body::Report { time })), 0);
         assert_eq!(server.deliver(Party::Client(2), &other.frame(Stage::Send, 1, 1, 5)).unwrap().len(), 4);
         assert_eq!(server.deliver(Party::Client(2), &other.frame(Stage::Send, 1, 1, 5)), Err(12));
         assert_eq!(server.deliver(Party::Server(1), &write.frame(Stage::Ready, 1, 1, time)), Err(12));
@@ -390,8 +416,9 @@ fn groups() {
         assert_eq!(sent, if stage == Stage::Echo { [0, 0, 0, 0] } else { [0, 0, 4, 0] });
         // Both equal: a ready at n - t echoes or q readies, acceptance at q + t readies.
         let mut server = Both::fresh(P, 1);
+        server.vouch(5);
         let sent: Vec<usize> = (1..=3).map(|j| server.from(j, &write.frame(stage, j, 1, 5))).collect();
-        assert_eq!(sent, if stage == Stage::Echo { [0, 0, 4] } else { [0, 4, 1] });
+        assert_eq!(sent, if stage == Stage::Echo { [0, 0, 4] } else { [0, 4, ACK_AND_REPORTS] });
     }
 }
 
@@ -400,6 +427,7 @@ fn groups() {
 fn echo_and_ready_in_two_groups() {
     let (write, other) = (spread(&P, &[7, 8, 9]), spread(&P, &[7, 8, 1]));
     let mut server = Both::fresh(P, 1);
+    server.vouch(6);
     for j in 2..=3 {
         assert_eq!(server.from(j, &other.frame(Stage::Ready, j, 1, 6)), if j == 3 { 4 } else { 0 });
     }
@@ -408,14 +436,15 @@ fn echo_and_ready_in_two_groups() {
         assert_eq!(server.from(j, &write.frame(Stage::Echo, j, 1, 5)), 0);
     }
     assert_eq!(server.slot(), (1, None));
-    assert_eq!(server.from(4, &other.frame(Stage::Ready, 4, 1, 6)), 1);
+    assert_eq!(server.from(4, &other.frame(Stage::Ready, 4, 1, 6)), ACK_AND_REPORTS);
     assert_eq!(server.clear.stamp, Stamp { time: 7, writer: 2, sequence: 1 });
     // The other way round: echoes of one group send the ready, readies of the other complete it.
     let mut server = Both::fresh(P, 1);
+    server.vouch(6);
     let sent: Vec<usize> = (2..=4).map(|j| server.from(j, &write.frame(Stage::Echo, j, 1, 5))).collect();
     assert_eq!(sent, [0, 0, 4]);
     let sent: Vec<usize> = (2..=4).map(|j| server.from(j, &other.frame(Stage::Ready, j, 1, 6))).collect();
-    assert_eq!(sent, [0, 0, 1]);
+    assert_eq!(sent, [0, 0, ACK_AND_REPORTS]);
     assert_eq!(server.clear.present.digests, other.digests);
     assert_eq!(server.clear.stamp.time, 7);
 }
@@ -425,6 +454,7 @@ fn echo_and_ready_in_two_groups() {
 fn time_of_the_group() {
     let write = spread(&P, &[7, 8, 9]);
     let mut server = Both::fresh(P, 1);
+    server.vouch(5);
     let echo = server.deliver(Party::Client(2), &write.frame(Stage::Send, 1, 1, 9)).unwrap();
     assert_eq!(echo[0].1, write.frame(Stage::Echo, 1, 1, 9));
     for j in 2..=4 {
@@ -441,7 +471,7 @@ fn completion_at_q_and_t() {
     let write = spread(&p, &[5; 20]);
     let mut server = Both::fresh(p, 10);
     let sent: Vec<usize> = (1..=9).map(|j| server.from(j, &write.frame(Stage::Ready, j, 1, 0))).collect();
-    assert_eq!(sent, [0, 0, 0, 0, 0, 0, 0, 10, 1]);
+    assert_eq!(sent, [0, 0, 0, 0, 0, 0, 0, 10, 1 + 10 + 8]);
     assert_eq!(server.slot(), (2, None));
 }
 
@@ -462,7 +492,14 @@ fn last_sequence() {
     assert_eq!(server.deliver(Party::Client(2), &write.frame(Stage::Send, 1, u32::MAX, 0)), Err(12));
 }
 
-/// The order of the frames of an acceptance: values by rising client, the ack.
+/// The reports of a server whose time grew to `time` by a client's write, with their receivers.
+fn reports(p: &Params, client: u8, sequence: u32, time: u64) -> Vec<(Party, Vec<u8>)> {
+    let frame = build(client, sequence, Body::Report { time });
+    let receivers = (1..=p.n).map(Party::Server).chain((1..=8).map(Party::Client));
+    receivers.map(|to| (to, frame.clone())).collect()
+}
+
+/// The order of the frames of an acceptance: values by rising client, the ack, reports to servers and then to clients.
 #[test]
 fn frames_of_an_acceptance() {
     // n = 7, t = 2, k = 3: completion needs q + t = 5 readies, the own ready goes at 3.
@@ -477,11 +514,80 @@ fn frames_of_an_acceptance() {
     assert_eq!(sent, [0, 0, 7, 0]);
     let stamp = Stamp { time: 1, writer: 2, sequence: 1 };
     let value = Body::Value { stamp, digests: &write.digests, block: &write.blocks[3] };
-    let expected = vec![
+    let mut expected = vec![
         (Party::Client(1), build(1, 1, value)),
         (Party::Client(8), build(8, 1, value)),
         (Party::Client(2), build(2, 1, Body::Ack)),
     ];
+    expected.extend(reports(&p, 2, 1, 1));
     assert_eq!(server.deliver(Party::Server(5), &write.frame(Stage::Ready, 5, 1, 0)), Ok(expected));
     assert_eq!((server.clear.stamp, server.slot().0), (stamp, 2));
+}
+
+/// A complete write waits until t + 1 servers have reported its time, and not for less.
+#[test]
+fn a_write_waits_for_reports() {
+    let p = Params::new(7, 2, 3, 5);
+    let write = spread(&p, &[1, 2, 3, 4, 5]);
+    let mut server = Both::fresh(p, 4);
+    let report = |time| build(6, 9, Body::Report { time });
+    for j in 1..=5 {
+        server.from(j, &write.frame(Stage::Ready, j, 1, 3));
+    }
+    assert_eq!(server.slot(), (1, Some(3)));
+    // Not from a client, not of nobody; a time 0, an equal and a lower one are old.
+    for from in [Party::Client(6), Party::Client(1), Party::Server(0), Party::Server(8)] {
+        assert_eq!(server.deliver(from, &report(3)), Err(11));
+    }
+    assert_eq!(server.deliver(Party::Server(1), &report(0)), Err(12));
+    // Reports below the time do not count, a server counts once, and the server itself only by its own report.
+    for (j, time) in [(1, 2), (2, 2), (3, 2), (5, 2), (1, 3), (1, 9), (6, u64::MAX)] {
+        assert_eq!(server.from(j, &report(time)), 0);
+    }
+    for (j, time) in [(1, 9), (1, 8), (1, 3), (6, 3), (2, 2)] {
+        assert_eq!(server.deliver(Party::Server(j), &report(time)), Err(12));
+    }
+    assert_eq!(server.slot(), (1, Some(3)));
+    // A later sequence is too early while this one waits; its own frames still count.
+    assert_eq!(server.deliver(Party::Client(2), &write.frame(Stage::Send, 4, 2, 3)), Err(13));
+    assert_eq!(server.deliver(Party::Client(2), &write.frame(Stage::Send, 4, 1, 3)).unwrap().len(), 7);
+    let mut expected = vec![(Party::Client(2), build(2, 1, Body::Ack))];
+    expected.extend(reports(&p, 2, 1, 4));
+    assert_eq!(server.deliver(Party::Server(4), &report(3)), Ok(expected));
+    assert_eq!((server.clear.stamp.time, server.slot()), (4, (2, None)));
+}
+
+/// What a report frees is accepted from the lowest client on, and from there again: the write of a lower client that a higher one's frees
+/// is accepted before the writes of still higher ones.
+#[test]
+fn the_scan_begins_anew() {
+    let mut server = Both::fresh(P, 1);
+    let frame = |client, j: usize, time| {
+        let write = spread(&P, &[client, 8, 9]);
+        let body =
+            Body::Block { stage: Stage::Ready, time, digests: &write.digests, block: &write.blocks[j - 1] };
+        build(client, 1, body)
+    };
+    // Incoming times; client 8's is vouched by nobody.
+    for (client, time) in [(1, 4), (3, 3), (5, 3), (8, 9)] {
+        for j in 2..=4 {
+            server.from(j, &frame(client, j, time));
+        }
+    }
+    let report = build(6, 9, Body::Report { time: 3 });
+    assert_eq!(server.from(2, &report), 0);
+    let mut expected = vec![(Party::Client(3), build(3, 1, Body::Ack))];
+    expected.extend(reports(&P, 3, 1, 4));
+    expected.push((Party::Client(1), build(1, 1, Body::Ack)));
+    expected.extend(reports(&P, 1, 1, 5));
+    // The time does not grow by client 5's write: no report.
+    expected.push((Party::Client(5), build(5, 1, Body::Ack)));
+    assert_eq!(server.deliver(Party::Server(3), &report), Ok(expected));
+    assert_eq!(server.clear.stamp, Stamp { time: 5, writer: 1, sequence: 1 });
+    // Of equal times the stamp of the higher client is larger, and nothing is reported.
+    for j in 2..=4 {
+        server.from(j, &frame(7, j, 4));
+    }
+    assert_eq!(server.clear.stamp, Stamp { time: 5, writer: 7, sequence: 1 });
+    assert_eq!(server.clear.slots[7].complete.as_ref().map(|said| said.time), Some(9));
 }

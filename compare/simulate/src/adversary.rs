@@ -4,7 +4,7 @@
 use crate::check::Violation;
 use crate::world::{Sent, World};
 use register::blocks::encoded;
-use register::frame::{build, open, Body, Frame, Stage, Stamp};
+use register::frame::{build, open, Body, Frame, Stage, Stamp, KIND_AT, REPORT, STAMP};
 use register::random::Random;
 use register::server::{digest_list, Server};
 use register::{Params, Party, Send};
@@ -20,14 +20,16 @@ enum Mood {
     Frozen,
     /// Takes part in broadcasts, but answers get-stamp and read from the initial state.
     Forgetful,
+    /// Takes part in broadcasts and answers reads, but tells nobody its time.
+    Mute,
     /// Two honest servers in one, each seen by one half of the others.
     TwoFaced,
     /// Any of these, anew for each frame.
     Changing,
 }
 
-const MOODS: [Mood; 6] =
-    [Mood::Silent, Mood::Faithful, Mood::Frozen, Mood::Forgetful, Mood::TwoFaced, Mood::Changing];
+const MOODS: [Mood; 7] =
+    [Mood::Silent, Mood::Faithful, Mood::Frozen, Mood::Forgetful, Mood::Mute, Mood::TwoFaced, Mood::Changing];
 
 /// How the false parties act together.
 #[derive(Clone, Copy, Debug, PartialEq, Eq)]
@@ -56,6 +58,8 @@ pub struct Adversary {
     moods: BTreeMap<usize, Mood>,
     faces: BTreeMap<usize, [Server; 2]>,
     profile: Profile,
+    /// No false server ever tells a time: clients have to count with the honest ones alone.
+    mute: bool,
     /// Which face, and which version of a false client's write, each party sees.
     pub halves: u32,
     /// Frames of false parties to honest ones, to be handed in at any time.
@@ -80,6 +84,12 @@ fn some_halves(n: usize, random: &mut Random) -> u32 {
     servers[..n / 2].iter().fold(clients, |halves, j| halves | 1 << j)
 }
 
+/// Drops what does not fit of the items from this place on.
+fn retain_behind<T>(items: &mut Vec<T>, place: usize, fits: impl Fn(&T) -> bool) {
+    let behind = items.split_off(place);
+    items.extend(behind.into_iter().filter(fits));
+}
+
 fn bit(party: Party) -> u32 {
     match party {
         Party::Server(j) => j as u32,
@@ -96,8 +106,10 @@ impl Adversary {
         profile: Profile,
         random: &mut Random,
     ) -> Adversary {
+        let mute = profile == Profile::Cunning && random.chance(1, 3);
         let moods = match profile {
             Profile::Noisy => &MOODS[..],
+            Profile::Cunning if mute => &[Mood::Mute],
             Profile::Cunning => &[Mood::Faithful, Mood::Forgetful, Mood::Forgetful, Mood::TwoFaced],
             Profile::Splitting => &[Mood::TwoFaced],
         };
@@ -109,6 +121,7 @@ impl Adversary {
             moods: servers.iter().map(|&j| (j, random.pick(moods))).collect(),
             faces: servers.iter().map(|&j| (j, [face(j), face(j)])).collect(),
             profile,
+            mute,
             halves: some_halves(p.n, random),
             stock: Vec::new(),
             inner: Vec::new(),
@@ -136,7 +149,7 @@ impl Adversary {
         if self.profile != Profile::Noisy {
             return self.act_cunning(world, random);
         }
-        match random.below(20) {
+        match random.below(22) {
             0..=4 => self.work(world, random),
             5..=10 => return self.hand_stock(world, random),
             11 => return self.hand_mutated(world, random),
@@ -145,6 +158,7 @@ impl Adversary {
             15 => self.read(random),
             16 | 17 => self.support(world, random),
             18 => self.reply(world, random),
+            19 | 20 => self.report(world, random),
             _ => {
                 for mood in self.moods.values_mut() {
                     if random.chance(1, 10) {
@@ -160,11 +174,12 @@ impl Adversary {
     }
 
     fn act_cunning(&mut self, world: &mut World, random: &mut Random) -> Result<(), Violation> {
-        match random.below(if self.profile == Profile::Splitting { 20 } else { 60 }) {
+        match random.below(if self.profile == Profile::Splitting { 22 } else { 60 }) {
             0 => self.write(world, random),
             1 => self.support(world, random),
             2 => self.reply(world, random),
             3 => self.read(random),
+            4 | 5 => self.report(world, random),
             _ => {
                 while !world.caught.is_empty() || !self.inner.is_empty() {
                     self.work(world, random);
@@ -204,7 +219,7 @@ impl Adversary {
         let Ok(frame) = open(&self.p, &sent.frame) else { return };
         self.learn(j, &frame);
         let mood = match self.moods[&j] {
-            Mood::Changing => random.pick(&MOODS[..5]),
+            Mood::Changing => random.pick(&MOODS[..6]),
             mood => mood,
         };
         match mood {
@@ -224,6 +239,13 @@ impl Adversary {
                 Body::GetStamp | Body::Read => self.frozen(world, j, sent, &frame),
                 _ => self.face(world, j, 0, sent, false),
             },
+            Mood::Mute => {
+                let before = (self.stock.len(), self.inner.len());
+                self.face(world, j, 0, sent, false);
+                let tells = |sent: &Sent| matches!(sent.frame[KIND_AT], STAMP | REPORT);
+                retain_behind(&mut self.stock, before.0, |sent| !tells(sent));
+                retain_behind(&mut self.inner, before.1, |sent| !tells(sent));
+            }
         }
     }
 
@@ -347,7 +369,7 @@ impl Adversary {
         match random.below(8) {
             0 => {}
             1 => frame[2] = random.byte(),
-            2 => frame[3] = random.range(0, 13) as u8,
+            2 => frame[3] = random.range(0, 14) as u8,
             3 => frame[4] = random.range(0, 9) as u8,
             4 => frame[8] = random.range(0, 4) as u8,
             5 => {
@@ -379,7 +401,7 @@ impl Adversary {
         if length >= 9 && random.chance(3, 4) {
             frame[..2].copy_from_slice(&((length - 2) as u16).to_be_bytes());
             frame[2] = 1;
-            frame[3] = random.range(0, 13) as u8;
+            frame[3] = random.range(0, 14) as u8;
             frame[4] = random.range(0, 9) as u8;
             frame[5..8].fill(0);
             frame[8] = random.range(0, 3) as u8;
@@ -546,6 +568,27 @@ impl Adversary {
         }
     }
 
+    /// False servers report a time to some servers and clients, each one in most cases, the same or their own.
+    fn report(&mut self, world: &World, random: &mut Random) {
+        if self.mute {
+            return;
+        }
+        let time = self.some_time(world, random);
+        let (client, sequence) = match world.seen.accepted.last() {
+            Some(a) if random.chance(2, 3) => (a.client, a.sequence),
+            _ => (random.range(1, 8), random.range(1, 4) as u32),
+        };
+        let reach = if random.chance(1, 3) { random.word() as u32 } else { u32::MAX };
+        for j in self.servers.clone() {
+            let time = if random.chance(1, 4) { self.some_time(world, random) } else { time };
+            let frame = build(client as u8, sequence, Body::Report { time });
+            let receivers = (1..=self.p.n).map(Party::Server).chain((1..=8).map(Party::Client));
+            for to in receivers.filter(|&to| reach >> bit(to) & 1 == 1) {
+                self.put(world, Party::Server(j), to, frame.clone());
+            }
+        }
+    }
+
     /// False servers answer an honest client's operation as they like.
     fn reply(&mut self, world: &World, random: &mut Random) {
         if world.log.is_empty() || self.servers.is_empty() {
@@ -555,6 +598,9 @@ impl Adversary {
         let sent = &world.log[world.log.len() - 1 - random.below(reach)];
         let Party::Client(c) = sent.from else { return };
         let Ok(frame) = open(&self.p, &sent.frame) else { return };
+        if self.mute && frame.body == Body::GetStamp {
+            return;
+        }
         let initial = digest_list(&self.initial);
         let wrong = random.bytes(self.p.block());
         for j in self.servers.clone() {

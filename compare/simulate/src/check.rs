@@ -1,8 +1,10 @@
 //! Demand 3 on what was observed of a run: all completed reads and all accepted writes stand in
-//! one row; and no read ended since its blocks disagree.
+//! one row; no read ended since its blocks disagree; and the times of the accepted writes have no gap.
 
 use register::frame::Stamp;
-use std::collections::BTreeMap;
+use register::server::{Server, Slot};
+use register::Params;
+use std::collections::{BTreeMap, BTreeSet};
 use std::fmt;
 
 /// A write that an honest client began.
@@ -43,6 +45,8 @@ pub struct Observed {
     pub accepted: Vec<Acceptance>,
     /// Reads of honest clients that ended with a disagreement: client and number.
     pub disagreements: Vec<(usize, u32)>,
+    /// The first write that an honest server could accept and left waiting after a step.
+    pub waiting: Option<String>,
 }
 
 #[derive(Clone, Debug, PartialEq, Eq)]
@@ -61,6 +65,10 @@ pub enum Violation {
     Disagreement(String),
     /// An honest operation is open though every frame was delivered.
     StillOpen(String),
+    /// A write took effect with a time above 1, and none took effect before with the time below.
+    Gap(String),
+    /// An honest server left a write waiting that it may accept.
+    Waiting(String),
     /// The two implementations differ.
     Differ(String),
 }
@@ -173,6 +181,36 @@ pub fn check_row(seen: &Observed) -> Result<(), Violation> {
     check_bytes(seen, &writes)
 }
 
+/// The times of all writes that took effect, with 0, have no gap, at every moment of the run.
+pub fn check_times(seen: &Observed) -> Result<(), Violation> {
+    let mut times = BTreeSet::from([0]);
+    for a in &seen.accepted {
+        if !times.contains(&(a.stamp.time - 1)) {
+            return Err(Violation::Gap(format!("server {}: {:?} after {times:?}", a.server, a.stamp)));
+        }
+        times.insert(a.stamp.time);
+    }
+    Ok(())
+}
+
+/// No server left a write waiting that it may accept.
+pub fn check_waiting(seen: &Observed) -> Result<(), Violation> {
+    match &seen.waiting {
+        Some(waiting) => Err(Violation::Waiting(waiting.clone())),
+        None => Ok(()),
+    }
+}
+
+/// The client whose write waits at this server though it may be accepted, by the words of request F-9.
+pub fn left_waiting(p: &Params, server: &Server) -> Option<usize> {
+    let may = |slot: &Slot| {
+        let Some(complete) = &slot.complete else { return false };
+        let reported = server.reports.iter().filter(|&&report| report >= complete.time).count();
+        complete.time < u64::MAX && (server.stamp.time >= complete.time || reported > p.t)
+    };
+    server.slots.iter().position(may).map(|place| place + 1)
+}
+
 #[cfg(test)]
 mod tests {
     use super::*;
@@ -245,6 +283,26 @@ mod tests {
             seen.reads.push(other);
         });
         assert!(matches!(bytes, Violation::Bytes(_)));
+    }
+
+    #[test]
+    fn gaps_are_found() {
+        let of = |times: &[u64]| {
+            let mut seen = sound();
+            let first = seen.accepted[0].clone();
+            seen.accepted = vec![first; times.len()];
+            for (a, &time) in seen.accepted.iter_mut().zip(times) {
+                a.stamp.time = time;
+            }
+            check_times(&seen)
+        };
+        for times in [&[][..], &[1, 1, 1], &[1, 2, 1, 3], &[1, 1, 2, 3, 2]] {
+            assert_eq!(of(times), Ok(()), "{times:?}");
+        }
+        // Also one that is closed later.
+        for times in [&[2][..], &[1, 3], &[1, 3, 2], &[1, 2, 4], &[u64::MAX]] {
+            assert!(matches!(of(times), Err(Violation::Gap(_))), "{times:?}");
+        }
     }
 
     #[test]

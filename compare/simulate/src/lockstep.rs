@@ -5,12 +5,15 @@ use crate::style::{Answer, Ended, Handed, OtherClient, OtherServer, Sending, Sty
 use register::client::{self, Client, Operation, Outcome};
 use register::flat::{self, CHUNK, ROWS_AREA, STATE_AREA};
 use register::frame::{open, Body, Stage};
-use register::server::{self, Dispersed, Proposal, Server};
+use register::server::{self, Accepted, Dispersed, Proposal, Server};
 use register::{Params, Party, Refusal, Send, Variant};
+use std::sync::LazyLock;
 
-/// What the unused bytes of lent areas hold.
+/// What the unused bytes of lent areas hold: 256 bytes that differ, over and over, from a place that depends on the salt.
 fn pattern(length: usize, salt: usize) -> Vec<u8> {
-    (0..length).map(|i| (i * 7 + salt * 31 + 5) as u8).collect()
+    static BYTES: LazyLock<Vec<u8>> = LazyLock::new(|| (0..1 << 18).map(|i| (i * 7 + 5) as u8).collect());
+    let from = salt * 89 % 256;
+    BYTES[from..from + length].to_vec()
 }
 
 /// Compares frames and receivers with the out and to areas, whose further bytes are as lent.
@@ -88,7 +91,7 @@ impl ServerPair {
         let record_before = lent.server.record();
         let initial_before = lent.initial.clone();
         let mut out = pattern(room, self.own);
-        let mut to = pattern(2 * (self.p.n + 9) + 1, self.own + 1);
+        let mut to = pattern(2 * self.p.server_frames() + 1, self.own + 1);
         let (p, own) = (self.p, self.own);
         let handed = Handed { p: &p, own, from, frame: bytes };
         let sending = Sending { out: &mut out, to: &mut to };
@@ -118,7 +121,7 @@ impl ServerPair {
         Ok(answer)
     }
 
-    /// The state area after a step: the kept frame, the complete write, the present value.
+    /// The state area after a step: the kept frame, the complete writes, the present value.
     fn expected_area(&self, mut area: Vec<u8>, from: Party, bytes: &[u8], step: &server::Step) -> Vec<u8> {
         let frame = open(&self.p, bytes).expect("a step's frame opens");
         let c = frame.client as usize;
@@ -129,15 +132,15 @@ impl ServerPair {
             };
             flat::store(&mut area, chunk, digests, block);
         }
-        let complete = match &step.accepted {
-            Some(accepted) => Some(&accepted.own),
-            None => self.clear.slots[c - 1].complete.as_ref().map(|complete| &complete.dispersed),
-        };
-        if let Some(Dispersed { digests, block }) = complete {
+        if let Some(complete) = &self.clear.slots[c - 1].complete {
+            let Dispersed { digests, block } = &complete.dispersed;
             flat::store(&mut area, flat::complete_chunk(c), digests, block);
         }
-        if let Some(accepted) = step.accepted.as_ref().filter(|a| a.replaced) {
-            flat::store(&mut area, 0, &accepted.own.digests, &accepted.own.block);
+        for Accepted { client, own: Dispersed { digests, block }, replaced, .. } in &step.accepted {
+            flat::store(&mut area, flat::complete_chunk(*client), digests, block);
+            if *replaced {
+                flat::store(&mut area, 0, digests, block);
+            }
         }
         area
     }
@@ -151,6 +154,9 @@ impl ServerPair {
             || a.present.digests != flat::list_in(p, &lent.area, 0)
         {
             return Err("present value".to_string());
+        }
+        if a.reports != b.reports[1..=p.n] {
+            return Err("reports".to_string());
         }
         for c in 1..=8 {
             let (x, y) = (&a.slots[c - 1], &b.slots[c]);
@@ -247,8 +253,7 @@ impl ClientPair {
             Operation::None => b.operation == flat::Operation::None,
             Operation::Stamps(times) => {
                 b.operation == flat::Operation::Stamps
-                    && (1..=p.n).all(|j| times.contains_key(&j) == b.counted[j])
-                    && times.values().max().copied().unwrap_or(0) == b.largest(p)
+                    && (1..=p.n).all(|j| times.get(&j).copied() == b.counted[j].then_some(b.times[j]))
             }
             Operation::Acks(from) => {
                 b.operation == flat::Operation::Acks && (1..=p.n).all(|j| from.contains(&j) == b.counted[j])
@@ -267,7 +272,7 @@ impl ClientPair {
             }
         };
         let numbers = a.writes == b.writes && a.reads == b.reads && a.out_of_stamps == b.out_of_stamps;
-        if !operation || !numbers {
+        if !operation || !numbers || a.reports != b.reports[1..=p.n] {
             return Err("client record".to_string());
         }
         Ok(())

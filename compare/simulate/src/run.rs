@@ -2,7 +2,7 @@
 //! the row check, and at the end the delivery of everything.
 
 use crate::adversary::{Adversary, Profile};
-use crate::check::{check_row, Violation};
+use crate::check::{check_row, check_times, check_waiting, Violation};
 use crate::recorded::Recorded;
 use crate::style::Style;
 use crate::world::{Setup, World};
@@ -43,6 +43,9 @@ pub struct Summary {
     pub overflows: u64,
     /// Writes that closed as out of stamps.
     pub closed: u64,
+    /// Steps that accepted several writes, and reports that freed any.
+    pub several: u64,
+    pub freed: u64,
     /// Reads that ended since their blocks disagree.
     pub disagreements: u64,
     /// The script, if asked for.
@@ -59,6 +62,8 @@ impl Summary {
         self.steps += other.steps;
         self.overflows += other.overflows;
         self.closed += other.closed;
+        self.several += other.several;
+        self.freed += other.freed;
         self.disagreements += other.disagreements;
         for (a, b) in self.refusals.iter_mut().zip(other.refusals) {
             *a += b;
@@ -100,7 +105,7 @@ impl Phase {
         let held = if random.chance(3, 5) { some_servers(p, most, random) } else { Vec::new() };
         let kind = random
             .chance(1, 5)
-            .then(|| (random.pick(&[1, 3, 4, 5, 10, 12]), Party::Server(random.range(1, p.n))));
+            .then(|| (random.pick(&[1, 3, 4, 5, 10, 12, 13]), Party::Server(random.range(1, p.n))));
         Phase {
             held,
             lagging: Vec::new(),
@@ -190,12 +195,16 @@ pub fn parameters_of(seed: u64) -> Params {
     parameters(seed, &mut Random::new(seed))
 }
 
-/// Shuffles and takes some.
-fn some(items: std::ops::RangeInclusive<usize>, count: usize, random: &mut Random) -> Vec<usize> {
-    let mut items: Vec<usize> = items.collect();
+fn shuffle(items: &mut [usize], random: &mut Random) {
     for i in (1..items.len()).rev() {
         items.swap(i, random.below(i + 1));
     }
+}
+
+/// Shuffles and takes some.
+fn some(items: std::ops::RangeInclusive<usize>, count: usize, random: &mut Random) -> Vec<usize> {
+    let mut items: Vec<usize> = items.collect();
+    shuffle(&mut items, random);
     items.truncate(count);
     items
 }
@@ -285,9 +294,14 @@ impl Run {
         Ok(())
     }
 
-    /// The delivery of everything, while the false parties go on for a while.
+    /// The delivery of everything, what is still to be delivered in any order, while the false parties go on for a while.
     fn deliver_all(&mut self, random: &mut Random) -> Result<(), Violation> {
         let Run { world, adversary, .. } = self;
+        match random.below(4) {
+            0 => world.pending.reverse(),
+            1 => shuffle(&mut world.pending, random),
+            _ => {}
+        }
         let mut actions = random.range(0, 200);
         world.flush(|world| {
             if actions > 0 && adversary.present() && random.chance(1, 4) {
@@ -373,6 +387,8 @@ pub fn run(seed: u64, options: Options) -> Result<Summary, Violation> {
         check_row(&run.world.seen)?;
         run.deliver_all(random)?;
         check_row(&run.world.seen)?;
+        check_times(&run.world.seen)?;
+        check_waiting(&run.world.seen)?;
     }
     let seen = &run.world.seen;
     let accepted: BTreeSet<(usize, u32)> = seen.accepted.iter().map(|a| (a.client, a.sequence)).collect();
@@ -384,6 +400,8 @@ pub fn run(seed: u64, options: Options) -> Result<Summary, Violation> {
         refusals: run.world.refusals,
         overflows: run.world.overflows,
         closed: run.world.closed,
+        several: run.world.several,
+        freed: run.world.freed,
         disagreements: seen.disagreements.len() as u64,
         recorded: run.world.recorded(),
         script: run.world.script.unwrap_or_default(),

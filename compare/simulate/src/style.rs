@@ -97,7 +97,7 @@ fn told(answer: Result<flat::Done, Refusal>, out: &[u8]) -> Answer {
         return Err("bytes sent".to_string());
     }
     let ended = match done.outcome {
-        Outcome::Going | Outcome::Accepted => Ended::Nothing,
+        Outcome::Going | Outcome::Accepted(_) => Ended::Nothing,
         Outcome::Written => Ended::Written,
         Outcome::OutOfStamps => Ended::OutOfStamps,
         Outcome::Value(stamp) => Ended::Value(stamp),

@@ -1,12 +1,13 @@
 //! The honest parties of a run, every frame they sent, and what the run showed. Frames named as
 //! an honest party's come from the log alone.
 
-use crate::check::{Acceptance, Observed, Read, Violation, Write};
+use crate::check::{left_waiting, Acceptance, Observed, Read, Violation, Write};
 use crate::lockstep::{ClientPair, ServerPair};
 use crate::recorded::{Recorded, Recorder};
 use crate::style::Style;
 use hall::to_hex;
 use register::client::{Operation, Outcome, KEPT};
+use register::frame::{KIND_AT, REPORT};
 use register::{Params, Party, Refusal, Send, Variant};
 
 /// A frame that an honest party sent.
@@ -35,6 +36,9 @@ pub struct World {
     pub overflows: u64,
     /// Writes that closed as out of stamps.
     pub closed: u64,
+    /// Steps that accepted several writes, and reports that freed any.
+    pub several: u64,
+    pub freed: u64,
     /// The calls as lines of the hall program, if asked for.
     pub script: Option<Vec<String>>,
     /// What each server was handed, if asked for; place j is server j's.
@@ -78,6 +82,8 @@ impl World {
             refusals: [0; 20],
             overflows: 0,
             closed: 0,
+            several: 0,
+            freed: 0,
             script: None,
             recorders: if setup.record { vec![Recorder::default(); p.n + 1] } else { Vec::new() },
             calls: 0,
@@ -195,14 +201,20 @@ impl World {
                     Ok(step) => step,
                     Err(refusal) => return self.refuse(refusal),
                 };
-                if let Some(accepted) = step.accepted {
+                for accepted in &step.accepted {
                     self.seen.accepted.push(Acceptance {
                         server: j,
-                        client: frame[4] as usize,
-                        sequence: u32::from_be_bytes(frame[5..9].try_into().unwrap()),
+                        client: accepted.client,
+                        sequence: accepted.sequence,
                         stamp: accepted.stamp,
-                        digests: accepted.own.digests,
+                        digests: accepted.own.digests.clone(),
                     });
+                }
+                self.several += (step.accepted.len() > 1) as u64;
+                self.freed += (frame[KIND_AT] == REPORT && !step.accepted.is_empty()) as u64;
+                if self.seen.waiting.is_none() {
+                    let waiting = left_waiting(&self.p, &server.clear);
+                    self.seen.waiting = waiting.map(|c| format!("client {c} at server {j}"));
                 }
                 self.record(to, step.sends);
             }

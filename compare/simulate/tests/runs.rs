@@ -21,9 +21,12 @@ fn row_holds() {
     let total = all(1..701, None);
     // The runs reach what they are meant to reach.
     assert!(total.reads > 2000 && total.writes > 2000 && total.foreign > 200, "{total:?}");
-    for number in (3..=15).chain([17]) {
+    assert!(total.several > 50 && total.freed > 30, "{total:?}");
+    for number in 3..=15 {
         assert!(total.refusals[number] > 0, "no refusal {number}: {total:?}");
     }
+    // At most t false servers cannot push the time ahead: nobody is ever out of stamps.
+    assert_eq!((total.closed, total.refusals[17]), (0, 0));
 }
 
 #[test]
@@ -44,6 +47,7 @@ fn both_styles_disagree() {
         }
     }
     assert!(total.disagreements > 100 && total.reads > 100, "{total:?}");
+    assert!(total.closed > 0 && total.refusals[17] > 0, "{total:?}");
 }
 
 /// The first violation that fits within 500 runs of a wrong variant. The first seed of a rare
@@ -76,6 +80,14 @@ fn disagreement(violation: &Violation) -> bool {
     matches!(violation, Violation::Disagreement(_))
 }
 
+fn gap(violation: &Violation) -> bool {
+    matches!(violation, Violation::Gap(_))
+}
+
+fn waiting(violation: &Violation) -> bool {
+    matches!(violation, Violation::Waiting(_))
+}
+
 #[test]
 fn finds_smaller_time() {
     must_find(Variant::SmallerTime, 1, in_time);
@@ -98,12 +110,12 @@ fn finds_a_value_counted_twice() {
 
 #[test]
 fn finds_an_ack_counted_twice() {
-    must_find(Variant::AckTwice, 400, in_time);
+    must_find(Variant::AckTwice, 500, in_time);
 }
 
 #[test]
 fn finds_a_block_against_its_digest() {
-    must_find(Variant::NoDigest, 200, disagreement);
+    must_find(Variant::NoDigest, 1, disagreement);
 }
 
 /// A read by the stamp alone: its blocks are of two lists.
@@ -119,23 +131,23 @@ fn finds_early_opening() {
 
 #[test]
 fn finds_missing_comparison() {
-    must_find(Variant::NoCompare, 5900, disagreement);
+    must_find(Variant::NoCompare, 1, disagreement);
 }
 
 /// Digests not compared where the blocks agree: a server keeps a block that does not fit its list, and readers turn it down.
 #[test]
 fn finds_agreement_alone() {
-    must_find(Variant::AgreementAlone, 800, still_open);
+    must_find(Variant::AgreementAlone, 300, still_open);
 }
 
 #[test]
 fn finds_few_echoes() {
-    must_find(Variant::FewEchoes, 1, agreement);
+    must_find(Variant::FewEchoes, 2300, agreement);
 }
 
 #[test]
 fn finds_few_readies() {
-    must_find(Variant::FewReadies, 900, still_open);
+    must_find(Variant::FewReadies, 200, still_open);
 }
 
 /// A group without the time: one write gets several stamps.
@@ -147,7 +159,7 @@ fn finds_groups_by_list_alone() {
 /// A group without the list: blocks of two lists disagree, and operations hang.
 #[test]
 fn finds_groups_by_time_alone() {
-    must_find(Variant::TimeAlone, 1500, still_open);
+    must_find(Variant::TimeAlone, 600, still_open);
 }
 
 #[test]
@@ -167,7 +179,89 @@ fn finds_falling_stamps() {
 
 #[test]
 fn finds_silence_after_ready() {
-    must_find(Variant::LateSendSilent, 600, still_open);
+    must_find(Variant::LateSendSilent, 200, still_open);
+}
+
+#[test]
+fn finds_too_few_reports() {
+    must_find(Variant::FewReports, 1, gap);
+}
+
+#[test]
+fn finds_a_server_that_counts_itself() {
+    must_find(Variant::CountsItself, 1, gap);
+}
+
+#[test]
+fn finds_an_own_time_of_one_less() {
+    must_find(Variant::OwnTimeLess, 1, gap);
+}
+
+#[test]
+fn finds_the_new_time_vouched() {
+    must_find(Variant::NewTimeVouched, 1, still_open);
+}
+
+#[test]
+fn finds_one_acceptance_a_step() {
+    must_find(Variant::OneAcceptance, 1, waiting);
+}
+
+#[test]
+fn finds_the_named_write_alone() {
+    must_find(Variant::NamedAlone, 1, waiting);
+}
+
+/// In one rising pass a write of a lower client may be left, until the server's own report comes back.
+#[test]
+fn finds_a_scan_that_does_not_begin_anew() {
+    must_find(Variant::OnePass, 1, waiting);
+}
+
+#[test]
+fn finds_clients_that_are_not_told() {
+    must_find(Variant::ClientsNotTold, 1, still_open);
+}
+
+#[test]
+fn finds_owners_alone_told() {
+    must_find(Variant::OwnerTold, 1, still_open);
+}
+
+#[test]
+fn finds_the_incoming_time_reported() {
+    must_find(Variant::IncomingReported, 1, still_open);
+}
+
+/// A report that falls: the one rare find, in the 5,742nd run from seed 1.
+#[test]
+fn finds_the_latest_report() {
+    must_find(Variant::LatestReport, 5600, still_open);
+}
+
+#[test]
+fn finds_too_few_reports_at_a_client() {
+    must_find(Variant::FewReportsCount, 1, still_open);
+}
+
+#[test]
+fn finds_replies_that_count_at_once() {
+    must_find(Variant::CountsAtOnce, 1, still_open);
+}
+
+#[test]
+fn finds_the_largest_of_all_replies() {
+    must_find(Variant::LargestOfAll, 1, still_open);
+}
+
+#[test]
+fn finds_a_report_without_recount() {
+    must_find(Variant::NoRecount, 1, still_open);
+}
+
+#[test]
+fn finds_the_owner_test_of_reports() {
+    must_find(Variant::ReportOwner, 1, still_open);
 }
 
 /// A wrong variant beside the right flat style: the comparison finds every one. Those of blocks that disagree show only where more than t

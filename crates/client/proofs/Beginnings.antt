@@ -90,7 +90,16 @@ module _ (g : Params) (me : ℕ) where
         → _≡_ {A = Begun}
         (record {
           answer = gives (goesOn (q .count));
-          client = record { writes = s .writes; reads = s .reads + 1; closed = s .closed; phase = F.Reading; heard = s .heard; times = s .times; rows = rows };
+          client = record {
+            writes = s .writes;
+            reads = s .reads + 1;
+            closed = s .closed;
+            phase = F.Reading;
+            heard = s .heard;
+            times = s .times;
+            rows = rows;
+            reports = s .reports;
+          };
           out = o;
           to = t;
         })
@@ -98,7 +107,16 @@ module _ (g : Params) (me : ℕ) where
     unfolding openRead
     read-law rows r e =
         begun-law (openRead g me s) _ out to o t q
-        (λ i. record { writes = s .writes; reads = s .reads + 1; closed = s .closed; phase = F.Reading; heard = s .heard; times = s .times; rows = r i })
+        (λ i. record {
+          writes = s .writes;
+          reads = s .reads + 1;
+          closed = s .closed;
+          phase = F.Reading;
+          heard = s .heard;
+          times = s .times;
+          rows = r i;
+          reports = s .reports;
+        })
         e
 
     pub write-law : outbox o t q ≡ sent (outbox out to firstPlace) (toAll g (λ j. message me (s .writes + 1) getStamp))
@@ -113,6 +131,7 @@ module _ (g : Params) (me : ℕ) where
             heard = replicate 11 false;
             times = replicate 11 0;
             rows = s .rows;
+            reports = s .reports;
           };
           out = o;
           to = t;

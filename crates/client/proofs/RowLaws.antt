@@ -1,24 +1,18 @@
--- The loops over a row's stamps, and over the times of a write. Assumes nothing.
-use Prim.Native.Nat.{ℕ, suc, _+_, _≤_, _<_, max}
+-- The loops over a row's stamps. Assumes nothing.
+use Prim.Native.Nat.{ℕ, suc, _+_, _≤_, _<_}
 use native.Mathlib.Omega.{arith}
-use native.Mathlib.Numerals.{add-one}
 use mathlib.Core.Bool.{Bool, true, false}
 use mathlib.Core.Path.{_≡_, ap, sym, _∙_}
 use mathlib.Core.List.{List}
 use lib.ListN.{getD, set}
-use lib.Dec.{leb, ltb}
+use lib.Dec.{ltb}
 use borrow.Author.Tests.{lt-ltb, le-ltb}
 use Rattle.area.specs.Area.{pick}
-use Rattle.quorum.specs.Quorum.{count}
-use Rattle.blocks.specs.declared.Params.{Params}
 use Rattle.frame.specs.declared.Stamp.{Stamp}
 use Rattle.frame.specs.Stamps.{older, sameStamp, zeroStamp}
-use Rattle.group.specs.Entries.{marked}
 use Rattle.client_rules.specs.declared.Row.{Row}
 use Rattle.client.specs.declared.Spot.the-variants.{At, Nowhere}
-use Rattle.client_rules.specs.State.{largest}
 use Rattle.client_rules.specs.Rows.{hasStamp, smallest, placeFor, rowWith}
-use Rattle.client_rules.specs.Steps.{quorate}
 use Rattle.client.specs.Stages.{spotOf}
 
 -- ---- whether a stamp is there: from the last place down
@@ -81,18 +75,3 @@ module _ (r : Row) (x : Stamp) where
 
   pub row-law : (i n : ℕ) → n ≡ pick (ltb (r .count) 4) (r .count + 1) (r .count) → record { count = n; stamps = set (r .stamps) i x } ≡ rowWith r i x
   row-law i n e = λ k. record { count = e k; stamps = set (r .stamps) i x }
-
--- ---- counts
-
-pub largest-turn : (l : List ℕ) (j r x : ℕ) → r ≡ largest (λ i. getD l i 0) j → x ≡ max (getD l (j + 1) 0) r → x ≡ largest (λ i. getD l i 0) (j + 1)
-unfolding largest
-largest-turn l j r x e q =
-    let z : max (getD l (j + 1) 0) (largest (λ i. getD l i 0) j) ≡ largest (λ i. getD l i 0) (j + 1) = rw (add-one j) in
-    q ∙ ap (λ b. max (getD l (j + 1) 0) b) e ∙ z
-
-pub largest-end : (l : List ℕ) (j n r : ℕ) → r ≡ largest (λ i. getD l i 0) j → n ≤ j → j ≤ n → r ≡ largest (λ i. getD l i 0) n
-largest-end l j n r e a b = let q : j ≡ n = omega arith in e ∙ ap (λ k. largest (λ i. getD l i 0) k) q
-
-pub quorate-law : (g : Params) (h : List Bool) (c : ℕ) → c ≡ count (marked h) (g .n) → leb (g .n) (c + g .t) ≡ quorate g h
-unfolding quorate marked
-quorate-law g h c e = ap (λ k. leb (g .n) (k + g .t)) e

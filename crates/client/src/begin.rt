@@ -88,6 +88,7 @@ fn open_read(g: Params, me: u8, s: Client, out: &mut [u8], to: &mut [u8]) -> Ans
     let reads = s.reads + 1;
     let heard = s.heard;
     let times = s.times;
+    let reports = s.reports;
     let rows = fresh_rows();
     let start = Place { at: 0, count: 0 };
     let end = ask_all(out, to, start, g, Ask::Read, me, reads);
@@ -99,6 +100,7 @@ fn open_read(g: Params, me: u8, s: Client, out: &mut [u8], to: &mut [u8]) -> Ans
         heard,
         times,
         rows,
+        reports,
     };
     Answered {
         answer: Answer::Sent(end.count),
@@ -115,6 +117,7 @@ fn open_write(g: Params, me: u8, s: Client, out: &mut [u8], to: &mut [u8]) -> An
     let heard = [false; 11];
     let times = [0u64; 11];
     let rows = s.rows;
+    let reports = s.reports;
     let start = Place { at: 0, count: 0 };
     let end = ask_all(out, to, start, g, Ask::GetStamp, me, writes);
     let client = Client {
@@ -125,6 +128,7 @@ fn open_write(g: Params, me: u8, s: Client, out: &mut [u8], to: &mut [u8]) -> An
         heard,
         times,
         rows,
+        reports,
     };
     Answered {
         answer: Answer::Sent(end.count),

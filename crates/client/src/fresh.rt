@@ -35,5 +35,6 @@ pub fn fresh_client() -> Client
         heard: [false; 11],
         times: [0; 11],
         rows,
+        reports: [0; 11],
     }
 }

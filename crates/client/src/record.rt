@@ -1,16 +1,18 @@
 // The client's record with a part changed.
+use crate::counts::larger;
 use client_rules::Client;
 use client_rules::Phase;
 use client_rules::Row;
 ghost use mathlib.Core.Path.{_≡_};
 ghost use Prim.Native.Nat.{_<_};
-ghost use Rattle.client_rules.specs.State.{inPhase, shut, withRow};
+ghost use Rattle.client_rules.specs.State.{inPhase, shut, withRow, withReport};
 
 // In a phase, with what that phase counts.
 pub fn in_phase(s: Client, phase: Phase, heard: [bool; 11], times: [u64; 11]) -> Client
     ensures { λ r. ⌜ r ≡ inPhase s phase heard times ⌝ }
 {
     let rows = s.rows;
+    let reports = s.reports;
     Client {
         writes: s.writes,
         reads: s.reads,
@@ -19,6 +21,7 @@ pub fn in_phase(s: Client, phase: Phase, heard: [bool; 11], times: [u64; 11]) ->
         heard,
         times,
         rows,
+        reports,
     }
 }
 
@@ -29,6 +32,7 @@ pub fn shut(s: Client) -> Client
     let heard = s.heard;
     let times = s.times;
     let rows = s.rows;
+    let reports = s.reports;
     Client {
         writes: s.writes,
         reads: s.reads,
@@ -37,6 +41,7 @@ pub fn shut(s: Client) -> Client
         heard,
         times,
         rows,
+        reports,
     }
 }
 
@@ -47,5 +52,16 @@ pub fn with_row(s: Client, j: usize, r: Row) -> Client
 {
     let mut y = s;
     y.rows[j] = r;
+    y
+}
+
+// Server j reported a time; the highest of each is kept.
+pub fn with_report(s: Client, j: usize, time: u64) -> Client
+    requires { ⌜ j < 11 ⌝ }
+    ensures { λ y. ⌜ y ≡ withReport s j time ⌝ }
+{
+    let mut y = s;
+    let old = y.reports[j];
+    y.reports[j] = larger(old, time);
     y
 }

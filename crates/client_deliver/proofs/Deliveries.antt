@@ -1,14 +1,15 @@
 -- From the tests and the step to the outcome of a delivery. Assumes nothing.
-use Prim.Native.Nat.{ℕ, _+_, _≤_}
+use Prim.Native.Nat.{ℕ, suc, _+_, _≤_}
 use native.Mathlib.Omega.{arith}
+use native.Mathlib.Decide.{decLe}
 use mathlib.Core.Path.{_≡_, refl, ap, sym, _∙_}
 use mathlib.Core.Bool.{Bool, true, false, _&&_}
 use mathlib.Core.List.{List}
 use lib.ListN.{length}
-use lib.Dec.{eqb, ltb}
-use borrow.Author.Tests.{ltb-false, ne-eqb}
+use lib.Dec.{eqb, leb, ltb}
+use borrow.Author.Tests.{ltb-false, ne-eqb, eqb-false, le-leb}
 use Rattle.area.specs.Area.{pick}
-use Rattle.area.proofs.Tests.{pick-no}
+use Rattle.area.proofs.Tests.{impossible, pick-no}
 use Rattle.sha256.specs.Hash.{digestOf}
 use Rattle.blocks.specs.declared.Params.{Params}
 use Rattle.frame.specs.declared.Party.{Party}
@@ -23,8 +24,8 @@ use Rattle.frame.specs.Refusals.{andThen}
 use Rattle.frame.specs.Params.{Bounded, entryLength, paramsTest}
 use Rattle.frame.specs.Stamps.{lastClient}
 use Rattle.frame.specs.Messages.{Body, Message, message, numberIn, fromServer, Judged, bad, judgedBy, after}
-use Rattle.frame.specs.Messages.{stampIs, ack, valueIs}
-use Rattle.frame.specs.Frames.{stampIn, entryIn, bodyIn, messageIn, opened, bodyAt, offerAt, valueAt, lengthOf, bodyLength}
+use Rattle.frame.specs.Messages.{stampIs, ack, valueIs, report}
+use Rattle.frame.specs.Frames.{stampIn, entryIn, bodyIn, messageIn, opened, bodyAt, offerAt, valueAt, retired, lengthOf, bodyLength}
 use Rattle.frame.specs.Chunks.{rowsBytes}
 use Rattle.frame.specs.Outbox.{frames, receivers}
 use Rattle.frame.proofs.Verdicts.{fine-not, fine-both}
@@ -33,8 +34,8 @@ use Rattle.frame.proofs.Opening.{opens-facts}
 use Rattle.area.specs.Numbers.{be8}
 use Rattle.client_rules.specs.declared.Client.{Client}
 use Rattle.client_rules.specs.declared.Answer.the-variants as Y
-use Rattle.client_rules.specs.Tests.{roomTest, valueTest, answers, orderTest, messageTest, judgeOpened, judge}
-use Rattle.client_rules.specs.Steps.{onBody, effect, onStamp, onAck, onValue}
+use Rattle.client_rules.specs.Tests.{roomTest, valueTest, answers, ownerRight, orderTest, messageTest, judgeOpened, judge}
+use Rattle.client_rules.specs.Steps.{onBody, effect, onStamp, onAck, onValue, onReport}
 use Rattle.client_rules.specs.Delivery.{Outcome, outcome, answerOf, resultOf, outcomeOf, effectBy, delivered, delivery}
 use Rattle.client_rules.proofs.CallFacts.{value-whole}
 use Rattle.client.specs.Stages.{Lent, stepped, answered}
@@ -59,10 +60,14 @@ pub admitted-by : (g : Params) (me : ℕ) (s : Client) (h : Header) (f : List �
     → Admitted g s (h .kind) value (length f) area result out to
 admitted-by g me s h f value area result out to v w o e e′ q q′ r r′ =
     let a = fine-both (paramsTest g me lastClient) _ (sym e ∙ e′) in
+    let x = opens-facts g f h (sym q ∙ q′) in
     record {
       lent = lent-of g area result out to (admitted-of g me lastClient (a .0) .bounded) (sym r ∙ r′);
       whole = value-whole g (s .phase) value (a .1);
-      frame-is = opens-facts g f h (sym q ∙ q′) .length-is;
+      frame-is = x .length-is;
+      kind-low = x .kind-low;
+      kind-high = x .kind-high;
+      kind-used = x .kind-used;
     }
 
 -- ---- the outcome of a delivery
@@ -130,6 +135,15 @@ module _ (g : Params) (me : ℕ) (s : Client) (a v : List ℕ) (from : Party) (f
 
 -- ---- the kinds
 
+above : (m k : ℕ) → m ≤ k → (k ≡ m → ⊥) → suc m ≤ k
+above m k l h = omega (arith, h)
+
+past : (m k : ℕ) → (k ≤ m → ⊥) → suc m ≤ k
+past m k h = omega (arith, h)
+
+over : (m k : ℕ) → suc m ≤ k → k ≤ m → ⊥
+over m k l h = omega arith
+
 module _ (g : Params) (me : ℕ) (s : Client) (a v : List ℕ) (from : Party) (f l out to : List ℕ) (h : Header) where
   abbrev told : Body → Outcome
   told b = answered (messageTest digestOf g me s from (message (h .client) (h .sequence) b)) s a (onBody digestOf g me s a v (numberIn from) b) l out to
@@ -160,34 +174,61 @@ module _ (g : Params) (me : ℕ) (s : Client) (a v : List ℕ) (from : Party) (f
   unfolding bodyIn onBody pick
   of-value x k q = told-in (valueIs (stampIn f) (entryIn g f valueAt)) x (ap (λ z. bodyIn g z f) k) q
 
-  -- no other kind is for clients
-  neither : (b : Bool) (x y : Body) → answers x ≡ false → answers y ≡ false → answers (pick b x y) ≡ false
-  unfolding pick
-  neither true x y e d = e
-  neither false x y e d = d
+  pub of-report : (x : Outcome) → h .kind ≡ 13
+      → x ≡ answered (messageTest digestOf g me s from (message (h .client) (h .sequence) (report (be8 f 9)))) s a
+      (onReport digestOf g me s a v (numberIn from) (be8 f 9)) l out to
+      → x ≡ answered (messageTest digestOf g me s from (messageIn g h f)) s a (effect digestOf g me s a v from (messageIn g h f)) l out to
+  unfolding bodyIn onBody pick
+  of-report x k q = told-in (report (be8 f 9)) x (ap (λ z. bodyIn g z f) k) q
 
-  not-answers : (h .kind ≡ 2 → ⊥) → (h .kind ≡ 9 → ⊥) → (h .kind ≡ 11 → ⊥) → answers (bodyIn g (h .kind) f) ≡ false
-  unfolding bodyIn pick answers
-  not-answers i j k =
-      rw (ne-eqb (h .kind) 2 i, ne-eqb (h .kind) 9 j, ne-eqb (h .kind) 11 k)
-      (neither (eqb (h .kind) 1) _ _ refl
-      (neither (eqb (h .kind) 3) _ _ refl
-      (neither (eqb (h .kind) 4) _ _ refl
-      (neither (eqb (h .kind) 5) _ _ refl
-      (neither (eqb (h .kind) 10) _ _ refl refl)))))
+  -- no other kind is for clients
+  otherwise : (b : Bool) (x y : Body) → answers x ≡ false → (b ≡ false → answers y ≡ false) → answers (pick b x y) ≡ false
+  unfolding pick
+  otherwise true x y e d = e
+  otherwise false x y e d = d refl
+
+  module _ (i : h .kind ≡ 2 → ⊥) (j : h .kind ≡ 9 → ⊥) (k : h .kind ≡ 11 → ⊥) (n : h .kind ≡ 13 → ⊥) (low : 1 ≤ h .kind) (high : h .kind ≤ 13)
+      (used : retired (h .kind) ≡ false) where
+    -- a kind that none of them is
+    no-kind : (h .kind ≡ 1 → ⊥) → (h .kind ≡ 3 → ⊥) → (h .kind ≡ 4 → ⊥) → (h .kind ≡ 5 → ⊥) → (h .kind ≡ 10 → ⊥) → (h .kind ≡ 12 → ⊥) → ⊥
+    unfolding retired
+    no-kind a b c d e u = go (decLe (h .kind) 8)
+      where
+        past-five : 6 ≤ h .kind
+        past-five = above 5 _ (above 4 _ (above 3 _ (above 2 _ (above 1 _ low a) i) b) c) d
+
+        go : Dec (h .kind ≤ 8) → ⊥
+        go (yes y) =
+            let p : leb 6 (h .kind) ≡ true = le-leb 6 (h .kind) past-five in
+            let q : leb (h .kind) 8 ≡ true = le-leb (h .kind) 8 y in
+            impossible (cc (p, q, used))
+        go (no y) = over 13 _ (above 13 _ (above 12 _ (above 11 _ (above 10 _ (above 9 _ (past 8 _ y) j) e) k) u) n) high
+
+    not-answers : answers (bodyIn g (h .kind) f) ≡ false
+    unfolding bodyIn pick answers
+    not-answers =
+        rw (ne-eqb (h .kind) 2 i, ne-eqb (h .kind) 9 j, ne-eqb (h .kind) 11 k)
+        (otherwise (eqb (h .kind) 1) _ _ refl (λ a.
+        otherwise (eqb (h .kind) 3) _ _ refl (λ b.
+        otherwise (eqb (h .kind) 4) _ _ refl (λ c.
+        otherwise (eqb (h .kind) 5) _ _ refl (λ d.
+        otherwise (eqb (h .kind) 10) _ _ refl (λ e.
+        otherwise (eqb (h .kind) 12) _ _ refl (λ u.
+        absurd (no-kind (eqb-false _ 1 a) (eqb-false _ 3 b) (eqb-false _ 4 c) (eqb-false _ 5 d) (eqb-false _ 10 e) (eqb-false _ 12 u)))))))))
 
   and-false : (x y z : Bool) → y ≡ false → (x && (y && z)) ≡ false
   and-false true y z e = ap (λ w. w && z) e
   and-false false y z e = refl
 
-  pub of-others : (h .kind ≡ 2 → ⊥) → (h .kind ≡ 9 → ⊥) → (h .kind ≡ 11 → ⊥)
+  pub of-others : (h .kind ≡ 2 → ⊥) → (h .kind ≡ 9 → ⊥) → (h .kind ≡ 11 → ⊥) → (h .kind ≡ 13 → ⊥) → 1 ≤ h .kind → h .kind ≤ 13 → retired (h .kind) ≡ false
       → outcome (record { answer = Y.Refused R.Sender; client = s }) a l out to
       ≡ answered (messageTest digestOf g me s from (messageIn g h f)) s a (effect digestOf g me s a v from (messageIn g h f)) l out to
   unfolding messageTest messageIn answered
-  of-others i j k =
-      let d = and-false (fromServer g from) (answers (bodyIn g (h .kind) f)) (eqb (h .client) me) (not-answers i j k) in
-      let o = orderTest digestOf g me s (numberIn from) (h .sequence) (bodyIn g (h .kind) f) in
-      let e : pick (fromServer g from && (answers (bodyIn g (h .kind) f) && eqb (h .client) me)) o (J.Bad R.Sender) ≡ J.Bad R.Sender =
+  of-others i j k n low high used =
+      let b = bodyIn g (h .kind) f in
+      let d = and-false (fromServer g from) (answers b) (ownerRight me (h .client) b) (not-answers i j k n low high used) in
+      let o = orderTest digestOf g me s (numberIn from) (h .sequence) b in
+      let e : pick (fromServer g from && (answers b && ownerRight me (h .client) b)) o (J.Bad R.Sender) ≡ J.Bad R.Sender =
       sym (pick-no _ o (J.Bad R.Sender) refl d refl) in
       ap (λ (z : Verdict). answered z s a (effect digestOf g me s a v from (messageIn g h f)) l out to) (sym e)
 
@@ -196,6 +237,10 @@ module _ (g : Params) (me : ℕ) (s : Client) (a v : List ℕ) (from : Party) (f
 pub stamp-long : (g : Params) (kind frame : ℕ) → frame ≡ bodyAt + bodyLength g kind → kind ≡ 2 → offerAt ≤ frame
 unfolding bodyLength lengthOf pick
 stamp-long g kind frame e k = let d : frame ≡ bodyAt + bodyLength g 2 = e ∙ ap (λ z. bodyAt + bodyLength g z) k in omega arith
+
+pub report-long : (g : Params) (kind frame : ℕ) → frame ≡ bodyAt + bodyLength g kind → kind ≡ 13 → offerAt ≤ frame
+unfolding bodyLength lengthOf pick
+report-long g kind frame e k = let d : frame ≡ bodyAt + bodyLength g 13 = e ∙ ap (λ z. bodyAt + bodyLength g z) k in omega arith
 
 pub value-long : (g : Params) (kind frame : ℕ) → frame ≡ bodyAt + bodyLength g kind → kind ≡ 11 → valueAt + entryLength g ≤ frame
 unfolding bodyLength lengthOf pick

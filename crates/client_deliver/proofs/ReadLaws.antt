@@ -22,7 +22,7 @@ use Rattle.client.specs.declared.Spot.{Spot}
 use Rattle.client.specs.declared.Spot.the-variants as S
 use Rattle.client_rules.specs.State.{rowOf, withRow}
 use Rattle.client_rules.specs.Rows.{placeFor, rowWith}
-use Rattle.client_rules.specs.Tests.{keptTest, answers, orderTest, messageTest}
+use Rattle.client_rules.specs.Tests.{keptTest, answers, ownerRight, orderTest, messageTest}
 use Rattle.client_rules.specs.Steps.{settle, keepBy, onValue}
 use Rattle.client_rules.specs.Delivery.{Outcome}
 use Rattle.client.specs.Stages.{spotOf, stepped}
@@ -68,6 +68,6 @@ pub value-verdict : (g : Params) (me : ℕ) (s : Client) (from : Party) (h : Hea
     → v ≡ pick (fromServer g from && eqb (h .client) me)
     (keptTest digestOf s (numberIn from) (h .sequence) x e) (refused 11)
     → v ≡ messageTest digestOf g me s from (message (h .client) (h .sequence) (valueIs y e))
-unfolding messageTest orderTest answers
+unfolding messageTest orderTest answers ownerRight
 value-verdict g me s from h e x y v p q =
     q ∙ ap (λ z. pick (fromServer g from && eqb (h .client) me) (keptTest digestOf s (numberIn from) (h .sequence) z e) (refused 11)) p

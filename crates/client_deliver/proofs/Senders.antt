@@ -1,12 +1,12 @@
 -- Who sent a frame, and what the tests of a frame say of it. Assumes nothing.
-use Prim.Native.Nat.{ℕ, _+_, _*_, _-_, _≤_}
+use Prim.Native.Nat.{ℕ, _+_, _*_, _-_, _≤_, _<_}
 use native.Mathlib.Omega.{arith}
 use mathlib.Core.Path.{_≡_, refl, ap, sym, _∙_}
 use mathlib.Core.Bool.{Bool, true, false, not, _&&_}
 use mathlib.Core.List.{List}
 use lib.ListN.{getD, take, drop}
-use lib.Dec.{eqb}
-use borrow.Author.Tests.{not-true, not-false}
+use lib.Dec.{eqb, ltb}
+use borrow.Author.Tests.{lt-ltb, le-ltb, not-true, not-false}
 use Rattle.area.specs.Area.{pick}
 use Rattle.area.proofs.Tests.{and-left}
 use Rattle.blocks.specs.declared.Params.{Params}
@@ -41,6 +41,19 @@ fine-sender g from c me w v i e f k =
     let n = server-number g from (and-left (fromServer g from) (eqb c me) (a .0)) in
     (omega (arith, n .0, k), omega (arith, n .1, k))
 
+-- of a report, which may name any client: where 11 found nothing
+pub report-place : (g : Params) (from : Party) (b : Bool) (i : ℕ) → b ≡ fromServer g from → not b ≡ false → i ≡ numberIn from → (1 ≤ i) × (i ≤ g .n)
+report-place g from b i e q k =
+    let n = server-number g from (sym e ∙ not-false b q) in
+    (omega (arith, n .0, k), omega (arith, n .1, k))
+
+-- and where all tests did
+pub report-sender : (g : Params) (from : Party) (w v : Verdict) (i : ℕ) → v ≡ pick (fromServer g from) w (J.Bad R.Sender) → v ≡ J.Fine → i ≡ numberIn from
+    → (1 ≤ i) × (i ≤ g .n)
+report-sender g from w v i e f k =
+    let n = server-number g from (fine-is (fromServer g from) R.Sender w (sym e ∙ f) .0) in
+    (omega (arith, n .0, k), omega (arith, n .1, k))
+
 -- ---- refusal 11
 
 pub not-sender : (b t e : Bool) → b ≡ t → not b ≡ true → false ≡ (t && e)
@@ -60,6 +73,16 @@ pub awaited-new : (v : Verdict) (fit again : Bool) (q last : ℕ) (phase : Bool)
     → v ≡ awaited (phase && (eqb q last && not (hasStamp l n x)))
 awaited-new v fit again q last phase l m n x e p a k =
     e ∙ (λ i. awaited (p i && (eqb q last && not (a i)))) ∙ ap (λ z. awaited (phase && (eqb q last && not (hasStamp l z x)))) k
+
+-- a report that is not higher, and one that is
+module _ (rs : List ℕ) (i j T : ℕ) (k : i ≡ j) where
+  pub report-old : T ≤ getD rs i 0 → J.Bad R.Stale ≡ awaited (ltb (getD rs j 0) T)
+  unfolding awaited pick
+  report-old h = let e : ltb (getD rs j 0) T ≡ false = ap (λ m. ltb (getD rs m 0) T) (sym k) ∙ le-ltb (getD rs i 0) T h in rw e
+
+  pub report-new : getD rs i 0 < T → J.Fine ≡ awaited (ltb (getD rs j 0) T)
+  unfolding awaited pick
+  report-new h = let e : ltb (getD rs j 0) T ≡ true = ap (λ m. ltb (getD rs m 0) T) (sym k) ∙ lt-ltb (getD rs i 0) T h in rw e
 
 -- the phase is right where nothing is found
 pub awaited-fit : (fit x : Bool) → awaited (fit && x) ≡ J.Fine → fit ≡ true

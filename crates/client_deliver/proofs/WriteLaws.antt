@@ -4,7 +4,7 @@ use native.Mathlib.Nat.{zero-add}
 use mathlib.Core.Path.{_≡_, refl, ap, sym, _∙_}
 use mathlib.Core.Bool.{Bool, true, false, not}
 use mathlib.Core.List.{List}
-use lib.ListN.{length, getD, set, replicate}
+use lib.ListN.{length, set, replicate}
 use lib.Seq.{sets}
 use lib.Dec.{ltb}
 use borrow.Author.Tests.{lt-ltb, le-ltb, not-true, not-false}
@@ -19,8 +19,8 @@ use Rattle.client_rules.specs.declared.Client.{Client}
 use Rattle.client_rules.specs.declared.Phase.{Phase}
 use Rattle.client_rules.specs.declared.Phase.the-variants as F
 use Rattle.client_rules.specs.declared.Answer.the-variants as Y
-use Rattle.client_rules.specs.State.{asking, writing, largest, inPhase, shut}
-use Rattle.client_rules.specs.Steps.{quorate, sendBelow, gatherBy, onStamp, endBy, onAck}
+use Rattle.client_rules.specs.State.{asking, writing, inPhase, shut, withReport}
+use Rattle.client_rules.specs.Steps.{quorate, gathered, largestCounted, sendBelow, gatherBy, gather, onStamp, reportBy, onReport, endBy, onAck}
 use Rattle.client_rules.specs.Answers.{goesOn, writeEnds, writeCloses}
 use Rattle.client_rules.specs.Delivery.{Outcome, outcome, progressBy, resultOf}
 use Rattle.client.specs.Stages.{stepped}
@@ -34,10 +34,10 @@ asking-writes F.Acking e = refl
 asking-writes F.Reading e = e
 
 module _ (g : Params) (me : ℕ) (s : Client) (v a l out to : List ℕ) where
-  -- ---- n - t stamps
+  -- ---- n - t stamps count
 
   abbrev top : ℕ
-  top = largest (λ j. getD (s .times) j 0) (g .n)
+  top = largestCounted g s
 
   pub out-of-stamps : (T : ℕ) (y : Client) → T ≡ top → lastTime ≤ T → y ≡ shut s
       → outcome (record { answer = Y.OutOfStamps; client = y }) a l out to ≡ stepped (gatherBy digestOf g me true s a v) l out to
@@ -63,33 +63,52 @@ module _ (g : Params) (me : ℕ) (s : Client) (v a l out to : List ℕ) where
       c ∙ ap (λ b. stepped (sendBelow digestOf g me b s a v T) l out to) (sym d)
       ∙ ap (λ z. stepped (sendBelow digestOf g me (ltb z lastTime) s a v z) l out to) e
 
-  -- ---- a stamp of time T from server j, which was marked
+  -- ---- whether so many count, of which b is the test's value
 
-  module _ (i j T U : ℕ) (b : Bool) (y : Client) (at : i ≡ j) (time : U ≡ T) (p : y ≡ inPhase s F.Asking (set (s .heard) i true) (set (s .times) i U))
-      (q : b ≡ quorate g (set (s .heard) i true)) where
-    marked-is : y ≡ inPhase s F.Asking (set (s .heard) j true) (set (s .times) j T)
-    marked-is = p ∙ (λ z. inPhase s F.Asking (set (s .heard) (at z) true) (set (s .times) (at z) (time z)))
+  module _ (b : Bool) (q : b ≡ gathered g s) where
+    pub gather-waits : not b ≡ true → outcome (record { answer = Y.Sent 0; client = s }) a l out to ≡ stepped (gather digestOf g me s a v) l out to
+    unfolding stepped gatherBy progressBy resultOf frames receivers
+    gather-waits h =
+        let d : gathered g s ≡ false = sym q ∙ not-true b h in
+        ap (λ z. stepped (gatherBy digestOf g me z s a v) l out to) (sym d)
 
-    tested-is : b ≡ quorate g (set (s .heard) j true)
-    tested-is = q ∙ ap (λ z. quorate g (set (s .heard) z true)) at
+    pub gather-goes : (r : Outcome) → not b ≡ false → r ≡ stepped (gatherBy digestOf g me true s a v) l out to
+        → r ≡ stepped (gather digestOf g me s a v) l out to
+    gather-goes r h e =
+        let d : gathered g s ≡ true = sym q ∙ not-false b h in
+        e ∙ ap (λ z. stepped (gatherBy digestOf g me z s a v) l out to) (sym d)
 
-    pub stamp-waits : not b ≡ true → outcome (record { answer = Y.Sent 0; client = y }) a l out to ≡ stepped (onStamp digestOf g me s a v j T) l out to
-    unfolding stepped onStamp gatherBy progressBy resultOf frames receivers
-    stamp-waits h =
-        let x = inPhase s F.Asking (set (s .heard) j true) (set (s .times) j T) in
-        let d : quorate g (set (s .heard) j true) ≡ false = sym tested-is ∙ not-true b h in
-        let m = marked-is in
-        let c : outcome (record { answer = Y.Sent 0; client = y }) a l out to ≡ stepped (gatherBy digestOf g me false x a v) l out to =
-        λ z. record { answer = gives (goesOn 0); client = m z; area = a; result = l; out = out; to = to } in
-        c ∙ ap (λ z. stepped (gatherBy digestOf g me z x a v) l out to) (sym d)
+  -- ---- a stamp or a report of time T from server j, which was stored
 
-    pub stamp-gathers : (r : Outcome) → not b ≡ false → r ≡ stepped (gatherBy digestOf g me true y a v) l out to
-        → r ≡ stepped (onStamp digestOf g me s a v j T) l out to
+  module _ (i j T U : ℕ) (x y : Client) (at : i ≡ j) (time : U ≡ T) (k : x ≡ withReport s i U) where
+    stored-is : x ≡ withReport s j T
+    stored-is = k ∙ (λ z. withReport s (at z) (time z))
+
+    pub stamp-gathers : y ≡ inPhase x F.Asking (set (s .heard) i true) (set (s .times) i U) → (r : Outcome)
+        → r ≡ stepped (gather digestOf g me y a v) l out to → r ≡ stepped (onStamp digestOf g me s a v j T) l out to
     unfolding onStamp
-    stamp-gathers r h e =
-        let d : quorate g (set (s .heard) j true) ≡ true = sym tested-is ∙ not-false b h in
-        e ∙ ap (λ z. stepped (gatherBy digestOf g me true z a v) l out to) marked-is
-        ∙ ap (λ z. stepped (gatherBy digestOf g me z (inPhase s F.Asking (set (s .heard) j true) (set (s .times) j T)) a v) l out to) (sym d)
+    stamp-gathers p r e =
+        let m : y ≡ inPhase (withReport s j T) F.Asking (set (s .heard) j true) (set (s .times) j T) =
+        p ∙ (λ z. inPhase (stored-is z) F.Asking (set (s .heard) (at z) true) (set (s .times) (at z) (time z))) in
+        e ∙ ap (λ z. stepped (gather digestOf g me z a v) l out to) m
+
+    module _ (b : Bool) (q : b ≡ asking (s .phase)) where
+      pub report-kept : not b ≡ true → outcome (record { answer = Y.Sent 0; client = x }) a l out to ≡ stepped (onReport digestOf g me s a v j T) l out to
+      unfolding stepped onReport reportBy progressBy resultOf frames receivers
+      report-kept h =
+          let d : asking (s .phase) ≡ false = sym q ∙ not-true b h in
+          let m = stored-is in
+          let c : outcome (record { answer = Y.Sent 0; client = x }) a l out to ≡ stepped (reportBy digestOf g me false (withReport s j T) a v) l out to =
+          λ z. record { answer = gives (goesOn 0); client = m z; area = a; result = l; out = out; to = to } in
+          c ∙ ap (λ z. stepped (reportBy digestOf g me z (withReport s j T) a v) l out to) (sym d)
+
+      pub report-gathers : (r : Outcome) → not b ≡ false → r ≡ stepped (gather digestOf g me x a v) l out to
+          → r ≡ stepped (onReport digestOf g me s a v j T) l out to
+      unfolding onReport reportBy
+      report-gathers r h e =
+          let d : asking (s .phase) ≡ true = sym q ∙ not-false b h in
+          e ∙ ap (λ z. stepped (gather digestOf g me z a v) l out to) stored-is
+          ∙ ap (λ z. stepped (reportBy digestOf g me z (withReport s j T) a v) l out to) (sym d)
 
 -- ---- an ack from server j, which was marked
 

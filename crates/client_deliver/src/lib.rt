@@ -21,6 +21,7 @@ use frame::opener::open_frame;
 use frame::places::CLIENTS;
 use reading::on_value;
 use writing::on_ack;
+use writing::on_report;
 use writing::on_stamp;
 ghost use mathlib.Core.Path.{_≡_};
 ghost use lib.ListN.{length};
@@ -74,6 +75,9 @@ fn step(
     }
     if h.kind == 11 {
         return on_value(s, k, f, area, result, out, to);
+    }
+    if h.kind == 13 {
+        return on_report(s, k, value, f, out, to);
     }
     Answered {
         answer: Answer::Refused(Refusal::Sender),

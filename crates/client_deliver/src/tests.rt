@@ -19,7 +19,7 @@ ghost use mathlib.Core.Path.{_≡_};
 ghost use Prim.Native.Nat.{_+_, _≤_};
 ghost use mathlib.Core.Bool.{false, not, _&&_};
 ghost use lib.ListN.{length, getD};
-ghost use lib.Dec.{eqb};
+ghost use lib.Dec.{eqb, ltb};
 ghost use Rattle.area.specs.Area.{pick};
 ghost use Rattle.sha256.specs.Hash.{digestOf};
 ghost use Rattle.frame.specs.Params.{Bounded, entryLength};
@@ -59,6 +59,21 @@ pub fn reply_test(
     }
     let j = number_in(from) as usize;
     awaited_test(fit, h.sequence, last, heard[j])
+}
+
+// Refusals 11 and 12 of a report of a time, whatever client it names; server j's highest report is at place j.
+pub fn report_test(g: Params, from: Party, time: u64, reports: [u64; 11]) -> Verdict
+    requires { ⌜ Bounded g ⌝ }
+    ensures { λ r. ⌜ r ≡ pick (fromServer g from) (awaited (ltb (getD reports (numberIn from) 0) time)) (refused 11) ⌝ }
+{
+    if !from_server(g, from) {
+        return Verdict::Bad(Refusal::Sender);
+    }
+    let j = number_in(from) as usize;
+    if time <= reports[j] {
+        return Verdict::Bad(Refusal::Stale);
+    }
+    Verdict::Fine
 }
 
 // Refusal 14 of a value from server j.

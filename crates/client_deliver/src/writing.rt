@@ -1,15 +1,18 @@
-// Stamps and acks of an open write: kinds 2 and 9.
+// Stamps and acks of an open write, and reports: kinds 2, 9 and 13.
 use crate::dispersal::Dispersal;
 use crate::dispersal::disperse;
 use crate::tests::reply_test;
+use crate::tests::report_test;
 use blocks::Params;
 use client::Call;
+use client::counts::is_gathered;
 use client::counts::is_quorate;
-use client::counts::largest_time;
+use client::counts::largest_counted;
 use client::phases::is_acking;
 use client::phases::is_asking;
 use client::record::in_phase;
 use client::record::shut;
+use client::record::with_report;
 use client_rules::Answer;
 use client_rules::Answered;
 use client_rules::Client;
@@ -27,23 +30,31 @@ ghost use lib.ListN.{length};
 ghost use Rattle.area.specs.Numbers.{be8};
 ghost use Rattle.sha256.specs.Hash.{digestOf};
 ghost use Rattle.frame.specs.Params.{Bounded, largestFrame};
-ghost use Rattle.frame.specs.Messages.{message, stampIs, ack, numberIn};
+ghost use Rattle.frame.specs.Messages.{message, stampIs, ack, report, numberIn};
 ghost use Rattle.frame.specs.Frames.{bodyAt, offerAt};
 ghost use Rattle.frame.specs.Outbox.{firstPlace, Room};
 ghost use Rattle.client_rules.specs.Tests.{messageTest};
-ghost use Rattle.client_rules.specs.Steps.{gatherBy, onStamp, onAck};
+ghost use Rattle.client_rules.specs.Steps as S;
+ghost use Rattle.client_rules.specs.Steps.{gatherBy, onStamp, onReport, onAck};
 ghost use Rattle.client_rules.specs.Delivery.{outcome};
 ghost use Rattle.client.specs.Stages.{stepped, answered};
 ghost use Rattle.client_deliver.specs.Needs.{Stamping};
 
-// "At n - t first stamps, take the largest time": it goes out with the blocks, or the write closes as out of stamps.
-fn gather(s: Client, g: Params, me: u8, value: &[u8], out: &mut [u8], to: &mut [u8]) -> Answered
+// "the largest counted time is taken": it goes out with the blocks, or the write closes as out of stamps.
+fn send_largest(
+    s: Client,
+    g: Params,
+    me: u8,
+    value: &[u8],
+    out: &mut [u8],
+    to: &mut [u8],
+) -> Answered
     requires { ⌜ Bounded g × (length (now value) ≡ g .size) × Room firstPlace (g .n) (largestFrame g) (length (now out)) (length (now to)) ⌝ }
     ensures { λ r. ⌜ ((a l : List ℕ) → outcome r a l (now (out .exit)) (now (to .exit))
         ≡ stepped (gatherBy digestOf g me true s a (now (value .entry))) l (now (out .entry)) (now (to .entry))) ⌝ }
 {
     let times = s.times;
-    let time = largest_time(times, g.n);
+    let time = largest_counted(s, g);
     if LAST_TIME <= time {
         let client = shut(s);
         return Answered {
@@ -66,7 +77,22 @@ fn gather(s: Client, g: Params, me: u8, value: &[u8], out: &mut [u8], to: &mut [
     }
 }
 
-// Kind 2: a server's stamp.
+// "One report may lift the count past n - t": then the write goes on.
+fn gather(s: Client, g: Params, me: u8, value: &[u8], out: &mut [u8], to: &mut [u8]) -> Answered
+    requires { ⌜ Bounded g × (length (now value) ≡ g .size) × Room firstPlace (g .n) (largestFrame g) (length (now out)) (length (now to)) ⌝ }
+    ensures { λ r. ⌜ ((a l : List ℕ) → outcome r a l (now (out .exit)) (now (to .exit))
+        ≡ stepped (S.gather digestOf g me s a (now (value .entry))) l (now (out .entry)) (now (to .entry))) ⌝ }
+{
+    if !is_gathered(s, g) {
+        return Answered {
+            answer: Answer::Sent(0),
+            client: s,
+        };
+    }
+    send_largest(s, g, me, value, out, to)
+}
+
+// Kind 2: a server's stamp, which is a report, too.
 pub fn on_stamp(
     s: Client,
     k: Call,
@@ -95,10 +121,44 @@ pub fn on_stamp(
         };
     }
     let j = number_in(from) as usize;
+    let time = area::read8(f, BODY_AT);
     heard[j] = true;
-    times[j] = area::read8(f, BODY_AT);
-    let client = in_phase(s, Phase::Asking, heard, times);
-    if !is_quorate(k.params, heard) {
+    times[j] = time;
+    let reported = with_report(s, j, time);
+    let client = in_phase(reported, Phase::Asking, heard, times);
+    gather(client, k.params, k.me, value, out, to)
+}
+
+// Kind 13: a server's report; in the first part of a write others may count now.
+pub fn on_report(
+    s: Client,
+    k: Call,
+    value: &[u8],
+    f: &[u8],
+    out: &mut [u8],
+    to: &mut [u8],
+) -> Answered
+    requires { ⌜ Stamping (k .params) s (length (now value)) (length (now out)) (length (now to)) × (offerAt ≤ length (now f)) ⌝ }
+    ensures { λ r. ⌜ ((a l : List ℕ) → outcome r a l (now (out .exit)) (now (to .exit))
+        ≡ answered (messageTest digestOf (k .params) (k .me) s (k .from) (message (k .header .client) (k .header .sequence)
+        (report (be8 (now (f .entry)) bodyAt)))) s a
+        (onReport digestOf (k .params) (k .me) s a (now (value .entry)) (numberIn (k .from)) (be8 (now (f .entry)) bodyAt)) l
+        (now (out .entry)) (now (to .entry))) ⌝ }
+{
+    let from = k.from;
+    let p = s.phase;
+    let reports = s.reports;
+    let time = area::read8(f, BODY_AT);
+    let v = report_test(k.params, from, time, reports);
+    if let Verdict::Bad(r) = v {
+        return Answered {
+            answer: Answer::Refused(r),
+            client: s,
+        };
+    }
+    let j = number_in(from) as usize;
+    let client = with_report(s, j, time);
+    if !is_asking(p) {
         return Answered {
             answer: Answer::Sent(0),
             client,

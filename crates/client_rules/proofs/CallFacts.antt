@@ -2,7 +2,7 @@
 -- Assumes nothing.
 use Prim.Native.Nat.{ℕ, zero, suc, _+_, _-_, _≤_, _<_, max, min}
 use native.Mathlib.Omega.{arith}
-use native.Mathlib.Decide.{ℕ-discrete}
+use native.Mathlib.Decide.{ℕ-discrete, decLe}
 use mathlib.Core.Bool.{Bool, true, false, not, _&&_}
 use mathlib.Core.Path.{_≡_, refl, ap, sym, _∙_, subst}
 use mathlib.Core.Logic.{_⊎_, inl, inr, ⊎-elim}
@@ -26,23 +26,25 @@ use Rattle.frame.specs.declared.Party.the-variants as A
 use Rattle.frame.specs.declared.Verdict.the-variants as J
 use Rattle.frame.specs.Chunks.{rowsBytes}
 use Rattle.frame.specs.Messages.{Entry, Offer, offer, send, Body, getStamp, ack, askRead, readComplete, stampIs}
-use Rattle.frame.specs.Messages.{blockIs, valueIs, Message, message, Sending, sending, toAll, Sized, FormedBody}
+use Rattle.frame.specs.Messages.{blockIs, valueIs, report, Message, message, Sending, sending, toAll, Sized, FormedBody}
 use Rattle.frame.proofs.Sizes.{Small}
 use Rattle.frame.proofs.Verdicts.{fine-both, fine-not}
 use Rattle.frame.proofs.PartyLaws.{mem-all}
+use Rattle.group_rules.specs.Vouching.{backed}
+use Rattle.group_rules.proofs.Vouching.{backed-servers}
 use Rattle.client_rules.specs.declared.Phase.{Phase}
 use Rattle.client_rules.specs.declared.Row.{Row}
 use Rattle.client_rules.specs.declared.Client.{Client}
 use Rattle.client_rules.specs.declared.Phase.the-variants as F
 use Rattle.client_rules.specs.Rows.{used, Kept, placesFrom, rowView, rowWith, Found, search}
-use Rattle.client_rules.specs.State.{freshRow, freshClient, noRow, rowOf, inPhase, shut, heardOf, largest}
+use Rattle.client_rules.specs.State.{freshRow, freshClient, noRow, rowOf, inPhase, shut, heardOf, replyOf, reportOf, withReport, largest}
 use Rattle.client_rules.specs.WellFormed.{Within}
 use Rattle.client_rules.specs.Beginning as CB
 use Rattle.client_rules.specs.State as CS
 use Rattle.client_rules.specs.Steps as C
 use Rattle.client_rules.specs.Tests as CT
 use Rattle.client_rules.proofs.Views as CV
-use Rattle.client_rules.proofs.Shapes.{dispersed, largestNow, Keeps, drops, keeps, Shape, idle, hears}
+use Rattle.client_rules.proofs.Shapes.{dispersed, asked, Keeps, drops, keeps, Learns, replies, reports, asking-is, Shape, idle, notes, hears}
 use Rattle.client_rules.proofs.Shapes.{shuts, counts, ends, waits, completes, shape-length, shape-of}
 use Rattle.client_rules.proofs.Shapes.{sends as disperses}
 use Rattle.client_rules.proofs.Within.{Empty, fresh-within, read-within, write-within, step-within}
@@ -79,6 +81,18 @@ le-largest f (suc k) j i = go (λ l. le-largest f k j (i .0, l)) (ℕ-discrete j
     go : (j ≤ k → f j ≤ largest f k) → Dec (j ≡ suc k) → f j ≤ max (f (suc k)) (largest f k)
     go h (yes z) = let w : f j ≡ f (suc k) = ap f z in omega (arith, w)
     go h (no z) = let w = h (omega (arith, z, i .1)) in omega (arith, w)
+
+-- the largest is one of them, or 0
+largest-is : (f : ℕ → ℕ) (n : ℕ) → (largest f n ≡ 0) ⊎ ((j : ℕ) × Among n j × (largest f n ≡ f j))
+unfolding largest
+largest-is f zero = inl refl
+largest-is f (suc k) = go (decLe (largest f k) (f (suc k))) (largest-is f k)
+  where
+    go : Dec (largest f k ≤ f (suc k)) → (largest f k ≡ 0) ⊎ ((j : ℕ) × Among k j × (largest f k ≡ f j))
+        → (max (f (suc k)) (largest f k) ≡ 0) ⊎ ((j : ℕ) × Among (suc k) j × (max (f (suc k)) (largest f k) ≡ f j))
+    go (yes l) h = inr (suc k, omega arith, omega (arith, l))
+    go (no l) (inl e) = absurd (l (omega (arith, e)))
+    go (no l) (inr (j, i, e)) = inr (j, omega (arith, i), omega (arith, l, e))
 
 -- ---- a client's state that calls find
 
@@ -144,6 +158,10 @@ module _ (H : List ℕ → List ℕ) (g : Params) (M : Small g) (few : g .n ≤ 
     abbrev pub KnowsV : ℕ → Kept → Type 0
     KnowsV j k = ((s .phase ≡ F.Reading) × List·Memᴰ k (rowView g s a j)) ⊎ N j (message me (s .reads) (valueIs (k .stamp) (k .entry)))
 
+    -- the highest report of server j, or one that came: kind 13, or a stamp
+    abbrev pub KnowsR : ℕ → ℕ → Type 0
+    KnowsR j T = (reportOf s j ≡ T) ⊎ (((d q : ℕ) × N j (message d q (report T))) ⊎ N j (message me (s .writes) (stampIs T)))
+
     pub record ClientFacts (s′ : Client) (a′ : List ℕ) (l : List Sending) (ev : C.Event) : Type 0 where
       pub client-shape : ClientShape s′ a′
       pub writes-up : s .writes ≤ s′ .writes
@@ -153,6 +171,10 @@ module _ (H : List ℕ → List ℕ) (g : Params) (M : Small g) (few : g .n ≤ 
       pub v-kept : (j : ℕ) (k : Kept) → Among (g .n) j → s′ .phase ≡ F.Reading → List·Memᴰ k (rowView g s′ a′ j) → (s′ .reads ≡ s .reads) × KnowsV j k
       pub t-sent : (b : Party) (d q : ℕ) (o : Offer) → List·Memᴰ (sending b (message d q (blockIs send o))) l
           → (q ≡ s .writes) × AtLeast (g .n) (g .n - g .t) (λ j. (T′ : ℕ) × (T′ ≤ o .time) × KnowsT j T′)
+      pub t-vouched : (b : Party) (d q : ℕ) (o : Offer) → List·Memᴰ (sending b (message d q (blockIs send o))) l
+          → (o .time ≡ 0) ⊎ AtLeast (g .n) (g .t + 1) (λ j. (T : ℕ) × (o .time ≤ T) × KnowsR j T)
+      pub report-kept : (j : ℕ) → Among (g .n) j → KnowsR j (reportOf s′ j)
+      pub report-up : (j : ℕ) → Among (g .n) j → reportOf s j ≤ reportOf s′ j
       pub g-sent : (b : Party) (d q : ℕ) → List·Memᴰ (sending b (message d q getStamp)) l → q ≤ s′ .writes
       pub r-sent : (b : Party) (d q : ℕ) → List·Memᴰ (sending b (message d q askRead)) l → q ≤ s′ .reads
       pub write-why : ev ≡ C.written → AtLeast (g .n) (g .n - g .t) KnowsA
@@ -164,8 +186,9 @@ module _ (H : List ℕ → List ℕ) (g : Params) (M : Small g) (few : g .n ≤ 
         → ((j T : ℕ) → Among (g .n) j → s′ .phase ≡ F.Asking → timeOf s′ j ≡ some T → KnowsT j T)
         → ((j : ℕ) → Among (g .n) j → s′ .phase ≡ F.Acking → heardOf s′ j ≡ true → KnowsA j)
         → ((j : ℕ) (k : Kept) → Among (g .n) j → s′ .phase ≡ F.Reading → List·Memᴰ k (rowView g s′ a′ j) → KnowsV j k)
+        → ((j : ℕ) → Among (g .n) j → KnowsR j (reportOf s′ j) × (reportOf s j ≤ reportOf s′ j))
         → ClientFacts s′ a′ [] C.nothing
-    turn-facts s′ a′ X ew er ft fa fv = record {
+    turn-facts s′ a′ X ew er ft fa fv fr = record {
       client-shape = X;
       writes-up = omega (arith, ew);
       reads-up = omega (arith, er);
@@ -173,14 +196,36 @@ module _ (H : List ℕ → List ℕ) (g : Params) (M : Small g) (few : g .n ≤ 
       a-kept = λ j i p e. (ew, fa j i p e);
       v-kept = λ j k i p e. (er, fv j k i p e);
       t-sent = λ b d q o u. absurd (List·Memᴰ·not-nil u);
+      t-vouched = λ b d q o u. absurd (List·Memᴰ·not-nil u);
+      report-kept = λ j i. fr j i .0;
+      report-up = λ j i. fr j i .1;
       g-sent = λ b d q u. absurd (List·Memᴰ·not-nil u);
       r-sent = λ b d q u. absurd (List·Memᴰ·not-nil u);
       write-why = λ e. impossible (cc);
       read-why = λ v e. impossible (cc);
     }
 
+    same-reports : (j : ℕ) → Among (g .n) j → KnowsR j (reportOf s j) × (reportOf s j ≤ reportOf s j)
+    same-reports j i = (inl refl, omega arith)
+
     pub quiet-facts : ClientShape s a → ClientFacts s a [] C.nothing
-    quiet-facts X = turn-facts s a X refl refl (λ j T i p e. inl (p, e)) (λ j i p e. inl (p, e)) (λ j k i p e. inl (p, e))
+    quiet-facts X = turn-facts s a X refl refl (λ j T i p e. inl (p, e)) (λ j i p e. inl (p, e)) (λ j k i p e. inl (p, e)) same-reports
+
+    same-report : ClientShape s a → (j T : ℕ) → Among (g .n) j
+        → ((d q : ℕ) × N j (message d q (report T))) ⊎ N j (message me (s .writes) (stampIs T))
+        → (i : ℕ) → Among (g .n) i → KnowsR i (reportOf (withReport s j T) i) × (reportOf s i ≤ reportOf (withReport s j T) i)
+    same-report X j T ij new i is = go (ℕ-discrete i j) (decLe T (reportOf s j))
+      where
+        at : reportOf (withReport s j T) j ≡ max (reportOf s j) T
+        at = getD-set-same (s .reports) j (max (reportOf s j) T) 0 (omega (arith, X .within .reports, few, ij .1))
+
+        go : Dec (i ≡ j) → Dec (T ≤ reportOf s j) → KnowsR i (reportOf (withReport s j T) i) × (reportOf s i ≤ reportOf (withReport s j T) i)
+        go (no z) l = let e = getD-set-other (s .reports) j i (max (reportOf s j) T) 0 z in (inl (sym e), omega (arith, e))
+        go (yes z) (yes l) = subst (λ i. KnowsR i (reportOf (withReport s j T) i) × (reportOf s i ≤ reportOf (withReport s j T) i)) (sym z)
+            (inl (omega (arith, at, l)), omega (arith, at, l))
+        go (yes z) (no l) = subst (λ i. KnowsR i (reportOf (withReport s j T) i) × (reportOf s i ≤ reportOf (withReport s j T) i)) (sym z)
+            (let e : T ≡ reportOf (withReport s j T) j = omega (arith, at, l) in
+            (inr (subst (λ T. ((d q : ℕ) × N j (message d q (report T))) ⊎ N j (message me (s .writes) (stampIs T))) e new), omega (arith, at)))
 
     -- ---- stamps
 
@@ -205,72 +250,130 @@ module _ (H : List ℕ → List ℕ) (g : Params) (M : Small g) (few : g .n ≤ 
             λ d. kept (getD-set-other (s .heard) j i true false z d) (getD-set-other (s .times) j i T 0 z d) in
             inl (p, sym u ∙ e)
 
-    abbrev asked : ℕ → ℕ → Client
-    asked j T = inPhase s F.Asking (heardNow j) (timesNow j T)
-
     body-all : (f : ℕ → Message) (b : Party) (m : Message) → List·Memᴰ (sending b m) (toAll g f)
         → (j : ℕ) × (m .body ≡ f j .body) × (m .sequence ≡ f j .sequence)
     unfolding toAll
     body-all f b m u = let w = mem-all f 1 (g .n) (sending b m) u in (w .0, ap (λ z. z .body) (w .1), ap (λ z. z .sequence) (w .1))
 
-    -- all counted times are at most U
-    abbrev Above : ℕ → ℕ → ℕ → Type 0
-    Above j T U = (i : ℕ) → Among (g .n) i → getD (timesNow j T) i 0 ≤ U
+    -- what is learned in the first part of a write
+    pub record Learned (s′ : Client) : Type 0 where
+      pub writes : s′ .writes ≡ s .writes
+      pub reads : s′ .reads ≡ s .reads
+      pub asking : s′ .phase ≡ F.Asking
+      pub times : (i T : ℕ) → timeOf s′ i ≡ some T → KnowsT i T
+      pub told : (i : ℕ) → Among (g .n) i → KnowsR i (reportOf s′ i) × (reportOf s i ≤ reportOf s′ i)
 
-    module _ (X : ClientShape s a) (p : s .phase ≡ F.Asking) (v : List ℕ) (j T : ℕ) (ij : Among (g .n) j) (new : N j (message me (s .writes) (stampIs T))) where
-      quorum : C.quorate g (heardNow j) ≡ true → (U : ℕ) → Above j T U → (T₁ : ℕ) → T₁ ≡ U
-          → AtLeast (g .n) (g .n - g .t) (λ i. (T′ : ℕ) × (T′ ≤ T₁) × KnowsT i T′)
-      unfolding C.quorate
-      quorum e U above T₁ eT = record {
-        member = λ i. getD (heardNow j) i false;
+    counted-by : (s′ : Client) (j : ℕ) → C.counted g s′ j ≡ true → (heardOf s′ j ≡ true) × (backed g (reportOf s′) (replyOf s′ j) ≡ true)
+    unfolding C.counted
+    counted-by s′ j e = and-split (heardOf s′ j) _ e
+
+    module _ (s′ : Client) (K : Learned s′) (v : List ℕ) (j : ℕ) where
+      abbrev U : ℕ
+      U = C.largestCounted g s′
+
+      below-largest : (i : ℕ) → Among (g .n) i → C.counted g s′ i ≡ true → replyOf s′ i ≤ U
+      unfolding C.largestCounted pick
+      below-largest i is e =
+          let f : ℕ → ℕ = λ j. pick (C.counted g s′ j) (replyOf s′ j) 0 in
+          let l = le-largest f (g .n) i is in
+          let p : f i ≡ replyOf s′ i = ap (λ b. pick b (replyOf s′ i) 0) e in
+          omega (arith, l, p)
+
+      -- n - t servers of whom a time was counted, none above the largest
+      quorum : C.gathered g s′ ≡ true → (T : ℕ) → T ≡ U → AtLeast (g .n) (g .n - g .t) (λ i. (T′ : ℕ) × (T′ ≤ T) × KnowsT i T′)
+      unfolding C.gathered
+      quorum e T eT = record {
+        member = C.counted g s′;
         many = let h = leb-true (g .n) _ e in omega (arith, h);
         each = λ i is b. (
-          getD (timesNow j T) i 0,
-          subst (λ y. getD (timesNow j T) i 0 ≤ y) (sym eT) (above i is),
-          stamp-knows X p j T ij new i (getD (timesNow j T) i 0) (kept-true _ _ b),
+          replyOf s′ i,
+          subst (λ y. replyOf s′ i ≤ y) (sym eT) (below-largest i is b),
+          K .times i (replyOf s′ i) (kept-true _ _ (counted-by s′ i b .0)),
         );
       }
+
+      -- and t + 1 servers reported it or more
+      backing : (T : ℕ) → T ≡ U → (T ≡ 0) ⊎ AtLeast (g .n) (g .t + 1) (λ i. (R : ℕ) × (T ≤ R) × KnowsR i R)
+      unfolding C.largestCounted pick
+      backing T eT = ⊎-elim (λ e. inl (eT ∙ e)) (λ (i, is, e). go i (C.counted g s′ i) refl (eT ∙ e))
+          (largest-is (λ j. pick (C.counted g s′ j) (replyOf s′ j) 0) (g .n))
+        where
+          go : (i : ℕ) (b : Bool) → C.counted g s′ i ≡ b → T ≡ pick b (replyOf s′ i) 0
+              → (T ≡ 0) ⊎ AtLeast (g .n) (g .t + 1) (λ i. (R : ℕ) × (T ≤ R) × KnowsR i R)
+          go i true c e = inr (at-least-map (λ m im l. (reportOf s′ m, omega (arith, e, l), K .told m im .0))
+              (backed-servers g (reportOf s′) (replyOf s′ i) (counted-by s′ i c .1)))
+          go i false c e = inl e
 
       time-same : (o : Offer) (U : ℕ) (e : Entry) → blockIs send o ≡ blockIs send (offer U e) → o .time ≡ U
       time-same o U e z = cc
 
       -- the time that is sent is the largest of them, so at least each
-      send-facts : ClientShape (inPhase s F.Acking (replicate 11 false) (timesNow j T)) a → C.quorate g (heardNow j) ≡ true
-          → ClientFacts (inPhase s F.Acking (replicate 11 false) (timesNow j T)) a (dispersed H g me s a v j (largestNow H g me s a v j T)) C.nothing
+      send-facts : ClientShape (inPhase s′ F.Acking (replicate 11 false) (s′ .times)) a → C.gathered g s′ ≡ true
+          → ClientFacts (inPhase s′ F.Acking (replicate 11 false) (s′ .times)) a (dispersed H g me s a v j U) C.nothing
       send-facts Y e = record {
         client-shape = Y;
-        writes-up = omega arith;
-        reads-up = omega arith;
+        writes-up = omega (arith, K .writes);
+        reads-up = omega (arith, K .reads);
         t-kept = λ i T′ is q z. impossible (cc);
         a-kept = λ i is q z. impossible (cc (no-flag 11 i, z));
         v-kept = λ i k is q z. impossible (cc);
-        t-sent = λ b d q o u.
-            let w = body-all _ b _ u in
-            (w .2, quorum e _ (λ i is. le-largest (λ m. getD (timesNow j T) m 0) (g .n) i is) (o .time) (time-same o _ _ (w .1)));
+        t-sent = λ b d q o u. let w = body-all _ b _ u in (w .2, quorum e (o .time) (time-same o _ _ (w .1)));
+        t-vouched = λ b d q o u. let w = body-all _ b _ u in backing (o .time) (time-same o _ _ (w .1));
+        report-kept = λ i is. K .told i is .0;
+        report-up = λ i is. K .told i is .1;
         g-sent = λ b d q u. impossible (cc (body-all _ b _ u .1));
         r-sent = λ b d q u. impossible (cc (body-all _ b _ u .1));
         write-why = λ z. impossible (cc);
         read-why = λ v z. impossible (cc);
       }
 
-      shut-facts : ClientShape (shut (asked j T)) a → ClientFacts (shut (asked j T)) a [] C.outOfStamps
+      shut-facts : ClientShape (shut s′) a → ClientFacts (shut s′) a [] C.outOfStamps
       shut-facts Y = record {
         client-shape = Y;
-        writes-up = omega arith;
-        reads-up = omega arith;
+        writes-up = omega (arith, K .writes);
+        reads-up = omega (arith, K .reads);
         t-kept = λ i T′ is q z. impossible (cc);
         a-kept = λ i is q z. impossible (cc);
         v-kept = λ i k is q z. impossible (cc);
         t-sent = λ b d q o u. absurd (List·Memᴰ·not-nil u);
+        t-vouched = λ b d q o u. absurd (List·Memᴰ·not-nil u);
+        report-kept = λ i is. K .told i is .0;
+        report-up = λ i is. K .told i is .1;
         g-sent = λ b d q u. absurd (List·Memᴰ·not-nil u);
         r-sent = λ b d q u. absurd (List·Memᴰ·not-nil u);
         write-why = λ z. impossible (cc);
         read-why = λ v z. impossible (cc);
       }
 
-      hear-facts : ClientShape (asked j T) a → ClientFacts (asked j T) a [] C.nothing
-      hear-facts Y =
-          turn-facts (asked j T) a Y refl refl (λ i T′ is q z. stamp-knows X p j T ij new i T′ z) (λ i is q z. impossible (cc)) (λ i k is q z. impossible (cc))
+      hear-facts : ClientShape s′ a → ClientFacts s′ a [] C.nothing
+      hear-facts Y = turn-facts s′ a Y (K .writes) (K .reads) (λ i T′ is q z. K .times i T′ z) (λ i is q z. impossible (cc (K .asking, q)))
+          (λ i k is q z. impossible (cc (K .asking, q))) (K .told)
+
+    stamp-learned : ClientShape s a → (v : List ℕ) → s .phase ≡ F.Asking → (j T : ℕ) → Among (g .n) j → N j (message me (s .writes) (stampIs T))
+        → Learned (asked H g me s a v j T)
+    stamp-learned X v p j T ij new = record {
+      writes = refl;
+      reads = refl;
+      asking = refl;
+      times = λ i T′ e. stamp-knows X p j T ij new i T′ e;
+      told = same-report X j T ij (inr new);
+    }
+
+    report-learned : ClientShape s a → s .phase ≡ F.Asking → (j T d q : ℕ) → Among (g .n) j → N j (message d q (report T)) → Learned (withReport s j T)
+    report-learned X p j T d q ij new = record {
+      writes = refl;
+      reads = refl;
+      asking = p;
+      times = λ i T′ e. inl (p, e);
+      told = same-report X j T ij (inl (d, q, new));
+    }
+
+    -- a report outside the first part of a write
+    note-facts : ClientShape s a → (j T d q : ℕ) → Among (g .n) j → N j (message d q (report T)) → ClientShape (withReport s j T) a
+        → ClientFacts (withReport s j T) a [] C.nothing
+    unfolding rowView
+    note-facts X j T d q ij new Y = turn-facts (withReport s j T) a Y refl refl (λ j T i p e. inl (p, e)) (λ j i p e. inl (p, e)) (λ j k i p e. inl (p, e))
+        (same-report X j T ij (inl (d, q, new)))
 
     -- ---- acks
 
@@ -292,6 +395,9 @@ module _ (H : List ℕ → List ℕ) (g : Params) (M : Small g) (few : g .n ≤ 
         a-kept = λ i is q z. impossible (cc);
         v-kept = λ i k is q z. impossible (cc);
         t-sent = λ b d q o u. absurd (List·Memᴰ·not-nil u);
+        t-vouched = λ b d q o u. absurd (List·Memᴰ·not-nil u);
+        report-kept = λ i is. inl refl;
+        report-up = λ i is. omega arith;
         g-sent = λ b d q u. absurd (List·Memᴰ·not-nil u);
         r-sent = λ b d q u. absurd (List·Memᴰ·not-nil u);
         write-why = λ z. record {
@@ -304,15 +410,19 @@ module _ (H : List ℕ → List ℕ) (g : Params) (M : Small g) (few : g .n ≤ 
 
       count-facts : ClientShape (inPhase s F.Acking (heardNow j) (s .times)) a → ClientFacts (inPhase s F.Acking (heardNow j) (s .times)) a [] C.nothing
       count-facts Y = turn-facts (inPhase s F.Acking (heardNow j) (s .times)) a Y refl refl
-          (λ i T′ is q z. impossible (cc)) (λ i is q z. knows i z) (λ i k is q z. impossible (cc))
+          (λ i T′ is q z. impossible (cc)) (λ i is q z. knows i z) (λ i k is q z. impossible (cc)) same-reports
 
     -- ---- values
 
     -- the rows s′ and a′ are searched
     module _ (s′ : Client) (a′ : List ℕ) (ew : s′ .writes ≡ s .writes) (er : s′ .reads ≡ s .reads) (p : s′ .phase ≡ F.Reading)
+        (same : s′ .reports ≡ s .reports)
         (f : (i : ℕ) (k : Kept) → Among (g .n) i → List·Memᴰ k (rowView g s′ a′ i) → KnowsV i k) where
+      same-told : (i : ℕ) → Among (g .n) i → KnowsR i (reportOf s′ i) × (reportOf s i ≤ reportOf s′ i)
+      same-told i is = let e : reportOf s′ i ≡ reportOf s i = ap (λ l. getD l i 0) same in (inl (sym e), omega (arith, e))
+
       wait-facts : ClientShape s′ a′ → ClientFacts s′ a′ [] C.nothing
-      wait-facts Y = turn-facts s′ a′ Y ew er (λ i T′ is q z. impossible (cc)) (λ i is q z. impossible (cc)) (λ i k is q z. f i k is z)
+      wait-facts Y = turn-facts s′ a′ Y ew er (λ i T′ is q z. impossible (cc)) (λ i is q z. impossible (cc)) (λ i k is q z. f i k is z) same-told
 
       complete-facts : ClientShape (inPhase s′ F.Idle (s′ .heard) (s′ .times)) a′ → (y : Found) → search g (rowView g s′ a′) ≡ some y
           → ClientFacts (inPhase s′ F.Idle (s′ .heard) (s′ .times)) a′ (toAll g (λ i. message me (s′ .reads) readComplete)) (C.stopped y)
@@ -324,6 +434,9 @@ module _ (H : List ℕ → List ℕ) (g : Params) (M : Small g) (few : g .n ≤ 
         a-kept = λ i is q z. impossible (cc);
         v-kept = λ i k is q z. impossible (cc);
         t-sent = λ b d q o u. impossible (cc (body-all _ b _ u .1));
+        t-vouched = λ b d q o u. impossible (cc (body-all _ b _ u .1));
+        report-kept = λ i is. same-told i is .0;
+        report-up = λ i is. same-told i is .1;
         g-sent = λ b d q u. impossible (cc (body-all _ b _ u .1));
         r-sent = λ b d q u. impossible (cc (body-all _ b _ u .1));
         write-why = λ z. impossible (cc);
@@ -337,27 +450,23 @@ module _ (H : List ℕ → List ℕ) (g : Params) (M : Small g) (few : g .n ≤ 
       pub writes : s′ .writes ≡ s .writes
       pub reads : s′ .reads ≡ s .reads
       pub phase : s′ .phase ≡ F.Reading
+      pub reports : s′ .reports ≡ s .reports
       pub each : (i : ℕ) (k : Kept) → Among (g .n) i → List·Memᴰ k (rowView g s′ a′ i) → KnowsV i k
 
     keep-facts : ClientShape s a → s .phase ≡ F.Reading → (v : List ℕ) (j : ℕ) (x : Stamp) (e : Entry) → Sized g e → Among (g .n) j
         → N j (message me (s .reads) (valueIs x e)) → {s′ : Client} {a′ : List ℕ} → Keeps H g me s a v j x e s′ a′ → Kept-facts s′ a′
-    keep-facts X p v j x e Q ij new (drops z) = record { writes = refl; reads = refl; phase = p; each = λ i k is u. inl (p, u) }
+    keep-facts X p v j x e Q ij new (drops z) = record { writes = refl; reads = refl; phase = p; reports = refl; each = λ i k is u. inl (p, u) }
     keep-facts X p v j x e Q ij new (keeps i z) = record {
       writes = refl;
       reads = refl;
       phase = p;
+      reports = refl;
       each = λ m k is u. ⊎-elim
           (λ w. inr (subst (λ y. N m (message me (s .reads) (valueIs (y .stamp) (y .entry)))) (sym (w .1))
           (subst (λ y. N y (message me (s .reads) (valueIs x e))) (sym (w .0)) new)))
           (λ w. inl (p, w))
           (CV.row-kept g M s (X .within .rows) a (X .room) j (ij .0, omega (arith, few, ij .1)) x e Q i (CV.goes (rowOf s j) x i z) m (is .0) k u);
     }
-
-  asking-is : (p : Phase) → CS.asking p ≡ true → p ≡ F.Asking
-  asking-is F.Idle e = impossible (cc)
-  asking-is F.Asking e = refl
-  asking-is F.Acking e = impossible (cc)
-  asking-is F.Reading e = impossible (cc)
 
   acking-is : (p : Phase) → CS.acking p ≡ true → p ≡ F.Acking
   acking-is F.Idle e = impossible (cc)
@@ -394,9 +503,22 @@ module _ (H : List ℕ → List ℕ) (g : Params) (M : Small g) (few : g .n ≤ 
       let w = and-split (CS.reading (s .phase)) _ (awaited-true H g me _ (fine-both _ _ o .0)) in
       (reading-is (s .phase) (w .0), eqb-true q (s .reads) (and-split (eqb q (s .reads)) _ (w .1) .0))
 
-  module _ (s : Client) (a v : List ℕ) (X : ClientShape s a) (j q : ℕ) (ij : Among (g .n) j) where
+  -- whose operation it is
+  ack-owner : (d : ℕ) → CT.ownerRight me d ack ≡ true → d ≡ me
+  unfolding CT.ownerRight
+  ack-owner d e = eqb-true d me e
+
+  stamp-owner : (d T : ℕ) → CT.ownerRight me d (stampIs T) ≡ true → d ≡ me
+  unfolding CT.ownerRight
+  stamp-owner d T e = eqb-true d me e
+
+  value-owner : (d : ℕ) (x : Stamp) (e : Entry) → CT.ownerRight me d (valueIs x e) ≡ true → d ≡ me
+  unfolding CT.ownerRight
+  value-owner d x e h = eqb-true d me h
+
+  module _ (s : Client) (a v : List ℕ) (X : ClientShape s a) (j d q : ℕ) (ij : Among (g .n) j) where
     abbrev Of : Body → C.Effect → Type 0
-    Of b r = ClientFacts s a (Brought j (message me q b)) (r .client) (r .area) (r .sends) (r .event)
+    Of b r = ClientFacts s a (Brought j (message d q b)) (r .client) (r .area) (r .sends) (r .event)
 
     -- the law of a step keeps the shape
     shape-after : {b : Body} {r : C.Effect} → Shape H g me s a v j b r → ClientShape (r .client) (r .area)
@@ -405,39 +527,52 @@ module _ (H : List ℕ → List ℕ) (g : Params) (M : Small g) (few : g .n ≤ 
         empty = refl;
         flag = λ l e. length-set l j true ∙ e;
         time = λ T i l e. length-set l j T ∙ e;
+        told = λ T i l e. length-set l j (max (getD l j 0) T) ∙ e;
         row = λ x e i m l S. row-shaped l S j (omega (arith, few, ij .1)) m x;
       });
       room = rw (shape-length H g me s a v j h) (X .room);
     }
 
-    shape-facts : {b : Body} {r : C.Effect} → FormedBody g b → CT.orderTest H g me s j q b ≡ J.Fine → Shape H g me s a v j b r → Of b r
-    shape-facts f o (idle b) = quiet-facts s a _ X
-    shape-facts f o (hears T z) =
-        let w = stamp-open s j q T o in
-        hear-facts s a _ X (w .0) v j T ij (refl, ap (λ y. message me y (stampIs T)) (w .1)) (shape-after (hears T z))
-    shape-facts f o (disperses T z l) =
-        let w = stamp-open s j q T o in
-        send-facts s a _ X (w .0) v j T ij (refl, ap (λ y. message me y (stampIs T)) (w .1)) (shape-after (disperses T z l)) z
-    shape-facts f o (shuts T z l) =
-        let w = stamp-open s j q T o in
-        shut-facts s a _ X (w .0) v j T ij (refl, ap (λ y. message me y (stampIs T)) (w .1)) (shape-after (shuts T z l))
-    shape-facts f o (counts z) = let w = ack-open s j q o in count-facts s a _ X (w .0) j ij (refl, ap (λ y. message me y ack) (w .1)) (shape-after (counts z))
-    shape-facts f o (ends z) = let w = ack-open s j q o in end-facts s a _ X (w .0) j ij (refl, ap (λ y. message me y ack) (w .1)) (shape-after (ends z)) z
-    shape-facts f o (waits x e k z) =
-        let w = value-open s j q x e o in
-        let K = keep-facts s a (Brought j (message me q (valueIs x e))) X (w .0) v j x e (f .0) ij (refl, ap (λ y. message me y (valueIs x e)) (w .1)) k in
-        wait-facts s a (Brought j (message me q (valueIs x e))) _ _ (K .writes) (K .reads) (K .phase) (K .each) (shape-after (waits x e k z))
-    shape-facts f o (completes x e k y z) =
-        let w = value-open s j q x e o in
-        let K = keep-facts s a (Brought j (message me q (valueIs x e))) X (w .0) v j x e (f .0) ij (refl, ap (λ y. message me y (valueIs x e)) (w .1)) k in
-        complete-facts s a (Brought j (message me q (valueIs x e))) _ _ (K .writes) (K .reads) (K .phase) (K .each) (shape-after (completes x e k y z)) y z
+    -- the frame is this client's, of this operation
+    its : {d′ q′ : ℕ} (b : Body) → d ≡ d′ → q ≡ q′ → Brought j (message d q b) j (message d′ q′ b)
+    its b e f = (refl, λ i. message (e i) (f i) b)
 
-  pub effect-facts : (s : Client) (a v : List ℕ) → ClientShape s a → (j q : ℕ) (b : Body) → Among (g .n) j → FormedBody g b
-      → CT.orderTest H g me s j q b ≡ J.Fine
-      → ClientFacts s a (Brought j (message me q b)) (C.effect H g me s a v (A.Server j) (message me q b) .client)
-      (C.effect H g me s a v (A.Server j) (message me q b) .area)
-      (C.effect H g me s a v (A.Server j) (message me q b) .sends) (C.effect H g me s a v (A.Server j) (message me q b) .event)
-  effect-facts s a v X j q b ij f o = shape-facts s a v X j q ij f o (shape-of H g me s a v (A.Server j) (message me q b))
+    learned : {b : Body} {s′ : Client} → CT.ownerRight me d b ≡ true → CT.orderTest H g me s j q b ≡ J.Fine → Learns H g me s a v j b s′
+        → Learned s a (Brought j (message d q b)) s′
+    learned w o (replies T) =
+        let (p, e) = stamp-open s j q T o in
+        stamp-learned s a _ X v p j T ij (its (stampIs T) (stamp-owner d T w) e)
+    learned w o (reports T p) = report-learned s a _ X (asking-is (s .phase) p) j T d q ij (its (report T) refl refl)
+
+    shape-facts : {b : Body} {r : C.Effect} → FormedBody g b → CT.ownerRight me d b ≡ true → CT.orderTest H g me s j q b ≡ J.Fine
+        → Shape H g me s a v j b r → Of b r
+    shape-facts f w o (idle b) = quiet-facts s a _ X
+    shape-facts f w o (notes T p) = note-facts s a _ X j T d q ij (its (report T) refl refl) (shape-after (notes T p))
+    shape-facts f w o (hears b k z) = hear-facts s a _ _ (learned w o k) v j (shape-after (hears b k z))
+    shape-facts f w o (disperses b k z l) = send-facts s a _ _ (learned w o k) v j (shape-after (disperses b k z l)) z
+    shape-facts f w o (shuts b k z l) = shut-facts s a _ _ (learned w o k) v j (shape-after (shuts b k z l))
+    shape-facts f w o (counts z) =
+        let (p, e) = ack-open s j q o in
+        count-facts s a _ X p j ij (its ack (ack-owner d w) e) (shape-after (counts z))
+    shape-facts f w o (ends z) =
+        let (p, e) = ack-open s j q o in
+        end-facts s a _ X p j ij (its ack (ack-owner d w) e) (shape-after (ends z)) z
+    shape-facts f w o (waits x e k z) =
+        let (p, h) = value-open s j q x e o in
+        let K = keep-facts s a (Brought j (message d q (valueIs x e))) X p v j x e (f .0) ij (its (valueIs x e) (value-owner d x e w) h) k in
+        wait-facts s a (Brought j (message d q (valueIs x e))) _ _ (K .writes) (K .reads) (K .phase) (K .reports) (K .each) (shape-after (waits x e k z))
+    shape-facts f w o (completes x e k y z) =
+        let (p, h) = value-open s j q x e o in
+        let K = keep-facts s a (Brought j (message d q (valueIs x e))) X p v j x e (f .0) ij (its (valueIs x e) (value-owner d x e w) h) k in
+        complete-facts s a (Brought j (message d q (valueIs x e))) _ _ (K .writes) (K .reads) (K .phase) (K .reports) (K .each)
+        (shape-after (completes x e k y z)) y z
+
+  pub effect-facts : (s : Client) (a v : List ℕ) → ClientShape s a → (j d q : ℕ) (b : Body) → Among (g .n) j → FormedBody g b
+      → CT.ownerRight me d b ≡ true → CT.orderTest H g me s j q b ≡ J.Fine
+      → ClientFacts s a (Brought j (message d q b)) (C.effect H g me s a v (A.Server j) (message d q b) .client)
+      (C.effect H g me s a v (A.Server j) (message d q b) .area)
+      (C.effect H g me s a v (A.Server j) (message d q b) .sends) (C.effect H g me s a v (A.Server j) (message d q b) .event)
+  effect-facts s a v X j d q b ij f w o = shape-facts s a v X j d q ij f w o (shape-of H g me s a v (A.Server j) (message d q b))
 
   -- ---- beginnings
 
@@ -461,6 +596,9 @@ module _ (H : List ℕ → List ℕ) (g : Params) (M : Small g) (few : g .n ≤ 
         a-kept = λ i is q z. impossible (cc);
         v-kept = λ i k is q z. absurd (no-rows g _ a i k refl z);
         t-sent = λ b d q o u. impossible (cc (body-all s a Nought _ b _ u .1));
+        t-vouched = λ b d q o u. impossible (cc (body-all s a Nought _ b _ u .1));
+        report-kept = λ i is. inl refl;
+        report-up = λ i is. omega arith;
         g-sent = λ b d q u. impossible (cc (body-all s a Nought _ b _ u .1));
         r-sent = λ b d q u. let w = body-all s a Nought (λ j. message me (s .reads + 1) askRead) b _ u .2 in omega (arith, w);
         write-why = λ z. impossible (cc);
@@ -487,6 +625,9 @@ module _ (H : List ℕ → List ℕ) (g : Params) (M : Small g) (few : g .n ≤ 
         a-kept = λ i is q z. impossible (cc);
         v-kept = λ i k is q z. impossible (cc);
         t-sent = λ b d q o u. impossible (cc (body-all s a Nought _ b _ u .1));
+        t-vouched = λ b d q o u. impossible (cc (body-all s a Nought _ b _ u .1));
+        report-kept = λ i is. inl refl;
+        report-up = λ i is. omega arith;
         g-sent = λ b d q u. let w = body-all s a Nought (λ j. message me (s .writes + 1) getStamp) b _ u .2 in omega (arith, w);
         r-sent = λ b d q u. impossible (cc (body-all s a Nought _ b _ u .1));
         write-why = λ z. impossible (cc);

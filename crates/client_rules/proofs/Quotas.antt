@@ -19,10 +19,13 @@ module _ (H : List ℕ → List ℕ) (g : Params) (me : ℕ) where
   end-true true s a h e = refl
   end-true false s a h e = impossible (cc e)
 
-  send-true : (b : Bool) (s : Client) (a v : List ℕ) (x : Sending) → List·Memᴰ x (C.gatherBy H g me b s a v .sends) → b ≡ true
+  send-true : (s : Client) (a v : List ℕ) (x : Sending) → List·Memᴰ x (C.gather H g me s a v .sends) → C.gathered g s ≡ true
   unfolding C.gatherBy
-  send-true true s a v x u = refl
-  send-true false s a v x u = absurd (List·Memᴰ·not-nil u)
+  send-true s a v x u = go (C.gathered g s) u
+    where
+      go : (b : Bool) → List·Memᴰ x (C.gatherBy H g me b s a v .sends) → b ≡ true
+      go true u = refl
+      go false u = absurd (List·Memᴰ·not-nil u)
 
   module _ (s : Client) (a : List ℕ) (j : ℕ) where
     -- how many servers are marked once server j's stamp or ack came
@@ -33,6 +36,7 @@ module _ (H : List ℕ → List ℕ) (g : Params) (me : ℕ) where
     unfolding C.onAck C.quorate
     ended-acks e = let h = leb-true (g .n) _ (end-true _ s a _ e) in omega (arith, h)
 
-    pub sent-stamps : (v : List ℕ) (T : ℕ) (x : Sending) → List·Memᴰ x (C.onStamp H g me s a v j T .sends) → g .n - g .t ≤ marked
-    unfolding C.onStamp C.quorate
-    sent-stamps v T x u = let h = leb-true (g .n) _ (send-true _ _ a v x u) in omega (arith, h)
+  -- "At n - t first stamps" that t + 1 servers reported: not at fewer
+  pub sent-stamps : (s : Client) (a v : List ℕ) (x : Sending) → List·Memᴰ x (C.gather H g me s a v .sends) → g .n - g .t ≤ count (C.counted g s) (g .n)
+  unfolding C.gathered
+  sent-stamps s a v x u = let h = leb-true (g .n) _ (send-true s a v x u) in omega (arith, h)

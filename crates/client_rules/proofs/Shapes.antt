@@ -1,12 +1,13 @@
 -- The law of a client's step: what forms it can have. Who needs to know what a step does goes by these cases and never by a step's text. Assumes nothing.
 use Prim.Native.Nat.{ℕ, _≤_, _<_}
 use mathlib.Core.Bool.{Bool, true, false}
-use mathlib.Core.Path.{_≡_, refl}
+use mathlib.Core.Path.{_≡_, refl, sym, subst}
 use mathlib.Core.Option.{Option, none, some}
 use mathlib.Core.List.{List, []}
-use lib.ListN.{length, getD, set, replicate}
+use lib.ListN.{length, set, replicate}
 use lib.Dec.{ltb}
 use borrow.Author.Tests.{ltb-true, ltb-false}
+use Rattle.quorum.proofs.Logic.{impossible}
 use Rattle.blocks.specs.declared.Params.{Params}
 use Rattle.frame.specs.declared.Stamp.{Stamp}
 use Rattle.frame.specs.declared.Party.{Party}
@@ -14,27 +15,36 @@ use Rattle.frame.specs.declared.Refusal.{Refusal}
 use Rattle.frame.specs.Stamps.{lastTime}
 use Rattle.frame.specs.Chunks.{storeEntry, placeAt}
 use Rattle.frame.specs.Messages.{Entry, Body, getStamp, ack, askRead, readComplete, stampIs, blockIs}
-use Rattle.frame.specs.Messages.{valueIs, Message, message, Sending, toAll, numberIn, Judged, bad, good}
+use Rattle.frame.specs.Messages.{valueIs, report, Message, message, Sending, toAll, numberIn, Judged, bad, good}
 use Rattle.frame.proofs.Chunks.{length-store}
 use Rattle.client_rules.specs.declared.Client.{Client}
+use Rattle.client_rules.specs.declared.Phase.{Phase}
 use Rattle.client_rules.specs.declared.Phase.the-variants as F
-use Rattle.client_rules.specs.State.{rowOf, largest, inPhase, shut, withRow}
+use Rattle.client_rules.specs.State.{asking, rowOf, inPhase, shut, withRow, withReport}
 use Rattle.client_rules.specs.Rows.{rowView, placeFor, rowWith, Found, search}
 use Rattle.client_rules.specs.Steps as C
 use Rattle.client_rules.specs.Tests.{judge}
 use Rattle.client_rules.specs.Delivery as CD
+
+pub asking-is : (p : Phase) → asking p ≡ true → p ≡ F.Asking
+asking-is F.Idle e = impossible (cc)
+asking-is F.Asking e = refl
+asking-is F.Acking e = impossible (cc)
+asking-is F.Reading e = impossible (cc)
 
 module _ (H : List ℕ → List ℕ) (g : Params) (me : ℕ) (s : Client) (a v : List ℕ) (j : ℕ) where
   -- server j's stamp or ack is counted
   abbrev pub heardNow : List Bool
   heardNow = set (s .heard) j true
 
-  -- its time T, too
+  -- its time T, too, which is a report
   abbrev pub asked : ℕ → Client
-  asked T = inPhase s F.Asking heardNow (set (s .times) j T)
+  asked T = inPhase (withReport s j T) F.Asking heardNow (set (s .times) j T)
 
-  abbrev pub largestNow : ℕ → ℕ
-  largestNow T = largest (λ i. getD (set (s .times) j T) i 0) (g .n)
+  -- in the first part of a write server j's stamp or report leaves this
+  pub data Learns : Body → Client → Type 0 where
+    replies : (T : ℕ) → Learns (stampIs T) (asked T)
+    reports : (T : ℕ) → asking (s .phase) ≡ true → Learns (report T) (withReport s j T)
 
   -- the value's blocks, with the time M, to all
   abbrev pub dispersed : ℕ → List Sending
@@ -48,15 +58,16 @@ module _ (H : List ℕ → List ℕ) (g : Params) (me : ℕ) (s : Client) (a v :
   -- what a frame of server j does
   pub data Shape : Body → C.Effect → Type 0 where
     idle : (b : Body) → Shape b (C.quiet s a)
-    hears : (T : ℕ) → C.quorate g heardNow ≡ false → Shape (stampIs T) (C.quiet (asked T) a)
-    sends : (T : ℕ) → C.quorate g heardNow ≡ true → largestNow T < lastTime → Shape (stampIs T) (record {
-      client = inPhase (asked T) F.Acking (replicate 11 false) (set (s .times) j T);
+    notes : (T : ℕ) → asking (s .phase) ≡ false → Shape (report T) (C.quiet (withReport s j T) a)
+    hears : (b : Body) {s′ : Client} → Learns b s′ → C.gathered g s′ ≡ false → Shape b (C.quiet s′ a)
+    sends : (b : Body) {s′ : Client} → Learns b s′ → C.gathered g s′ ≡ true → C.largestCounted g s′ < lastTime → Shape b (record {
+      client = inPhase s′ F.Acking (replicate 11 false) (s′ .times);
       area = a;
-      sends = dispersed (largestNow T);
+      sends = dispersed (C.largestCounted g s′);
       event = C.nothing;
     })
-    shuts : (T : ℕ) → C.quorate g heardNow ≡ true → lastTime ≤ largestNow T
-        → Shape (stampIs T) (record { client = shut (asked T); area = a; sends = []; event = C.outOfStamps })
+    shuts : (b : Body) {s′ : Client} → Learns b s′ → C.gathered g s′ ≡ true → lastTime ≤ C.largestCounted g s′
+        → Shape b (record { client = shut s′; area = a; sends = []; event = C.outOfStamps })
     counts : C.quorate g heardNow ≡ false → Shape ack (C.quiet (inPhase s F.Acking heardNow (s .times)) a)
     ends : C.quorate g heardNow ≡ true → Shape ack (record { client = inPhase s F.Idle heardNow (s .times); area = a; sends = []; event = C.written })
     waits : (x : Stamp) (e : Entry) {s′ : Client} {a′ : List ℕ} → Keeps x e s′ a′ → search g (rowView g s′ a′) ≡ none → Shape (valueIs x e) (C.quiet s′ a′)
@@ -68,17 +79,53 @@ module _ (H : List ℕ → List ℕ) (g : Params) (me : ℕ) (s : Client) (a v :
           event = C.stopped y;
         })
 
-  on-stamp : (T : ℕ) → Shape (stampIs T) (C.onStamp H g me s a v j T)
-  unfolding C.onStamp C.gatherBy C.sendBelow
-  on-stamp T = go (C.quorate g heardNow) refl
-    where
-      below : (b : Bool) → ltb (largestNow T) lastTime ≡ b → C.quorate g heardNow ≡ true → Shape (stampIs T) (C.sendBelow H g me b (asked T) a v (largestNow T))
-      below true e q = sends T q (ltb-true (largestNow T) lastTime e)
-      below false e q = shuts T q (ltb-false (largestNow T) lastTime e)
+  -- what is learned leaves the write's number
+  pub learns-writes : {b : Body} {s′ : Client} → Learns b s′ → s′ .writes ≡ s .writes
+  learns-writes (replies T) = refl
+  learns-writes (reports T p) = refl
 
-      go : (b : Bool) → C.quorate g heardNow ≡ b → Shape (stampIs T) (C.gatherBy H g me b (asked T) a v)
-      go true q = below (ltb (largestNow T) lastTime) refl q
-      go false q = hears T q
+  pub learns-reads : {b : Body} {s′ : Client} → Learns b s′ → s′ .reads ≡ s .reads
+  learns-reads (replies T) = refl
+  learns-reads (reports T p) = refl
+
+  pub learns-rows : {b : Body} {s′ : Client} → Learns b s′ → s′ .rows ≡ s .rows
+  learns-rows (replies T) = refl
+  learns-rows (reports T p) = refl
+
+  -- the write is still in its first part
+  pub learns-phase : {b : Body} {s′ : Client} → Learns b s′ → s′ .phase ≡ F.Asking
+  learns-phase (replies T) = refl
+  learns-phase (reports T p) = asking-is (s .phase) p
+
+  gathers : {b : Body} {s′ : Client} → Learns b s′ → Shape b (C.gather H g me s′ a v)
+  unfolding C.gatherBy C.sendBelow
+  gathers {b} {s′} k = go (C.gathered g s′) refl
+    where
+      below : (t : Bool) → ltb (C.largestCounted g s′) lastTime ≡ t → C.gathered g s′ ≡ true → Shape b (C.sendBelow H g me t s′ a v (C.largestCounted g s′))
+      below true e q =
+          subst (λ w. Shape b (record {
+            client = inPhase s′ F.Acking (replicate 11 false) (s′ .times);
+            area = a;
+            sends = C.dispersal H g me w v (C.largestCounted g s′);
+            event = C.nothing;
+          })) (sym (learns-writes k)) (sends b k q (ltb-true (C.largestCounted g s′) lastTime e))
+      below false e q = shuts b k q (ltb-false (C.largestCounted g s′) lastTime e)
+
+      go : (t : Bool) → C.gathered g s′ ≡ t → Shape b (C.gatherBy H g me t s′ a v)
+      go true q = below (ltb (C.largestCounted g s′) lastTime) refl q
+      go false q = hears b k q
+
+  on-stamp : (T : ℕ) → Shape (stampIs T) (C.onStamp H g me s a v j T)
+  unfolding C.onStamp
+  on-stamp T = gathers (replies T)
+
+  on-report : (T : ℕ) → Shape (report T) (C.onReport H g me s a v j T)
+  unfolding C.onReport C.reportBy
+  on-report T = go (asking (s .phase)) refl
+    where
+      go : (t : Bool) → asking (s .phase) ≡ t → Shape (report T) (C.reportBy H g me t (withReport s j T) a v)
+      go true p = gathers (reports T p)
+      go false p = notes T p
 
   on-ack : Shape ack (C.onAck H g me s a j)
   unfolding C.onAck C.endBy
@@ -110,6 +157,7 @@ module _ (H : List ℕ → List ℕ) (g : Params) (me : ℕ) (s : Client) (a v :
   shape (stampIs T) = on-stamp T
   shape (blockIs z o) = idle (blockIs z o)
   shape (valueIs x e) = on-value x e
+  shape (report T) = on-report T
 
   -- ---- what every step keeps
 
@@ -119,9 +167,10 @@ module _ (H : List ℕ → List ℕ) (g : Params) (me : ℕ) (s : Client) (a v :
 
   pub shape-length : {b : Body} {r : C.Effect} → Shape b r → length (r .area) ≡ length a
   shape-length (idle b) = refl
-  shape-length (hears T q) = refl
-  shape-length (sends T q l) = refl
-  shape-length (shuts T q l) = refl
+  shape-length (notes T p) = refl
+  shape-length (hears b k q) = refl
+  shape-length (sends b k q l) = refl
+  shape-length (shuts b k q l) = refl
   shape-length (counts q) = refl
   shape-length (ends q) = refl
   shape-length (waits x e k z) = keeps-length k

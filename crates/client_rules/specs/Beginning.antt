@@ -77,6 +77,7 @@ module _ (g : Params) (me : ℕ) where
       heard = s .heard;
       times = s .times;
       rows = replicate 11 freshRow;
+      reports = s .reports;
     };
     area = [];
     sends = toAll g (λ j. message me (s .reads + 1) askRead);
@@ -94,6 +95,7 @@ module _ (g : Params) (me : ℕ) where
       heard = replicate 11 false;
       times = replicate 11 0;
       rows = s .rows;
+      reports = s .reports;
     };
     area = [];
     sends = toAll g (λ j. message me (s .writes + 1) getStamp);

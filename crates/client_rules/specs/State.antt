@@ -23,6 +23,7 @@ freshClient = record {
   heard = replicate 11 false;
   times = replicate 11 0;
   rows = replicate 11 freshRow;
+  reports = replicate 11 0;
 }
 
 -- ---- phases
@@ -70,6 +71,14 @@ rowOf s j = getD (s .rows) j noRow
 abbrev pub heardOf : Client → ℕ → Bool
 heardOf s j = getD (s .heard) j false
 
+-- the time of its stamp
+abbrev pub replyOf : Client → ℕ → ℕ
+replyOf s j = getD (s .times) j 0
+
+-- the highest time that it reported
+abbrev pub reportOf : Client → ℕ → ℕ
+reportOf s j = getD (s .reports) j 0
+
 -- the largest of f 1 to f n
 unfoldable pub largest : (ℕ → ℕ) → ℕ → ℕ
 largest f zero = 0
@@ -79,11 +88,20 @@ largest f (suc j) = max (f (suc j)) (largest f j)
 
 -- in a phase, with what that phase counts
 abbrev pub inPhase : Client → Phase → List Bool → List ℕ → Client
-inPhase s p h ts = record { writes = s .writes; reads = s .reads; closed = s .closed; phase = p; heard = h; times = ts; rows = s .rows }
+inPhase s p h ts = record { writes = s .writes; reads = s .reads; closed = s .closed; phase = p; heard = h; times = ts; rows = s .rows; reports = s .reports }
 
 -- out of stamps
 abbrev pub shut : Client → Client
-shut s = record { writes = s .writes; reads = s .reads; closed = true; phase = F.Idle; heard = s .heard; times = s .times; rows = s .rows }
+shut s = record {
+  writes = s .writes;
+  reads = s .reads;
+  closed = true;
+  phase = F.Idle;
+  heard = s .heard;
+  times = s .times;
+  rows = s .rows;
+  reports = s .reports;
+}
 
 abbrev pub withRow : Client → ℕ → Row → Client
 withRow s j r = record {
@@ -94,4 +112,18 @@ withRow s j r = record {
   heard = s .heard;
   times = s .times;
   rows = set (s .rows) j r;
+  reports = s .reports;
+}
+
+-- server j reported T; "the highest from each server is kept, across operations"
+abbrev pub withReport : Client → ℕ → ℕ → Client
+withReport s j T = record {
+  writes = s .writes;
+  reads = s .reads;
+  closed = s .closed;
+  phase = s .phase;
+  heard = s .heard;
+  times = s .times;
+  rows = s .rows;
+  reports = set (s .reports) j (max (reportOf s j) T);
 }

@@ -1,23 +1,25 @@
 -- What a frame that passes the tests does to a client, by document 01's "Write, client" and "Read". H is the digest, g the parameters, me
 -- the client's number, s the client, a its rows area, v the value of its open write. These are definitions.
 use Prim.Native.Nat.{ℕ, _+_}
-use mathlib.Core.Bool.{Bool, true, false}
+use mathlib.Core.Bool.{Bool, true, false, _&&_}
 use mathlib.Core.Option.{Option, none, some}
 use mathlib.Core.List.{List, []}
 use lib.ListN.{getD, set, replicate}
 use lib.Dec.{leb, ltb}
 use Rattle.quorum.specs.Quorum.{count}
+use Rattle.area.specs.Area.{pick}
 use Rattle.blocks.specs.declared.Params.{Params}
 use Rattle.frame.specs.declared.Stamp.{Stamp}
 use Rattle.frame.specs.declared.Party.{Party}
 use Rattle.frame.specs.Stamps.{lastTime}
 use Rattle.frame.specs.Messages.{Entry, offer, send, Body, getStamp, ack, askRead, readComplete, stampIs}
-use Rattle.frame.specs.Messages.{blockIs, valueIs, Message, message, Sending, toAll, numberIn}
+use Rattle.frame.specs.Messages.{blockIs, valueIs, report, Message, message, Sending, toAll, numberIn}
 use Rattle.frame.specs.Chunks.{storeEntry, placeAt}
 use Rattle.group_rules.specs.Coded.{entryOf}
+use Rattle.group_rules.specs.Vouching.{backed}
 use Rattle.client_rules.specs.declared.Client.{Client}
 use Rattle.client_rules.specs.declared.Phase.the-variants as F
-use Rattle.client_rules.specs.State.{rowOf, largest, inPhase, shut, withRow}
+use Rattle.client_rules.specs.State.{asking, rowOf, heardOf, replyOf, reportOf, largest, inPhase, shut, withRow, withReport}
 use Rattle.client_rules.specs.Rows.{rowView, placeFor, rowWith, Found, search}
 
 -- what a call ends: nothing; the write; the write, as out of stamps; the read, where its search stopped
@@ -35,9 +37,21 @@ pub record Effect : Type 0 where
 abbrev pub quiet : Client → List ℕ → Effect
 quiet s a = record { client = s; area = a; sends = []; event = nothing }
 
--- n - t servers are marked
+-- n - t servers are marked: their acks came
 unfoldable pub quorate : Params → List Bool → Bool
 quorate g h = leb (g .n) (count (λ j. getD h j false) (g .n) + g .t)
+
+-- "A first stamp reply counts toward n - t only once t + 1 servers have reported that time or more."
+unfoldable pub counted : Params → Client → ℕ → Bool
+counted g s j = heardOf s j && backed g (reportOf s) (replyOf s j)
+
+-- n - t replies count
+unfoldable pub gathered : Params → Client → Bool
+gathered g s = leb (g .n) (count (counted g s) (g .n) + g .t)
+
+-- the largest time of those that count
+unfoldable pub largestCounted : Params → Client → ℕ
+largestCounted g s = largest (λ j. pick (counted g s j) (replyOf s j) 0) (g .n)
 
 module _ (H : List ℕ → List ℕ) (g : Params) (me : ℕ) where
   -- ---- Write, client
@@ -56,14 +70,25 @@ module _ (H : List ℕ → List ℕ) (g : Params) (me : ℕ) where
   }
   sendBelow false s a v M = record { client = shut s; area = a; sends = []; event = outOfStamps }
 
-  -- "At n - t first stamps, take the largest time"
+  -- "One report may lift the count past n - t; the largest counted time is taken."
   unfoldable pub gatherBy : Bool → Client → List ℕ → List ℕ → Effect
-  gatherBy true s a v =
-      sendBelow (ltb (largest (λ j. getD (s .times) j 0) (g .n)) lastTime) s a v (largest (λ j. getD (s .times) j 0) (g .n))
+  gatherBy true s a v = sendBelow (ltb (largestCounted g s) lastTime) s a v (largestCounted g s)
   gatherBy false s a v = quiet s a
 
+  abbrev pub gather : Client → List ℕ → List ℕ → Effect
+  gather s a v = gatherBy (gathered g s) s a v
+
+  -- server j's first stamp, which is a report, too
   unfoldable pub onStamp : Client → List ℕ → List ℕ → ℕ → ℕ → Effect
-  onStamp s a v j T = gatherBy (quorate g (set (s .heard) j true)) (inPhase s F.Asking (set (s .heard) j true) (set (s .times) j T)) a v
+  onStamp s a v j T = gather (inPhase (withReport s j T) F.Asking (set (s .heard) j true) (set (s .times) j T)) a v
+
+  -- server j's report; in the first part of a write others may count now
+  unfoldable pub reportBy : Bool → Client → List ℕ → List ℕ → Effect
+  reportBy true s a v = gather s a v
+  reportBy false s a v = quiet s a
+
+  unfoldable pub onReport : Client → List ℕ → List ℕ → ℕ → ℕ → Effect
+  onReport s a v j T = reportBy (asking (s .phase)) (withReport s j T) a v
 
   -- "At n - t acks it has ended."
   unfoldable pub endBy : Bool → Client → List ℕ → List Bool → Effect
@@ -107,6 +132,7 @@ module _ (H : List ℕ → List ℕ) (g : Params) (me : ℕ) where
   onBody s a v j (stampIs T) = onStamp s a v j T
   onBody s a v j (blockIs z o) = quiet s a
   onBody s a v j (valueIs x e) = onValue s a j x e
+  onBody s a v j (report T) = onReport s a v j T
 
   unfoldable pub effect : Client → List ℕ → List ℕ → Party → Message → Effect
   effect s a v from m = onBody s a v (numberIn from) (m .body)

@@ -17,13 +17,13 @@ use Rattle.frame.specs.Refusals.{andThen, refused}
 use Rattle.frame.specs.Params.{clientFrames, outRoom, toRoom, paramsTest}
 use Rattle.frame.specs.Stamps.{lastClient}
 use Rattle.frame.specs.Messages.{Entry, Body, getStamp, ack, askRead, readComplete, stampIs, blockIs}
-use Rattle.frame.specs.Messages.{valueIs, Message, numberIn, fromServer, Judged, bad, judgedBy, after}
+use Rattle.frame.specs.Messages.{valueIs, report, Message, numberIn, fromServer, Judged, bad, judgedBy, after}
 use Rattle.frame.specs.Frames.{opened, messageIn}
 use Rattle.frame.specs.Chunks.{rowsBytes}
 use Rattle.group_rules.specs.Coded.{fitTest}
 use Rattle.client_rules.specs.declared.Client.{Client}
 use Rattle.client_rules.specs.declared.Phase.{Phase}
-use Rattle.client_rules.specs.State.{asking, acking, reading, writing, rowOf, heardOf}
+use Rattle.client_rules.specs.State.{asking, acking, reading, writing, rowOf, heardOf, reportOf}
 use Rattle.client_rules.specs.Rows.{used, hasStamp}
 
 -- refusal 10, of the lengths of the out and to areas: "The client's largest need is now n frames" (request F-4)
@@ -44,7 +44,7 @@ roomTest g area result out to =
 unfoldable pub valueTest : Params → Phase → ℕ → Verdict
 valueTest g p v = pick (writing p && not (eqb v (g .size))) (refused 3) J.Fine
 
--- refusal 11: only stamps, acks and values go to clients
+-- refusal 11: only stamps, acks, values and reports go to clients
 unfoldable pub answers : Body → Bool
 answers getStamp = false
 answers ack = true
@@ -53,6 +53,18 @@ answers readComplete = false
 answers (stampIs T) = true
 answers (blockIs z o) = false
 answers (valueIs x e) = true
+answers (report T) = true
+
+-- refusal 11: a frame for a client names it; "The owner test of 11 doesn't apply to a client receiving kind 13."
+unfoldable pub ownerRight : ℕ → ℕ → Body → Bool
+ownerRight me c getStamp = eqb c me
+ownerRight me c ack = eqb c me
+ownerRight me c askRead = eqb c me
+ownerRight me c readComplete = eqb c me
+ownerRight me c (stampIs T) = eqb c me
+ownerRight me c (blockIs z o) = eqb c me
+ownerRight me c (valueIs x e) = eqb c me
+ownerRight me c (report T) = true
 
 -- refusal 12: "old, repeated or not awaited"
 unfoldable pub awaited : Bool → Verdict
@@ -65,7 +77,8 @@ keptTest H s j q x e =
     (fitTest H e j)
 
 module _ (H : List ℕ → List ℕ) (g : Params) (me : ℕ) where
-  -- refusals 12 and 14, of a frame of operation q from server j. Stamps count only in a write's first part, acks only in its second, each server's first
+  -- refusals 12 and 14, of a frame of operation q from server j. Stamps count only in a write's first part, acks only in its second, each server's
+  -- first. "A kind 13 that isn't higher is 12."
   unfoldable pub orderTest : Client → ℕ → ℕ → Body → Verdict
   orderTest s j q getStamp = J.Fine
   orderTest s j q ack = awaited (acking (s .phase) && (eqb q (s .writes) && not (heardOf s j)))
@@ -74,11 +87,12 @@ module _ (H : List ℕ → List ℕ) (g : Params) (me : ℕ) where
   orderTest s j q (stampIs T) = awaited (asking (s .phase) && (eqb q (s .writes) && not (heardOf s j)))
   orderTest s j q (blockIs z o) = J.Fine
   orderTest s j q (valueIs x e) = keptTest H s j q x e
+  orderTest s j q (report T) = awaited (ltb (reportOf s j) T)
 
-  -- refusals 11 to 14: from a server 1 to n, of a kind for clients, naming this client
+  -- refusals 11 to 14: from a server 1 to n, of a kind for clients, of the right owner
   unfoldable pub messageTest : Client → Party → Message → Verdict
   messageTest s from m =
-      pick (fromServer g from && (answers (m .body) && eqb (m .client) me)) (orderTest s (numberIn from) (m .sequence) (m .body)) (refused 11)
+      pick (fromServer g from && (answers (m .body) && ownerRight me (m .client) (m .body))) (orderTest s (numberIn from) (m .sequence) (m .body)) (refused 11)
 
   -- all of them: the lowest number, or what the frame says
   unfoldable pub judgeOpened : Opened → Verdict → Client → Party → List ℕ → Judged

@@ -19,3 +19,4 @@ pub record Within (B : Bounds) (s : Client) : Type 0 where
   pub heard : B .heard (s .heard)
   pub times : B .times (s .times)
   pub rows : B .rows (s .rows)
+  pub reports : B .times (s .reports)

@@ -17,7 +17,7 @@ pub struct Row {
 }
 
 // The numbers of the last write and read begun, and whether a write closed as out of stamps. Of the open operation: which servers' stamps or
-// acks were counted, the times received, and the rows.
+// acks were counted, the times received, and the rows. The highest time that each server reported, across operations.
 pub struct Client {
     pub writes: u32,
     pub reads: u32,
@@ -26,6 +26,7 @@ pub struct Client {
     pub heard: [bool; 11],
     pub times: [u64; 11],
     pub rows: [Row; 11],
+    pub reports: [u64; 11],
 }
 
 // Frames were sent, this many; the write has ended; it closed as out of stamps; the read has ended with this stamp, its value is in the result area,

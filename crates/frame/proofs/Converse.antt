@@ -22,22 +22,23 @@ use Rattle.frame.specs.Frames.{headerBytes, frameOf, build, headerIn, st
 use Rattle.frame.proofs.Opening.{StampFine, opens-facts}
 
 -- what holds of the kinds in use holds of every kind that is not retired
-kinds {ℓ} : (P : ℕ → Type ℓ) → P 1 → P 2 → P 3 → P 4 → P 5 → P 9 → P 10 → P 11 → P 12 → (k : ℕ) → 1 ≤ k → k ≤ 12 → retired k ≡ false → P k
+kinds {ℓ} : (P : ℕ → Type ℓ) → P 1 → P 2 → P 3 → P 4 → P 5 → P 9 → P 10 → P 11 → P 12 → P 13 → (k : ℕ) → 1 ≤ k → k ≤ 13 → retired k ≡ false → P k
 unfolding retired
-kinds P a b c d e f g h i zero p q r = absurd (omega arith)
-kinds P a b c d e f g h i (suc zero) p q r = a
-kinds P a b c d e f g h i (suc (suc zero)) p q r = b
-kinds P a b c d e f g h i (suc (suc (suc zero))) p q r = c
-kinds P a b c d e f g h i (suc (suc (suc (suc zero)))) p q r = d
-kinds P a b c d e f g h i (suc (suc (suc (suc (suc zero))))) p q r = e
-kinds P a b c d e f g h i (suc (suc (suc (suc (suc (suc zero)))))) p q r = impossible (cc)
-kinds P a b c d e f g h i (suc (suc (suc (suc (suc (suc (suc zero))))))) p q r = impossible (cc)
-kinds P a b c d e f g h i (suc (suc (suc (suc (suc (suc (suc (suc zero)))))))) p q r = impossible (cc)
-kinds P a b c d e f g h i (suc (suc (suc (suc (suc (suc (suc (suc (suc zero))))))))) p q r = f
-kinds P a b c d e f g h i (suc (suc (suc (suc (suc (suc (suc (suc (suc (suc zero)))))))))) p q r = g
-kinds P a b c d e f g h i (suc (suc (suc (suc (suc (suc (suc (suc (suc (suc (suc zero))))))))))) p q r = h
-kinds P a b c d e f g h i (suc (suc (suc (suc (suc (suc (suc (suc (suc (suc (suc (suc zero)))))))))))) p q r = i
-kinds P a b c d e f g h i (suc (suc (suc (suc (suc (suc (suc (suc (suc (suc (suc (suc (suc m))))))))))))) p q r = absurd (omega arith)
+kinds P a b c d e f g h i j zero p q r = absurd (omega arith)
+kinds P a b c d e f g h i j (suc zero) p q r = a
+kinds P a b c d e f g h i j (suc (suc zero)) p q r = b
+kinds P a b c d e f g h i j (suc (suc (suc zero))) p q r = c
+kinds P a b c d e f g h i j (suc (suc (suc (suc zero)))) p q r = d
+kinds P a b c d e f g h i j (suc (suc (suc (suc (suc zero))))) p q r = e
+kinds P a b c d e f g h i j (suc (suc (suc (suc (suc (suc zero)))))) p q r = impossible (cc)
+kinds P a b c d e f g h i j (suc (suc (suc (suc (suc (suc (suc zero))))))) p q r = impossible (cc)
+kinds P a b c d e f g h i j (suc (suc (suc (suc (suc (suc (suc (suc zero)))))))) p q r = impossible (cc)
+kinds P a b c d e f g h i j (suc (suc (suc (suc (suc (suc (suc (suc (suc zero))))))))) p q r = f
+kinds P a b c d e f g h i j (suc (suc (suc (suc (suc (suc (suc (suc (suc (suc zero)))))))))) p q r = g
+kinds P a b c d e f g h i j (suc (suc (suc (suc (suc (suc (suc (suc (suc (suc (suc zero))))))))))) p q r = h
+kinds P a b c d e f g h i j (suc (suc (suc (suc (suc (suc (suc (suc (suc (suc (suc (suc zero)))))))))))) p q r = i
+kinds P a b c d e f g h i j (suc (suc (suc (suc (suc (suc (suc (suc (suc (suc (suc (suc (suc zero))))))))))))) p q r = j
+kinds P a b c d e f g h i j (suc (suc (suc (suc (suc (suc (suc (suc (suc (suc (suc (suc (suc (suc m)))))))))))))) p q r = absurd (omega arith)
 
 -- ---- the body
 
@@ -88,7 +89,7 @@ pub record Said (g : Params) (f : List ℕ) (kind : ℕ) : Type 0 where
   pub kind-is : kindOf (bodyIn g kind f) ≡ kind
   pub bytes-are : bodyBytes (bodyIn g kind f) ≡ drop bodyAt f
 
-said : (g : Params) (f : List ℕ) → Bytes f → (kind : ℕ) → 1 ≤ kind → kind ≤ 12 → retired kind ≡ false → length f ≡ bodyAt + bodyLength g kind → Said g f kind
+said : (g : Params) (f : List ℕ) → Bytes f → (kind : ℕ) → 1 ≤ kind → kind ≤ 13 → retired kind ≡ false → length f ≡ bodyAt + bodyLength g kind → Said g f kind
 unfolding bodyIn bodyLength lengthOf kindOf bodyBytes pick
 said g f p = kinds (λ kind. length f ≡ bodyAt + bodyLength g kind → Said g f kind)
     (λ e. record { kind-is = refl; bytes-are = none-left f e })
@@ -100,6 +101,7 @@ said g f p = kinds (λ kind. length f ≡ bodyAt + bodyLength g kind → Said g 
     (λ e. record { kind-is = refl; bytes-are = none-left f e })
     (λ e. record { kind-is = refl; bytes-are = value-left g f p e })
     (λ e. record { kind-is = refl; bytes-are = none-left f e })
+    (λ e. record { kind-is = refl; bytes-are = time-left f p e })
 
 -- ---- the header
 
@@ -150,7 +152,7 @@ value-formed g f p e s = (
   s .parts,
 )
 
-body-formed : (g : Params) (f : List ℕ) → Bytes f → (kind : ℕ) → 1 ≤ kind → kind ≤ 12 → retired kind ≡ false → length f ≡ bodyAt + bodyLength g kind
+body-formed : (g : Params) (f : List ℕ) → Bytes f → (kind : ℕ) → 1 ≤ kind → kind ≤ 13 → retired kind ≡ false → length f ≡ bodyAt + bodyLength g kind
     → (kind ≡ 11 → StampFine (stampIn f)) → FormedBody g (bodyIn g kind f)
 unfolding bodyIn bodyLength lengthOf pick
 body-formed g f p =
@@ -164,6 +166,7 @@ body-formed g f p =
     (λ e s. tt)
     (λ e s. value-formed g f p e (s refl))
     (λ e s. tt)
+    (λ e s. be8-range f bodyAt p)
 
 sequence-range : (f : List ℕ) → Bytes f → headerIn f .sequence < 4294967296
 unfolding headerIn

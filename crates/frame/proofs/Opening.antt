@@ -35,7 +35,7 @@ pub record Opens (g : Params) (f : List ℕ) (h : Header) : Type 0 where
   pub version-is : getD f versionAt 0 ≡ version
   pub header : headerIn f ≡ h
   pub kind-low : 1 ≤ h .kind
-  pub kind-high : h .kind ≤ 12
+  pub kind-high : h .kind ≤ 13
   pub kind-used : retired (h .kind) ≡ false
   pub client-low : 1 ≤ h .client
   pub client-high : h .client ≤ 8
@@ -57,7 +57,7 @@ framing-facts f e =
 pub record HeaderFine (v : ℕ) (h : Header) : Type 0 where
   pub version-is : v ≡ version
   pub kind-low : 1 ≤ h .kind
-  pub kind-high : h .kind ≤ 12
+  pub kind-high : h .kind ≤ 13
   pub kind-used : retired (h .kind) ≡ false
   pub client-low : 1 ≤ h .client
   pub client-high : h .client ≤ 8
@@ -68,7 +68,7 @@ unfolding headerTest
 header-facts v h e =
     let a = fine-is (eqb v version) R.Version _ e in
     let b = fine-not (ltb (h .kind) 1) R.Kind _ (a .1) in
-    let c = fine-not (ltb 12 (h .kind)) R.Kind _ (b .1) in
+    let c = fine-not (ltb 13 (h .kind)) R.Kind _ (b .1) in
     let u = fine-not (retired (h .kind)) R.Kind _ (c .1) in
     let d = fine-not (ltb (h .client) 1) R.Owner _ (u .1) in
     let k = fine-not (ltb 8 (h .client)) R.Owner _ (d .1) in

@@ -6,16 +6,17 @@ use mathlib.Core.Path.{_≡_, refl, ap, sym, _∙_}
 use mathlib.Core.List.{List, [], _∷_, _++_, append-assoc, append-nil}
 use lib.ListN.{length, length-append}
 use lib.Seq.{sets, length-sets}
+use Rattle.area.specs.Area.{pick}
 use Rattle.area.proofs.Sets.{sets-append}
 use Rattle.blocks.specs.declared.Params.{Params}
 use Rattle.frame.specs.declared.Party.{Party}
 use Rattle.frame.specs.declared.Party.the-variants as P
 use Rattle.frame.specs.declared.Place.{Place}
 use Rattle.frame.specs.Params.{largestFrame, Bounded}
-use Rattle.frame.specs.Messages.{Message, Sending, sending, Formed, toFrom, toAll}
+use Rattle.frame.specs.Messages.{Message, Sending, sending, Formed, toFrom, toAll, clientsFrom}
 use Rattle.frame.specs.Frames.{build}
 use Rattle.frame.proofs.PartyLaws.{length-party}
-use Rattle.frame.specs.Outbox.{frames, partyBytes, receivers, Outbox, outbox, sent, wrote, wroteTo}
+use Rattle.frame.specs.Outbox.{frames, partyBytes, partyIn, receivers, Outbox, outbox, sent, wrote, wroteTo}
 
 pub frames-append : (xs ys : List Sending) → frames (xs ++ ys) ≡ frames xs ++ frames ys
 unfolding frames
@@ -72,8 +73,8 @@ toFrom-more f j zero = rw add-zero
 toFrom-more f j (suc m) = ap (λ l. sending (P.Server j) (f j) ∷ l) (toFrom-more f (suc j) m ∙ rw (add-suc, suc-add))
 
 -- one frame to servers 1 to n
-pub all-sent : (q : Outbox) (m : Message) (n : ℕ) → wroteTo q (build m) n ≡ sent q (toFrom (λ j. m) 1 n)
-unfolding wroteTo toFrom
+pub all-sent : (q : Outbox) (m : Message) (n : ℕ) → wroteTo 1 q (build m) n ≡ sent q (toFrom (λ j. m) 1 n)
+unfolding wroteTo toFrom partyIn pick
 all-sent q m zero = sym (sent-none q)
 all-sent q m (suc n) =
     let e : 1 + n ≡ suc n = omega arith in
@@ -82,4 +83,22 @@ all-sent q m (suc n) =
     ap (λ z. wrote z (P.Server (suc n)) (build m)) (all-sent q m n)
     ∙ wrote-sent (sent q (toFrom (λ j. m) 1 n)) (P.Server (suc n)) m
     ∙ sent-append q (toFrom (λ j. m) 1 n) (sending (P.Server (suc n)) m ∷ [])
+    ∙ ap (sent q) (sym t)
+
+clients-more : (m : Message) (c k : ℕ) → clientsFrom m c (suc k) ≡ clientsFrom m c k ++ (sending (P.Client (c + k)) m ∷ [])
+unfolding clientsFrom
+clients-more m c zero = rw add-zero
+clients-more m c (suc k) = ap (λ l. sending (P.Client c) m ∷ l) (clients-more m (suc c) k ∙ rw (add-suc, suc-add))
+
+-- one frame to clients 1 to n
+pub clients-sent : (q : Outbox) (m : Message) (n : ℕ) → wroteTo 0 q (build m) n ≡ sent q (clientsFrom m 1 n)
+unfolding wroteTo clientsFrom partyIn pick
+clients-sent q m zero = sym (sent-none q)
+clients-sent q m (suc n) =
+    let e : 1 + n ≡ suc n = omega arith in
+    let t : clientsFrom m 1 (suc n) ≡ clientsFrom m 1 n ++ (sending (P.Client (suc n)) m ∷ []) =
+    clients-more m 1 n ∙ ap (λ k. clientsFrom m 1 n ++ (sending (P.Client k) m ∷ [])) e in
+    ap (λ z. wrote z (P.Client (suc n)) (build m)) (clients-sent q m n)
+    ∙ wrote-sent (sent q (clientsFrom m 1 n)) (P.Client (suc n)) m
+    ∙ sent-append q (clientsFrom m 1 n) (sending (P.Client (suc n)) m ∷ [])
     ∙ ap (sent q) (sym t)

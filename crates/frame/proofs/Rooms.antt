@@ -12,7 +12,7 @@ use Rattle.area.proofs.Numbers.{length-bytes8, be2-front}
 use Rattle.blocks.specs.declared.Params.{Params}
 use Rattle.frame.specs.Params.{entryLength, largestFrame, Bounded}
 use Rattle.frame.specs.Messages.{Body, getStamp, ack, askRead, readComplete}
-use Rattle.frame.specs.Messages.{stampIs, blockIs, valueIs, Message, Sending, FormedBody, Formed}
+use Rattle.frame.specs.Messages.{stampIs, blockIs, valueIs, report, Message, Sending, FormedBody, Formed}
 use Rattle.frame.specs.Frames.{kindOf, entryBytes, stampBytes, bodyBytes, build}
 use Rattle.frame.specs.declared.Place.{Place}
 use Rattle.frame.specs.Outbox.{frames, receivers, Outbox, outbox, sent, Room}
@@ -27,6 +27,7 @@ body-room g askRead f = omega arith
 body-room g readComplete f = omega arith
 body-room g (stampIs T) f = omega (arith, length-bytes8 T)
 body-room g (blockIs z o) f = omega (arith, length-offer g o (f .0))
+body-room g (report T) f = omega (arith, length-bytes8 T)
 body-room g (valueIs s e) f = omega (arith, length-append (stampBytes s) (entryBytes e), length-stamp s, length-entry g e (f .0))
 
 pub build-room : (g : Params) (m : Message) → FormedBody g (m .body) → length (build m) ≤ largestFrame g

@@ -16,7 +16,7 @@ use Rattle.frame.specs.declared.Opened.{Opened}
 use Rattle.frame.specs.declared.Opened.the-variants as O
 use Rattle.frame.specs.Params.{width, listed, entryLength, Bounded}
 use Rattle.frame.specs.Messages.{Entry, Offer, Stage, send, echo, ready, Body, getStamp, ack, askRead, readComplete}
-use Rattle.frame.specs.Messages.{stampIs, blockIs, valueIs, Message, message, Sized, FormedBody, Formed}
+use Rattle.frame.specs.Messages.{stampIs, blockIs, valueIs, report, Message, message, Sized, FormedBody, Formed}
 use Rattle.frame.specs.Frames.{version, versionAt, bodyAt, offerAt, valueAt, kindOf, retired, bodyLength, lengthOf, entryBytes, offerBytes, stampBytes}
 use Rattle.frame.specs.Frames.{bodyBytes, headerBytes, frameOf, build, headerIn, stampIn, opened, entryIn, offerIn, bodyIn, messageIn, headerFor}
 use Rattle.frame.specs.Forms.{Back}
@@ -107,9 +107,10 @@ length-body g (stampIs T) f = length-bytes8 T
 length-body g (blockIs send o) f = length-offer g o (f .0)
 length-body g (blockIs echo o) f = length-offer g o (f .0)
 length-body g (blockIs ready o) f = length-offer g o (f .0)
+length-body g (report T) f = length-bytes8 T
 length-body g (valueIs s e) f = length-append (stampBytes s) (entryBytes e) ∙ cc (length-stamp s, length-entry g e (f .0))
 
-pub kind-range : (b : Body) → (1 ≤ kindOf b) × (kindOf b ≤ 12) × (retired (kindOf b) ≡ false)
+pub kind-range : (b : Body) → (1 ≤ kindOf b) × (kindOf b ≤ 13) × (retired (kindOf b) ≡ false)
 unfolding kindOf retired
 kind-range getStamp = (omega arith, omega arith, refl)
 kind-range ack = (omega arith, omega arith, refl)
@@ -120,6 +121,7 @@ kind-range (blockIs send o) = (omega arith, omega arith, refl)
 kind-range (blockIs echo o) = (omega arith, omega arith, refl)
 kind-range (blockIs ready o) = (omega arith, omega arith, refl)
 kind-range (valueIs s e) = (omega arith, omega arith, refl)
+kind-range (report T) = (omega arith, omega arith, refl)
 
 body-back : (g : Params) (c q : ℕ) (b : Body) → FormedBody g b → bodyIn g (kindOf b) (frameOf (kindOf b) c q (bodyBytes b)) ≡ b
 unfolding bodyBytes bodyIn kindOf pick bytes8 bytes4 bytes2
@@ -131,6 +133,7 @@ body-back g c q (stampIs T) f = ap stampIs (time-back 2 c q T [] f)
 body-back g c q (blockIs send o) f = ap (blockIs send) (offer-back g 3 c q o f)
 body-back g c q (blockIs echo o) f = ap (blockIs echo) (offer-back g 4 c q o f)
 body-back g c q (blockIs ready o) f = ap (blockIs ready) (offer-back g 5 c q o f)
+body-back g c q (report T) f = ap report (time-back 13 c q T [] f)
 body-back g c q (valueIs s e) f =
     let a = stamp-back 11 c q s (entryBytes e) (f .1) (f .3) in
     let b = value-back g 11 c q s e (f .0) in
@@ -147,6 +150,7 @@ stamp-said g c q (stampIs T) f k = absurd (omega arith)
 stamp-said g c q (blockIs send o) f k = absurd (omega arith)
 stamp-said g c q (blockIs echo o) f k = absurd (omega arith)
 stamp-said g c q (blockIs ready o) f k = absurd (omega arith)
+stamp-said g c q (report T) f k = absurd (omega arith)
 stamp-said g c q (valueIs s e) f k =
     rw (stamp-back 11 c q s (entryBytes e) (f .1) (f .3)) (record { parts = f .4; writer = f .2 })
 
@@ -158,6 +162,7 @@ body-high g M askRead f = omega arith
 body-high g M readComplete f = omega arith
 body-high g M (stampIs T) f = omega (arith, length-bytes8 T)
 body-high g M (blockIs z o) f = omega (arith, length-offer g o (f .0), M .list-room, M .block-room)
+body-high g M (report T) f = omega (arith, length-bytes8 T)
 body-high g M (valueIs s e) f =
     omega (arith, length-append (stampBytes s) (entryBytes e), length-stamp s, length-entry g e (f .0), M .list-room, M .block-room)
 

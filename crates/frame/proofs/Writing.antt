@@ -2,7 +2,7 @@
 use Prim.Native.Nat.{ℕ, zero, suc, _+_, _*_, _-_, _≤_, _<_}
 use native.Mathlib.Omega.{arith}
 use native.Mathlib.Numerals.{add-one}
-use native.Mathlib.Nat.{suc-mul}
+use native.Mathlib.Nat.{add-mul, suc-mul}
 use mathlib.Core.Path.{_≡_, refl, ap, sym, _∙_}
 use mathlib.Core.List.{List, [], _∷_, _++_, append-assoc, append-nil}
 use lib.ListN.{length, take, drop, length-append}
@@ -19,12 +19,14 @@ use Rattle.frame.specs.declared.Broadcast.{Broadcast}
 use Rattle.frame.specs.declared.Ask.{Ask}
 use Rattle.frame.specs.declared.Ask.the-variants as A
 use Rattle.frame.specs.Params.{width, listed}
-use Rattle.frame.specs.Messages.{entry, Offer, offer, Stage, send, echo, ready, Body, ack, stampIs, blockIs, valueIs, Message, message, sending, toAll}
+use Rattle.frame.specs.Messages.{entry, Offer, offer, Stage, send, echo, ready, Body, ack, stampIs, blockIs, valueIs, report, Message, message, sending}
+use Rattle.frame.specs.Messages.{toAll}
+use Rattle.frame.specs.Messages.{toClients}
 use Rattle.frame.specs.Frames.{kindOf, bodyBytes, entryBytes, offerBytes, stampBytes, headerBytes, frameOf, build, entryIn}
-use Rattle.frame.specs.Outbox.{partyBytes, Outbox, outbox, sent, wrote, wroteTo, Room, stageOf, askOf}
+use Rattle.frame.specs.Outbox.{partyBytes, partyIn, Outbox, outbox, sent, wrote, wroteTo, Room, stageOf, askOf}
 use Rattle.frame.specs.Chunks.{storeEntry}
 use Rattle.frame.proofs.RoundTrip.{length-frame}
-use Rattle.frame.proofs.Outbox.{wrote-sent, all-sent}
+use Rattle.frame.proofs.Outbox.{wrote-sent, all-sent, clients-sent, sent-append}
 
 -- ---- one frame
 
@@ -89,13 +91,13 @@ after-one o t o₀ t₀ f r q p e = record {
 
 -- ---- one frame to all
 
-pub none-sent : (q : Outbox) (f : List ℕ) → q ≡ wroteTo q f 0
+pub none-sent : (class : ℕ) (q : Outbox) (f : List ℕ) → q ≡ wroteTo class q f 0
 unfolding wroteTo
-none-sent q f = refl
+none-sent class q f = refl
 
-pub one-more : (q : Outbox) (f : List ℕ) (j : ℕ) → wrote (wroteTo q f j) (P.Server (j + 1)) f ≡ wroteTo q f (j + 1)
+pub one-more : (class : ℕ) (q : Outbox) (f : List ℕ) (j : ℕ) → wrote (wroteTo class q f j) (partyIn class (j + 1)) f ≡ wroteTo class q f (j + 1)
 unfolding wroteTo
-one-more q f j = rw add-one
+one-more class q f j = rw add-one
 
 pub room-for-one : (p q : Place) (j n size out to out₀ to₀ : ℕ) → j < n → Room p n size out₀ to₀ → q .at ≡ p .at + j * size → q .count ≡ p .count + j
     → out ≡ out₀ → to ≡ to₀ → Room q 1 size out to
@@ -106,6 +108,35 @@ room-for-one p q j n size out to out₀ to₀ h R a c o t = record {
 
 pub place-after : (a b c j size l : ℕ) → a ≡ b + l → l ≡ size → b ≡ c + j * size → a ≡ c + (j + 1) * size
 place-after a b c j size l p q r = rw (add-one, suc-mul) (omega (arith, p, q, r))
+
+-- where the next frame goes after frames to m parties, and how long the areas are
+wrote-place : (class : ℕ) (q : Outbox) (f : List ℕ) (m : ℕ)
+    → (wroteTo class q f m .place .at ≡ q .place .at + m * length f) × (wroteTo class q f m .place .count ≡ q .place .count + m)
+    × (length (wroteTo class q f m .out) ≡ length (q .out)) × (length (wroteTo class q f m .to) ≡ length (q .to))
+unfolding wroteTo wrote
+wrote-place class q f zero = (omega arith, omega arith, refl, refl)
+wrote-place class q f (suc m) =
+    let h = wrote-place class q f m in
+    let z : suc m * length f ≡ m * length f + length f = suc-mul m (length f) ∙ omega arith in (
+      omega (arith, h .0, z),
+      omega (arith, h .1),
+      length-sets (wroteTo class q f m .out) (wroteTo class q f m .place .at) f ∙ h .2,
+      length-sets (wroteTo class q f m .to) (2 * wroteTo class q f m .place .count) (partyBytes (partyIn class (suc m))) ∙ h .3,
+    )
+
+pub room-first : (p : Place) (m k size out to : ℕ) → Room p (m + k) size out to → Room p m size out to
+room-first p m k size out to R = let d = add-mul m k size in record { out-room = omega (arith, d, R .out-room); to-room = omega (arith, R .to-room) }
+
+pub room-left : (class : ℕ) (o t o₀ t₀ f : List ℕ) (r q : Place) (m k size : ℕ) → outbox o t r ≡ wroteTo class (outbox o₀ t₀ q) f m → length f ≡ size
+    → Room q (m + k) size (length o₀) (length t₀) → Room r k size (length o) (length t)
+room-left class o t o₀ t₀ f r q m k size e l R =
+    let h = wrote-place class (outbox o₀ t₀ q) f m in
+    let a : r .at ≡ q .at + m * size = ap (λ z. z .place .at) e ∙ h .0 ∙ ap (λ z. q .at + m * z) l in
+    let c : r .count ≡ q .count + m = ap (λ z. z .place .count) e ∙ h .1 in
+    let u : length o ≡ length o₀ = ap (λ z. length (z .out)) e ∙ h .2 in
+    let v : length t ≡ length t₀ = ap (λ z. length (z .to)) e ∙ h .3 in
+    let d : (m + k) * size ≡ m * size + k * size = add-mul m k size in
+    record { out-room = omega (arith, a, u, d, R .out-room); to-room = omega (arith, c, v, R .to-room) }
 
 -- ---- entries
 
@@ -154,6 +185,10 @@ pub stamp-frame : (c q T : ℕ) (t : List ℕ) → t ≡ bytes8 T → frameOf 2 
 unfolding build kindOf bodyBytes
 stamp-frame c q T t u = rw (u, append-nil)
 
+pub report-frame : (c q T : ℕ) (t : List ℕ) → t ≡ bytes8 T → frameOf 13 c q (t ++ []) ≡ build (message c q (report T))
+unfolding build kindOf bodyBytes
+report-frame c q T t u = rw (u, append-nil)
+
 pub block-frame : (k c q T : ℕ) (z : Stage) (t d b : List ℕ) → k ≡ blockKind z → t ≡ bytes8 T
     → frameOf k c q (t ++ (d ++ b)) ≡ build (message c q (blockIs z (offer T (entry d b))))
 unfolding build bodyBytes offerBytes entryBytes
@@ -178,9 +213,18 @@ pub sent-one : (o t o₀ t₀ : List ℕ) (r q : Place) (p : Party) (f : List �
 sent-one o t o₀ t₀ r q p f m e w = w ∙ ap (wrote (outbox o₀ t₀ q) p) e ∙ wrote-sent (outbox o₀ t₀ q) p m
 
 pub sent-all : (g : Params) (o t o₀ t₀ : List ℕ) (r q : Place) (f : List ℕ) (m : Message) → f ≡ build m
-    → outbox o t r ≡ wroteTo (outbox o₀ t₀ q) f (g .n) → outbox o t r ≡ sent (outbox o₀ t₀ q) (toAll g (λ j. m))
+    → outbox o t r ≡ wroteTo 1 (outbox o₀ t₀ q) f (g .n) → outbox o t r ≡ sent (outbox o₀ t₀ q) (toAll g (λ j. m))
 unfolding toAll
-sent-all g o t o₀ t₀ r q f m e w = w ∙ ap (λ x. wroteTo (outbox o₀ t₀ q) x (g .n)) e ∙ all-sent (outbox o₀ t₀ q) m (g .n)
+sent-all g o t o₀ t₀ r q f m e w = w ∙ ap (λ x. wroteTo 1 (outbox o₀ t₀ q) x (g .n)) e ∙ all-sent (outbox o₀ t₀ q) m (g .n)
+
+-- a frame to all servers, and then to clients 1 to 8
+pub sent-report : (g : Params) (o t o₁ t₁ o₀ t₀ : List ℕ) (r q p : Place) (f : List ℕ) (m : Message) → f ≡ build m
+    → outbox o₁ t₁ q ≡ wroteTo 1 (outbox o₀ t₀ p) f (g .n) → outbox o t r ≡ wroteTo 0 (outbox o₁ t₁ q) f 8
+    → outbox o t r ≡ sent (outbox o₀ t₀ p) (toAll g (λ j. m) ++ toClients m)
+unfolding toClients
+sent-report g o t o₁ t₁ o₀ t₀ r q p f m e w w₂ =
+    w₂ ∙ ap (λ x. wroteTo 0 (outbox o₁ t₁ q) x 8) e ∙ clients-sent (outbox o₁ t₁ q) m 8 ∙ ap (λ x. sent x (toClients m)) (sent-all g o₁ t₁ o₀ t₀ q p f m e w)
+    ∙ sent-append (outbox o₀ t₀ p) (toAll g (λ j. m)) (toClients m)
 
 pub room-of : (p : Place) (m size size′ out to : ℕ) → size ≡ size′ → Room p m size out to → Room p m size′ out to
 room-of p m size size′ out to e R = rw (← e) R

@@ -19,7 +19,7 @@ use Rattle.frame.specs.Refusals.{numberOf, refused, answeredBy, andThen}
 use Rattle.frame.specs.Params.{width, listed, entryLength, boundsTest}
 use Rattle.frame.specs.Stamps.{partsAgree, lastClient}
 use Rattle.frame.specs.Messages.{Entry, entry, Offer, offer, send, echo, ready, Body, getStamp, ack}
-use Rattle.frame.specs.Messages.{askRead, readComplete, stampIs, blockIs, valueIs, Message, message}
+use Rattle.frame.specs.Messages.{askRead, readComplete, stampIs, blockIs, valueIs, report, Message, message}
 
 -- ---- layout
 
@@ -68,6 +68,7 @@ kindOf ack = 9
 kindOf askRead = 10
 kindOf (valueIs s e) = 11
 kindOf readComplete = 12
+kindOf (report T) = 13
 
 -- request F-4: "Kinds 6, 7 and 8 are retired and get 6"
 unfoldable pub retired : ℕ → Bool
@@ -81,7 +82,8 @@ lengthOf kind entry =
     (pick (leb kind 5) (8 + entry)
     (pick (leb kind 10) 0
     (pick (leb kind 11) (13 + entry)
-    0))))
+    (pick (leb kind 12) 0
+    8)))))
 
 unfoldable pub bodyLength : Params → ℕ → ℕ
 bodyLength g kind = lengthOf kind (entryLength g)
@@ -105,6 +107,7 @@ bodyBytes readComplete = []
 bodyBytes (stampIs T) = bytes8 T
 bodyBytes (blockIs z o) = offerBytes o
 bodyBytes (valueIs s e) = stampBytes s ++ entryBytes e
+bodyBytes (report T) = bytes8 T
 
 -- the bytes before the body; following counts what follows the length
 unfoldable pub headerBytes : ℕ → ℕ → ℕ → ℕ → List ℕ
@@ -131,7 +134,7 @@ unfoldable pub headerTest : ℕ → Header → Verdict
 headerTest v h =
     pick (eqb v version)
     (pick (ltb (h .kind) 1) (refused 6)
-    (pick (ltb 12 (h .kind)) (refused 6)
+    (pick (ltb 13 (h .kind)) (refused 6)
     (pick (retired (h .kind)) (refused 6)
     (pick (ltb (h .client) 1) (refused 7)
     (pick (ltb lastClient (h .client)) (refused 7)
@@ -200,7 +203,8 @@ bodyIn g kind f =
     (pick (eqb kind 9) ack
     (pick (eqb kind 10) askRead
     (pick (eqb kind 11) (valueIs (stampIn f) (entryIn g f valueAt))
-    readComplete)))))))
+    (pick (eqb kind 12) readComplete
+    (report (be8 f bodyAt))))))))))
 
 unfoldable pub messageIn : Params → Header → List ℕ → Message
 messageIn g h f = message (h .client) (h .sequence) (bodyIn g (h .kind) f)

@@ -13,7 +13,7 @@ use Rattle.frame.specs.declared.Refusal.{Refusal}
 use Rattle.frame.specs.declared.Verdict.{Verdict}
 use Rattle.frame.specs.declared.Verdict.the-variants as J
 use Rattle.frame.specs.Params.{listed, width}
-use Rattle.frame.specs.Stamps.{partsAgree}
+use Rattle.frame.specs.Stamps.{partsAgree, lastClient}
 
 -- ---- what a frame says
 
@@ -38,7 +38,7 @@ pub data Stage : Type 0 where
   send echo ready : Stage
 
 -- the kinds of document 01's table, "Frames", with what their bodies hold; request F-4: "kinds 3, 4 and 5 carry the time
--- (8 bytes) before the digest list", "Kinds 6, 7 and 8 are retired"
+-- (8 bytes) before the digest list", "Kinds 6, 7 and 8 are retired"; request F-9: "kind 13 (body: its time, 8 bytes ..)"
 pub data Body : Type 0 where
   -- kinds 1, 9, 10, 12: nothing
   getStamp ack askRead readComplete : Body
@@ -48,6 +48,8 @@ pub data Body : Type 0 where
   blockIs : Stage → Offer → Body
   -- kind 11: time, writer and write sequence; digest list, block
   valueIs : Stamp → Entry → Body
+  -- 13: time
+  report : ℕ → Body
 
 -- the client names the operation's owner
 pub record Message : Type 0 where
@@ -67,6 +69,7 @@ Carries readComplete b = ⊥
 Carries (stampIs T) b = ⊥
 Carries (blockIs z o) b = Path (List ℕ) (o .entry .block) b
 Carries (valueIs s e) b = Path (List ℕ) (e .block) b
+Carries (report T) b = ⊥
 
 -- ---- what can be said in a frame
 
@@ -84,6 +87,7 @@ FormedBody g (stampIs T) = T < 18446744073709551616
 FormedBody g (blockIs z o) = Sized g (o .entry) × (o .time < 18446744073709551616)
 FormedBody g (valueIs s e) =
     Sized g e × (s .time < 18446744073709551616) × (s .writer ≤ 8) × (s .sequence < 4294967296) × (partsAgree (s .time) (s .writer) (s .sequence) ≡ true)
+FormedBody g (report T) = T < 18446744073709551616
 
 -- a message within the bounds of its fields
 pub record Formed (g : Params) (m : Message) : Type 0 where
@@ -111,6 +115,15 @@ toFrom f j (suc m) = sending (P.Server j) (f j) ∷ toFrom f (suc j) m
 -- "To all" means servers 1 to n in that order, the sender included
 unfoldable pub toAll : Params → (ℕ → Message) → List Sending
 toAll g f = toFrom f 1 (g .n)
+
+-- to clients c to c + m - 1
+unfoldable pub clientsFrom : Message → ℕ → ℕ → List Sending
+clientsFrom m c zero = []
+clientsFrom m c (suc k) = sending (P.Client c) m ∷ clientsFrom m (suc c) k
+
+-- "clients 1 to 8"
+unfoldable pub toClients : Message → List Sending
+toClients m = clientsFrom m 1 lastClient
 
 -- the number of a party, and whether it is one of the servers
 abbrev pub numberIn : Party → ℕ

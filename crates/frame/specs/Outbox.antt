@@ -62,10 +62,10 @@ wrote q p f = record {
   place = record { at = q .place .at + length f; count = q .place .count + 1 };
 }
 
--- after the frame f is sent to servers 1 to m
-unfoldable pub wroteTo : Outbox → List ℕ → ℕ → Outbox
-wroteTo q f zero = q
-wroteTo q f (suc m) = wrote (wroteTo q f m) (P.Server (suc m)) f
+-- after the frame f is sent to the parties 1 to m of a class
+unfoldable pub wroteTo : ℕ → Outbox → List ℕ → ℕ → Outbox
+wroteTo class q f zero = q
+wroteTo class q f (suc m) = wrote (wroteTo class q f m) (partyIn class (suc m)) f
 
 -- room for m frames of a size from a place on, in areas of these lengths
 pub record Room (p : Place) (m size out to : ℕ) : Type 0 where

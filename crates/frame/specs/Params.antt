@@ -34,9 +34,10 @@ quota g = max (g .k) (g .t + 1)
 unfoldable pub largestFrame : Params → ℕ
 largestFrame g = 22 + entryLength g
 
--- refusal 10: "frames out need n + 9 largest frames (server)"; request F-4: "The client's largest need is now n frames." Two bytes for the receiver of each.
+-- refusal 10; request F-9: "A server's out area must now hold 9n + 136 largest frames"; request F-4: "The client's largest need is now n frames." Two bytes for
+-- the receiver of each.
 abbrev pub serverFrames : Params → ℕ
-serverFrames g = g .n + 9
+serverFrames g = 9 * g .n + 136
 
 abbrev pub clientFrames : Params → ℕ
 clientFrames g = g .n

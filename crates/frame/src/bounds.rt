@@ -86,7 +86,7 @@ pub fn largest_frame(g: Params) -> usize
 
 // The bytes that m frames may take in the out area.
 pub fn out_room(g: Params, m: usize) -> usize
-    requires { ⌜ Bounded g × (m ≤ 20) ⌝ }
+    requires { ⌜ Bounded g × (m ≤ 226) ⌝ }
     ensures { λ r. ⌜ r ≡ outRoom g m ⌝ }
 {
     m * largest_frame(g)
@@ -94,7 +94,7 @@ pub fn out_room(g: Params, m: usize) -> usize
 
 // The bytes that the receivers of m frames take in the to area.
 pub fn to_room(m: usize) -> usize
-    requires { ⌜ m ≤ 20 ⌝ }
+    requires { ⌜ m ≤ 226 ⌝ }
     ensures { λ r. ⌜ r ≡ toRoom m ⌝ }
 {
     2 * m

@@ -61,7 +61,7 @@ fn is_retired(kind: u8) -> bool
     kind <= 8
 }
 
-// Refusals 5 to 7: version not 1, kind not 1 to 12 or retired, client not 1 to 8 or sequence 0.
+// Refusals 5 to 7: version not 1, kind not 1 to 13 or retired, client not 1 to 8 or sequence 0.
 pub fn header_test(version: u8, h: Header) -> Verdict
     ensures { λ r. ⌜ r ≡ headerTest version h ⌝ }
 {
@@ -71,7 +71,7 @@ pub fn header_test(version: u8, h: Header) -> Verdict
     if h.kind < 1 {
         return Verdict::Bad(Refusal::Kind);
     }
-    if 12 < h.kind {
+    if 13 < h.kind {
         return Verdict::Bad(Refusal::Kind);
     }
     if is_retired(h.kind) {
@@ -109,7 +109,10 @@ fn length_of(kind: u8, entry: usize) -> usize
     if kind <= 11 {
         return 13 + entry;
     }
-    0
+    if kind <= 12 {
+        return 0;
+    }
+    8
 }
 
 // The length of the body of a kind.

@@ -6,6 +6,7 @@ use crate::Place;
 use crate::Stamp;
 use crate::WriteTime;
 use crate::parties::party_bytes;
+use crate::parties::party_in;
 use crate::places::BODY_AT;
 use crate::places::VERSION;
 use blocks::Params;
@@ -16,7 +17,7 @@ ghost use lib.ListN.{length};
 ghost use lib.Seq.{sets};
 ghost use Rattle.area.specs.Numbers.{bytes8};
 ghost use Rattle.frame.specs.Params.{Bounded};
-ghost use Rattle.frame.specs.Messages.{entry, offer, message, sending, toAll, ack, stampIs, blockIs, valueIs, send};
+ghost use Rattle.frame.specs.Messages.{entry, offer, message, sending, toAll, toClients, report, ack, stampIs, blockIs, valueIs, send};
 ghost use Rattle.frame.specs.Frames.{kindOf, stampBytes, headerBytes, frameOf};
 ghost use Rattle.frame.specs.Outbox.{outbox, sent, wrote, wroteTo, Room, stageOf, askOf};
 
@@ -113,11 +114,12 @@ pub fn deposit(
     }
 }
 
-// Sends one frame to each of servers 1 to n.
+// Sends one frame to each of the parties 1 to n of a class: 0 is clients, 1 servers.
 pub fn deposit_all(
     out: &mut [u8],
     to: &mut [u8],
     p: Place,
+    class: u8,
     n: usize,
     kind: u8,
     client: u8,
@@ -128,7 +130,7 @@ pub fn deposit_all(
 ) -> Place
     requires { ⌜ (n ≤ 10) × Room p n (9 + (length (now lead) + (length (now digests) + length (now block)))) (length (now out)) (length (now to)) ⌝ }
     ensures { λ r. ⌜ outbox (now (out .exit)) (now (to .exit)) r
-        ≡ wroteTo (outbox (now (out .entry)) (now (to .entry)) p)
+        ≡ wroteTo class (outbox (now (out .entry)) (now (to .entry)) p)
         (frameOf kind client sequence (now (lead .entry) ++ (now (digests .entry) ++ now (block .entry)))) n ⌝ }
 {
     let mut q = p;
@@ -139,7 +141,7 @@ pub fn deposit_all(
             out,
             to,
             q,
-            Party::Server(j as u8),
+            party_in(class, j as u8),
             kind,
             client,
             sequence,
@@ -192,6 +194,7 @@ pub fn ask_all(
         out,
         to,
         p,
+        1,
         g.n,
         kind,
         client,
@@ -223,6 +226,7 @@ pub fn block_all(
         out,
         to,
         p,
+        1,
         g.n,
         kind,
         w.client,
@@ -344,5 +348,42 @@ pub fn send_value(
         &t,
         digests,
         block,
+    )
+}
+
+// Sends the report of a server's time, after a client's write, to all servers and to clients 1 to 8.
+pub fn send_report(out: &mut [u8], to: &mut [u8], p: Place, g: Params, w: WriteTime) -> Place
+    requires { ⌜ Bounded g × Room p (g .n + 8) 17 (length (now out)) (length (now to)) ⌝ }
+    ensures { λ r. ⌜ outbox (now (out .exit)) (now (to .exit)) r ≡ sent (outbox (now (out .entry)) (now (to .entry)) p)
+        (toAll g (λ j. message (w .client) (w .sequence) (report (w .time))) ++ toClients (message (w .client) (w .sequence) (report (w .time)))) ⌝ }
+{
+    let t = time_bytes(w.time);
+    let no_list = [0u8; 0];
+    let no_block = [0u8; 0];
+    let q = deposit_all(
+        out,
+        to,
+        p,
+        1,
+        g.n,
+        13,
+        w.client,
+        w.sequence,
+        &t,
+        &no_list,
+        &no_block,
+    );
+    deposit_all(
+        out,
+        to,
+        q,
+        0,
+        8,
+        13,
+        w.client,
+        w.sequence,
+        &t,
+        &no_list,
+        &no_block,
     )
 }

@@ -80,13 +80,26 @@ marked-timed on ts T j h = let k : j < 11 = omega arith in getD-table 11 (λ i. 
 
 -- ---- the loops over the flags
 
+-- number j + 1 was counted
+pub count-turn : (p : ℕ → Bool) (j r x : ℕ) → r ≡ count p j → x ≡ bit (p (j + 1)) → x + r ≡ count p (j + 1)
+count-turn p j r x e q =
+    ap₂ (λ a b. a + b) q e
+    ∙ ap (λ t. bit (p t) + count p j) (add-one j)
+    ∙ sym (ap (count p) (add-one j) ∙ count-suc p j)
+
+-- whether server j reported the time T or more
+unfoldable pub reaching : List ℕ → ℕ → ℕ → Bool
+reaching rs T j = leb T (getD rs j 0)
+
+-- server j + 1's report was counted
+pub backed-turn : (rs : List ℕ) (T j r x : ℕ) → r ≡ count (reaching rs T) j → x ≡ bit (leb T (getD rs (j + 1) 0)) → x + r ≡ count (reaching rs T) (j + 1)
+unfolding reaching
+backed-turn rs T j r x e q = count-turn (reaching rs T) j r x e q
+
 -- server j + 1 was counted
 pub tally-turn : (on : List Bool) (j r x : ℕ) → r ≡ count (marked on) j → x ≡ bit (getD on (j + 1) false) → x + r ≡ count (marked on) (j + 1)
 unfolding marked
-tally-turn on j r x e q =
-    ap₂ (λ a b. a + b) q e
-    ∙ ap (λ t. bit (getD on t false) + count (marked on) j) (add-one j)
-    ∙ sym (ap (count (marked on)) (add-one j) ∙ count-suc (marked on) j)
+tally-turn on j r x e q = count-turn (marked on) j r x e q
 
 pub tally-end : (p : ℕ → Bool) (j n r : ℕ) → r ≡ count p j → n ≤ j → j ≤ n → r ≡ count p n
 tally-end p j n r e a b = let q : j ≡ n = omega arith in e ∙ ap (count p) q

@@ -4,3 +4,4 @@ pub mod decoding;
 pub mod digesting;
 pub mod fitting;
 pub mod matching;
+pub mod vouching;

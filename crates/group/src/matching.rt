@@ -14,7 +14,7 @@ ghost use Rattle.group.specs.Entries.{marked, timed, sentList, flags, pl
 ghost use Rattle.group.specs.Needs.{Comparing};
 
 // 1 for true, 0 for false.
-fn one(b: bool) -> usize
+pub fn one(b: bool) -> usize
     ensures { λ r. ⌜ (r ≡ bit b) × (r ≤ 1) ⌝ }
 {
     if b {

@@ -39,7 +39,16 @@ pub const ROWS: usize = 9 * ROWS_BYTES;
 
 pub const VALUES: usize = 9 * 256;
 
-// Whether a hall is open, its parameters, its clients, and what waits to be printed.
+// The frames of a server's step, 226 of 598 bytes at most, and their receivers; and those of a client's, 10.
+const SERVER_OUT: usize = 135148;
+
+const SERVER_TO: usize = 452;
+
+const CLIENT_OUT: usize = 5980;
+
+const CLIENT_TO: usize = 20;
+
+// What waits to be printed goes with them.
 pub struct Hall {
     pub ready: bool,
     pub g: Params,
@@ -129,6 +138,10 @@ fn put_served(o: Out, text: &mut [u8], r: Reply, out: &[u8], to: &[u8]) -> Out {
     }
 }
 
+fn no_frames() -> [u8; SERVER_OUT] {
+    [0; SERVER_OUT]
+}
+
 // A frame is handed to server j.
 pub fn hand_server(
     h: Hall,
@@ -147,8 +160,8 @@ pub fn hand_server(
     let first = 256 * i;
     let own = SERVER_SIZE * i;
     let g = h.g;
-    let mut out = [0u8; 12000];
-    let mut to = [0u8; 64];
+    let mut out = no_frames();
+    let mut to = [0u8; SERVER_TO];
     let reply = deliver(
         g,
         j,
@@ -215,8 +228,8 @@ pub fn hand_client(
     let mut result = [0u8; 256];
     let value = &values[first..first + 256];
     let size = count_of(g.size, value);
-    let mut out = [0u8; 12000];
-    let mut to = [0u8; 64];
+    let mut out = [0u8; CLIENT_OUT];
+    let mut to = [0u8; CLIENT_TO];
     let r = site::lend(
         clients[i],
         g,
@@ -239,8 +252,8 @@ pub fn hand_client(
 // Client j begins a read.
 pub fn read(h: Hall, j: usize, text: &mut [u8]) -> Hall {
     let i = place_of(j, Server::CLIENTS);
-    let mut out = [0u8; 12000];
-    let mut to = [0u8; 64];
+    let mut out = [0u8; CLIENT_OUT];
+    let mut to = [0u8; CLIENT_TO];
     let g = h.g;
     let clients = h.clients;
     let r = begin_read(g, byte_of(j), clients[i], &mut out, &mut to);
@@ -266,8 +279,8 @@ pub fn write(h: Hall, j: usize, value: &[u8], values: &mut [u8], text: &mut [u8]
     requires { ⌜ length (now values) ≡ 9 * 256 ⌝ }
 {
     let i = place_of(j, Server::CLIENTS);
-    let mut out = [0u8; 12000];
-    let mut to = [0u8; 64];
+    let mut out = [0u8; CLIENT_OUT];
+    let mut to = [0u8; CLIENT_TO];
     let g = h.g;
     let clients = h.clients;
     let r = begin_write(g, byte_of(j), clients[i], value, &mut out, &mut to);

@@ -22,7 +22,7 @@ use Rattle.frame.specs.declared.Opened.{Opened}
 use Rattle.frame.specs.declared.Opened.the-variants as O
 use Rattle.frame.specs.Refusals.{numberOf}
 use Rattle.frame.specs.Params.{boundsTest}
-use Rattle.frame.specs.Frames.{bodyAt, lengthOf, bodyLength, opened, openingResponse, openedUnder, stampIn, bodyIn}
+use Rattle.frame.specs.Frames.{retired, bodyAt, lengthOf, bodyLength, opened, openingResponse, openedUnder, stampIn, bodyIn}
 use Rattle.frame.proofs.Chain.{stop-bounds, within-bounds}
 use Rattle.frame.proofs.Opening.{opens-facts}
 use Rattle.host_facts.specs.Outcomes.{wrote}
@@ -40,40 +40,45 @@ module _ (k : ℕ) where
   unfolding carriesTime
   value-carries e = rw (eq-eqb _ _ e)
 
-  pub first-lacks : (k ≡ 11 → ⊥) → k < 2 → false ≡ carriesTime k
+  pub report-carries : (k ≡ 11 → ⊥) → k ≡ 13 → true ≡ carriesTime k
   unfolding carriesTime
-  first-lacks n h = rw (ne-eqb _ _ n, lt-leb _ _ h)
+  report-carries n e = rw (ne-eqb _ _ n, eq-eqb _ _ e)
 
-  pub others-carry : (k ≡ 11 → ⊥) → 2 ≤ k → leb k 5 ≡ carriesTime k
+  pub first-lacks : (k ≡ 11 → ⊥) → (k ≡ 13 → ⊥) → k < 2 → false ≡ carriesTime k
   unfolding carriesTime
-  others-carry n h = rw (ne-eqb _ _ n, le-leb _ _ h)
+  first-lacks n m h = rw (ne-eqb _ _ n, ne-eqb _ _ m, lt-leb _ _ h)
+
+  pub others-carry : (k ≡ 11 → ⊥) → (k ≡ 13 → ⊥) → 2 ≤ k → leb k 5 ≡ carriesTime k
+  unfolding carriesTime
+  others-carry n m h = rw (ne-eqb _ _ n, ne-eqb _ _ m, le-leb _ _ h)
 
 -- such a frame has a body of 8 bytes or more, which begins with the time
 record Timed (g : Params) (f : List ℕ) (k : ℕ) : Type 0 where
   pub time : timeOf (bodyIn g k f) ≡ pick (carriesTime k) (some (be8 f bodyAt)) none
   pub long : carriesTime k ≡ true → 8 ≤ bodyLength g k
 
-timed-by : (g : Params) (f : List ℕ) (k : ℕ) → k ≤ 12 → Timed g f k
-unfolding bodyIn stampIn timeOf carriesTime bodyLength lengthOf pick
-timed-by g f zero h = record { time = refl; long = λ e. impossible (cc e) }
-timed-by g f (suc zero) h = record { time = refl; long = λ e. impossible (cc e) }
-timed-by g f (suc (suc zero)) h = record { time = refl; long = λ e. omega arith }
-timed-by g f (suc (suc (suc zero))) h = record { time = refl; long = λ e. omega arith }
-timed-by g f (suc (suc (suc (suc zero)))) h = record { time = refl; long = λ e. omega arith }
-timed-by g f (suc (suc (suc (suc (suc zero))))) h = record { time = refl; long = λ e. omega arith }
-timed-by g f (suc (suc (suc (suc (suc (suc zero)))))) h = record { time = refl; long = λ e. impossible (cc e) }
-timed-by g f (suc (suc (suc (suc (suc (suc (suc zero))))))) h = record { time = refl; long = λ e. impossible (cc e) }
-timed-by g f (suc (suc (suc (suc (suc (suc (suc (suc zero)))))))) h = record { time = refl; long = λ e. impossible (cc e) }
-timed-by g f (suc (suc (suc (suc (suc (suc (suc (suc (suc zero))))))))) h = record { time = refl; long = λ e. impossible (cc e) }
-timed-by g f (suc (suc (suc (suc (suc (suc (suc (suc (suc (suc zero)))))))))) h = record { time = refl; long = λ e. impossible (cc e) }
-timed-by g f (suc (suc (suc (suc (suc (suc (suc (suc (suc (suc (suc zero))))))))))) h = record { time = refl; long = λ e. omega arith }
-timed-by g f (suc (suc (suc (suc (suc (suc (suc (suc (suc (suc (suc (suc zero)))))))))))) h = record { time = refl; long = λ e. impossible (cc e) }
-timed-by g f (suc (suc (suc (suc (suc (suc (suc (suc (suc (suc (suc (suc (suc k))))))))))))) h = absurd (omega arith)
+timed-by : (g : Params) (f : List ℕ) (k : ℕ) → 1 ≤ k → k ≤ 13 → retired k ≡ false → Timed g f k
+unfolding bodyIn stampIn timeOf carriesTime bodyLength lengthOf retired pick
+timed-by g f zero l h r = absurd (omega (arith, l))
+timed-by g f (suc zero) l h r = record { time = refl; long = λ e. impossible (cc e) }
+timed-by g f (suc (suc zero)) l h r = record { time = refl; long = λ e. omega arith }
+timed-by g f (suc (suc (suc zero))) l h r = record { time = refl; long = λ e. omega arith }
+timed-by g f (suc (suc (suc (suc zero)))) l h r = record { time = refl; long = λ e. omega arith }
+timed-by g f (suc (suc (suc (suc (suc zero))))) l h r = record { time = refl; long = λ e. omega arith }
+timed-by g f (suc (suc (suc (suc (suc (suc zero)))))) l h r = impossible (cc r)
+timed-by g f (suc (suc (suc (suc (suc (suc (suc zero))))))) l h r = impossible (cc r)
+timed-by g f (suc (suc (suc (suc (suc (suc (suc (suc zero)))))))) l h r = impossible (cc r)
+timed-by g f (suc (suc (suc (suc (suc (suc (suc (suc (suc zero))))))))) l h r = record { time = refl; long = λ e. impossible (cc e) }
+timed-by g f (suc (suc (suc (suc (suc (suc (suc (suc (suc (suc zero)))))))))) l h r = record { time = refl; long = λ e. impossible (cc e) }
+timed-by g f (suc (suc (suc (suc (suc (suc (suc (suc (suc (suc (suc zero))))))))))) l h r = record { time = refl; long = λ e. omega arith }
+timed-by g f (suc (suc (suc (suc (suc (suc (suc (suc (suc (suc (suc (suc zero)))))))))))) l h r = record { time = refl; long = λ e. impossible (cc e) }
+timed-by g f (suc (suc (suc (suc (suc (suc (suc (suc (suc (suc (suc (suc (suc zero))))))))))))) l h r = record { time = refl; long = λ e. omega arith }
+timed-by g f (suc (suc (suc (suc (suc (suc (suc (suc (suc (suc (suc (suc (suc (suc k)))))))))))))) l h r = absurd (omega (arith, h))
 
 -- ---- the time that a frame carries
 
 timed-of : (g : Params) (f : List ℕ) (h : Header) → opened g f ≡ O.Frame h → Timed g f (h .kind)
-timed-of g f h e = timed-by g f (h .kind) (opens-facts g f h e .kind-high)
+timed-of g f h e = let o = opens-facts g f h e in timed-by g f (h .kind) (o .kind-low) (o .kind-high) (o .kind-used)
 
 pub time-long : (g : Params) (f : List ℕ) (h : Header) → opened g f ≡ O.Frame h → carriesTime (h .kind) ≡ true → 17 ≤ length f
 time-long g f h e c =

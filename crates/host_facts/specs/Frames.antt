@@ -11,7 +11,7 @@ use Rattle.area.specs.Responses.{Response, turnedDown, gives}
 use Rattle.area.specs.Numbers.{bytes8}
 use Rattle.blocks.specs.declared.Params.{Params}
 use Rattle.frame.specs.declared.Header.{Header}
-use Rattle.frame.specs.Messages.{Body, getStamp, ack, askRead, readComplete, stampIs, blockIs, valueIs}
+use Rattle.frame.specs.Messages.{Body, getStamp, ack, askRead, readComplete, stampIs, blockIs, valueIs, report}
 use Rattle.frame.specs.Frames.{openedUnder, bodyIn}
 use Rattle.host_facts.specs.Outcomes.{Wrote, wrote}
 
@@ -23,7 +23,7 @@ headerAnswer (turnedDown n) = n
 unfoldable pub headerCall : Params → List ℕ → ℕ
 headerCall g f = headerAnswer (openedUnder g f)
 
--- the time that a frame carries: that of the server's stamp, of the write, or of the value's stamp
+-- the time that a frame carries: that of the server's stamp, of the write, or of the value's stamp, or the server's that is reported
 unfoldable pub timeOf : Body → Option ℕ
 timeOf getStamp = none
 timeOf ack = none
@@ -32,6 +32,7 @@ timeOf readComplete = none
 timeOf (stampIs T) = some T
 timeOf (blockIs z o) = some (o .time)
 timeOf (valueIs s e) = some (s .time)
+timeOf (report T) = some T
 
 -- the second byte of the answer is 1, and the time is in the first 8 bytes of the area; or it is 0, and the area stays as lent
 unfoldable pub timed : Option ℕ → List ℕ → Wrote

@@ -5,4 +5,4 @@ use mathlib.Core.Bool.{Bool, _||_, _&&_}
 use lib.Dec.{eqb, leb}
 
 unfoldable pub carriesTime : ℕ → Bool
-carriesTime kind = eqb kind 11 || (leb 2 kind && leb kind 5)
+carriesTime kind = eqb kind 11 || (eqb kind 13 || (leb 2 kind && leb kind 5))

@@ -36,11 +36,14 @@ pub fn frame_header(g: Params, f: &[u8]) -> u64
     header_answer(opened)
 }
 
-// Whether frames of a kind carry a time: 2 to 5 and 11.
+// Whether frames of a kind carry a time: 2 to 5, 11 and 13.
 fn carries_time(kind: u8) -> bool
     ensures { λ r. ⌜ r ≡ carriesTime kind ⌝ }
 {
     if kind == 11 {
+        return true;
+    }
+    if kind == 13 {
         return true;
     }
     if kind < 2 {

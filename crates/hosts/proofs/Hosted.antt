@@ -6,7 +6,7 @@ use mathlib.Core.Bool.{Bool, true, false, _||_}
 use mathlib.Core.Path.{_≡_, refl, sym, ap, subst, _∙_}
 use mathlib.Core.List.{List, [], _∷_, _++_}
 use mathlib.Core.Logic.{⊎-elim}
-use lib.ListN.{length, getD}
+use lib.ListN.{length}
 use lib.Seq.{sets, length-sets}
 use lib.Dec.{ltb, eqb}
 use borrow.Author.Tests.{ltb-true, ltb-false, ne-eqb}
@@ -23,7 +23,7 @@ use Rattle.frame.specs.declared.Verdict.the-variants as J
 use Rattle.frame.specs.declared.Refusal.{Refusal}
 use Rattle.frame.specs.Refusals.{numberOf, answeredBy}
 use Rattle.frame.specs.declared.Stamp.{Stamp}
-use Rattle.frame.specs.Frames.{clientAt, stampBytes}
+use Rattle.frame.specs.Frames.{headerIn, stampBytes}
 use Rattle.frame.specs.Messages.{numberIn}
 use Rattle.server_rules.specs.declared.Slot.{Slot}
 use Rattle.server_rules.specs.declared.Reader.{Reader}
@@ -84,7 +84,8 @@ module _ (g : Params) (me : ℕ) (from : Party) (f area initial state out to : L
 
   -- the call, where the record's area is long enough
   server-whole : serverCall g me from f area initial state out to
-      ≡ serverGotOf (outcomeAt (SD.delivery digestOf g me (serverIn state) area initial from f out to) (getD f clientAt 0) state)
+      ≡ serverGotOf (outcomeAt (SD.delivery digestOf g me (serverIn state) area initial from f out to)
+      (SD.delivered digestOf g me (serverIn state) area initial from f out to) (headerIn f) from state)
   unfolding serverCall
   server-whole = sym (ap serverGotOf (whole-record g me from f area initial state out to h))
 

@@ -78,12 +78,14 @@ head-bytes w r b p =
 pub client-bytes : (s : Client) → TypedClient s → Bytes (clientBytes s)
 unfolding clientBytes rowsBytes
 client-bytes s t =
-    let y = numbersBytes (s .times) ++ rowsBytes (s .rows) in
+    let z = rowsBytes (s .rows) ++ numbersBytes (s .reports) in
+    let y = numbersBytes (s .times) ++ z in
     Bytes-append (headBytes (s .writes) (s .reads) (s .closed) (s .phase)) (flagsBytes (s .heard) ++ y)
     (head-bytes (s .writes) (s .reads) (s .closed) (s .phase))
     (Bytes-append (flagsBytes (s .heard)) y (flags-bytes (s .heard))
-    (Bytes-append (numbersBytes (s .times)) (rowsBytes (s .rows)) (numbers-bytes (s .times))
-    (row-bytes TypedRow keptBytes 11 noRow (s .rows) kept-bytes (t .rows))))
+    (Bytes-append (numbersBytes (s .times)) z (numbers-bytes (s .times))
+    (Bytes-append (rowsBytes (s .rows)) (numbersBytes (s .reports)) (row-bytes TypedRow keptBytes 11 noRow (s .rows) kept-bytes (t .rows))
+    (numbers-bytes (s .reports)))))
 
 -- ---- a server's record
 
@@ -122,7 +124,9 @@ pub server-bytes : (s : Server) → TypedServer s → Bytes (serverBytes s)
 unfolding serverBytes slotsBytes readersBytes
 server-bytes s t =
     let y = slotsBytes (s .slots) in
-    let z = readersBytes (s .readers) in
+    let r = readersBytes (s .readers) in
+    let z = r ++ numbersBytes (s .reports) in
     Bytes-append (stampBytes (s .stamp)) (y ++ z) (stamp-bytes (s .stamp) (t .stamp))
     (Bytes-append y z (row-bytes _ slotBytes 9 noSlot (s .slots) (λ x k. slot-bytes x) (t .slots))
-    (row-bytes TypedReader readerBytes 9 noReader (s .readers) reader-bytes (t .readers)))
+    (Bytes-append r (numbersBytes (s .reports)) (row-bytes TypedReader readerBytes 9 noReader (s .readers) reader-bytes (t .readers))
+    (numbers-bytes (s .reports))))

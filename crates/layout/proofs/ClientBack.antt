@@ -23,7 +23,7 @@ use Rattle.layout.specs.Clients.{clientSize, phaseByte, phaseIn, stampsB
 use Rattle.layout.specs.Clients.{rowsBytes, rowsAt, headBytes, clientBytes, clientAt, clientIn}
 use Rattle.layout.specs.Typed.{Word, TypedStamp, TypedRow, TypedClient}
 use Rattle.server_rules.specs.WellFormed.{Array}
-use Rattle.layout.proofs.Lengths.{length-flags, length-numbers, length-kept, length-head, length-client}
+use Rattle.layout.proofs.Lengths.{length-flags, length-numbers, length-rows, length-kept, length-head, length-client}
 use Rattle.layout.proofs.Reading.{Stands, front, back, alone, stored, byte-at, flag-at, word-at, long-at, stamp-at, row-at, flags-at, numbers-at}
 
 phase-back : (p : Phase) → phaseIn (phaseByte p) ≡ p
@@ -74,15 +74,27 @@ pub client-at : (l : List ℕ) (i : ℕ) (s : Client) → TypedClient s → Stan
 unfolding clientAt clientBytes
 client-at l i s t p =
     let x = headBytes (s .writes) (s .reads) (s .closed) (s .phase) in
-    let y = numbersBytes (s .times) ++ rowsBytes (s .rows) in
+    let z = rowsBytes (s .rows) ++ numbersBytes (s .reports) in
+    let y = numbersBytes (s .times) ++ z in
     let p₁ = back x (flagsBytes (s .heard) ++ y) 10 (i + 10) (length-head (s .writes) (s .reads) (s .closed) (s .phase)) refl p in
     let p₂ = back (flagsBytes (s .heard)) y 11 (i + 21) (length-flags (s .heard)) (omega arith) p₁ in
-    let p₃ = back (numbersBytes (s .times)) (rowsBytes (s .rows)) 88 (i + 109) (length-numbers (s .times)) (omega arith) p₂ in
+    let p₃ = back (numbersBytes (s .times)) z 88 (i + 109) (length-numbers (s .times)) (omega arith) p₂ in
+    let p₄ = back (rowsBytes (s .rows)) (numbersBytes (s .reports)) 660 (i + 769) (length-rows (s .rows)) (omega arith) p₃ in
     let a = head-at l i (s .writes) (s .reads) (s .closed) (s .phase) (t .writes) (t .reads) (front x (flagsBytes (s .heard) ++ y) p) in
     let b = flags-at l (i + 10) (s .heard) (t .heard) (front (flagsBytes (s .heard)) y p₁) in
-    let c = numbers-at l (i + 21) (s .times) (t .times) (front (numbersBytes (s .times)) (rowsBytes (s .rows)) p₂) in
-    let d = rows-at l (i + 109) (s .rows) (t .rows) p₃ in
-    λ k. record { writes = a .writes k; reads = a .reads k; closed = a .closed k; phase = a .phase k; heard = b k; times = c k; rows = d k }
+    let c = numbers-at l (i + 21) (s .times) (t .times) (front (numbersBytes (s .times)) z p₂) in
+    let d = rows-at l (i + 109) (s .rows) (t .rows) (front (rowsBytes (s .rows)) (numbersBytes (s .reports)) p₃) in
+    let e = numbers-at l (i + 769) (s .reports) (t .reports) p₄ in
+    λ k. record {
+      writes = a .writes k;
+      reads = a .reads k;
+      closed = a .closed k;
+      phase = a .phase k;
+      heard = b k;
+      times = c k;
+      rows = d k;
+      reports = e k;
+    }
 
 -- a record that is written as bytes reads back
 pub client-back : (s : Client) → TypedClient s → clientIn (clientBytes s) ≡ s

@@ -47,7 +47,7 @@ pub length-kept : (r : Row) → length (keptBytes r) ≡ 60
 unfolding keptBytes
 length-kept r = both (bytes8 (r .count)) (stampsBytes (r .stamps)) 8 52 (length-bytes8 (r .count)) (length-stamps (r .stamps))
 
-length-rows : (xs : List Row) → length (rowsBytes xs) ≡ 660
+pub length-rows : (xs : List Row) → length (rowsBytes xs) ≡ 660
 unfolding rowsBytes rowBytes
 length-rows xs = length-joined (λ j. keptBytes (getD xs j noRow)) 60 0 11 (λ j. length-kept (getD xs j noRow))
 
@@ -60,9 +60,11 @@ length-head w r b p =
 pub length-client : (s : Client) → length (clientBytes s) ≡ clientSize
 unfolding clientBytes
 length-client s =
-    let c = both (numbersBytes (s .times)) (rowsBytes (s .rows)) 88 660 (length-numbers (s .times)) (length-rows (s .rows)) in
-    let b = both (flagsBytes (s .heard)) (numbersBytes (s .times) ++ rowsBytes (s .rows)) 11 748 (length-flags (s .heard)) c in
-    both (headBytes (s .writes) (s .reads) (s .closed) (s .phase)) (flagsBytes (s .heard) ++ (numbersBytes (s .times) ++ rowsBytes (s .rows))) 10 759
+    let x = rowsBytes (s .rows) ++ numbersBytes (s .reports) in
+    let d = both (rowsBytes (s .rows)) (numbersBytes (s .reports)) 660 88 (length-rows (s .rows)) (length-numbers (s .reports)) in
+    let c = both (numbersBytes (s .times)) x 88 748 (length-numbers (s .times)) d in
+    let b = both (flagsBytes (s .heard)) (numbersBytes (s .times) ++ x) 11 836 (length-flags (s .heard)) c in
+    both (headBytes (s .writes) (s .reads) (s .closed) (s .phase)) (flagsBytes (s .heard) ++ (numbersBytes (s .times) ++ x)) 10 847
     (length-head (s .writes) (s .reads) (s .closed) (s .phase)) b
 
 -- ---- a server's record
@@ -101,12 +103,14 @@ length-reader x =
     both (bytes4 (x .sequence)) (flagByte (x .listening) ∷ stampBytes (x .noted)) 4 14 (length-bytes4 (x .sequence))
     (both (flagByte (x .listening) ∷ []) (stampBytes (x .noted)) 1 13 refl (length-stamp (x .noted)))
 
-length-readers : (xs : List Reader) → length (readersBytes xs) ≡ readersSize
+pub length-readers : (xs : List Reader) → length (readersBytes xs) ≡ readersSize
 unfolding readersBytes rowBytes
 length-readers xs = length-joined (λ j. readerBytes (getD xs j noReader)) readerSize 0 9 (λ j. length-reader (getD xs j noReader))
 
 pub length-server : (s : Server) → length (serverBytes s) ≡ serverSize
 unfolding serverBytes
 length-server s =
-    both (stampBytes (s .stamp)) (slotsBytes (s .slots) ++ readersBytes (s .readers)) 13 (slotsSize + readersSize) (length-stamp (s .stamp))
-    (both (slotsBytes (s .slots)) (readersBytes (s .readers)) slotsSize readersSize (length-slots (s .slots)) (length-readers (s .readers)))
+    let x = readersBytes (s .readers) ++ numbersBytes (s .reports) in
+    both (stampBytes (s .stamp)) (slotsBytes (s .slots) ++ x) 13 (slotsSize + (readersSize + 88)) (length-stamp (s .stamp))
+    (both (slotsBytes (s .slots)) x slotsSize (readersSize + 88) (length-slots (s .slots))
+    (both (readersBytes (s .readers)) (numbersBytes (s .reports)) readersSize 88 (length-readers (s .readers)) (length-numbers (s .reports))))

@@ -11,3 +11,4 @@ pub mod AreBytes
 pub mod Left
 pub mod Stores
 pub mod Rewriting
+pub mod PartReads

@@ -19,10 +19,10 @@ use Rattle.server_rules.specs.declared.Reader.{Reader}
 use Rattle.server_rules.specs.declared.Server.{Server}
 use Rattle.layout.specs.Fields.{flagByte, flagsBytes, numbersBytes}
 use Rattle.layout.specs.Clients.{phaseByte, stampsBytes, keptBytes, rowsBytes, headBytes, clientBytes}
-use Rattle.layout.specs.Servers.{slotsSize, readersPlace, marksBytes, votesBytes, blocksBytes}
+use Rattle.layout.specs.Servers.{slotsSize, readersSize, readersPlace, reportsPlace, marksBytes, votesBytes, blocksBytes}
 use Rattle.layout.specs.Servers.{slotBytes, slotsBytes, readerBytes, readersBytes, serverBytes}
 use Rattle.layout.proofs.Places.{onto}
-use Rattle.layout.proofs.Lengths.{length-flags, length-numbers, length-head, length-marks, length-votes, length-slots}
+use Rattle.layout.proofs.Lengths.{length-flags, length-numbers, length-head, length-marks, length-votes, length-slots, length-rows, length-readers}
 
 module _ (d l m : List ℕ) (i : ℕ) where
   pub kept-put : (r : Row) → l ≡ sets d i (bytes8 (r .count)) → m ≡ sets l (i + 8) (stampsBytes (r .stamps)) → m ≡ sets d i (keptBytes r)
@@ -63,15 +63,18 @@ module _ (d l m : List ℕ) (i : ℕ) where
         onto d l n i 4 (i + 4) (bytes4 (s .sequence)) (x ∷ stampBytes (s .noted)) (length-bytes4 (s .sequence)) refl p u in
         rw e at v
 
-    pub server-put : (s : Server) → l ≡ sets d i (stampBytes (s .stamp)) → m ≡ sets l (i + 13) (slotsBytes (s .slots))
-        → n ≡ sets m (i + readersPlace) (readersBytes (s .readers)) → n ≡ sets d i (serverBytes s)
-    unfolding serverBytes
-    server-put s p q r =
-        let u = onto l m n (i + 13) slotsSize (i + readersPlace) (slotsBytes (s .slots)) (readersBytes (s .readers))
-        (length-slots (s .slots)) (omega arith) q r in
-        onto d l n i 13 (i + 13) (stampBytes (s .stamp)) (slotsBytes (s .slots) ++ readersBytes (s .readers)) (length-stamp (s .stamp)) refl p u
-
     module _ (o : List ℕ) where
+      pub server-put : (s : Server) → l ≡ sets d i (stampBytes (s .stamp)) → m ≡ sets l (i + 13) (slotsBytes (s .slots))
+          → n ≡ sets m (i + readersPlace) (readersBytes (s .readers)) → o ≡ sets n (i + reportsPlace) (numbersBytes (s .reports)) → o ≡ sets d i (serverBytes s)
+      unfolding serverBytes
+      server-put s p q r t =
+          let v = onto m n o (i + readersPlace) readersSize (i + reportsPlace) (readersBytes (s .readers)) (numbersBytes (s .reports))
+          (length-readers (s .readers)) (omega arith) r t in
+          let u = onto l m o (i + 13) slotsSize (i + readersPlace) (slotsBytes (s .slots)) (readersBytes (s .readers) ++ numbersBytes (s .reports))
+          (length-slots (s .slots)) (omega arith) q v in
+          onto d l o i 13 (i + 13) (stampBytes (s .stamp)) (slotsBytes (s .slots) ++ (readersBytes (s .readers) ++ numbersBytes (s .reports)))
+          (length-stamp (s .stamp)) refl p u
+
       pub head-put : (w r : ℕ) (b : Bool) (p : Phase) (x y : ℕ) → x ≡ flagByte b → y ≡ phaseByte p
           → l ≡ sets d i (bytes4 w) → m ≡ sets l (i + 4) (bytes4 r) → n ≡ sets m (i + 8) (x ∷ []) → o ≡ sets n (i + 9) (y ∷ [])
           → o ≡ sets d i (headBytes w r b p)
@@ -81,15 +84,18 @@ module _ (d l m : List ℕ) (i : ℕ) where
           let v = onto l m o (i + 4) 4 (i + 8) (bytes4 r) (x ∷ y ∷ []) (length-bytes4 r) (omega arith) p₂ u in
           rw (e, f) at (onto d l o i 4 (i + 4) (bytes4 w) (bytes4 r ++ (x ∷ y ∷ [])) (length-bytes4 w) refl p₁ v)
 
-      pub client-put : (s : Client) → l ≡ sets d i (headBytes (s .writes) (s .reads) (s .closed) (s .phase)) → m ≡ sets l (i + 10) (flagsBytes (s .heard))
-          → n ≡ sets m (i + 21) (numbersBytes (s .times)) → o ≡ sets n (i + 109) (rowsBytes (s .rows)) → o ≡ sets d i (clientBytes s)
+      pub client-put : (k : List ℕ) (s : Client) → l ≡ sets d i (headBytes (s .writes) (s .reads) (s .closed) (s .phase))
+          → m ≡ sets l (i + 10) (flagsBytes (s .heard))
+          → n ≡ sets m (i + 21) (numbersBytes (s .times)) → o ≡ sets n (i + 109) (rowsBytes (s .rows)) → k ≡ sets o (i + 769) (numbersBytes (s .reports))
+          → k ≡ sets d i (clientBytes s)
       unfolding clientBytes
-      client-put s p₁ p₂ p₃ p₄ =
-          let u = onto m n o (i + 21) 88 (i + 109) (numbersBytes (s .times)) (rowsBytes (s .rows)) (length-numbers (s .times)) (omega arith) p₃ p₄ in
-          let v = onto l m o (i + 10) 11 (i + 21) (flagsBytes (s .heard)) (numbersBytes (s .times) ++ rowsBytes (s .rows))
-          (length-flags (s .heard)) (omega arith) p₂ u in
-          onto d l o i 10 (i + 10) (headBytes (s .writes) (s .reads) (s .closed) (s .phase))
-          (flagsBytes (s .heard) ++ (numbersBytes (s .times) ++ rowsBytes (s .rows)))
+      client-put k s p₁ p₂ p₃ p₄ p₅ =
+          let z = rowsBytes (s .rows) ++ numbersBytes (s .reports) in
+          let w = onto n o k (i + 109) 660 (i + 769) (rowsBytes (s .rows)) (numbersBytes (s .reports)) (length-rows (s .rows)) (omega arith) p₄ p₅ in
+          let u = onto m n k (i + 21) 88 (i + 109) (numbersBytes (s .times)) z (length-numbers (s .times)) (omega arith) p₃ w in
+          let v = onto l m k (i + 10) 11 (i + 21) (flagsBytes (s .heard)) (numbersBytes (s .times) ++ z) (length-flags (s .heard)) (omega arith) p₂ u in
+          onto d l k i 10 (i + 10) (headBytes (s .writes) (s .reads) (s .closed) (s .phase))
+          (flagsBytes (s .heard) ++ (numbersBytes (s .times) ++ z))
           (length-head (s .writes) (s .reads) (s .closed) (s .phase)) refl p₁ v
 
       pub blocks-put : (k : List ℕ) (b : BlockPart) → l ≡ sets d i (marksBytes (b .sent) (b .ready) (b .complete)) → m ≡ sets l (i + 3) (bytes8 (b .time))

@@ -7,6 +7,8 @@ use mathlib.Core.List.{List, _++_}
 use lib.ListN.{length, getD, set}
 use lib.Seq.{sets, getD-set-same, getD-set-other}
 use Rattle.area.specs.Area.{joined}
+use Rattle.area.specs.Numbers.{bytes8}
+use Rattle.area.proofs.Numbers.{length-bytes8}
 use Rattle.area.proofs.Sets.{sets-append}
 use Rattle.area.proofs.Fills.{joined-split, length-joined}
 use Rattle.frame.specs.declared.Stamp.{Stamp}
@@ -16,10 +18,10 @@ use Rattle.server_rules.specs.declared.Slot.{Slot}
 use Rattle.server_rules.specs.declared.Reader.{Reader}
 use Rattle.server_rules.specs.declared.Server.{Server}
 use Rattle.server_rules.specs.State.{noSlot, noReader}
-use Rattle.layout.specs.Fields.{rowBytes}
-use Rattle.layout.specs.Servers.{slotSize, slotsSize, readerSize, slotsPlace, readersPlace, slotBytes}
-use Rattle.layout.specs.Servers.{slotsBytes, readerBytes, readersBytes, serverBytes, scopeSets}
-use Rattle.layout.proofs.Lengths.{length-slot, length-slots, length-reader}
+use Rattle.layout.specs.Fields.{rowBytes, numbersBytes}
+use Rattle.layout.specs.Servers.{slotSize, slotsSize, readerSize, readersSize, slotsPlace, readersPlace, reportsPlace, slotBytes, slotsBytes, readerBytes}
+use Rattle.layout.specs.Servers.{readersBytes, serverBytes, slotSets, scopeSets, reportSets}
+use Rattle.layout.proofs.Lengths.{length-slot, length-slots, length-reader, length-readers}
 use Rattle.layout.proofs.Stores.{sets-swap, sets-over, sets-replace}
 
 -- ---- an array
@@ -56,43 +58,100 @@ module _ {A : Type 0} (f : A → List ℕ) (m w : ℕ) (d : A) (e : (x : A) → 
 
 -- ---- the record
 
-module _ (l : List ℕ) (s : Server) (c : ℕ) (x : Stamp) (y : Slot) (z : Reader) (ns : length (s .slots) ≡ 9) (nr : length (s .readers) ≡ 9) (h : c ≤ 8) where
-  abbrev stored : Stamp → List Slot → List Reader → List ℕ
-  stored t ss rs = sets (sets (sets l 0 (stampBytes t)) slotsPlace (slotsBytes ss)) readersPlace (readersBytes rs)
+-- a record's bytes are its parts', stored one after the other
+abbrev stored : List ℕ → Server → List ℕ
+stored l s =
+    sets (sets (sets (sets l 0 (stampBytes (s .stamp))) slotsPlace (slotsBytes (s .slots))) readersPlace (readersBytes (s .readers))) reportsPlace
+    (numbersBytes (s .reports))
 
-  -- a record's bytes are its parts', stored one after the other
-  parts : (t : Stamp) (ss : List Slot) (rs : List Reader) → sets l 0 (stampBytes t ++ (slotsBytes ss ++ readersBytes rs)) ≡ stored t ss rs
-  parts t ss rs =
-      sets-append l 0 (stampBytes t) (slotsBytes ss ++ readersBytes rs)
-      ∙ ap (λ n. sets (sets l 0 (stampBytes t)) n (slotsBytes ss ++ readersBytes rs)) (zero-add (length (stampBytes t)) ∙ length-stamp t)
-      ∙ sets-append (sets l 0 (stampBytes t)) slotsPlace (slotsBytes ss) (readersBytes rs)
-      ∙ ap (λ n. sets (sets (sets l 0 (stampBytes t)) slotsPlace (slotsBytes ss)) (slotsPlace + n) (readersBytes rs)) (length-slots ss)
+parts : (l : List ℕ) (s : Server) → sets l 0 (serverBytes s) ≡ stored l s
+unfolding serverBytes
+parts l s =
+    let X = stampBytes (s .stamp) in
+    let Y = slotsBytes (s .slots) in
+    let Z = readersBytes (s .readers) in
+    let N = numbersBytes (s .reports) in
+    let l₁ = sets l 0 X in
+    let l₂ = sets l₁ slotsPlace Y in
+    sets-append l 0 X (Y ++ (Z ++ N))
+    ∙ ap (λ n. sets l₁ n (Y ++ (Z ++ N))) (zero-add (length X) ∙ length-stamp (s .stamp))
+    ∙ sets-append l₁ slotsPlace Y (Z ++ N)
+    ∙ ap (λ n. sets l₂ (slotsPlace + n) (Z ++ N)) (length-slots (s .slots))
+    ∙ sets-append l₂ readersPlace Z N
+    ∙ ap (λ n. sets (sets l₂ readersPlace Z) (readersPlace + n) N) (length-readers (s .readers))
 
-  pub scope-stored : scopeSets (sets l 0 (serverBytes s)) c x y z
-      ≡ sets l 0 (serverBytes (record { stamp = x; slots = set (s .slots) c y; readers = set (s .readers) c z }))
-  unfolding scopeSets serverBytes slotsBytes readersBytes
-  scope-stored =
-      let X = stampBytes x in
-      let Y = slotBytes y in
-      let Z = readerBytes z in
+module _ (l : List ℕ) (s : Server) where
+  abbrev X : List ℕ
+  X = stampBytes (s .stamp)
+
+  abbrev Y : List ℕ
+  Y = slotsBytes (s .slots)
+
+  abbrev Z : List ℕ
+  Z = readersBytes (s .readers)
+
+  abbrev N : List ℕ
+  N = numbersBytes (s .reports)
+
+  -- the stamp and a slot
+  pub slot-stored : (c : ℕ) (x : Stamp) (y : Slot) → length (s .slots) ≡ 9 → c ≤ 8
+      → slotSets (sets l 0 (serverBytes s)) c x y
+      ≡ sets l 0 (serverBytes (record { stamp = x; slots = set (s .slots) c y; readers = s .readers; reports = s .reports }))
+  unfolding slotSets slotsBytes
+  slot-stored c x y ns h =
+      let s′ : Server = record { stamp = x; slots = set (s .slots) c y; readers = s .readers; reports = s .reports } in
+      let A = stampBytes x in
+      let B = slotBytes y in
       let at = slotsPlace + c * slotSize in
+      let n = length-stamp x in
+      let m = length-slot y in
+      let l₀ = sets l 0 X in
+      let l₁ = sets l 0 A in
+      let stamps : sets (stored l s) 0 A ≡ sets (sets (sets l₁ slotsPlace Y) readersPlace Z) reportsPlace N =
+      sets-swap (sets (sets l₀ slotsPlace Y) readersPlace Z) 0 A reportsPlace N (omega (arith, n))
+      ∙ ap (λ k. sets k reportsPlace N) (sets-swap (sets l₀ slotsPlace Y) 0 A readersPlace Z (omega (arith, n)))
+      ∙ ap (λ k. sets (sets k readersPlace Z) reportsPlace N) (sets-swap l₀ 0 A slotsPlace Y (omega (arith, n)))
+      ∙ ap (λ k. sets (sets (sets k slotsPlace Y) readersPlace Z) reportsPlace N)
+      (sets-over l 0 X 0 A (omega arith) (omega (arith, n, length-stamp (s .stamp)))) in
+      let slots : sets (sets (sets (sets l₁ slotsPlace Y) readersPlace Z) reportsPlace N) at B
+      ≡ sets (sets (sets l₁ slotsPlace (slotsBytes (set (s .slots) c y))) readersPlace Z) reportsPlace N =
+      sets-swap (sets (sets l₁ slotsPlace Y) readersPlace Z) at B reportsPlace N (omega (arith, m, h))
+      ∙ ap (λ k. sets k reportsPlace N) (sets-swap (sets l₁ slotsPlace Y) at B readersPlace Z (omega (arith, m, h)))
+      ∙ ap (λ k. sets (sets k readersPlace Z) reportsPlace N)
+      (row-replace slotBytes 9 slotSize noSlot length-slot l₁ slotsPlace c (s .slots) y ns (omega (arith, h))) in
+      ap (λ k. sets (sets k 0 A) at B) (parts l s) ∙ ap (λ k. sets k at B) stamps ∙ slots ∙ sym (parts l s′)
+
+  -- a reader
+  reader-stored : (c : ℕ) (z : Reader) → length (s .readers) ≡ 9 → c ≤ 8
+      → sets (sets l 0 (serverBytes s)) (readersPlace + c * readerSize) (readerBytes z)
+      ≡ sets l 0 (serverBytes (record { stamp = s .stamp; slots = s .slots; readers = set (s .readers) c z; reports = s .reports }))
+  unfolding readersBytes
+  reader-stored c z nr h =
+      let s′ : Server = record { stamp = s .stamp; slots = s .slots; readers = set (s .readers) c z; reports = s .reports } in
+      let l₂ = sets (sets l 0 X) slotsPlace Y in
       let by = readersPlace + c * readerSize in
-      let B = slotsBytes (s .slots) in
-      let C = readersBytes (s .readers) in
-      let l₀ = sets l 0 (stampBytes (s .stamp)) in
-      let l₁ = sets l 0 X in
-      let stamps : sets (stored (s .stamp) (s .slots) (s .readers)) 0 X ≡ sets (sets l₁ slotsPlace B) readersPlace C =
-      sets-swap (sets l₀ slotsPlace B) 0 X readersPlace C (omega (arith, length-stamp x))
-      ∙ ap (λ m. sets m readersPlace C) (sets-swap l₀ 0 X slotsPlace B (omega (arith, length-stamp x)))
-      ∙ ap (λ m. sets (sets m slotsPlace B) readersPlace C)
-      (sets-over l 0 (stampBytes (s .stamp)) 0 X (omega arith) (omega (arith, length-stamp x, length-stamp (s .stamp)))) in
-      let slots : sets (sets (sets l₁ slotsPlace B) readersPlace C) at Y ≡ sets (sets l₁ slotsPlace (slotsBytes (set (s .slots) c y))) readersPlace C =
-      sets-swap (sets l₁ slotsPlace B) at Y readersPlace C (omega (arith, length-slot y, h))
-      ∙ ap (λ m. sets m readersPlace C) (row-replace slotBytes 9 slotSize noSlot length-slot l₁ slotsPlace c (s .slots) y ns (omega (arith, h))) in
-      let readers = row-replace readerBytes 9 readerSize noReader length-reader (sets l₁ slotsPlace (slotsBytes (set (s .slots) c y))) readersPlace c
-      (s .readers) z nr (omega (arith, h)) in
-      ap (λ m. sets (sets (sets m 0 X) at Y) by Z) (parts (s .stamp) (s .slots) (s .readers))
-      ∙ ap (λ m. sets (sets m at Y) by Z) stamps
-      ∙ ap (λ m. sets m by Z) slots
-      ∙ readers
-      ∙ sym (parts x (set (s .slots) c y) (set (s .readers) c z))
+      ap (λ k. sets k by (readerBytes z)) (parts l s)
+      ∙ sets-swap (sets l₂ readersPlace Z) by (readerBytes z) reportsPlace N (omega (arith, length-reader z, h))
+      ∙ ap (λ k. sets k reportsPlace N) (row-replace readerBytes 9 readerSize noReader length-reader l₂ readersPlace c (s .readers) z nr (omega (arith, h)))
+      ∙ sym (parts l s′)
+
+  -- a report
+  pub report-stored : (j T : ℕ) → length (s .reports) ≡ 11 → j ≤ 10
+      → reportSets (sets l 0 (serverBytes s)) j T
+      ≡ sets l 0 (serverBytes (record { stamp = s .stamp; slots = s .slots; readers = s .readers; reports = set (s .reports) j T }))
+  unfolding reportSets numbersBytes
+  report-stored j T nt h =
+      let s′ : Server = record { stamp = s .stamp; slots = s .slots; readers = s .readers; reports = set (s .reports) j T } in
+      let l₃ = sets (sets (sets l 0 X) slotsPlace Y) readersPlace Z in
+      ap (λ k. sets k (reportsPlace + j * 8) (bytes8 T)) (parts l s)
+      ∙ row-replace bytes8 11 8 0 length-bytes8 l₃ reportsPlace j (s .reports) T nt (omega (arith, h))
+      ∙ sym (parts l s′)
+
+-- a client's scope
+pub scope-stored : (l : List ℕ) (s : Server) (c : ℕ) (x : Stamp) (y : Slot) (z : Reader) → length (s .slots) ≡ 9 → length (s .readers) ≡ 9 → c ≤ 8
+    → scopeSets (sets l 0 (serverBytes s)) c x y z
+    ≡ sets l 0 (serverBytes (record { stamp = x; slots = set (s .slots) c y; readers = set (s .readers) c z; reports = s .reports }))
+unfolding scopeSets
+scope-stored l s c x y z ns nr h =
+    ap (λ k. sets k (readersPlace + c * readerSize) (readerBytes z)) (slot-stored l s c x y ns h)
+    ∙ reader-stored l (record { stamp = x; slots = set (s .slots) c y; readers = s .readers; reports = s .reports }) c z nr h

@@ -7,7 +7,8 @@ use mathlib.Core.Logic.{_≢_}
 use mathlib.Core.List.{List, [], _∷_}
 use lib.ListN.{length, getD, set, length-set}
 use lib.Seq.{sets, length-sets, getD-set-same, getD-set-other, ext-getD}
-use Rattle.area.specs.Numbers.{be2, be4, be8}
+use Rattle.area.specs.Numbers.{be2, be4, be8, bytes8}
+use Rattle.area.proofs.Numbers.{length-bytes8}
 use Rattle.area.proofs.Sets.{room}
 use Rattle.area.proofs.Fills.{length-table, table-agree}
 use Rattle.frame.specs.declared.Stamp.{Stamp}
@@ -16,11 +17,11 @@ use Rattle.frame.proofs.RoundTrip.{length-stamp}
 use Rattle.server_rules.specs.declared.Slot.{Slot}
 use Rattle.server_rules.specs.declared.Reader.{Reader}
 use Rattle.layout.specs.Fields.{flagIn, flagAt, stampAt, rowAt, flagsAt, numbersAt}
-use Rattle.layout.specs.Servers.{serverSize, blocksSize, slotSize, slotsSize, readerSize, readersSize, slotsPlace, readersPlace, blocksAt}
-use Rattle.layout.specs.Servers.{slotBytes, slotAt, slotsAt, readerBytes, readerAt, readersAt, serverAt, serverIn, scopeSets}
-use Rattle.layout.specs.Typed.{TypedStamp, TypedSlot, TypedReader}
+use Rattle.layout.specs.Servers.{serverSize, blocksSize, slotSize, slotsSize, readerSize, readersSize, slotsPlace, readersPlace, reportsPlace, blocksAt}
+use Rattle.layout.specs.Servers.{slotBytes, slotAt, slotsAt, readerBytes, readerAt, readersAt, serverAt, serverIn, slotSets, scopeSets, reportSets}
+use Rattle.layout.specs.Typed.{Long, TypedStamp, TypedSlot, TypedReader}
 use Rattle.layout.proofs.Lengths.{length-slot, length-reader}
-use Rattle.layout.proofs.Reading.{stored, stamp-at, row-entry}
+use Rattle.layout.proofs.Reading.{stored, stamp-at, long-at, row-entry}
 use Rattle.layout.proofs.ServerBack.{slot-at, reader-at}
 
 -- ---- bytes that a store leaves
@@ -213,29 +214,72 @@ readers-set l i c z t h k =
     row-set readerAt 9 readerSize reader-spans l i c (readerBytes z) z (omega arith) (length-reader z)
     (reader-at _ _ z t (stored l (i + c * readerSize) (readerBytes z) u))
 
-module _ (l : List ℕ) (c : ℕ) (x : Stamp) (y : Slot) (z : Reader) (h : serverSize ≤ length l) (few : c ≤ 8) where
-  -- what was written reads back, and the rest reads as before
-  pub scope-back : TypedStamp x → TypedSlot y → TypedReader z
-      → serverIn (scopeSets l c x y z) ≡ record { stamp = x; slots = set (serverIn l .slots) c y; readers = set (serverIn l .readers) c z }
-  unfolding serverIn serverAt scopeSets
-  scope-back tx ty tz =
-      let l₁ = sets l 0 (stampBytes x) in
-      let l₂ = sets l₁ (slotsPlace + c * slotSize) (slotBytes y) in
-      let l₃ = sets l₂ (readersPlace + c * readerSize) (readerBytes z) in
-      let n₁ : serverSize ≤ length l₁ = rw length-sets h in
-      let n₂ : serverSize ≤ length l₂ = rw length-sets n₁ in
-      let u : 0 + length (stampBytes x) ≤ length l = omega (arith, length-stamp x) in
-      let a =
-      stamp-spans .reads l₃ l₂ 0 (before l₂ (readersPlace + c * readerSize) (readerBytes z) 0 13 (omega arith))
-      ∙ stamp-spans .reads l₂ l₁ 0 (before l₁ (slotsPlace + c * slotSize) (slotBytes y) 0 13 (omega arith))
-      ∙ stamp-at l₁ 0 x tx (stored l 0 (stampBytes x) u) in
-      let b =
-      slots-spans .reads l₃ l₂ slotsPlace (before l₂ (readersPlace + c * readerSize) (readerBytes z) slotsPlace slotsSize (omega arith))
-      ∙ slots-set l₁ slotsPlace c y ty few (omega arith)
-      ∙ ap (λ s. set s c y) (slots-spans .reads l₁ l slotsPlace (behind l 0 (stampBytes x) slotsPlace slotsSize (omega (arith, length-stamp x)))) in
-      let d =
-      readers-set l₂ readersPlace c z tz few (omega arith)
-      ∙ ap (λ s. set s c z)
-      (readers-spans .reads l₂ l₁ readersPlace (behind l₁ (slotsPlace + c * slotSize) (slotBytes y) readersPlace readersSize (omega (arith, length-slot y)))
-      ∙ readers-spans .reads l₁ l readersPlace (behind l 0 (stampBytes x) readersPlace readersSize (omega (arith, length-stamp x)))) in
-      λ k. record { stamp = a k; slots = b k; readers = d k }
+-- report j stored among the reports at i
+numbers-set : (l : List ℕ) (i j T : ℕ) → Long T → j ≤ 10 → i + 88 ≤ length l → numbersAt (sets l (i + j * 8) (bytes8 T)) i ≡ set (numbersAt l i) j T
+unfolding numbersAt
+numbers-set l i j T t h k =
+    let u : i + j * 8 + length (bytes8 T) ≤ length l = omega (arith, length-bytes8 T) in
+    row-set be8 11 8 long-spans l i j (bytes8 T) T (omega arith) (length-bytes8 T) (long-at _ _ T t (stored l (i + j * 8) (bytes8 T) u))
+
+-- what was written reads back, and the rest reads as before: the stamp and a slot
+pub slot-back : (l : List ℕ) (c : ℕ) (x : Stamp) (y : Slot) → serverSize ≤ length l → c ≤ 8 → TypedStamp x → TypedSlot y
+    → serverIn (slotSets l c x y)
+    ≡ record { stamp = x; slots = set (serverIn l .slots) c y; readers = serverIn l .readers; reports = serverIn l .reports }
+unfolding serverIn serverAt slotSets
+slot-back l c x y h few tx ty =
+    let l₁ = sets l 0 (stampBytes x) in
+    let at = slotsPlace + c * slotSize in
+    let l₂ = sets l₁ at (slotBytes y) in
+    let n₁ : serverSize ≤ length l₁ = rw length-sets h in
+    let u : 0 + length (stampBytes x) ≤ length l = omega (arith, length-stamp x) in
+    let a =
+    stamp-spans .reads l₂ l₁ 0 (before l₁ at (slotBytes y) 0 13 (omega arith)) ∙ stamp-at l₁ 0 x tx (stored l 0 (stampBytes x) u) in
+    let b =
+    slots-set l₁ slotsPlace c y ty few (omega arith)
+    ∙ ap (λ s. set s c y) (slots-spans .reads l₁ l slotsPlace (behind l 0 (stampBytes x) slotsPlace slotsSize (omega (arith, length-stamp x)))) in
+    let d =
+    readers-spans .reads l₂ l₁ readersPlace (behind l₁ at (slotBytes y) readersPlace readersSize (omega (arith, length-slot y)))
+    ∙ readers-spans .reads l₁ l readersPlace (behind l 0 (stampBytes x) readersPlace readersSize (omega (arith, length-stamp x))) in
+    let e =
+    numbers-spans .reads l₂ l₁ reportsPlace (behind l₁ at (slotBytes y) reportsPlace 88 (omega (arith, length-slot y)))
+    ∙ numbers-spans .reads l₁ l reportsPlace (behind l 0 (stampBytes x) reportsPlace 88 (omega (arith, length-stamp x))) in
+    λ k. record { stamp = a k; slots = b k; readers = d k; reports = e k }
+
+-- a reader
+reader-back : (l : List ℕ) (c : ℕ) (z : Reader) → serverSize ≤ length l → c ≤ 8 → TypedReader z
+    → serverIn (sets l (readersPlace + c * readerSize) (readerBytes z))
+    ≡ record { stamp = serverIn l .stamp; slots = serverIn l .slots; readers = set (serverIn l .readers) c z; reports = serverIn l .reports }
+unfolding serverIn serverAt
+reader-back l c z h few tz =
+    let at = readersPlace + c * readerSize in
+    let m = sets l at (readerBytes z) in
+    let a = stamp-spans .reads m l 0 (before l at (readerBytes z) 0 13 (omega arith)) in
+    let b = slots-spans .reads m l slotsPlace (before l at (readerBytes z) slotsPlace slotsSize (omega arith)) in
+    let d = readers-set l readersPlace c z tz few (omega arith) in
+    let e = numbers-spans .reads m l reportsPlace (behind l at (readerBytes z) reportsPlace 88 (omega (arith, length-reader z))) in
+    λ k. record { stamp = a k; slots = b k; readers = d k; reports = e k }
+
+-- a client's scope
+pub scope-back : (l : List ℕ) (c : ℕ) (x : Stamp) (y : Slot) (z : Reader) → serverSize ≤ length l → c ≤ 8 → TypedStamp x → TypedSlot y → TypedReader z
+    → serverIn (scopeSets l c x y z)
+    ≡ record { stamp = x; slots = set (serverIn l .slots) c y; readers = set (serverIn l .readers) c z; reports = serverIn l .reports }
+unfolding scopeSets slotSets
+scope-back l c x y z h few tx ty tz =
+    let n : serverSize ≤ length (slotSets l c x y) = rw length-sets (rw length-sets h) in
+    let e = slot-back l c x y h few tx ty in
+    reader-back (slotSets l c x y) c z n few tz
+    ∙ (λ k. record { stamp = e k .stamp; slots = e k .slots; readers = set (e k .readers) c z; reports = e k .reports })
+
+-- a report
+pub report-back : (l : List ℕ) (j T : ℕ) → serverSize ≤ length l → j ≤ 10 → Long T
+    → serverIn (reportSets l j T)
+    ≡ record { stamp = serverIn l .stamp; slots = serverIn l .slots; readers = serverIn l .readers; reports = set (serverIn l .reports) j T }
+unfolding serverIn serverAt reportSets
+report-back l j T h few t =
+    let at = reportsPlace + j * 8 in
+    let m = sets l at (bytes8 T) in
+    let a = stamp-spans .reads m l 0 (before l at (bytes8 T) 0 13 (omega arith)) in
+    let b = slots-spans .reads m l slotsPlace (before l at (bytes8 T) slotsPlace slotsSize (omega arith)) in
+    let d = readers-spans .reads m l readersPlace (before l at (bytes8 T) readersPlace readersSize (omega arith)) in
+    let e = numbers-set l reportsPlace j T t few (omega arith) in
+    λ k. record { stamp = a k; slots = b k; readers = d k; reports = e k }

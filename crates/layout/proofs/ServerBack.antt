@@ -16,11 +16,13 @@ use Rattle.server_rules.specs.declared.Reader.{Reader}
 use Rattle.server_rules.specs.declared.Server.{Server}
 use Rattle.server_rules.specs.State.{noSlot, noReader}
 use Rattle.layout.specs.Fields.{flagByte, flagAt, flagsBytes, flagsAt, numbersBytes}
-use Rattle.layout.specs.Servers.{serverSize, slotSize, slotsSize, readerSize, slotsPlace, readersPlace, marksBytes, votesBytes, blocksBytes, blocksAt}
+use Rattle.layout.specs.Servers.{serverSize, slotSize, slotsSize, readerSize, readersSize, slotsPlace, readersPlace, reportsPlace, marksBytes, votesBytes}
+use Rattle.layout.specs.Servers.{blocksBytes, blocksAt}
 use Rattle.layout.specs.Servers.{slotBytes, slotAt, slotsBytes, slotsAt, readerBytes, readerAt, readersBytes, readersAt, serverBytes, serverAt, serverIn}
 use Rattle.layout.specs.Typed.{TypedBlocks, TypedSlot, TypedReader, TypedServer}
 use Rattle.server_rules.specs.WellFormed.{Array}
-use Rattle.layout.proofs.Lengths.{length-flags, length-numbers, length-marks, length-votes, length-slot, length-slots, length-reader, length-server}
+use Rattle.layout.proofs.Lengths.{length-flags, length-numbers, length-marks, length-votes, length-slot, length-slots, length-reader, length-readers}
+use Rattle.layout.proofs.Lengths.{length-server}
 use Rattle.layout.proofs.Reading.{Stands, front, back, alone, stored, flag-at, word-at, long-at, stamp-at, row-at, flags-at, numbers-at}
 
 record Marks (l : List ℕ) (i : ℕ) (a b c : Bool) : Type 0 where
@@ -114,13 +116,17 @@ unfolding serverAt serverBytes
 server-at l i s t p =
     let u = stampBytes (s .stamp) in
     let y = slotsBytes (s .slots) in
-    let z = readersBytes (s .readers) in
+    let r = readersBytes (s .readers) in
+    let n = numbersBytes (s .reports) in
+    let z = r ++ n in
     let p₁ = back u (y ++ z) 13 (i + slotsPlace) (length-stamp (s .stamp)) refl p in
     let p₂ = back y z slotsSize (i + readersPlace) (length-slots (s .slots)) (omega arith) p₁ in
     let a = stamp-at l i (s .stamp) (t .stamp) (front u (y ++ z) p) in
     let b = slots-at l (i + slotsPlace) (s .slots) (t .slots) (front y z p₁) in
-    let c = readers-at l (i + readersPlace) (s .readers) (t .readers) p₂ in
-    λ k. record { stamp = a k; slots = b k; readers = c k }
+    let p₃ = back r n readersSize (i + reportsPlace) (length-readers (s .readers)) (omega arith) p₂ in
+    let c = readers-at l (i + readersPlace) (s .readers) (t .readers) (front r n p₂) in
+    let d = numbers-at l (i + reportsPlace) (s .reports) (t .reports) p₃ in
+    λ k. record { stamp = a k; slots = b k; readers = c k; reports = d k }
 
 -- a record that is written as bytes reads back
 pub server-back : (s : Server) → TypedServer s → serverIn (serverBytes s) ≡ s

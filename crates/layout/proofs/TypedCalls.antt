@@ -1,10 +1,11 @@
 -- A client's record that bytes say has its numbers within their widths, and a client's calls keep them there. Assumes nothing.
-use Prim.Native.Nat.{ℕ, zero, suc, _+_}
+use Prim.Native.Nat.{ℕ, zero, suc, _+_, max}
 use native.Mathlib.Omega.{arith}
 use borrow.Author.Tests.{ltb-true, leb-false}
 use mathlib.Core.Path.{_≡_, refl, ap, subst, _∙_}
 use mathlib.Core.Bool.{Bool, true, false, not}
 use mathlib.Core.List.{List, [], _∷_}
+use mathlib.Core.Logic.{_⊎_, ⊎-elim}
 use lib.ListN.{length, getD, set, replicate, length-set}
 use lib.Dec.{leb, ltb}
 use Rattle.area.specs.Area.{pick, Bytes}
@@ -19,7 +20,7 @@ use Rattle.frame.specs.declared.Verdict.the-variants as J
 use Rattle.frame.specs.Refusals.{andThen}
 use Rattle.frame.specs.Params.{paramsTest}
 use Rattle.frame.specs.Stamps.{zeroStamp, lastSequence, lastClient}
-use Rattle.frame.specs.Messages.{Body, valueIs, FormedBody, Message, numberIn, judgedBy, after}
+use Rattle.frame.specs.Messages.{Body, stampIs, valueIs, report, FormedBody, Message, numberIn, judgedBy, after}
 use Rattle.frame.specs.Frames.{headerIn, frameTest, openedBy, opened, messageIn}
 use Rattle.frame.proofs.Verdicts.{fine-not, fine-both}
 use Rattle.frame.proofs.Converse.{formed-opened}
@@ -58,6 +59,7 @@ module _ (l : List ℕ) (p : Bytes l) where
     heard = array-row (λ b. Unit {0}) flagAt 11 1 l (λ i. tt) 10 .0;
     times = array-row Long be8 11 8 l (λ i. be8-range l i p) 21;
     rows = array-row TypedRow keptAt 11 60 l row-in 109;
+    reports = array-row Long be8 11 8 l (λ i. be8-range l i p) 769;
   }
 
 -- ---- a fresh client
@@ -143,20 +145,28 @@ row-with r i x y t = record { count = count-kept (ltb (r .count) 4) (r .count) r
 -- ---- any frame
 
 module _ (H : List ℕ → List ℕ) (g : Params) (me : ℕ) where
+  -- the higher of two
+  higher : (x y : ℕ) → Long x → Long y → Long (max x y)
+  higher x y h k = omega (arith, h, k)
+
   -- what the widths grant to a step for a frame of bytes
   typed-grants : (j : ℕ) (b : Body) → FormedBody g b → Grants clientWidths j b
-  typed-grants j b h = record {
-    empty = refl;
-    flag = λ l e. length-set l j true ∙ e;
-    time = λ T i l e. array-set Long 11 l j T e (subst (FormedBody g) i h);
-    row = λ x e i m l t.
-        let k : FormedBody g (valueIs x e) = subst (FormedBody g) i h in
-        let w = k .2 in (
-          length-set l j _ ∙ t .0,
-          every-turned TypedRow l j noRow (rowWith (getD l j noRow) m x) (t .1)
-              (row-with (getD l j noRow) m x (record { time = k .1; writer = omega (arith, w); sequence = k .3 })),
-        );
-  }
+  typed-grants j b h = let time-told : (T : ℕ) → (b ≡ stampIs T) ⊎ (b ≡ report T) → Long T = λ T i. ⊎-elim
+      (λ e. subst (FormedBody g) e h)
+      (λ e. subst (FormedBody g) e h)
+      i in record {
+        empty = refl;
+        flag = λ l e. length-set l j true ∙ e;
+        time = λ T i l e. array-set Long 11 l j T e (subst (FormedBody g) i h);
+        told = λ T i l e. (length-set l j _ ∙ e .0, every-turned Long l j 0 (max (getD l j 0) T) (e .1) (λ k. higher (getD l j 0) T k (time-told T i)));
+        row = λ x e i m l t.
+            let k : FormedBody g (valueIs x e) = subst (FormedBody g) i h in
+            let w = k .2 in (
+              length-set l j _ ∙ t .0,
+              every-turned TypedRow l j noRow (rowWith (getD l j noRow) m x) (t .1)
+                  (row-with (getD l j noRow) m x (record { time = k .1; writer = omega (arith, w); sequence = k .3 })),
+            );
+      }
 
   module _ (s : Client) (t : TypedClient s) (a value : List ℕ) (from : Party) where
     -- v is the verdict of refusals 10 to 14; a frame that is turned down changes nothing

@@ -1,7 +1,7 @@
 -- A server's record read from bytes has its numbers within their widths, and the delivery of a frame of bytes keeps them there. Assumes nothing.
 use Prim.Native.Nat.{ℕ, zero, suc, _+_, _*_, _≤_}
 use native.Mathlib.Omega.{arith}
-use mathlib.Core.Path.{_≡_, refl, ap, _∙_}
+use mathlib.Core.Path.{_≡_, refl, ap, subst, _∙_}
 use mathlib.Core.Bool.{true}
 use mathlib.Core.List.{List, []}
 use lib.ListN.{length, length-set}
@@ -25,11 +25,12 @@ use Rattle.server_rules.specs.declared.Server.{Server}
 use Rattle.server_rules.specs.Tests.{senderRight, messageTest, roomTest, judgeOpened, judge}
 use Rattle.server_rules.specs.Delivery.{effectBy, delivered, outcomeOf, delivery}
 use Rattle.layout.specs.Fields.{stampAt, rowAt, flagAt, flagsAt, numbersAt}
-use Rattle.layout.specs.Servers.{slotSize, readerSize, slotsPlace, readersPlace, blocksAt, slotAt, slotsAt, readerAt, readersAt, serverAt, serverIn}
+use Rattle.layout.specs.Servers.{slotSize, readerSize, slotsPlace, readersPlace, reportsPlace, blocksAt, slotAt, slotsAt, readerAt, readersAt, serverAt}
+use Rattle.layout.specs.Servers.{serverIn}
 use Rattle.layout.specs.Typed.{Word, Long, TypedStamp, widths, TypedBlocks, TypedSlot, TypedReader, TypedServer}
 use Rattle.server_rules.specs.WellFormed.{Every, Array}
 use Rattle.server_rules.proofs.Shapes.{shape-of}
-use Rattle.server_rules.proofs.Within.{either, TimeIn, Grants, step-within}
+use Rattle.server_rules.proofs.Within.{either, TimeIn, Empty, Granted, Grants, step-within}
 
 -- ---- arrays
 
@@ -85,6 +86,7 @@ module _ (l : List ℕ) (p : Bytes l) where
     stamp = stamp-in 0;
     slots = array-row TypedSlot slotAt 9 slotSize l slot-in slotsPlace;
     readers = array-row TypedReader readerAt 9 readerSize l reader-in readersPlace;
+    reports = numbers-in reportsPlace;
   }
 
 -- ---- any frame
@@ -101,17 +103,29 @@ body-in g kind f p =
     (either (TimeIn widths) (eqb kind 9) _ _ tt
     (either (TimeIn widths) (eqb kind 10) _ _ tt
     (either (TimeIn widths) (eqb kind 11) _ _ tt
-    tt)))))))
+    (either (TimeIn widths) (eqb kind 12) _ _ tt
+    h))))))))
+
+-- nothing has come
+pub empty-typed : Empty widths
+empty-typed = record { flags = refl; time = omega arith }
+
+-- what the widths grant to acceptances
+pub leaves : Granted widths
+leaves w i q z l =
+    let k = i .1 in
+    (record { time = omega (arith, l); writer = omega (arith, k); sequence = omega (arith, z) }, omega (arith, z))
 
 module _ (H : List ℕ → List ℕ) (g : Params) (me : ℕ) (s : Server) (t : TypedServer s) (a initial : List ℕ) (from : Party) where
   -- what a step needs of the widths, for an operation whose number fits into a frame
   granted : (j c q : ℕ) (b : Body) → c ≤ 8 → Word q → TimeIn widths b → Grants widths H g me s a initial j c q b
   granted j c q b few w h = record {
-    empty = record { flags = refl; time = omega arith };
+    empty = empty-typed;
     counts = λ k. (λ l e. length-set l j true ∙ e, h);
     noted = λ x. record { sequence = w; noted = x };
     ended = λ r. record { sequence = w; noted = r .noted };
-    leaves = λ k e z l. (record { time = omega (arith, l); writer = omega (arith, e); sequence = omega (arith, z) }, omega (arith, z));
+    reported = λ T e. subst (TimeIn widths) e h;
+    leaves = leaves;
   }
 
   -- v is the verdict of refusals 10 to 14; a frame that is turned down changes nothing
@@ -119,8 +133,7 @@ module _ (H : List ℕ → List ℕ) (g : Params) (me : ℕ) (s : Server) (t : T
       → andThen room (messageTest H g me s from m) ≡ v → TypedServer (effectBy H g me (judgedBy v m) s a initial from .server)
   unfolding effectBy messageTest
   typed-judged J.Fine room m few w h e =
-      let o = fine-is (senderRight g from (m .client) (m .body)) R.Sender _ (fine-both room _ e .1) .1 in
-      step-within widths H g me s a initial (numberIn from) (m .client) (m .sequence) t few (shape-of H g me s a initial from m) o
+      step-within widths H g me s a initial (numberIn from) (m .client) (m .sequence) t few (shape-of H g me s a initial from m)
       (granted (numberIn from) (m .client) (m .sequence) (m .body) few w h)
   typed-judged (J.Bad r) room m few w h e = t
 

@@ -1,5 +1,5 @@
--- A client's record as bytes: writes and reads (4 each), closed and phase (1 each), 11 flags, 11 times of 8, and 11 rows of 60, each a count of 8 and 4 stamps
--- of 13. These are definitions.
+-- A client's record as bytes: writes and reads (4 each), closed and phase (1 each), 11 flags, 11 times of 8, 11 rows of 60, each a count of 8 and 4 stamps of
+-- 13, and 11 reports of 8. These are definitions.
 use Prim.Native.Nat.{ℕ, _+_}
 use mathlib.Core.Bool.{Bool}
 use mathlib.Core.List.{List, [], _∷_, _++_}
@@ -18,7 +18,7 @@ use Rattle.client_rules.specs.State.{noRow}
 use Rattle.layout.specs.Fields.{flagByte, flagAt, stampSize, stampAt, rowBytes, rowAt, flagsBytes, flagsAt, numbersBytes, numbersAt}
 
 abbrev pub clientSize : ℕ
-clientSize = 769
+clientSize = 857
 
 -- ---- the phase: written as 0 to 3; a byte above 3 is read as idle
 
@@ -59,7 +59,8 @@ headBytes w r b p = bytes4 w ++ (bytes4 r ++ (flagByte b ∷ phaseByte p ∷ [])
 
 unfoldable pub clientBytes : Client → List ℕ
 clientBytes s =
-    headBytes (s .writes) (s .reads) (s .closed) (s .phase) ++ (flagsBytes (s .heard) ++ (numbersBytes (s .times) ++ rowsBytes (s .rows)))
+    headBytes (s .writes) (s .reads) (s .closed) (s .phase)
+    ++ (flagsBytes (s .heard) ++ (numbersBytes (s .times) ++ (rowsBytes (s .rows) ++ numbersBytes (s .reports))))
 
 unfoldable pub clientAt : List ℕ → ℕ → Client
 clientAt l i = record {
@@ -70,6 +71,7 @@ clientAt l i = record {
   heard = flagsAt l (i + 10);
   times = numbersAt l (i + 21);
   rows = rowsAt l (i + 109);
+  reports = numbersAt l (i + 769);
 }
 
 -- the record that the bytes say

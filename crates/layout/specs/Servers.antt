@@ -1,5 +1,5 @@
--- A server's record as bytes: its stamp (13), 9 slots of 217 and 9 readers of 18. A slot is its sequence (8) and what was counted of its write (209): three
--- flags, the completed time (8), the flags of echoes and of readies (11 each) and their times (88 each). These are definitions.
+-- A server's record as bytes: its stamp (13), 9 slots of 217, 9 readers of 18 and 11 reports of 8. A slot is its sequence (8) and what was counted of its
+-- write (209): three flags, the completed time (8), the flags of echoes and of readies (11 each) and their times (88 each). These are definitions.
 use Prim.Native.Nat.{ℕ, _+_, _*_}
 use mathlib.Core.Bool.{Bool}
 use mathlib.Core.List.{List, [], _∷_, _++_}
@@ -17,7 +17,7 @@ use Rattle.layout.specs.Fields.{flagByte, flagAt, stampSize, stampAt, ro
 -- ---- sizes and places
 
 abbrev pub serverSize : ℕ
-serverSize = 2128
+serverSize = 2216
 
 -- sizes of what was counted of a write, of a slot and of all slots
 abbrev pub blocksSize : ℕ
@@ -36,12 +36,15 @@ readerSize = 18
 abbrev pub readersSize : ℕ
 readersSize = 162
 
--- where the slots and the readers begin
+-- where the slots, the readers and the reports begin
 abbrev pub slotsPlace : ℕ
 slotsPlace = stampSize
 
 abbrev pub readersPlace : ℕ
 readersPlace = 1966
+
+abbrev pub reportsPlace : ℕ
+reportsPlace = 2128
 
 -- ---- slots
 
@@ -98,17 +101,30 @@ readersAt l i = rowAt readerAt 9 readerSize l i
 -- ---- the record
 
 unfoldable pub serverBytes : Server → List ℕ
-serverBytes s = stampBytes (s .stamp) ++ (slotsBytes (s .slots) ++ readersBytes (s .readers))
+serverBytes s = stampBytes (s .stamp) ++ (slotsBytes (s .slots) ++ (readersBytes (s .readers) ++ numbersBytes (s .reports)))
 
 unfoldable pub serverAt : List ℕ → ℕ → Server
-serverAt l i = record { stamp = stampAt l i; slots = slotsAt l (i + slotsPlace); readers = readersAt l (i + readersPlace) }
+serverAt l i = record {
+  stamp = stampAt l i;
+  slots = slotsAt l (i + slotsPlace);
+  readers = readersAt l (i + readersPlace);
+  reports = numbersAt l (i + reportsPlace);
+}
 
 -- the record that the bytes say
 unfoldable pub serverIn : List ℕ → Server
 serverIn l = serverAt l 0
 
--- ---- one client's scope
+-- ---- parts of the record
 
--- the record's bytes after a step for client c: the stamp, its slot and its reader are written, the other clients' bytes stay
+-- the stamp and client c's slot are written, all other bytes stay
+unfoldable pub slotSets : List ℕ → ℕ → Stamp → Slot → List ℕ
+slotSets l c x y = sets (sets l 0 (stampBytes x)) (slotsPlace + c * slotSize) (slotBytes y)
+
+-- the same, and client c's reader
 unfoldable pub scopeSets : List ℕ → ℕ → Stamp → Slot → Reader → List ℕ
-scopeSets l c x y z = sets (sets (sets l 0 (stampBytes x)) (slotsPlace + c * slotSize) (slotBytes y)) (readersPlace + c * readerSize) (readerBytes z)
+scopeSets l c x y z = sets (slotSets l c x y) (readersPlace + c * readerSize) (readerBytes z)
+
+-- the report of server j
+unfoldable pub reportSets : List ℕ → ℕ → ℕ → List ℕ
+reportSets l j T = sets l (reportsPlace + j * 8) (bytes8 T)

@@ -20,7 +20,7 @@ ghost use lib.Seq.{sets};
 ghost use Rattle.layout.specs.Clients.{clientSize, phaseByte, phaseIn, stampsBytes, stampsAt, keptBytes};
 ghost use Rattle.layout.specs.Clients.{keptAt, rowsBytes, rowsAt, headBytes, clientBytes, clientAt};
 
-pub const CLIENT_SIZE: usize = 769;
+pub const CLIENT_SIZE: usize = 857;
 
 // ---- the phase
 
@@ -141,10 +141,12 @@ pub fn put_client(s: Client, out: &mut [u8], at: usize)
     let heard = s.heard;
     let times = s.times;
     let rows = s.rows;
+    let reports = s.reports;
     put_head(s.writes, s.reads, s.closed, phase, out, at);
     put_flags(heard, out, at + 10);
     put_numbers(times, out, at + 21);
     put_rows(rows, out, at + 109);
+    put_numbers(reports, out, at + 769);
 }
 
 // The record of a client that the bytes from index at on say.
@@ -159,6 +161,7 @@ pub fn client_at(bytes: &[u8], at: usize) -> Client
     let heard = flags_at(bytes, at + 10);
     let times = numbers_at(bytes, at + 21);
     let rows = rows_at(bytes, at + 109);
+    let reports = numbers_at(bytes, at + 769);
     Client {
         writes,
         reads,
@@ -167,5 +170,6 @@ pub fn client_at(bytes: &[u8], at: usize) -> Client
         heard,
         times,
         rows,
+        reports,
     }
 }

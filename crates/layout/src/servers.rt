@@ -9,6 +9,7 @@ use crate::fields::put_flags;
 use crate::fields::put_numbers;
 use crate::fields::put_stamp;
 use crate::fields::stamp_at;
+use frame::Stamp;
 use server_rules::BlockPart;
 use server_rules::Reader;
 use server_rules::Scope;
@@ -21,20 +22,24 @@ ghost use lib.Seq.{sets};
 ghost use Rattle.server_rules.specs.Scopes.{scopeOf};
 ghost use Rattle.layout.specs.Servers.{serverSize, blocksSize, slotSize, slotsSize, readerSize, readersSize, marksBytes};
 ghost use Rattle.layout.specs.Servers.{votesBytes, blocksBytes, blocksAt, slotBytes, slotAt, slotsBytes, readerBytes};
-ghost use Rattle.layout.specs.Servers.{readerAt, readersBytes, readersAt, serverBytes, serverIn, scopeSets};
+ghost use Rattle.layout.specs.Servers.{readerAt, readersBytes, readersAt, serverBytes, serverIn, slotSets, scopeSets};
+ghost use Rattle.layout.specs.Servers.{reportSets};
+ghost use Rattle.server_rules.specs.State.{slotOf, reportOf};
 
 // ---- sizes and places
 
-pub const SERVER_SIZE: usize = 2128;
+pub const SERVER_SIZE: usize = 2216;
 
 const SLOT_SIZE: usize = 217;
 
 const READER_SIZE: usize = 18;
 
-// The slots and the readers in the record.
+// The slots, the readers and the reports in the record.
 const SLOTS_AT: usize = STAMP_SIZE;
 
 pub const READERS_AT: usize = 1966;
+
+const REPORTS_AT: usize = 2128;
 
 // ---- the parts of a slot
 
@@ -186,9 +191,11 @@ pub fn put_server(s: Server, out: &mut [u8], at: usize)
     let stamp = s.stamp;
     let slots = s.slots;
     let readers = s.readers;
+    let reports = s.reports;
     put_stamp(stamp, out, at);
     put_slots(slots, out, at + SLOTS_AT);
     put_readers(readers, out, at + READERS_AT);
+    put_numbers(reports, out, at + REPORTS_AT);
 }
 
 // ---- one client's scope in the record
@@ -208,7 +215,16 @@ pub fn scope_at(bytes: &[u8], c: usize) -> Scope
     }
 }
 
-// Writes the stamp, client c's slot and its reader into the record at index 0.
+// Writes the stamp and client c's slot into the record at index 0.
+pub fn put_opened(x: Stamp, y: Slot, c: usize, out: &mut [u8])
+    requires { ⌜ (serverSize ≤ length (now out)) × (c ≤ 8) ⌝ }
+    ensures { λ _. ⌜ now (out .exit) ≡ slotSets (now (out .entry)) c x y ⌝ }
+{
+    put_stamp(x, out, 0);
+    put_slot(y, out, SLOTS_AT + c * SLOT_SIZE);
+}
+
+// The same with client c's reader.
 pub fn put_scope(x: Scope, c: usize, out: &mut [u8])
     requires { ⌜ (serverSize ≤ length (now out)) × (c ≤ 8) ⌝ }
     ensures { λ _. ⌜ now (out .exit) ≡ scopeSets (now (out .entry)) c (x .stamp) (x .slot) (x .reader) ⌝ }
@@ -216,7 +232,65 @@ pub fn put_scope(x: Scope, c: usize, out: &mut [u8])
     let stamp = x.stamp;
     let slot = x.slot;
     let reader = x.reader;
-    put_stamp(stamp, out, 0);
-    put_slot(slot, out, SLOTS_AT + c * SLOT_SIZE);
+    put_opened(stamp, slot, c, out);
     put_reader(reader, out, READERS_AT + c * READER_SIZE);
+}
+
+// ---- what may be accepted
+
+// Whether the open write of client c is complete.
+pub fn complete_at(bytes: &[u8], c: usize) -> bool
+    requires { ⌜ (serverSize ≤ length (now bytes)) × (c ≤ 8) ⌝ }
+    ensures { λ r. ⌜ r ≡ slotOf (serverIn (now (bytes .entry))) c .blocks .complete ⌝ }
+{
+    flag_in(bytes[SLOTS_AT + c * SLOT_SIZE + 10])
+}
+
+// The time with which it is.
+pub fn time_at(bytes: &[u8], c: usize) -> u64
+    requires { ⌜ (serverSize ≤ length (now bytes)) × (c ≤ 8) ⌝ }
+    ensures { λ r. ⌜ r ≡ slotOf (serverIn (now (bytes .entry))) c .blocks .time ⌝ }
+{
+    area::read8(bytes, SLOTS_AT + c * SLOT_SIZE + 11)
+}
+
+// The sequence of the open write of client c.
+pub fn sequence_at(bytes: &[u8], c: usize) -> u64
+    requires { ⌜ (serverSize ≤ length (now bytes)) × (c ≤ 8) ⌝ }
+    ensures { λ r. ⌜ r ≡ slotOf (serverIn (now (bytes .entry))) c .sequence ⌝ }
+{
+    area::read8(bytes, SLOTS_AT + c * SLOT_SIZE)
+}
+
+// The server's own time.
+pub fn own_time(bytes: &[u8]) -> u64
+    requires { ⌜ serverSize ≤ length (now bytes) ⌝ }
+    ensures { λ r. ⌜ r ≡ serverIn (now (bytes .entry)) .stamp .time ⌝ }
+{
+    area::read8(bytes, 0)
+}
+
+// ---- reports
+
+// The highest report of each server.
+pub fn reports_at(bytes: &[u8]) -> [u64; 11]
+    requires { ⌜ serverSize ≤ length (now bytes) ⌝ }
+    ensures { λ r. ⌜ r ≡ serverIn (now (bytes .entry)) .reports ⌝ }
+{
+    numbers_at(bytes, REPORTS_AT)
+}
+
+// That of server j.
+pub fn report_at(bytes: &[u8], j: usize) -> u64
+    requires { ⌜ (serverSize ≤ length (now bytes)) × (j ≤ 10) ⌝ }
+    ensures { λ r. ⌜ r ≡ reportOf (serverIn (now (bytes .entry))) j ⌝ }
+{
+    area::read8(bytes, REPORTS_AT + j * 8)
+}
+
+pub fn put_report(time: u64, j: usize, out: &mut [u8])
+    requires { ⌜ (serverSize ≤ length (now out)) × (j ≤ 10) ⌝ }
+    ensures { λ _. ⌜ now (out .exit) ≡ reportSets (now (out .entry)) j time ⌝ }
+{
+    area::write8(out, REPORTS_AT + j * 8, time);
 }

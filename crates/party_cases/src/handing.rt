@@ -41,7 +41,12 @@ fn answered(
     }
 }
 
-// Every byte of the areas lent for what is sent, before the call.
+// The largest areas that are lent for sent frames and their receivers: those of a step for four servers.
+const OUT_MOST: usize = 26144;
+
+const TO_MOST: usize = 344;
+
+// What they hold before.
 const LENT: u8 = 0x5a;
 
 // The frame from index at on comes from a party; out and to are the lengths of the areas lent for what is sent.
@@ -60,10 +65,10 @@ fn from_party(
     let f = word_at(line, at);
     let mut buffer = [0u8; 1024];
     let len = bytes(line, f.start, f.end, &mut buffer);
-    let mut frames = [LENT; 4096];
-    let mut receivers = [LENT; 64];
-    let o = at_most(out, 4096);
-    let r = at_most(to, 64);
+    let mut frames = [LENT; OUT_MOST];
+    let mut receivers = [LENT; TO_MOST];
+    let o = at_most(out, OUT_MOST);
+    let r = at_most(to, TO_MOST);
     answered(
         line,
         f.next,

@@ -1,5 +1,5 @@
 // What is printed of a reply: document 01's number of a refusal, or after 00 how many frames went out, the frames, and their receivers; or, of the
-// areas lent for these, every byte.
+// areas lent for these, the first bytes.
 use crate::trial::at_most;
 use case_text::report::result;
 use case_text::text::put_bytes;
@@ -44,7 +44,7 @@ pub fn refused(kind: &[u8], line: &[u8], expected: usize, r: Refusal)
 
 // Prints a step that sent count frames, with the first m bytes of out and the first k bytes of to.
 fn stepped(line: &[u8], expected: usize, count: usize, out: &[u8], m: usize, to: &[u8], k: usize)
-    requires { ⌜ (expected ≤ length (now line)) × (count ≤ 13) × (m ≤ length (now out)) × (m ≤ 3000) × (k ≤ length (now to)) × (k ≤ 64) ⌝ }
+    requires { ⌜ (expected ≤ length (now line)) × (count ≤ 32) × (m ≤ length (now out)) × (m ≤ 3000) × (k ≤ length (now to)) × (k ≤ 64) ⌝ }
 {
     let mut text = [0u8; 8192];
     put_bytes(&mut text, 0, &[0, count as u8]);
@@ -56,7 +56,7 @@ fn stepped(line: &[u8], expected: usize, count: usize, out: &[u8], m: usize, to:
 
 // Prints a step with its frames and receivers alone, or with the whole areas.
 fn shown(line: &[u8], expected: usize, count: usize, out: &[u8], to: &[u8], whole: bool)
-    requires { ⌜ (expected ≤ length (now line)) × (count ≤ 13) ⌝ }
+    requires { ⌜ (expected ≤ length (now line)) × (count ≤ 32) ⌝ }
 {
     if whole {
         let m = at_most(out.len(), 3000);
@@ -80,7 +80,7 @@ pub fn replied(line: &[u8], expected: usize, reply: Reply, out: &[u8], to: &[u8]
     let Reply::Step(count) = reply else {
         return;
     };
-    if 13 < count {
+    if 32 < count {
         return;
     }
     shown(line, expected, count, out, to, whole);

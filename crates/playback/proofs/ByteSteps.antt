@@ -41,7 +41,7 @@ module _ (g : Params) (me : ℕ) (from : Party) (f area initial state out to : L
   pub step-stored : (l : List ℕ) → state ≡ sets l 0 (serverBytes (serverIn state)) → st ≡ sets l 0 (serverBytes (serverIn st))
   step-stored l i =
       ap (λ (z : ByteOutcome). z .state) e
-      ∙ record-stored g me from f area initial state out to long l i
+      ∙ record-stored g me from f area initial state out to long p q l i
       ∙ ap (λ (s : Server). sets l 0 (serverBytes s)) (sym says)
 
 module _ (g : Params) (me : ℕ) (v area initial state : List ℕ) (long : serverSize ≤ length state)

@@ -12,13 +12,13 @@ use Rattle.frame.specs.declared.Verdict.the-variants as J
 use Rattle.frame.specs.Params.{largestFrame}
 use Rattle.playback.specs.Playback.{entryNeed, outTest}
 
--- the product that the code computes is small
-pub product-small : (a b : ℕ) → a ≤ 19 → b ≤ 600 → a * b ≤ 11400
+-- a product of the code
+pub product-small : (a b : ℕ) → a ≤ 226 → b ≤ 600 → a * b ≤ 135600
 product-small a b h g = mul-le-mul h g
 
-pub need-is : (g : Params) (f : ℕ) → f ≡ largestFrame g → 3 + (g .n + 9) * (f + 2) ≡ entryNeed g
+pub need-is : (g : Params) (f : ℕ) → f ≡ largestFrame g → 3 + (9 * g .n + 136) * (f + 2) ≡ entryNeed g
 unfolding entryNeed
-need-is g f e = ap (λ x. 3 + (g .n + 9) * (x + 2)) e
+need-is g f e = ap (λ x. 3 + (9 * g .n + 136) * (x + 2)) e
 
 -- a division in place of a product, which might not fit into a machine number
 module _ (g : Params) (need count out : ℕ) (e : need ≡ entryNeed g) (some : 1 ≤ need) where

@@ -86,13 +86,13 @@ module _ (g : Params) (B : Bounded g) where
 
   -- ---- the report
 
-  module _ (xs : List Sending) (F : AllFormed g xs) (few : length xs ≤ g .n + 9) where
-    -- a report takes no more room than is asked for an entry
+  module _ (xs : List Sending) (F : AllFormed g xs) (few : length xs ≤ serverFrames g) where
+    -- a report takes no more than is asked for an entry
     pub report-few : (r : Report) → r .sends ≡ xs → length (reportBytes r) ≤ entryNeed g
     unfolding reportBytes entryNeed
     report-few r e =
         let a = addressed-few xs F in
-        let m = mul-le-mul-right {m = length xs} {n = g .n + 9} (largestFrame g + 2) few in
+        let m = mul-le-mul-right {m = length xs} {n = serverFrames g} (largestFrame g + 2) few in
         let l = length-append (bytes2 (length (r .sends))) (addressed (r .sends)) in
         omega (arith, a, m, l, length-bytes2 (length (r .sends)), ap (λ y. length (addressed y)) e)
 
@@ -101,7 +101,7 @@ module _ (g : Params) (B : Bounded g) where
       out-fits : 0 + length (frames xs) ≤ length out
       unfolding outRoom
       out-fits =
-          let m = mul-le-mul-right {m = length xs} {n = g .n + 9} (largestFrame g) few in
+          let m = mul-le-mul-right {m = length xs} {n = serverFrames g} (largestFrame g) few in
           omega (arith, frames-room g xs F, m, o)
 
       to-fits : 0 + length (receivers xs) ≤ length to

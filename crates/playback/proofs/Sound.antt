@@ -8,7 +8,7 @@ use Rattle.area.specs.Area.{Bytes}
 use Rattle.blocks.specs.declared.Params.{Params}
 use Rattle.frame.specs.declared.Verdict.{Verdict}
 use Rattle.frame.specs.declared.Verdict.the-variants as J
-use Rattle.frame.specs.Params.{width, Bounded}
+use Rattle.frame.specs.Params.{width, serverFrames, Bounded}
 use Rattle.frame.specs.Chunks.{areaBytes}
 use Rattle.frame.specs.Messages.{Formed}
 use Rattle.frame.proofs.Rooms.{AllFormed, all-formed}
@@ -47,12 +47,12 @@ module _ (H : List ℕ → List ℕ) (g : Params) (B : Bounded g) (me : ℕ) whe
   pub record Steps (initial : List ℕ) (s : Server) (a : List ℕ) (e : TraceEntry) : Type 0 where
     pub sound : Sound (serverAfter H g me initial s a e) (areaAfter H g me initial s a e)
     pub formed : AllFormed g (reportOf H g me initial s a e .sends)
-    pub few : length (reportOf H g me initial s a e .sends) ≤ g .n + 9
+    pub few : length (reportOf H g me initial s a e .sends) ≤ serverFrames g
 
   record Leaves (r : S.Effect) : Type 0 where
     pub sound : Sound (r .server) (r .area)
     pub formed : AllFormed g (r .sends)
-    pub few : length (r .sends) ≤ g .n + 9
+    pub few : length (r .sends) ≤ serverFrames g
 
   module _ (initial : List ℕ) (I : width g ≤ length initial) (s : Server) (a : List ℕ) (K : Sound s a) (e : TraceEntry) (b : Bytes (e .frame)) where
     leaves-by : {r : S.Effect} → Delivered H g (B .servers-high) me s a initial (e .sender) (e .frame) r → Leaves r

@@ -11,7 +11,7 @@ use Rattle.area.specs.Numbers.{be2, bytes2}
 use Rattle.blocks.specs.declared.Params.{Params}
 use Rattle.frame.specs.declared.Party.{Party}
 use Rattle.frame.specs.declared.Party.the-variants as P
-use Rattle.frame.specs.Params.{width, Bounded}
+use Rattle.frame.specs.Params.{width, serverFrames, Bounded}
 use Rattle.frame.specs.Messages.{Sending, Message, FormedBody}
 use Rattle.frame.specs.Frames.{build}
 use Rattle.frame.specs.Outbox.{partyBytes, partyIn}
@@ -29,7 +29,7 @@ use Rattle.playback.proofs.Sound.{Sound, steps}
 -- reports that can be read back: their frames are within their bounds, and not too many
 abbrev pub AllReported : Params → List Report → Type 0
 AllReported g [] = Unit {0}
-AllReported g (r ∷ rs) = AllFormed g (r .sends) × (length (r .sends) ≤ g .n + 9) × AllReported g rs
+AllReported g (r ∷ rs) = AllFormed g (r .sends) × (length (r .sends) ≤ serverFrames g) × AllReported g rs
 
 abbrev post : Sending → Posted
 post x = record { receiver = x .receiver; frame = build (x .says) }

@@ -15,7 +15,7 @@ use Rattle.area.specs.Numbers.{bytes2}
 use Rattle.area.proofs.Sets.{sets-append}
 use Rattle.area.proofs.Numbers.{Bytes-take, Bytes-drop, length-bytes2}
 use Rattle.blocks.specs.declared.Params.{Params}
-use Rattle.frame.specs.Params.{width, largestFrame, outRoom, toRoom, Bounded}
+use Rattle.frame.specs.Params.{width, largestFrame, serverFrames, outRoom, toRoom, Bounded}
 use Rattle.frame.specs.declared.Refusal.the-variants as Refusals
 use Rattle.frame.specs.declared.Verdict.the-variants as J
 use Rattle.frame.proofs.Verdicts.{fine-both, fine-not}
@@ -122,11 +122,11 @@ module _ (H : List ℕ → List ℕ) (g : Params) (me : ℕ) (initial trace : Li
           ap (λ y. length y * entryNeed g) left-is ∙ suc-mul (length (left (at + x .end))) (entryNeed g) in
           omega (arith, T .room, m, report-room)
 
-      -- the out area from the place of the report's frames on, and the area for receivers, are long enough for the step
-      pub step-room : (to : List ℕ) → length to ≡ 38 → Enough g (take (length out - (used + 3)) (drop (used + 3) out)) to × (used + 3 ≤ length out)
+      -- the room from the place of the report's frames on, and that of their receivers, are long enough for the step
+      pub step-room : (to : List ℕ) → length to ≡ 452 → Enough g (take (length out - (used + 3)) (drop (used + 3) out)) to × (used + 3 ≤ length out)
       unfolding outRoom toRoom entryNeed
       step-room to t =
-          let k = g .n + 9 in
+          let k = serverFrames g in
           let m : k * (largestFrame g + 2) ≡ k * largestFrame g + k * 2 = mul-add k (largestFrame g) 2 in
           let l : length (left at) * entryNeed g ≡ length (left (at + x .end)) * entryNeed g + entryNeed g =
           ap (λ y. length y * entryNeed g) left-is ∙ suc-mul (length (left (at + x .end))) (entryNeed g) in (

@@ -24,7 +24,7 @@ use Rattle.playback.specs.Playback.{entryNeed, outTest, reportOf, played
 
 -- ---- the steps, one after the other
 
--- areas that have room enough for a step: "frames out need n + 9 largest frames (server)"
+-- areas that have room enough for a step: "A server's out area must now hold 9n + 136 largest frames" (request F-9)
 pub record Enough (g : Params) (out to : List ℕ) : Type 0 where
   pub out-room : outRoom g (serverFrames g) ≤ length out
   pub to-room : toRoom (serverFrames g) ≤ length to

@@ -43,9 +43,9 @@ pub enum Answer {
 // How many bytes of the out area are asked for an entry.
 fn entry_need(g: Params) -> usize
     requires { ⌜ Bounded g ⌝ }
-    ensures { λ r. ⌜ (r ≡ entryNeed g) × (r ≤ 11403) × (1 ≤ r) ⌝ }
+    ensures { λ r. ⌜ (r ≡ entryNeed g) × (r ≤ 135603) × (1 ≤ r) ⌝ }
 {
-    3 + (g.n + 9) * (largest_frame(g) + 2)
+    3 + (9 * g.n + 136) * (largest_frame(g) + 2)
 }
 
 // Refusal 10, of an out area for count entries.

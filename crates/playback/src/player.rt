@@ -17,8 +17,8 @@ ghost use Rattle.playback.specs.Playback.{playTest};
 ghost use Rattle.playback.specs.Stages.{done, playedAll};
 ghost use lib.ListN.{length};
 
-// The bytes of the receivers of a step's 19 frames.
-pub const TO_ROOM: usize = 38;
+// The bytes of the receivers of a step's 226 frames.
+pub const TO_ROOM: usize = 452;
 
 // Makes the server, and plays every entry of the trace. The answer is how many bytes of the out area were used.
 pub fn play_all(

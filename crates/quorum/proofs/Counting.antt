@@ -1,9 +1,10 @@
 -- Laws of counting the numbers 1 to n that pass a test. Assumes nothing.
 use Prim.Native.Nat.{ℕ, zero, suc, _+_, _≤_, _<_, zero-le}
 use native.Mathlib.Omega.{arith}
+use native.Mathlib.Decide.{decLe}
 use native.Mathlib.Nat.{not-suc-le-zero}
 use mathlib.Core.Bool.{Bool, true, false, not, _&&_}
-use mathlib.Core.Path.{_≡_, refl, ap}
+use mathlib.Core.Path.{_≡_, refl, ap, _∙_}
 use Rattle.quorum.specs.Quorum.{bit, count, Among}
 
 -- ---- one number more
@@ -55,6 +56,22 @@ count-mono p q zero f = zero-le
 count-mono p q (suc k) f =
     let below = count-mono p q k (λ j i e. f j (omega arith) e) in
     omega (arith, below, bit-mono (p (suc k)) (q (suc k)) (f (suc k) (omega arith)))
+
+-- and more, if one member is new
+pub count-more : (p q : ℕ → Bool) (n c : ℕ) → ((j : ℕ) → Among n j → p j ≡ true → q j ≡ true) → Among n c → p c ≡ false → q c ≡ true
+    → count p n < count q n
+unfolding count
+count-more p q zero c f i d e = absurd (omega arith)
+count-more p q (suc k) c f i d e = go (decLe c k) (λ l. count-more p q k c (λ j i e. f j (omega arith) e) (omega arith) d e)
+  where
+    at-last : p (suc k) ≡ false → q (suc k) ≡ true → bit (p (suc k)) + count p k < bit (q (suc k)) + count q k
+    at-last d e = omega (arith, ap bit d, ap bit e, count-mono p q k (λ j i e. f j (omega arith) e))
+
+    go : Dec (c ≤ k) → (c ≤ k → count p k < count q k) → bit (p (suc k)) + count p k < bit (q (suc k)) + count q k
+    go (yes l) r = omega (arith, r l, bit-mono (p (suc k)) (q (suc k)) (f (suc k) (omega arith)))
+    go (no l) r =
+        let z : suc k ≡ c = omega arith in
+        at-last (ap p z ∙ d) (ap q z ∙ e)
 
 -- ---- a count above zero has a member
 

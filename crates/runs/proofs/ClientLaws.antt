@@ -48,11 +48,11 @@ module _ (Z : Setup) (G : Assumed Z) (M : Small (Z .g)) where
   abbrev Vw : PL.Views Call Agreed (Stamped Z G M)
   Vw = views Z G M
 
-  abbrev home : List Call → ℕ → ClientSide
+  abbrev pub home : List Call → ℕ → ClientSide
   home ks c = run Z ks .clients c
 
   -- a client's rows area, where it is long enough
-  abbrev rows : List Call → ℕ → List ℕ
+  abbrev pub rows : List Call → ℕ → List ℕ
   rows ks c = roomy (home ks c .area)
 
   -- what a call ended
@@ -63,13 +63,13 @@ module _ (Z : Setup) (G : Assumed Z) (M : Small (Z .g)) where
   ended ks (beginWrite c v out to) = writeEffect Z (run Z ks) c v out to .event
 
   -- what a call on client c does
-  record Acts (ks : List Call) (k : Call) (c : ℕ) : Type 1 where
-    N : ℕ → Message → Type 0
-    facts : ClientFacts H g M (G .bounded .servers-high) c (home ks c .client) (rows ks c) N (home (k ∷ ks) c .client) (rows (k ∷ ks) c)
+  pub record Acts (ks : List Call) (k : Call) (c : ℕ) : Type 1 where
+    pub N : ℕ → Message → Type 0
+    pub facts : ClientFacts H g M (G .bounded .servers-high) c (home ks c .client) (rows ks c) N (home (k ∷ ks) c .client) (rows (k ∷ ks) c)
         (sends Z (run Z ks) k) (ended ks k)
-    brought : (j : ℕ) (m : Message) → Among (g .n) j → faultyServer j ≡ false → N j m → SentMessage Z G M ks (A.Server j) (A.Client c) m
+    pub brought : (j : ℕ) (m : Message) → Among (g .n) j → faultyServer j ≡ false → N j m → SentMessage Z G M ks (A.Server j) (A.Client c) m
 
-  cli-cases : (ks : List Call) (k : Call) (c : ℕ) → (home (k ∷ ks) c ≡ home ks c) ⊎ (caller k ≡ A.Client c)
+  pub cli-cases : (ks : List Call) (k : Call) (c : ℕ) → (home (k ∷ ks) c ≡ home ks c) ⊎ (caller k ≡ A.Client c)
   unfolding run step
   cli-cases ks (toServer i from f out to) c = inl refl
   cli-cases ks (toClient d from f lent result out to) c = ⊎-elim (λ w. inr (ap A.Client (sym (w .0)))) (λ w. inl w) (put-cases (run Z ks .clients) d _ c)
@@ -111,13 +111,12 @@ module _ (Z : Setup) (G : Assumed Z) (M : Small (Z .g)) where
         let a = home ks c .area in
         let P = passed H g c s from m (T .passes) in
         let j = is-server g from (P .server) in
-        let em : m ≡ message c (m .sequence) (m .body) = λ i. message (P .mine i) (m .sequence) (m .body) in
         let fm : Formed g m = subst (Formed g) (T .says) (formed-opened g f (T .header) (pr .1) (T .opens)) in
-        let er : r ≡ C.effect H g c s a v (A.Server (j .0)) (message c (m .sequence) (m .body)) = e ∙ (λ i. C.effect H g c s a v (j .1 i) (em i)) in
+        let er : r ≡ C.effect H g c s a v (A.Server (j .0)) m = e ∙ (λ i. C.effect H g c s a v (j .1 i) m) in
         let nb : numberIn from ≡ j .0 = ap numberIn (j .1) in
-        let b = C.effect H g c s a v (A.Server (j .0)) (message c (m .sequence) (m .body)) in
-        let N : ℕ → Message → Type 0 = Brought H g M (G .bounded .servers-high) c (j .0) (message c (m .sequence) (m .body)) in
-        let lb : length (b .area) ≡ length a = shape-length H g c s a v (j .0) (shape-of H g c s a v (A.Server (j .0)) (message c (m .sequence) (m .body))) in
+        let b = C.effect H g c s a v (A.Server (j .0)) m in
+        let N : ℕ → Message → Type 0 = Brought H g M (G .bounded .servers-high) c (j .0) m in
+        let lb : length (b .area) ≡ length a = shape-length H g c s a v (j .0) (shape-of H g c s a v (A.Server (j .0)) m) in
         record {
           N = N;
           facts =
@@ -125,14 +124,14 @@ module _ (Z : Setup) (G : Assumed Z) (M : Small (Z .g)) where
               (subst (λ y. ClientFacts H g M (G .bounded .servers-high) c s y N (b .client) (roomy (b .area)) (b .sends) (b .event)) (sym (roomy-same a room))
               (subst (λ y. ClientFacts H g M (G .bounded .servers-high) c s a N (b .client) y (b .sends) (b .event))
               (sym (roomy-same (b .area) (omega (arith, room, lb))))
-              (effect-facts H g M (G .bounded .servers-high) c s a v (subst (ClientShape s) (roomy-same a room) X) (j .0) (m .sequence)
-              (m .body) (j .2) (fm .body)
+              (effect-facts H g M (G .bounded .servers-high) c s a v (subst (ClientShape s) (roomy-same a room) X) (j .0) (m .client) (m .sequence)
+              (m .body) (j .2) (fm .body) (P .owner)
               (subst (λ y. CT.orderTest H g c s y (m .sequence) (m .body) ≡ J.Fine) nb (P .order)))));
           brought = λ i m′ is ok n.
               let ef : from ≡ A.Server i = j .1 ∙ ap A.Server (n .0) in
               let h : Honest Z from = subst (Honest Z) (sym ef) (is, ok) in
               let u = frame-from ks adm c from f (pr .2) s v m T h in
-              subst (λ y. SentMessage Z G M ks y (A.Client c) m′) ef (subst (SentMessage Z G M ks from (A.Client c)) (em ∙ n .1) u);
+              subst (λ y. SentMessage Z G M ks y (A.Client c) m′) ef (subst (SentMessage Z G M ks from (A.Client c)) (n .1) u);
         }
 
     to-acts : (k : Call) (c : ℕ) (r : C.Effect) (h : ClientSide) → home (k ∷ ks) c ≡ h → h .client ≡ r .client → h .area ≡ r .area
@@ -188,7 +187,7 @@ module _ (Z : Setup) (G : Assumed Z) (M : Small (Z .g)) where
       (cli-cases ks k c)
 
   module _ (ks : List Call) (k : Call) (adm : Admissible Z ks) (pr : Proper Z ks k) where
-    act : (c : ℕ) → caller k ≡ A.Client c → Acts ks k c
+    pub act : (c : ℕ) → caller k ≡ A.Client c → Acts ks k c
     act c e = on-client ks adm k pr c (client-shapes ks adm c) e
 
     pub reads-up : (c : ℕ) → Vw .reads ks c ≤ Vw .reads (k ∷ ks) c

@@ -31,7 +31,7 @@ use Rattle.client_rules.specs.Beginning as CB
 use Rattle.client_rules.specs.Delivery as CD
 use Rattle.client_rules.specs.State as CS
 use Rattle.client_rules.specs.Steps as C
-use Rattle.client_rules.proofs.Shapes.{Keeps, drops, keeps, Shape, idle, hears, sends, shuts, counts, ends}
+use Rattle.client_rules.proofs.Shapes.{Keeps, drops, keeps, Shape, idle, learns-rows, notes, hears, sends, shuts, counts, ends}
 use Rattle.client_rules.proofs.Shapes.{waits, completes, Delivery, refused, taken, shape-delivered}
 use Rattle.client_rules.specs.Tests as CT
 use Rattle.client_rules.proofs.Views as CV
@@ -102,9 +102,10 @@ module _ (H : List ℕ → List ℕ) (g : Params) (me : ℕ) where
     shape-holds : (s : Client) (a v : List ℕ) → rowsBytes ≤ length a → (j : ℕ) {b : Body} {r : C.Effect} → SizedIn g b
         → ((x : Stamp) (e : Entry) → b ≡ valueIs x e → Among 10 j × Q j e) → Shape H g me s a v j b r → Holds g Q s a → Held g Q r
     shape-holds s a v R j z new (idle b) X = X
-    shape-holds s a v R j z new (hears T q) X = same-rows g Q s _ a refl X
-    shape-holds s a v R j z new (sends T q l) X = same-rows g Q s _ a refl X
-    shape-holds s a v R j z new (shuts T q l) X = same-rows g Q s _ a refl X
+    shape-holds s a v R j z new (notes T p) X = same-rows g Q s _ a refl X
+    shape-holds s a v R j z new (hears b k q) X = same-rows g Q s _ a (learns-rows H g me s a v j k) X
+    shape-holds s a v R j z new (sends b k q l) X = same-rows g Q s _ a (learns-rows H g me s a v j k) X
+    shape-holds s a v R j z new (shuts b k q l) X = same-rows g Q s _ a (learns-rows H g me s a v j k) X
     shape-holds s a v R j z new (counts q) X = same-rows g Q s _ a refl X
     shape-holds s a v R j z new (ends q) X = same-rows g Q s _ a refl X
     shape-holds s a v R j z new (waits x e k o) X = let w = new x e refl in keeps-holds s a v R j (w .0) x e z (w .1) k X

@@ -26,3 +26,5 @@ pub mod Theorem
 pub mod Answers
 pub mod AnswerEvents
 pub mod Promises
+pub mod Gapless
+pub mod Vouching

@@ -16,9 +16,10 @@ use Rattle.server_rules.specs.declared.Server.{Server}
 use Rattle.server_rules.specs.Steps as S
 use Rattle.server_rules.specs.Delivery as SD
 use Rattle.server_rules.proofs.Parts.{put-same, put-cases}
-use Rattle.server_rules.proofs.Accepting.{ackOf}
+use Rattle.server_rules.proofs.Accepting.{ackOf, Says}
+use Rattle.server_rules.proofs.Accepting as Y
 use Rattle.server_rules.proofs.Freeing.{freed-mem, freed-acked}
-use Rattle.server_rules.proofs.Shapes.{Shape, idle, answers, notes, ends, settles, Delivery, refused, taken, shape-delivered}
+use Rattle.server_rules.proofs.Shapes.{Shape, idle, answers, notes, ends, settles, hears, Freed, Delivery, refused, taken, shape-delivered}
 use Rattle.server_rules.proofs.Speaking.{counted-cast}
 use Rattle.server_rules.specs.Tests as ST
 use Rattle.client_rules.specs.declared.Client.{Client}
@@ -81,23 +82,34 @@ module _ (H : List ℕ → List ℕ) (g : Params) (me : ℕ) (s : Server) (a ini
     acked-only = λ b c q u. absurd (no-ack b c q u);
   }
 
+  says-ack : {s₁ : Server} (b : Party) (d q : ℕ) (w : S.Write) → Says g s₁ w (sending b (message d q ack))
+      → (b ≡ P.Client d) × (w .client ≡ d) × (w .sequence ≡ q)
+  says-ack b d q w (Y.told i is t) = impossible (cc (ap (λ z. z .says .body) (t .is)))
+  says-ack b d q w (Y.acked e) = ack-is w b d q e
+  says-ack b d q w (Y.reports e t) = impossible (cc (ap (λ z. z .body) e))
+
+  freed-acks : {s₁ : Server} {a₁ : List ℕ} {r : S.Effect} → Freed g 8 s₁ a₁ r → Acknowledges r
+  freed-acks f = record {
+    acked = freed-acked f;
+    acked-only = λ b d q u.
+        let m = freed-mem f _ u in
+        let h = says-ack b d q (m .0) (m .2) in
+        (h .0, m .0, m .1, h .1, h .2);
+  }
+
   shape-acks : {j c q : ℕ} {b : Body} {x : S.Effect} → Shape H g me s a initial j c q b x → Acknowledges x
   shape-acks (idle b) = silent _ refl (λ b c q u. List·Memᴰ·not-nil u)
   shape-acks answers = silent _ refl (λ b c q u. impossible (cc (ap (λ z. z .says .body) (List·Memᴰ·eq-of-singleton u))))
   shape-acks notes = silent _ refl (λ b c q u. impossible (cc (ap (λ z. z .says .body) (List·Memᴰ·eq-of-singleton u))))
   shape-acks ends = silent _ refl (λ b c q u. List·Memᴰ·not-nil u)
-  shape-acks {j} {c} (settles b p k {r} f) = record {
-    acked = λ y u. Memᴰ·append-right (p .sends) (freed-acked f y u);
+  shape-acks {j} {c} (settles b p k {r} f) = let A = freed-acks f in record {
+    acked = λ y u. Memᴰ·append-right (p .sends) (A .acked y u);
     acked-only = λ b d q u. ⊎-elim
         (λ v. absurd (counted-cast H g me s a initial j c k _ v))
-        (λ v.
-        let m = freed-mem f _ v in
-        ⊎-elim
-        (λ t. impossible (cc (ap (λ z. z .says .body) (t .3 .is))))
-        (λ e. let h = ack-is (m .0) b d q e in (h .0, m .0, m .1, h .1, h .2))
-        (m .2))
+        (λ v. A .acked-only b d q v)
         (List·Memᴰ·append-cases (p .sends) u);
   }
+  shape-acks (hears T f) = freed-acks f
 
   delivery-acks : (f out to : List ℕ) → Acknowledges (SD.delivered H g me s a initial from f out to)
   delivery-acks f out to = go (shape-delivered H g me s a initial from f out to)

@@ -28,7 +28,7 @@ use Rattle.client_rules.specs.Beginning as CB
 use Rattle.client_rules.specs.Delivery as CD
 use Rattle.client_rules.specs.State as CS
 use Rattle.client_rules.specs.Steps as C
-use Rattle.client_rules.proofs.Shapes.{Shape, idle, hears, sends, shuts, counts, ends}
+use Rattle.client_rules.proofs.Shapes.{Shape, idle, learns-reads, learns-phase, notes, hears, sends, shuts, counts, ends}
 use Rattle.client_rules.proofs.Shapes.{waits, completes, Delivery, refused, taken, shape-delivered}
 use Rattle.client_rules.specs.Tests as CT
 use Rattle.steps.proofs.ClientTaken.{awaited-true, took, keeps-reads}
@@ -65,9 +65,11 @@ module _ (H : List ℕ → List ℕ) (g : Params) (me : ℕ) where
       → CT.messageTest H g me s from (record { client = c; sequence = q; body = b }) ≡ J.Fine → Shape H g me s a v (numberIn from) b r → Does s r
   unfolding rowView
   shape-does s a v from c q h (idle b) = quiet-does s a
-  shape-does s a v from c q h (hears T z) = none-does s _ refl refl (λ x e. impossible (cc e))
-  shape-does s a v from c q h (sends T z l) = none-does s _ refl refl (λ x e. impossible (cc e))
-  shape-does s a v from c q h (shuts T z l) = none-does s _ refl refl (λ x e. impossible (cc e))
+  shape-does s a v from c q h (notes T p) = record { number = refl; still = λ h. h; gives = λ x e. impossible (cc e); found = λ x e. impossible (cc e) }
+  shape-does s a v from c q h (hears b k z) =
+      none-does s _ (learns-reads H g me s a v (numberIn from) k) (ap CS.reading (learns-phase H g me s a v (numberIn from) k)) (λ x e. impossible (cc e))
+  shape-does s a v from c q h (sends b k z l) = none-does s _ (learns-reads H g me s a v (numberIn from) k) refl (λ x e. impossible (cc e))
+  shape-does s a v from c q h (shuts b k z l) = none-does s _ (learns-reads H g me s a v (numberIn from) k) refl (λ x e. impossible (cc e))
   shape-does s a v from c q h (counts z) = none-does s _ refl refl (λ x e. impossible (cc e))
   shape-does s a v from c q h (ends z) = none-does s _ refl refl (λ x e. impossible (cc e))
   shape-does s a v from c q h (waits x e k z) = record {

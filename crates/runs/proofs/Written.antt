@@ -24,10 +24,10 @@ use Rattle.client_rules.specs.Delivery as CD
 use Rattle.client_rules.specs.State.{asking, writing}
 use Rattle.client_rules.specs.Steps as C
 use Rattle.client_rules.specs.Tests as CT
-use Rattle.client_rules.proofs.Shapes.{Keeps, drops, keeps, Shape, idle, hears, shuts, counts, ends, waits}
+use Rattle.client_rules.proofs.Shapes.{Keeps, drops, keeps, Shape, idle, learns-writes, notes, hears, shuts, counts, ends, waits}
 use Rattle.client_rules.proofs.Shapes.{completes, Delivery, refused, taken, shape-delivered, sends as disperses}
 use Rattle.server_rules.proofs.Casts.{mem-all}
-use Rattle.steps.proofs.ClientTaken.{awaited-true, asking-writing, took, passed}
+use Rattle.steps.proofs.ClientTaken.{learns-asking, awaited-true, asking-writing, took, passed}
 use Rattle.runs.specs.Admissible.{Admissible}
 use Rattle.runs.specs.Events.{At, Accepts, OpensWrite}
 use Rattle.runs.specs.World.{Setup, Call, toServer, toClient, beginRead, beginWrite, caller, World, ClientSide}
@@ -74,16 +74,17 @@ module _ (H : List ℕ → List ℕ) (g : Params) (me : ℕ) where
     shape-tells : (j q : ℕ) {b : Body} {r : C.Effect} → CT.orderTest H g me s j q b ≡ J.Fine → Shape H g me s a v j b r → Tells s o r
     unfolding CT.orderTest
     shape-tells j q t (idle b) = quiet-tells s a o
-    shape-tells j q t (hears T z) = record { number = refl; own = none-own (s .writes) o }
-    shape-tells j q t (disperses T z l) =
-        let e = own (asking-writing H g me (s .phase) (and-split (asking (s .phase)) _ (awaited-true H g me _ t) .0)) in
+    shape-tells j q t (notes T p) = record { number = refl; own = none-own (s .writes) o }
+    shape-tells j q t (hears b k z) = record { number = learns-writes H g me s a v j k; own = none-own (s .writes) o }
+    shape-tells j q t (disperses b k z l) =
+        let e = own (asking-writing H g me (s .phase) (learns-asking H g me s a v j q t k)) in
         record {
-          number = refl;
+          number = learns-writes H g me s a v j k;
           own = λ b d q y u.
               let w = from-all _ b _ u in
               (ap (λ z. z .sequence) (w .1), ap (digestsOf H g) (sym e) ∙ offer-own v (w .0) _ y (ap (λ z. z .body) (w .1)));
         }
-    shape-tells j q t (shuts T z l) = record { number = refl; own = none-own (s .writes) o }
+    shape-tells j q t (shuts b k z l) = record { number = learns-writes H g me s a v j k; own = none-own (s .writes) o }
     shape-tells j q t (counts z) = record { number = refl; own = none-own (s .writes) o }
     shape-tells j q t (ends z) = record { number = refl; own = none-own (s .writes) o }
     shape-tells j q t (waits x e k z) = record { number = keeps-number s a v j k; own = none-own (s .writes) o }

@@ -5,3 +5,4 @@ pub mod Blocks
 pub mod Demand
 pub mod Answers
 pub mod Promises
+pub mod Gapless

@@ -18,7 +18,7 @@ use Rattle.semduoli.specs.Calls.{Wrote, wrote}
 
 -- the version of include/semduoli.h to which these calls belong
 abbrev pub headerVersion : ℕ
-headerVersion = 3
+headerVersion = 4
 
 unfoldable pub openOf : Client → ℕ
 openOf s = openAnswer (s .phase) (s .writes) (s .reads)

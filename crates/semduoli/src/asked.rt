@@ -17,7 +17,7 @@ ghost use Rattle.semduoli.specs.Asked.{headerVersion, clientOpenCall, se
 pub extern "C" fn semduoli_version() -> u64
     ensures { λ r. ⌜ r ≡ headerVersion ⌝ }
 {
-    3
+    4
 }
 
 // Which operation is open at a client.

@@ -24,7 +24,7 @@ use Rattle.frame.specs.declared.Verdict.the-variants as J
 use Rattle.frame.specs.Chunks.{rowsBytes}
 use Rattle.frame.specs.Frames.{build, opened, messageIn, headerFor}
 use Rattle.frame.specs.Messages.{send, echo, ready, Body, getStamp, ack, askRead, readComplete, stampIs}
-use Rattle.frame.specs.Messages.{blockIs, valueIs, Message, message, good, judgedBy, Formed}
+use Rattle.frame.specs.Messages.{blockIs, valueIs, report, Message, message, good, judgedBy, Formed}
 use Rattle.frame.specs.Params.{clientFrames, outRoom, toRoom}
 use Rattle.frame.specs.Refusals.{andThen}
 use Rattle.frame.proofs.RoundTrip.{opened-build}
@@ -86,17 +86,18 @@ module _ (Z : Setup) (G : Assumed Z) where
     pub right : Right g (A.Client c) (m .client) (m .body)
     pub fit : Fitting Z G j (m .body)
 
-  right-answer : (c d : ℕ) (b : Body) → Right g (A.Client c) d b → (CT.answers b ≡ true) × (d ≡ c)
-  unfolding CT.answers
+  right-answer : (c d : ℕ) (b : Body) → Right g (A.Client c) d b → (CT.answers b ≡ true) × (CT.ownerRight c d b ≡ true)
+  unfolding CT.answers CT.ownerRight
   right-answer c d getStamp r = absurd r
-  right-answer c d ack r = (refl, cc r)
+  right-answer c d ack r = (refl, eq-eqb d c (cc r))
   right-answer c d askRead r = absurd r
   right-answer c d readComplete r = absurd r
-  right-answer c d (stampIs T) r = (refl, cc r)
+  right-answer c d (stampIs T) r = (refl, eq-eqb d c (cc r))
   right-answer c d (blockIs send o) r = absurd r
   right-answer c d (blockIs echo o) r = impossible (cc (r .2))
   right-answer c d (blockIs ready o) r = impossible (cc (r .2))
-  right-answer c d (valueIs x e) r = (refl, cc r)
+  right-answer c d (valueIs x e) r = (refl, eq-eqb d c (cc r))
+  right-answer c d (report T) r = (refl, refl)
 
   -- ---- it is of an operation that the client began
 
@@ -119,6 +120,22 @@ module _ (Z : Setup) (G : Assumed Z) where
   begun ks adm j c h q (valueIs x e) u =
       PP.value-begun (stamps Z G M) (views Z G M) (g .n) (g .t) faultyServer faultyClient (fresh Z G M) ks (lawful-run Z G M ks adm) j c q
       (x, e .digests) h (e, refl, u)
+  begun ks adm j c h q (report T) u = tt
+
+  -- whatever client it names
+  begun-by : (ks : List Call) → Admissible Z ks → (j c : ℕ) → faultyClient c ≡ false → (d q : ℕ) (b : Body) → Right g (A.Client c) d b
+      → SentBy Z G ks (A.Server j) (A.Client c) (message d q b) → Begun Z G (home Z ks c .client) q b
+  begun-by ks adm j c h d q getStamp r u = tt
+  begun-by ks adm j c h d q ack r u =
+      let e : d ≡ c = cc r in begun ks adm j c h q ack (subst (λ d. SentBy Z G ks (A.Server j) (A.Client c) (message d q ack)) e u)
+  begun-by ks adm j c h d q askRead r u = tt
+  begun-by ks adm j c h d q readComplete r u = tt
+  begun-by ks adm j c h d q (stampIs T) r u =
+      let e : d ≡ c = cc r in begun ks adm j c h q (stampIs T) (subst (λ d. SentBy Z G ks (A.Server j) (A.Client c) (message d q (stampIs T))) e u)
+  begun-by ks adm j c h d q (blockIs z o) r u = tt
+  begun-by ks adm j c h d q (valueIs x y) r u =
+      let e : d ≡ c = cc r in begun ks adm j c h q (valueIs x y) (subst (λ d. SentBy Z G ks (A.Server j) (A.Client c) (message d q (valueIs x y))) e u)
+  begun-by ks adm j c h d q (report T) r u = tt
 
   -- ---- the lent value of an open write has its length
 
@@ -165,6 +182,7 @@ module _ (Z : Setup) (G : Assumed Z) where
   order c s j q readComplete f = inl refl
   order c s j q (stampIs T) f = pass-or-stale _
   order c s j q (blockIs z o) f = inl refl
+  order c s j q (report T) f = pass-or-stale _
   order c s j q (valueIs x e) f = ⊎-elim
       (λ h. inl (ap (λ v. andThen v (fitTest H e j)) h ∙ fit-fine (fits H e j) f))
       (λ h. inr (ap (λ v. andThen v (fitTest H e j)) h))
@@ -194,7 +212,7 @@ module _ (Z : Setup) (G : Assumed Z) where
           le-leb 1 j (W .server .0),
           le-leb j (g .n) (W .server .1),
           a,
-          eq-eqb (m .client) c d,
+          d,
         ) refl
 
     answer-by : (v : Verdict) (x : C.Effect) → refusalNumber (CD.answerOf (judgedBy v m) x) ≡ refusalIn v
@@ -213,12 +231,9 @@ module _ (Z : Setup) (G : Assumed Z) where
     abbrev Past : List Call → Type 0
     Past ks = AnswerPast (home Z ks c .client) j (m .sequence) (m .body)
 
-    named : m ≡ message c (m .sequence) (m .body)
-    named i = message (right-answer c (m .client) (m .body) (W .right) .1 i) (m .sequence) (m .body)
-
     stale-here : SentBy Z G ks (A.Server j) (A.Client c) m → ordered ≡ J.Bad X.Stale → Past ks
     stale-here u o = stale-past Z G c s j (m .sequence) (m .body)
-        (begun ks adm j c (W .fair-client) (m .sequence) (m .body) (subst (SentBy Z G ks (A.Server j) (A.Client c)) named u)) o
+        (begun-by ks adm j c (W .fair-client) (m .client) (m .sequence) (m .body) (W .right) u) o
 
     onward : (k : Call) → Past ks → Past (k ∷ ks)
     onward k p = past-onward (client-onward Z G ks k adm c) j (m .sequence) (W .server) (m .body) p

@@ -13,6 +13,7 @@ use lib.Dec.{leb}
 use borrow.Author.Tests.{leb-true, not-false}
 use Rattle.quorum.specs.Quorum.{bit, count, Among}
 use Rattle.quorum.proofs.Logic.{impossible, and-split}
+use Rattle.quorum.proofs.Counting.{count-mono}
 use Rattle.blocks.specs.declared.Params.{Params}
 use Rattle.group_rules.specs.Coded.{entryOf}
 use Rattle.frame.specs.declared.Stamp.{Stamp}
@@ -29,13 +30,14 @@ use Rattle.client_rules.specs.declared.Phase.{Phase}
 use Rattle.client_rules.specs.declared.Client.{Client}
 use Rattle.client_rules.specs.declared.Phase.the-variants as F
 use Rattle.client_rules.specs.Rows.{Kept, used, placesFrom, rowView, rowsFrom, firstAgreed, foundBy, search}
-use Rattle.client_rules.specs.State.{freshRow, freshClient, noRow, rowOf, idle, asking, acking, reading, writing}
+use Rattle.client_rules.specs.State.{freshRow, freshClient, noRow, rowOf, heardOf, withReport, idle, asking, acking, reading, writing}
 use Rattle.client_rules.specs.Beginning as CB
 use Rattle.client_rules.specs.Steps as C
 use Rattle.client_rules.specs.Tests as CT
-use Rattle.client_rules.proofs.Shapes.{largestNow, dispersed, Keeps, drops, keeps, Shape, hears, shuts}
+use Rattle.client_rules.proofs.Shapes.{dispersed, Keeps, drops, keeps, learns-writes, learns-phase, Shape, notes, hears, shuts}
 use Rattle.client_rules.proofs.Shapes.{counts, ends, waits, completes, sends as disperses, idle as idles}
 use Rattle.client_rules.proofs.CallFacts.{awaited-true, no-flag, fresh-row}
+use Rattle.steps.proofs.ClientTaken.{learns-asking}
 use Rattle.runs.specs.Events.{At, EndsWrite, OpensWrite}
 use Rattle.runs.specs.World.{Setup, Call, caller, ClientSide, clientDone, clientLeft, start, run, sends}
 use Rattle.runs.proofs.Agreement.{small}
@@ -59,6 +61,20 @@ none-quorate g L = go (leb (g .n) (count (λ j. getD (replicate 11 false) j fals
         let l = leb-true (g .n) (count (λ j. getD (replicate 11 false) j false) (g .n) + g .t) e in
         absurd (omega (arith, l, no-flags 11 (g .n), L .faults-high, L .faults-low))
     go false e = refl
+
+none-gathered : (g : Params) → Bounded g → (s : Client) → s .heard ≡ replicate 11 false → C.gathered g s ≡ false
+unfolding C.gathered C.counted
+none-gathered g L s e = go (leb (g .n) (count (C.counted g s) (g .n) + g .t)) refl
+  where
+    few : count (C.counted g s) (g .n) ≤ count (λ j. getD (replicate 11 false) j false) (g .n)
+    few = count-mono (C.counted g s) (λ j. getD (replicate 11 false) j false) (g .n)
+        (λ j i h. ap (λ l. getD l j false) (sym e) ∙ and-split (heardOf s j) _ h .0)
+
+    go : (b : Bool) → leb (g .n) (count (C.counted g s) (g .n) + g .t) ≡ b → b ≡ false
+    go true h =
+        let l = leb-true (g .n) (count (C.counted g s) (g .n) + g .t) h in
+        absurd (omega (arith, l, few, no-flags 11 (g .n), L .faults-high, L .faults-low))
+    go false h = refl
 
 rows-none : (f : ℕ → List Kept) → ((j : ℕ) → f j ≡ []) → (j m : ℕ) → rowsFrom f j m ≡ []
 unfolding rowsFrom
@@ -117,7 +133,7 @@ module _ (Z : Setup) (G : Assumed Z) where
   -- by the phase: with no operation open or in a read the last write ended, unless out of stamps
   abbrev pub Doing : List Call → ℕ → ClientSide → Phase → Type 0
   Doing ks c h F.Idle = h .client .closed ≡ false → 1 ≤ h .client .writes → Ended ks c (h .client .writes)
-  Doing ks c h F.Asking = (1 ≤ h .client .writes) × (C.quorate g (h .client .heard) ≡ false)
+  Doing ks c h F.Asking = (1 ≤ h .client .writes) × (C.gathered g (h .client) ≡ false)
       × ((j : ℕ) → Among (g .n) j → SentBy ks (A.Client c) (A.Server j) (message c (h .client .writes) getStamp))
   Doing ks c h F.Acking = (1 ≤ h .client .writes) × (C.quorate g (h .client .heard) ≡ false) × (T : ℕ) × (T < lastTime)
       × ((j : ℕ) → Among (g .n) j → SentBy ks (A.Client c) (A.Server j) (message c (h .client .writes) (blockIs send (offer T (entryOf H g (h .value) j)))))
@@ -173,30 +189,47 @@ module _ (Z : Setup) (G : Assumed Z) where
       kept-same (drops z) = (refl, refl, refl, refl)
       kept-same (keeps i z) = (refl, refl, refl, refl)
 
+      -- a report outside the first part of a write
+      noted : (T : ℕ) (p : Phase) → asking p ≡ false → Doing ks c (home Z ks c) p
+          → Doing (k ∷ ks) c (clientDone Z (C.quiet (withReport s (t .j) T) a) value) p
+      unfolding rowView
+      noted T F.Idle p f = λ z l. let (q, u) = f z l in (q, inr u)
+      noted T F.Asking p f = impossible (cc p)
+      noted T F.Acking p (l, q, N, b, f) = (l, q, N, b, λ j i. inr (f j i))
+      noted T F.Reading p (l, q, f, e) = (l, q, (λ j i. inr (f j i)), λ z l. let (p, u) = e z l in (p, inr u))
+
       by-shape : {b : Body} {r : C.Effect} → CT.orderTest H g c s (t .j) (t .m .sequence) b ≡ J.Fine → t .r ≡ r
           → Shape H g c s a (t .v) (t .j) b r → Stands (k ∷ ks) c (clientDone Z r value)
       unfolding CT.orderTest toAll
       by-shape o e (idles b) = same-write _ refl refl (later-doing ks k c (home Z ks c) (s .phase) (S .doing))
-      by-shape o e (hears T q) =
-          let p = phase-asking (s .phase) (and-split (asking (s .phase)) _ (awaited-true H g c _ o) .0) in
+      by-shape o e (notes T p) = same-write _ refl refl (noted T (s .phase) p (S .doing))
+      by-shape o e (hears b K q) =
+          let p = phase-asking (s .phase) (learns-asking H g c s a (t .v) (t .j) (t .m .sequence) o K) in
           let (l, _, f) = was F.Asking p in
-          same-write _ refl refl (l, q, λ j i. inr (f j i))
-      by-shape o e (disperses T q l) =
-          let p = phase-asking (s .phase) (and-split (asking (s .phase)) _ (awaited-true H g c _ o) .0) in
+          let w = learns-writes H g c s a (t .v) (t .j) K in
+          same-write _ w refl (subst (Doing (k ∷ ks) c (clientDone Z (C.quiet _ a) value)) (sym (learns-phase H g c s a (t .v) (t .j) K)) (
+            omega (arith, l, w),
+            q,
+            λ j i. inr (subst (λ n. SentBy ks (A.Client c) (A.Server j) (message c n getStamp)) (sym w) (f j i)),
+          ))
+      by-shape o e (disperses b {s′} K q l) =
+          let p = phase-asking (s .phase) (learns-asking H g c s a (t .v) (t .j) (t .m .sequence) o K) in
           let (low, _, f) = was F.Asking p in
           let v = t .own (ap writing p) in
-          let N = largestNow H g c s a (t .v) (t .j) T in
-          same-write _ refl refl (
-            low,
+          let w = learns-writes H g c s a (t .v) (t .j) K in
+          let N = C.largestCounted g s′ in
+          same-write _ w refl (
+            omega (arith, low, w),
             none-quorate g (G .bounded),
             N,
             l,
             λ j i.
-                subst (λ w. SentBy (k ∷ ks) (A.Client c) (A.Server j) (message c (s .writes) (blockIs send (offer N (entryOf H g w j))))) v
+                subst (λ n. SentBy (k ∷ ks) (A.Client c) (A.Server j) (message c n (blockIs send (offer N (entryOf H g value j))))) (sym w)
+                (subst (λ w. SentBy (k ∷ ks) (A.Client c) (A.Server j) (message c (s .writes) (blockIs send (offer N (entryOf H g w j))))) v
                 (now (dispersed H g c s a (t .v) (t .j) N) (ap (λ r. r .sends) e) (A.Server j) _
-                (all-mem (λ i. message c (s .writes) (blockIs send (offer N (entryOf H g (t .v) i)))) 1 (g .n) j (i .0) (omega (arith, i .1)))),
+                (all-mem (λ i. message c (s .writes) (blockIs send (offer N (entryOf H g (t .v) i)))) 1 (g .n) j (i .0) (omega (arith, i .1))))),
           )
-      by-shape o e (shuts T q l) = same-write _ refl refl (λ z. impossible (cc z))
+      by-shape o e (shuts b K q l) = same-write _ (learns-writes H g c s a (t .v) (t .j) K) refl (λ z. impossible (cc z))
       by-shape o e (counts q) =
           let p = phase-acking (s .phase) (and-split (acking (s .phase)) _ (awaited-true H g c _ o) .0) in
           let (l, _, T, b, f) = was F.Acking p in
@@ -255,7 +288,7 @@ module _ (Z : Setup) (G : Assumed Z) where
           ended = λ n low high. go n low high (ℕ-discrete n (s .writes)) (was F.Idle p q);
           doing = (
             omega arith,
-            none-quorate g (G .bounded),
+            none-gathered g (G .bounded) _ refl,
             λ j i. inl (e, subst (List·Memᴰ _) (sym l) (all-mem (λ j. message c (s .writes + 1) getStamp) 1 (g .n) j (i .0) (omega (arith, i .1)))),
           );
         }

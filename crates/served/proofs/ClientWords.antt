@@ -11,15 +11,14 @@ use Rattle.frame.specs.declared.Party.{Party}
 use Rattle.frame.specs.declared.Party.the-variants as A
 use Rattle.frame.specs.declared.Verdict.the-variants as J
 use Rattle.frame.specs.Messages.{Offer, offer, send, echo, ready, Body, getStamp, ack, askRead, readComplete}
-use Rattle.frame.specs.Messages.{stampIs, blockIs, valueIs, Message, message, Sending, sending, toAll}
+use Rattle.frame.specs.Messages.{stampIs, blockIs, valueIs, report, Message, message, Sending, sending, toAll}
 use Rattle.server_rules.proofs.Thresholds.{agreed}
 use Rattle.client_rules.specs.declared.Client.{Client}
-use Rattle.client_rules.specs.State.{asking}
 use Rattle.client_rules.specs.Beginning as CB
 use Rattle.client_rules.specs.Steps as C
 use Rattle.client_rules.specs.Tests as CT
-use Rattle.client_rules.proofs.Shapes.{largestNow, Shape, hears, shuts, counts, ends, waits, completes, sends as disperses, idle as idles}
-use Rattle.client_rules.proofs.CallFacts.{awaited-true}
+use Rattle.client_rules.proofs.Shapes.{learns-writes, Shape, notes, hears, shuts, counts, ends, waits, completes, sends as disperses, idle as idles}
+use Rattle.steps.proofs.ClientTaken.{learns-asking}
 use Rattle.runs.specs.Admissible.{Admissible}
 use Rattle.runs.specs.World.{Setup, Call, caller, run, sends}
 use Rattle.runs.proofs.Assumed.{Assumed}
@@ -46,6 +45,7 @@ module _ (Z : Setup) (G : Assumed Z) where
   Word s c b d q (blockIs echo o) = ⊥
   Word s c b d q (blockIs ready o) = ⊥
   Word s c b d q (valueIs x e) = ⊥
+  Word s c b d q (report T) = ⊥
 
   -- ---- it stays so
 
@@ -81,6 +81,7 @@ module _ (Z : Setup) (G : Assumed Z) where
   word-onward U c b d q (blockIs echo o) w = w
   word-onward U c b d q (blockIs ready o) w = w
   word-onward U c b d q (valueIs x e) w = w
+  word-onward U c b d q (report T) w = w
 
   -- ---- what a call sends
 
@@ -106,11 +107,12 @@ module _ (Z : Setup) (G : Assumed Z) where
     shape-word : {x : Body} {r : C.Effect} → Shape H g c s a (t .v) (t .j) x r → (b : Party) (m : Message) → List·Memᴰ (sending b m) (r .sends)
         → Word (r .client) c b (m .client) (m .sequence) (m .body)
     shape-word (idles x) b m u = absurd (List·Memᴰ·not-nil u)
-    shape-word (hears T q) b m u = absurd (List·Memᴰ·not-nil u)
-    shape-word (disperses T q l) b m u =
+    shape-word (notes T p) b m u = absurd (List·Memᴰ·not-nil u)
+    shape-word (hears x K q) b m u = absurd (List·Memᴰ·not-nil u)
+    shape-word (disperses x K q l) b m u =
         let (j, i, e, w) = from-all _ b m u in
-        worded _ c b m _ w (refl, j, i, e, inr (refl, omega arith), _, t .v, refl)
-    shape-word (shuts T q l) b m u = absurd (List·Memᴰ·not-nil u)
+        worded _ c b m _ w (refl, j, i, e, inr (sym (learns-writes H g c s a (t .v) (t .j) K), omega arith), _, t .v, refl)
+    shape-word (shuts x K q l) b m u = absurd (List·Memᴰ·not-nil u)
     shape-word (counts q) b m u = absurd (List·Memᴰ·not-nil u)
     shape-word (ends q) b m u = absurd (List·Memᴰ·not-nil u)
     shape-word (waits x e K z) b m u = absurd (List·Memᴰ·not-nil u)
@@ -130,18 +132,19 @@ module _ (Z : Setup) (G : Assumed Z) where
         → Offers (r .sends) × One (r .sends)
     unfolding CT.orderTest entryOf
     shape-offers o (idles x) = ((λ b d q y u. absurd (List·Memᴰ·not-nil u)), λ b b′ d q d′ q′ y y′ u w. absurd (List·Memᴰ·not-nil u))
-    shape-offers o (hears T z) = ((λ b d q y u. absurd (List·Memᴰ·not-nil u)), λ b b′ d q d′ q′ y y′ u w. absurd (List·Memᴰ·not-nil u))
-    shape-offers o (disperses T z l) = (
+    shape-offers o (notes T p) = ((λ b d q y u. absurd (List·Memᴰ·not-nil u)), λ b b′ d q d′ q′ y y′ u w. absurd (List·Memᴰ·not-nil u))
+    shape-offers o (hears x K z) = ((λ b d q y u. absurd (List·Memᴰ·not-nil u)), λ b b′ d q d′ q′ y y′ u w. absurd (List·Memᴰ·not-nil u))
+    shape-offers o (disperses x {s′} K z l) = (
       (λ b d q y u. let (j, i, e, w) = from-all _ b _ u in
-          (ap (λ m. m .sequence) w, ap writeStage (phase-asking (s .phase) (and-split (asking (s .phase)) _ (awaited-true H g c _ o) .0)))),
+          (ap (λ m. m .sequence) w, ap writeStage (phase-asking (s .phase) (learns-asking H g c s a (t .v) (t .j) (t .m .sequence) o K)))),
       λ b b′ d q d′ q′ y y′ u w.
           let (j, i, e, x) = from-all _ b _ u in
           let (j′, i′, e′, x′) = from-all _ b′ _ w in
-          let f : y ≡ offer (largestNow H g c s a (t .v) (t .j) T) (entryOf H g (t .v) j) = cc (ap (λ m. m .body) x) in
-          let f′ : y′ ≡ offer (largestNow H g c s a (t .v) (t .j) T) (entryOf H g (t .v) j′) = cc (ap (λ m. m .body) x′) in
+          let f : y ≡ offer (C.largestCounted g s′) (entryOf H g (t .v) j) = cc (ap (λ m. m .body) x) in
+          let f′ : y′ ≡ offer (C.largestCounted g s′) (entryOf H g (t .v) j′) = cc (ap (λ m. m .body) x′) in
           ap agreed f ∙ sym (ap agreed f′),
     )
-    shape-offers o (shuts T z l) = ((λ b d q y u. absurd (List·Memᴰ·not-nil u)), λ b b′ d q d′ q′ y y′ u w. absurd (List·Memᴰ·not-nil u))
+    shape-offers o (shuts x K z l) = ((λ b d q y u. absurd (List·Memᴰ·not-nil u)), λ b b′ d q d′ q′ y y′ u w. absurd (List·Memᴰ·not-nil u))
     shape-offers o (counts z) = ((λ b d q y u. absurd (List·Memᴰ·not-nil u)), λ b b′ d q d′ q′ y y′ u w. absurd (List·Memᴰ·not-nil u))
     shape-offers o (ends z) = ((λ b d q y u. absurd (List·Memᴰ·not-nil u)), λ b b′ d q d′ q′ y y′ u w. absurd (List·Memᴰ·not-nil u))
     shape-offers o (waits x e K z) = ((λ b d q y u. absurd (List·Memᴰ·not-nil u)), λ b b′ d q d′ q′ y y′ u w. absurd (List·Memᴰ·not-nil u))

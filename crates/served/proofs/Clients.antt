@@ -40,7 +40,7 @@ module _ (Z : Setup) where
     pub j : ℕ
     pub server : Among (g .n) j
     pub m : Message
-    pub mine : m .client ≡ c
+    pub owner : CT.ownerRight c (m .client) (m .body) ≡ true
     pub v : List ℕ
     pub own : writing (home ks c .client .phase) ≡ true → v ≡ home ks c .value
     pub order : CT.orderTest H g c (home ks c .client) j (m .sequence) (m .body) ≡ J.Fine
@@ -88,7 +88,7 @@ module _ (Z : Setup) where
           j = j;
           server = is;
           m = m;
-          mine = P .mine;
+          owner = P .owner;
           v = lentTo Z (run Z ks) c lent;
           own = lent-own Z (run Z ks) c lent;
           order = subst (λ y. CT.orderTest H g c (home ks c .client) y (m .sequence) (m .body) ≡ J.Fine) n (P .order);

@@ -77,9 +77,10 @@ module _ (Z : Setup) (G : Assumed Z) where
   taken-each : (c : ℕ) (s : Client) (a v : List ℕ) (j : ℕ) {x : Body} {r : C.Effect} → CS.Shape H g c s a v j x r → (b : Party) (d q : ℕ) (o : Offer)
       → List·Memᴰ (sending b (message d q (blockIs send o))) (r .sends) → Alike d q o (r .sends)
   taken-each c s a v j (CS.idle x) b d q o u = absurd (List·Memᴰ·not-nil u)
-  taken-each c s a v j (CS.hears T z) b d q o u = absurd (List·Memᴰ·not-nil u)
-  taken-each c s a v j (CS.sends T z l) b d q o u = dispersed-each c (s .writes) _ v b d q o u
-  taken-each c s a v j (CS.shuts T z l) b d q o u = absurd (List·Memᴰ·not-nil u)
+  taken-each c s a v j (CS.notes T p) b d q o u = absurd (List·Memᴰ·not-nil u)
+  taken-each c s a v j (CS.hears x K z) b d q o u = absurd (List·Memᴰ·not-nil u)
+  taken-each c s a v j (CS.sends x K z l) b d q o u = dispersed-each c (s .writes) _ v b d q o u
+  taken-each c s a v j (CS.shuts x K z l) b d q o u = absurd (List·Memᴰ·not-nil u)
   taken-each c s a v j (CS.counts z) b d q o u = absurd (List·Memᴰ·not-nil u)
   taken-each c s a v j (CS.ends z) b d q o u = absurd (List·Memᴰ·not-nil u)
   taken-each c s a v j (CS.waits x e K z) b d q o u = absurd (List·Memᴰ·not-nil u)

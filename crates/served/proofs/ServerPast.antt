@@ -24,14 +24,14 @@ use Rattle.frame.specs.declared.Verdict.the-variants as J
 use Rattle.frame.specs.Chunks.{areaBytes}
 use Rattle.frame.specs.Frames.{build}
 use Rattle.frame.specs.Messages.{Offer, Stage, send, echo, ready, Body}
-use Rattle.frame.specs.Messages.{getStamp, ack, askRead, readComplete, stampIs, blockIs, valueIs}
+use Rattle.frame.specs.Messages.{getStamp, ack, askRead, readComplete, stampIs, blockIs, valueIs, report}
 use Rattle.frame.specs.Messages.{Message, message, sending, numberIn, Judged, good, judgedBy, Formed}
 use Rattle.frame.specs.Params.{width, serverFrames, outRoom, toRoom}
 use Rattle.frame.specs.Refusals.{numberOf, andThen}
 use Rattle.frame.proofs.RoundTrip.{opened-build}
 use Rattle.frame.proofs.Sizes.{Small}
 use Rattle.server_rules.specs.declared.Slot.{Slot}
-use Rattle.server_rules.specs.State.{readerOf, slotOf}
+use Rattle.server_rules.specs.State.{readerOf, slotOf, reportOf}
 use Rattle.server_rules.specs.Delivery as SD
 use Rattle.server_rules.specs.Tests as ST
 use Rattle.server_rules.proofs.Taking.{took}
@@ -97,6 +97,7 @@ module _ (Z : Setup) (G : Assumed Z) where
   ServerPast ks j a c q (stampIs T) = Unit {0}
   ServerPast ks j a c q (blockIs z o) = (q < seq Z G ks j c) ⊎ ((q ≡ seq Z G ks j c) × Got z (part Z G ks j c) (numberIn a))
   ServerPast ks j a c q (valueIs x e) = Unit {0}
+  ServerPast ks j a c q (report T) = Unit {0}
 
   -- its write is not open yet
   abbrev pub Ahead : List Call → ℕ → ℕ → ℕ → Body → Type 0
@@ -107,6 +108,7 @@ module _ (Z : Setup) (G : Assumed Z) where
   Ahead ks j c q (stampIs T) = ⊥
   Ahead ks j c q (blockIs z o) = seq Z G ks j c < q
   Ahead ks j c q (valueIs x e) = ⊥
+  Ahead ks j c q (report T) = ⊥
 
   -- ---- it stays so
 
@@ -158,6 +160,7 @@ module _ (Z : Setup) (G : Assumed Z) where
     taken-past c q (stampIs T) e = tt
     taken-past c q (blockIs z o) e = block-taken c q (subst (λ m. Among 8 (m .client)) e (C .took .client)) z o e
     taken-past c q (valueIs x y) e = tt
+    taken-past c q (report T) e = tt
 
   block-later : (ks : List Call) (k : Call) (j c : ℕ) → Among 8 c → (q : ℕ) (z : Stage) (i : ℕ)
       → (q < seq Z G ks j c) ⊎ ((q ≡ seq Z G ks j c) × Got z (part Z G ks j c) i)
@@ -182,6 +185,7 @@ module _ (Z : Setup) (G : Assumed Z) where
   past-later ks k j a c q is (stampIs T) p = tt
   past-later ks k j a c q is (blockIs z o) p = block-later ks k j c is q z (numberIn a) p
   past-later ks k j a c q is (valueIs x e) p = tt
+  past-later ks k j a c q is (report T) p = tt
 
   -- ---- the tests of a frame that fits
 
@@ -194,6 +198,7 @@ module _ (Z : Setup) (G : Assumed Z) where
   FitsAt j i (stampIs T) = Unit {0}
   FitsAt j i (blockIs z o) = fits H (o .entry) (ST.placeIn j z i) ≡ true
   FitsAt j i (valueIs x e) = Unit {0}
+  FitsAt j i (report T) = Unit {0}
 
   -- it passes, it is old and past, or it is ahead
   abbrev Order : List Call → ℕ → Party → ℕ → ℕ → Body → Verdict → Type 0
@@ -241,6 +246,14 @@ module _ (Z : Setup) (G : Assumed Z) where
         go false true = inr (inl (refl, tt))
         go false false = inl refl
 
+    report-order : (T : ℕ) → Order ks j a c q (report T) (ST.reportTest (reportOf (serverAt Z G M ks j .server) (numberIn a)) T)
+    unfolding ST.reportTest pick
+    report-order T = go (ltb (reportOf (serverAt Z G M ks j .server) (numberIn a)) T)
+      where
+        go : (b : Bool) → Order ks j a c q (report T) (pick b J.Fine (J.Bad X.Stale))
+        go true = inl refl
+        go false = inr (inl (refl, tt))
+
     order : (b : Body) → FitsAt j (numberIn a) b → Order ks j a c q b (ST.orderTest H g j (serverAt Z G M ks j .server) (numberIn a) c q b)
     unfolding ST.orderTest
     order getStamp f = inl refl
@@ -250,6 +263,7 @@ module _ (Z : Setup) (G : Assumed Z) where
     order (stampIs T) f = inl refl
     order (blockIs z o) f = block-order z o f
     order (valueIs y e) f = inl refl
+    order (report T) f = report-order T
 
   -- ---- a frame of an honest party
 
@@ -378,7 +392,7 @@ module _ (Z : Setup) (G : Assumed Z) where
   sent-frame (k ∷ ks) a b m (inl (e, u)) = inl (e, sending b m, u, refl, refl)
   sent-frame (k ∷ ks) a b m (inr u) = inr (sent-frame ks a b m u)
 
-  -- servers send them echoes and readies
+  -- servers send them echoes, readies and reports
   from-server : (i j c : ℕ) → Among (g .n) i → (b : Body) → Right g (A.Server j) c b → Fitting Z G i b
       → (ST.senderRight g (A.Server i) c b ≡ true) × FitsAt j i b
   unfolding ST.senderRight
@@ -391,6 +405,7 @@ module _ (Z : Setup) (G : Assumed Z) where
   from-server i j c is (blockIs echo o) r f = (and-true _ _ (le-leb 1 i (is .0)) (le-leb i (g .n) (is .1)), f)
   from-server i j c is (blockIs ready o) r f = (and-true _ _ (le-leb 1 i (is .0)) (le-leb i (g .n) (is .1)), f)
   from-server i j c is (valueIs x e) r f = impossible (cc r)
+  from-server i j c is (report T) r f = (and-true _ _ (le-leb 1 i (is .0)) (le-leb i (g .n) (is .1)), tt)
 
   from-client : (ks : List Call) (c j d q : ℕ) (b : Body) → Word Z G (run Z ks .clients c .client) c (A.Server j) d q b
       → (ST.senderRight g (A.Client c) d b ≡ true) × FitsAt j c b
@@ -406,6 +421,7 @@ module _ (Z : Setup) (G : Assumed Z) where
   from-client ks c j d q (blockIs echo o) w = absurd w
   from-client ks c j d q (blockIs ready o) w = absurd w
   from-client ks c j d q (valueIs x e) w = absurd w
+  from-client ks c j d q (report T) w = absurd w
 
   fair : (ks : List Call) → Admissible Z ks → (a : Party) (j : ℕ) (m : Message) → Honest Z a → SentBy Z G ks a (A.Server j) m → Fair a j m
   fair ks adm (A.Server i) j m h u =

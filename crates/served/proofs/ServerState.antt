@@ -28,7 +28,8 @@ use Rattle.runs.proofs.Agreement.{small, start-slot}
 use Rattle.runs.proofs.Assumed.{Assumed}
 use Rattle.runs.proofs.Broadcasts.{serverAt, Takes, effectOf, server-next, left-part, left-seq, accepts-now, accepts-new, shape}
 use Rattle.runs.proofs.Places.{at-low}
-use Rattle.taking.proofs.Quiet.{Calm, Unripe, calm-empty}
+use Rattle.taking.proofs.Quiet.{Calm, calm-empty}
+use Rattle.taking.proofs.Ripeness.{Ripeless, ripeless, fresh-ripe}
 use Rattle.taking.proofs.Does as D
 use Rattle.served.proofs.ClientState.{SentBy}
 
@@ -45,7 +46,7 @@ module _ (Z : Setup) (G : Assumed Z) where
   part ks j c = partAt g (serverAt Z G M ks j .server) (serverAt Z G M ks j .area) c
 
   abbrev pub Still : Part Offer → Type 0
-  Still w = Calm H g w × Unripe H g w
+  Still w = Calm H g w
 
   -- server j has sent z of some offer to every server, for client c's write s
   abbrev pub ToAllSent : List Call → ℕ → ℕ → ℕ → Stage → Type 0
@@ -113,7 +114,7 @@ module _ (Z : Setup) (G : Assumed Z) where
     )
 
     abbrev quiet : (c : ℕ) → Among 8 c → Still (part ks j c) → Still (partAt g (effectOf Z G M C .server) (effectOf Z G M C .area) c)
-    quiet = D.quiet-turn H g (G .bounded) j sv ar (initialOf Z j) (shape Z G M ks j) (C .from) (C .m) (C .took .client) (C .took .sized) (C .took .passes)
+    quiet = D.calm-turn H g (G .bounded) j sv ar (initialOf Z j) (shape Z G M ks j) (C .from) (C .m) (C .took .client) (C .took .sized) (C .took .passes)
 
     pub acceptance : (w : S.Write) → List·Memᴰ w (effectOf Z G M C .accepted) → Still (part ks j (w .client))
         → D.Acceptance H g (G .bounded) j sv ar (initialOf Z j) (shape Z G M ks j) (C .from) (C .m) (C .took .client) (C .took .sized) (C .took .passes) w
@@ -196,7 +197,7 @@ module _ (Z : Setup) (G : Assumed Z) where
       let p : part [] j c ≡ noPart = ap (blockView g (serverAt Z G M [] j .area) c) e ∙ fresh-block-view g (serverAt Z G M [] j .area) c 1 in
       let n : seq [] j c ≡ 1 = ap (λ x. x .sequence) e in
       record {
-        still = subst Still (sym p) (calm-empty H g (G .bounded), λ o q l. impossible (cc q));
+        still = subst Still (sym p) (calm-empty H g (G .bounded));
         begun = omega (arith, n);
         echoed = λ u. impossible (cc (ap (λ w. w .sent) p, u));
         readied = λ u. impossible (cc (ap (λ w. w .ready) p, u));
@@ -253,3 +254,14 @@ module _ (Z : Setup) (G : Assumed Z) where
   before (k ∷ ks) j c s p x (inr u) ec es l =
       let (y, q, v, ey, sy, h) = before ks j c s p x u ec es l in
       (y, q, inr v, ey, sy, h)
+
+  -- ---- no write waits that may be accepted
+
+  pub none-ripe : (ks : List Call) (j : ℕ) → Ripeless g (serverAt Z G M ks j .server) (serverAt Z G M ks j .area)
+  none-ripe [] j c i = fresh-ripe g (serverAt Z G M [] j .server) (serverAt Z G M [] j .area) c 1 (start-slot Z G j c i)
+  none-ripe (k ∷ ks) j c i = ⊎-elim
+      (λ e. subst (λ h. Ripeless g (h .server) (h .area)) (sym e) (none-ripe ks j) c i)
+      (λ (C, e). subst (λ h. Ripeless g (h .server) (h .area)) (sym e)
+      (ripeless H g (G .bounded) j (serverAt Z G M ks j .server) (serverAt Z G M ks j .area) (initialOf Z j) (shape Z G M ks j) (C .from) (C .m)
+      (C .took .client) (C .took .passes) (none-ripe ks j)) c i)
+      (server-next Z G M ks k j)

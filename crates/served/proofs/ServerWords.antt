@@ -20,7 +20,7 @@ use Rattle.frame.specs.declared.Party.the-variants as A
 use Rattle.frame.specs.declared.Verdict.the-variants as J
 use Rattle.frame.specs.Chunks.{entryAt, presentAt}
 use Rattle.frame.specs.Messages.{Entry, entry, Offer, send, echo, ready, Body}
-use Rattle.frame.specs.Messages.{getStamp, ack, askRead, readComplete, stampIs, blockIs, valueIs, Message, message, sending}
+use Rattle.frame.specs.Messages.{getStamp, ack, askRead, readComplete, stampIs, blockIs, valueIs, report, Message, message, sending}
 use Rattle.frame.specs.Params.{width}
 use Rattle.frame.proofs.Sizes.{Small}
 use Rattle.group_rules.specs.Coded.{blockAt, digestsOf, entryOf, fits}
@@ -138,6 +138,7 @@ module _ (Z : Setup) (G : Assumed Z) where
   Fitting j (stampIs T) = Unit {0}
   Fitting j (blockIs z o) = fits H (o .entry) j ≡ true
   Fitting j (valueIs x e) = fits H e j ≡ true
+  Fitting j (report T) = Unit {0}
 
   module _ (ks : List Call) (k : Call) (adm : Admissible Z ks) (pr : Proper Z ks k) (j : ℕ) (is : Among (g .n) j) (C : Takes Z G M ks k j) where
     abbrev h : ServerSide
@@ -156,6 +157,7 @@ module _ (Z : Setup) (G : Assumed Z) where
     goes-fitting b c q askRead u = tt
     goes-fitting b c q readComplete u = tt
     goes-fitting b c q (stampIs T) u = tt
+    goes-fitting b c q (report T) u = tt
     goes-fitting b c q (blockIs send o) u = absurd (goes-right b (message c q (blockIs send o)) u)
     goes-fitting b c q (blockIs echo o) u =
         taken-fits H g j (h .server) (C .from) (C .m) (C .took .passes) c (seq Z G ks j c) send o (facts Z G ks k j C .an-echo c b q o u .4)

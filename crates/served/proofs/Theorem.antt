@@ -42,7 +42,7 @@ module _ (Z : Setup) (G : Assumed Z) (ks : List Call) (adm : Admissible Z ks) (N
     where
       go : (p : Phase) → home Z ks c .client .phase ≡ p → (home Z ks c .client .phase ≡ F.Idle) ⊎ Collision Z ks
       go F.Idle e = inl e
-      go F.Asking e = absurd (not-asking Z G ks adm N c hc e)
+      go F.Asking e = inr (not-asking Z G ks adm N c hc (λ i j hi hj. ⊎-elim (λ (e, l). inl (ap (λ x. x .time) e)) (λ z. inr z) (same-present i j hi hj)) e)
       go F.Acking e = inr (not-acking Z G ks adm N c hc (λ j hj. written-everywhere Z G ks adm N c hc e j hj) e)
       go F.Reading e = inr (not-reading Z G ks adm N c hc e same-present)
 

@@ -1,16 +1,18 @@
 -- A finished run is one in which the broadcast has ended: what one honest server accepted every honest server accepted, and a write of which an honest client
 -- has sent its blocks is accepted everywhere, or two different blocks with one digest are shown. Assumes nothing.
-use Prim.Native.Nat.{ℕ, suc, _+_, _-_, _≤_, _<_}
+use Prim.Native.Nat.{ℕ, suc, _+_, _*_, _-_, _≤_, _<_}
 use native.Mathlib.Omega.{arith}
+use native.Mathlib.Decide.{decLe}
 use mathlib.Core.Bool.{Bool, true, false, not, _&&_}
 use mathlib.Core.Path.{_≡_, refl, ap, sym, _∙_, subst}
 use mathlib.Core.Logic.{_⊎_, inl, inr, ⊎-elim}
 use mathlib.Core.Option.{Option, none, some}
 use mathlib.Core.List.{List, [], _∷_}
+use lib.ListN.{length}
 use lib.Dec.{leb}
 use borrow.Author.Tests.{le-leb}
 use Rattle.quorum.specs.Quorum.{Among}
-use Rattle.quorum.proofs.Logic.{impossible, and-true, or-right}
+use Rattle.quorum.proofs.Logic.{impossible, and-true, or-left, or-right}
 use Rattle.quorum.proofs.Quorums.{AtLeast, at-least-map, at-least-fewer, at-least-count, HonestWith, honest-member, quorum-member}
 use Rattle.broadcast.specs.Laws as BL
 use Rattle.broadcast.proofs.Agreement as BA
@@ -20,9 +22,9 @@ use Rattle.service.proofs.Written as SW
 use Rattle.group_rules.specs.Coded.{digestsOf, entryOf}
 use Rattle.frame.specs.declared.Party.{Party}
 use Rattle.frame.specs.declared.Party.the-variants as A
-use Rattle.frame.specs.Messages.{Offer, Stage, send, echo, ready, blockIs, Message, message, numberIn}
+use Rattle.frame.specs.Messages.{Offer, offer, Stage, send, echo, ready, blockIs, Message, message, numberIn}
 use Rattle.frame.specs.Params.{quota}
-use Rattle.frame.specs.Stamps.{lastTime}
+use Rattle.frame.specs.Stamps.{lastTime, lastSequence}
 use Rattle.frame.proofs.Sizes.{Small}
 use Rattle.server_rules.specs.Broadcast.{Rules, undone, isLike, votes, enough, due, full}
 use Rattle.server_rules.specs.Rules.{blockRules}
@@ -37,18 +39,22 @@ use Rattle.runs.specs.World.{Setup, Call, toServer, toClient, beginRead, beginW
 use Rattle.runs.proofs.Agreement.{small, empty}
 use Rattle.runs.proofs.Answers.{honest-caller}
 use Rattle.runs.proofs.Assumed.{Assumed}
-use Rattle.runs.proofs.Broadcasts.{Agreed, SaidBy, views, lawful-run}
+use Rattle.runs.proofs.Broadcasts.{Agreed, serverAt, SaidBy, views, lawful-run}
 use Rattle.runs.proofs.Formation.{formed, accepted-in-bounds}
 use Rattle.runs.proofs.OneValue.{Source}
 use Rattle.runs.proofs.Ordering.{known}
+use Rattle.runs.proofs.Places.{at-low}
 use Rattle.runs.proofs.ReadOnce.{written-sized}
+use Rattle.runs.proofs.Vouching.{time, accepted-up, grounded}
+use Rattle.runs.proofs.Vouching as VH
 use Rattle.taking.proofs.Does.{Got}
+use Rattle.taking.proofs.Ripeness.{not-vouched}
 use Rattle.served.specs.Finished.{Finished}
 use Rattle.served.proofs.Clients.{home}
 use Rattle.served.proofs.ClientState.{SentBy, Doing, stands}
 use Rattle.served.proofs.ClientWords.{sent-once}
 use Rattle.served.proofs.Everywhere.{server-each, client-each}
-use Rattle.served.proofs.ServerState.{seq, part, Still, ToAllSent, Passed, server-stands, closed, before}
+use Rattle.served.proofs.ServerState.{seq, part, Still, ToAllSent, Passed, server-stands, closed, before, none-ripe}
 use Rattle.served.proofs.ServerWords.{ready-from}
 use Rattle.served.proofs.ServerPast.{reached}
 use Rattle.served.proofs.TrueGroups.{Backed, true-group}
@@ -134,7 +140,7 @@ module _ (Z : Setup) (G : Assumed Z) where
     ready-out j c is o b e = ⊎-elim
         (λ s.
         let T = server-stands Z G ks j c is in
-        inl (to-all j c (seq Z G ks j c) ready (T .readied (go (part Z G ks j c .ready) s (T .still .0 .nothing-due o)))))
+        inl (to-all j c (seq Z G ks j c) ready (T .readied (go (part Z G ks j c .ready) s (T .still .nothing-due o)))))
         (λ z. inr z)
         (true-group Z G ks j c is o b e)
       where
@@ -172,12 +178,12 @@ module _ (Z : Setup) (G : Assumed Z) where
         let (i, is, f, (ic, o, e, u)) = honest-member (G .faults) (at-least-fewer (blocks-sane H g .few-many) s) in
         ready-out j c ic o (subst (Backed Z G ks) (sym e) b) (enough-readies j c o (alike (part Z G ks j c .readies) c (R .few) x o e s))
 
-    not-done : (j c : ℕ) (x : Agreed) → SF.Correct protocol j → Backed Z G ks x → x .0 < lastTime
+    not-done : (j c : ℕ) (x : Agreed) → SF.Correct protocol j → Backed Z G ks x → x .0 < lastTime → x .0 ≤ time Z G M ks j
         → AtLeast (g .n) (R .all) (λ i. Among 8 c × (o : Offer) × (agreed o ≡ x) × (part Z G ks j c .readies i ≡ some o)) → Collision Z ks
-    unfolding full
-    not-done j c x h b l s = ⊎-elim
+    unfolding full S.vouched
+    not-done j c x h b l v s = ⊎-elim
         (λ y. absurd (go (part Z G ks j c .done) refl
-        (still .0 .full-done o (and-true _ _ (le-leb (R .all) _ many) y))))
+        (still .full-done o (and-true _ _ (le-leb (R .all) _ many) y))))
         (λ z. z)
         (true-group Z G ks j c ic o (subst (Backed Z G ks) (sym e) b) (enough-readies j c o (omega (arith, many))))
       where
@@ -199,6 +205,14 @@ module _ (Z : Setup) (G : Assumed Z) where
         still : Still Z G (part Z G ks j c)
         still = server-stands Z G ks j c ic .still
 
+        -- an honest server's ready is of this sequence, so a stamp holds it
+        small-sequence : seq Z G ks j c ≤ lastSequence
+        small-sequence =
+            let (b, o′, q, u) = invariant .ready-heard j c (one .0) x (one .1) (one .2) (one .3) in
+            let f = formed Z G M ks adm (A.Server (one .0)) b _ (one .1, one .2) u in
+            let l = f .sequence-high in
+            omega (arith, l)
+
         -- all readies of it make y supported
         supported : (y : Agreed) → BA.Readies W (g .n) (g .t) (R .few) (R .all) faultyServer faultyClient ks c (seq Z G ks j c) y
             → BA.Support W (g .n) (g .t) (R .few) (R .all) faultyServer faultyClient ks c (seq Z G ks j c) y
@@ -213,7 +227,10 @@ module _ (Z : Setup) (G : Assumed Z) where
 
         go : (d : Option Offer) → part Z G ks j c .done ≡ d → undone d ≡ false → ⊥
         go none d u = impossible (cc u)
-        go (some y) d u = still .1 y d (omega (arith, l, ap (λ x. x .0) (same y d)))
+        go (some y) d u =
+            let e = ap (λ x. x .0) (same y d) in
+            not-vouched g (serverAt Z G M ks j .server) (serverAt Z G M ks j .area) c (none-ripe Z G ks j c ic) y d (omega (arith, l, e)) small-sequence
+            (or-left (leb (y .time) (time Z G M ks j)) _ (le-leb (y .time) (time Z G M ks j) (omega (arith, v, e))))
 
     -- ---- acceptances
 
@@ -235,10 +252,50 @@ module _ (Z : Setup) (G : Assumed Z) where
         subst (λ c. Passed Z G ks i c s) ec (subst (Passed Z G ks i (w .client)) es
         (server-stands Z G ks i (w .client) (C .client) .passed (w .sequence) (accepted-in-bounds Z G M ks adm i p w u .low) (C .passed)))
 
-    in-order : (i c s : ℕ) (x : Agreed) → (u : Acc i c (suc s) x) → 1 ≤ s → (y : Agreed) × (v : Acc i c s y) × (v .1 < u .1)
+    -- by the call, and in a call by the time
+    abbrev rank : (i c s : ℕ) (x : Agreed) → Acc i c s x → ℕ
+    rank i c s x u = u .1 * 18446744073709551616 + x .0
+
+    time-below : (i c s : ℕ) (x : Agreed) → Acc i c s x → x .0 < lastTime
+    time-below i c s x (w, p, u, ec, es, e) = subst (λ x. x .0 < lastTime) e (closed Z G ks i p w u .below)
+
+    in-order : (i c s : ℕ) (x : Agreed) → (u : Acc i c (suc s) x) → 1 ≤ s → (y : Agreed) × (v : Acc i c s y) × (rank i c s y v < rank i c (suc s) x u)
     in-order i c s x (w, p, u, ec, es, e) l =
         let (y, q, v, ey, sy, d) = before Z G ks i c s p w u ec es l in
-        (agreed (offerOf y), (y, q, v, ey, sy, refl), d)
+        let v′ : Acc i c s (agreed (offerOf y)) = (y, q, v, ey, sy, refl) in
+        (agreed (offerOf y), v′, omega (arith, d, time-below i c s (agreed (offerOf y)) v′))
+
+    -- ---- vouching
+
+    -- a server that accepted y has a higher time
+    own-time : (j c s : ℕ) (y : Agreed) → Acc j c s y → y .0 + 1 ≤ time Z G M ks j
+    own-time j c s y (w, p, u, ec, es, e) = let z = ap (λ y. y .0) e in omega (arith, z, accepted-up Z G M ks adm j p w u)
+
+    -- a write that took effect with the time that x comes with frees x
+    freed-by : (r : ℕ) (x : Agreed) (j : ℕ) (w : S.Write) (q : ℕ) → At (Accepts Z j w) ks q → w .time + 1 ≡ x .0
+        → q * 18446744073709551616 + w .time < r → SF.Freed protocol ks rank (λ j x. x .0 ≤ time Z G M ks j) r x
+    freed-by r x j w q v e l = inr (record {
+      i = j;
+      c = w .client;
+      s = w .sequence;
+      y = agreed (offerOf w);
+      honest = accepts-honest ks adm j q w v;
+      accepted = (w, q, v, refl, refl, refl);
+      below = l;
+      has = λ i hi u. let z = own-time i (w .client) (w .sequence) (agreed (offerOf w)) u in omega (arith, z, e);
+    })
+
+    freed : (i c s : ℕ) (x : Agreed) (u : Acc i c s x) → SF.Freed protocol ks rank (λ j x. x .0 ≤ time Z G M ks j) (rank i c s x u) x
+    freed i c s x (w, p, u, ec, es, e) = go (decLe 1 (w .time))
+      where
+        ex : w .time ≡ x .0
+        ex = ap (λ x. x .0) e
+
+        go : Dec (1 ≤ w .time) → SF.Freed protocol ks rank (λ j x. x .0 ≤ time Z G M ks j) (p * 18446744073709551616 + x .0) x
+        go (no n) = inl (λ j hj. omega (arith, ex, n))
+        go (yes l) =
+            let (j, y, q, v, ey, h) = grounded Z G M ks adm i p w u l in
+            freed-by _ x j y q v (ey ∙ ex) (omega (arith, ey, ex, h))
 
     -- ---- frames have come
 
@@ -280,24 +337,24 @@ module _ (Z : Setup) (G : Assumed Z) where
         Client = Among 8;
         Backed = Backed Z G ks;
         Below = λ x. x .0 < lastTime;
-        Free = λ j x. Unit {0};
+        Free = λ j x. x .0 ≤ time Z G M ks j;
         send-in = send-in;
         echo-in = echo-in;
         ready-in = ready-in;
         ready-of-echoes = ready-of-echoes;
         ready-of-readies = ready-of-readies;
-        not-done = λ j c x h b l f s. not-done j c x h b l s;
+        not-done = not-done;
         sent-once = λ c s x y hc (b, o, e, u) (b′, o′, e′, u′). sym e ∙ sent-once Z G ks adm c b b′ s o o′ u u′ ∙ e′;
         ready-backed = λ i c s x h u. ready-backed i c s x u;
         begin = λ j c h ic. server-stands Z G ks j c ic .begun;
         passed = λ j c s h ic l d. of-passed j c s (server-stands Z G ks j c ic .passed s l d);
         of-client = λ i c s x h u. of-client i c s x u;
         from-one = λ i c s x h u. from-one i c s x u;
-        accepted-below = λ i c s x h u. let (w, p, v, ec, es, e) = u in subst (λ x. x .0 < lastTime) e (closed Z G ks i p w v .below);
+        accepted-below = λ i c s x h u. time-below i c s x u;
         readied = λ i c s x h u. to-all i c s ready (its-passed i c s x u .readied);
-        rank = λ i c s x u. u .1;
+        rank = rank;
         before = λ i c s x h u l. in-order i c s x u l;
-        freed = λ i c s x h u. inl (λ j hj. tt);
+        freed = λ i c s x h u. freed i c s x u;
       }
 
       pub ended : SF.Ended protocol ks (Collision Z ks)
@@ -317,6 +374,21 @@ module _ (Z : Setup) (G : Assumed Z) where
           let (l, y) = written-sized Z ks adm c q p v u in
           record { size = l; bytes = y; from = λ j is. of-written p c q j v u is refl }
 
+      -- the time that it sends is vouched
+      offer-freed : (c T : ℕ)
+          → ((j : ℕ) → Among (g .n) j → SentBy Z G ks (A.Client c) (A.Server j) (message c (home Z ks c .client .writes) (blockIs send (offer T
+          (entryOf H g (home Z ks c .value) j)))))
+          → SF.Freed protocol ks rank (λ j x. x .0 ≤ time Z G M ks j) (length ks * 18446744073709551616 + lastTime) (T, digestsOf H g (home Z ks c .value))
+      offer-freed c T f = go (decLe 1 T)
+        where
+          go : Dec (1 ≤ T)
+              → SF.Freed protocol ks rank (λ j x. x .0 ≤ time Z G M ks j) (length ks * 18446744073709551616 + lastTime) (T, digestsOf H g (home Z ks c .value))
+          go (no n) = inl (λ j hj. omega (arith, n))
+          go (yes l) =
+              let (j, y, q, v, e) = VH.heard Z G M ks adm .offered c _ _ _ _ (f 1 (omega arith, omega (arith, G .bounded .servers-low))) T l (omega arith) in
+              let h = at-low (Accepts Z j y) ks q v in
+              freed-by _ (T, digestsOf H g (home Z ks c .value)) j y q v e (omega (arith, h, closed Z G ks j q y v .below))
+
       -- whose blocks have gone out is accepted by every honest server
       pub written-everywhere : (c : ℕ) → Honest Z (A.Client c) → home Z ks c .client .phase ≡ F.Acking → (j : ℕ) → Honest Z (A.Server j)
           → (home Z ks c .client .writes < seq Z G ks j c) ⊎ Collision Z ks
@@ -328,7 +400,7 @@ module _ (Z : Setup) (G : Assumed Z) where
           SW.written protocol ended c (home Z ks c .client .writes) (T, digestsOf H g (home Z ks c .value)) (hc .0) (hc .1) low
           (A.Server 1, _, refl, f 1 (omega arith, omega (arith, G .bounded .servers-low)))
           (home Z ks c .value, written-source c (home Z ks c .client .writes) p (home Z ks c .value) o, refl)
-          l 0 (inl (λ j hj. tt))
+          l (length ks * 18446744073709551616 + lastTime) (offer-freed c T f)
           (λ r s l. let (i, p, x, u, ec, es) = known Z G ks adm .wrote-accepted c r _ (st .ended r l (omega (arith, s)) .1) in
           (i, accepts-honest ks adm i p x u, agreed (offerOf x), (x, p, u, ec, es, refl)))
           j h

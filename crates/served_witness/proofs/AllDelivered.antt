@@ -32,6 +32,7 @@ use Rattle.blocks.specs.Code as BlCode
 use Rattle.blocks.specs.Params as BlParams
 use Rattle.blocks.specs.Poly as BlPoly
 use Rattle.group_rules.specs.Coded as FrCoded
+use Rattle.group_rules.specs.Vouching as GrVouching
 use Rattle.frame.specs.Frames as FrFrames
 use Rattle.frame.specs.Messages as FrMessages
 use Rattle.frame.specs.Params as FrParams
@@ -58,9 +59,11 @@ use Rattle.witness.proofs.Images.{sameParty, amongSends, wasSent, allBytes, jud
 use Rattle.witness.proofs.Images.{honest, properFrame, properCall, advance, image, refusedIn, endIn}
 use Rattle.witness.proofs.Depicted.{Exact, admissible-by, depicts, logged, sent-by, honest-is, stops-by}
 use Rattle.witness.proofs.Depicted.{ends-by, opens-read-by, opens-write-by, refuses-by, at-drop}
+use lib.Dec.{leb}
+use Rattle.quorum.proofs.Logic.{and-true}
 use Rattle.served_witness.specs.AllDelivered.{g, initial, value, Z, stamp, entryFor, stampAsked, stampFrom, blockTo, saying}
-use Rattle.served_witness.specs.AllDelivered.{block, noRoom, ackFrom, readAsked, initialFrom, valueFrom, readEnded}
-use Rattle.served_witness.specs.AllDelivered.{asking, opening, echoing, waiting, accepted, told, calls, found, Shown}
+use Rattle.served_witness.specs.AllDelivered.{block, noRoom, ackFrom, readAsked, initialFrom, valueFrom, readEnded, reportTo, reportFor}
+use Rattle.served_witness.specs.AllDelivered.{asking, opening, echoing, waiting, accepted, told, ended as finished, calls, found, Shown}
 use Rattle.served_witness.proofs.Traces.{isHand, amongHands, handOf, isOne, handedIn, isFrom, speaks, isFinal, idle}
 use Rattle.served_witness.proofs.Traces.{withHand, follow, trace, allOf, allAnswered, allIdle, trace-seen, finished-by}
 use Rattle.served_witness.proofs.Traces.{delivered-by, served-by, never-handed, never-speaks, unfinished-by}
@@ -73,11 +76,11 @@ bounded = Setups.bounded 2 2 (omega arith) (omega arith) (omega arith) (omega ar
 
 exact : Exact Z
 unfolding Z
-exact = Setups.exact Toy.toy g initial 4 (λ c. false) bounded
+exact = Setups.exact Toy.toy g initial 4 (λ c. leb 3 c) bounded
 
 sound : Sound Z
 unfolding Z g Toy.four initial QuQuorum.count
-sound = Setups.sound Toy.toy g initial 4 (λ c. false) bounded
+sound = Setups.sound Toy.toy g initial 4 (λ c. leb 3 c) bounded
     (record { many = omega arith; few = omega arith }) refl (omega arith, (omega arith, tt))
 
 -- ---- the run, computed
@@ -106,15 +109,15 @@ record Computed : Type 0 where
   pub ended : (image Z accepted .clients 1 .client .writes ≡ 1) × (endIn Z (image Z accepted) (ackFrom 3) ≡ written)
   pub completed-is : (image Z told .clients 2 .client .reads ≡ 1) × (endIn Z (image Z told) (valueFrom 3) ≡ stopped found)
 
-delivering : Delivering
+its-proper : trace Z calls .seen .proper ≡ true
 unfolding FrChunks.entryAt RuWorld.start SeDelivery.constructBy SeDelivery.constructTest SeDelivery.construction Toy.toy Toy.zeros Toy.four Toy.setup
     Toy.handServer Toy.handClient Toy.startRead Toy.startWrite g initial value Z entryFor stamp stampAsked stampFrom blockTo saying block noRoom ackFrom
-    readAsked initialFrom valueFrom readEnded asking opening echoing waiting accepted told calls found Deliveries.freeBy Deliveries.freedBy Deliveries.settledBy
-    Deliveries.votedBy Deliveries.blockBy Deliveries.bodyBy Deliveries.servedBy Deliveries.judgeBy Deliveries.served Asked.searchedBy Asked.keptBy
-    Asked.bodyBy Asked.heardBy
-    Asked.judgeBy Asked.asked sameParty amongSends wasSent allBytes judgedBad verdictBad isFrame honest properFrame properCall advance image refusedIn endIn
-    isHand amongHands handOf isOne handedIn isFrom speaks isFinal idle withHand follow trace allOf allAnswered allIdle QuQuorum.count
-    ArArea.pick ArArea.same ArArea.tableFrom ArArea.table ArArea.joined ArNumbers.be2 ArNumbers.be4 ArNumbers.be8 ArNumbers.bytes2
+    readAsked initialFrom valueFrom readEnded reportTo reportFor asking opening echoing waiting accepted told finished calls found Deliveries.lowestBy
+    Deliveries.freeBy Deliveries.freedBy Deliveries.settledBy Deliveries.votedBy Deliveries.blockBy Deliveries.bodyBy Deliveries.servedBy Deliveries.judgeBy
+    Deliveries.served Asked.searchedBy Asked.keptBy Asked.bodyBy Asked.heardBy Asked.judgeBy Asked.asked sameParty amongSends wasSent allBytes judgedBad
+    verdictBad isFrame honest properFrame properCall advance image refusedIn endIn isHand amongHands handOf isOne handedIn isFrom speaks isFinal idle withHand
+    follow trace allOf allAnswered allIdle QuQuorum.count ArArea.pick ArArea.same ArArea.tableFrom ArArea.table ArArea.joined ArNumbers.be2 ArNumbers.be4
+    ArNumbers.be8 ArNumbers.bytes2
     ArNumbers.bytes4 ArNumbers.bytes8 _⊕_ FiField.reduction FiField.xtime FiField.shiftAdd _⊗_ FiField.powerOf FiField.Powers FiField.Logs BlCode.blockLength
     BlCode.padded BlCode.stripe BlCode.blockByte BlCode.blockOf BlCode.encoded BlCode.row BlCode.valueOf BlCode.blocksOf BlCode.candidate BlCode.agree
     BlCode.decodedAll BlParams.partiesFit BlParams.thresholdFits BlParams.lengthFits BlPoly.eval BlPoly.plus BlPoly.scale BlPoly.withRoot BlPoly.vanishing
@@ -122,20 +125,131 @@ unfolding FrChunks.entryAt RuWorld.start SeDelivery.constructBy SeDelivery.const
     FrFrames.kindOf FrFrames.retired FrFrames.lengthOf FrFrames.bodyLength FrFrames.entryBytes FrFrames.offerBytes FrFrames.stampBytes FrFrames.bodyBytes
     FrFrames.headerBytes FrFrames.frameOf FrFrames.build FrFrames.framingTest FrFrames.headerIn FrFrames.headerTest FrFrames.bodyTest FrFrames.stampIn
     FrFrames.stampTest FrFrames.contentTest FrFrames.frameTest FrFrames.opened FrFrames.openedUnder FrFrames.bodyIn FrFrames.messageIn FrMessages.toFrom
-    FrMessages.toAll FrParams.width FrParams.quota FrParams.largestFrame FrParams.outRoom FrParams.toRoom FrParams.ownTest FrParams.codeTest FrParams.boundsTest
+    FrMessages.toAll FrMessages.clientsFrom FrMessages.toClients FrParams.width FrParams.quota FrParams.largestFrame FrParams.outRoom FrParams.toRoom
+    FrParams.ownTest FrParams.codeTest FrParams.boundsTest
     FrParams.paramsTest FrStamps.older FrStamps.sameStamp FrStamps.partsAgree SeBroadcast.votes SeBroadcast.enough SeBroadcast.due
     SeBroadcast.full SeBroadcast.matters SeRules.atTime SeRules.chosen SeRules.regained SeRules.unanimous SeState.freshBlocks SeState.freshSlot
     SeState.freshReader SeState.freshServer SeState.blockView SeState.presentBlock SeState.presentEntry SeSteps.votedBlock SeSteps.onBlock SeSteps.tellFrom
-    SeSteps.accept SeSteps.ripeBy SeSteps.ripe SeSteps.freeBy SeSteps.free SeSteps.freed SeSteps.settle SeSteps.onRead SeSteps.onReadComplete SeSteps.onBody
-    SeSteps.effect SeTests.roomTest SeTests.senderRight SeTests.counted SeTests.openTest SeTests.readTest SeTests.doneTest FrCoded.fitTest SeTests.orderTest
+    SeSteps.reported SeSteps.accept SeSteps.vouched SeSteps.lowest SeSteps.ripeBy SeSteps.ripe SeSteps.free SeSteps.freed SeSteps.settle SeSteps.onRead
+    SeSteps.onReadComplete SeSteps.onBody
+    SeSteps.effect SeTests.roomTest SeTests.senderRight SeTests.counted SeTests.openTest SeTests.readTest SeTests.doneTest SeTests.reportTest FrCoded.fitTest
+    SeTests.orderTest
     SeTests.messageTest SeTests.judgeOpened SeTests.judge CB.lengthTest CB.readTest CB.writeTest CB.openRead CB.openWrite CB.beginBy
     CB.readBegun CB.writeBegun CB.begunOf CB.readBeginning CB.writeBeginning ClRows.placesFrom ClRows.rowView ClRows.hasStamp ClRows.smallest
     ClRows.placeFor ClRows.atStamp ClRows.rowsFrom ClRows.agreed ClRows.firstBy ClRows.firstAgreed ClRows.foundOf ClRows.foundBy ClRows.search ClState.freshRow
-    ClState.freshClient ClState.largest ClSteps.quorate ClSteps.sendBelow ClSteps.gatherBy ClSteps.onStamp ClSteps.endBy ClSteps.onAck ClSteps.completeBy
+    ClState.freshClient ClState.largest ClSteps.quorate ClSteps.sendBelow ClSteps.counted ClSteps.gathered ClSteps.largestCounted ClSteps.gatherBy
+    ClSteps.reportBy ClSteps.onReport GrVouching.backed ClSteps.onStamp ClSteps.endBy ClSteps.onAck ClSteps.completeBy
     ClSteps.settle ClSteps.keepBy ClSteps.onValue ClSteps.onBody ClSteps.effect ClTests.sendRoom ClTests.roomTest ClTests.valueTest ClTests.answers
+    ClTests.ownerRight
+    ClTests.awaited ClTests.orderTest ClTests.messageTest ClTests.judgeOpened ClTests.judge
+its-proper = refl
+
+its-answered : allAnswered Z (trace Z calls .seen .log) (trace Z calls .closed) ≡ true
+unfolding FrChunks.entryAt RuWorld.start SeDelivery.constructBy SeDelivery.constructTest SeDelivery.construction Toy.toy Toy.zeros Toy.four Toy.setup
+    Toy.handServer Toy.handClient Toy.startRead Toy.startWrite g initial value Z entryFor stamp stampAsked stampFrom blockTo saying block noRoom ackFrom
+    readAsked initialFrom valueFrom readEnded reportTo reportFor asking opening echoing waiting accepted told finished calls found Deliveries.lowestBy
+    Deliveries.freeBy Deliveries.freedBy Deliveries.settledBy Deliveries.votedBy Deliveries.blockBy Deliveries.bodyBy Deliveries.servedBy Deliveries.judgeBy
+    Deliveries.served Asked.searchedBy Asked.keptBy Asked.bodyBy Asked.heardBy Asked.judgeBy Asked.asked sameParty amongSends wasSent allBytes judgedBad
+    verdictBad isFrame honest properFrame properCall advance image refusedIn endIn isHand amongHands handOf isOne handedIn isFrom speaks isFinal idle withHand
+    follow trace allOf allAnswered allIdle QuQuorum.count ArArea.pick ArArea.same ArArea.tableFrom ArArea.table ArArea.joined ArNumbers.be2 ArNumbers.be4
+    ArNumbers.be8 ArNumbers.bytes2
+    ArNumbers.bytes4 ArNumbers.bytes8 _⊕_ FiField.reduction FiField.xtime FiField.shiftAdd _⊗_ FiField.powerOf FiField.Powers FiField.Logs BlCode.blockLength
+    BlCode.padded BlCode.stripe BlCode.blockByte BlCode.blockOf BlCode.encoded BlCode.row BlCode.valueOf BlCode.blocksOf BlCode.candidate BlCode.agree
+    BlCode.decodedAll BlParams.partiesFit BlParams.thresholdFits BlParams.lengthFits BlPoly.eval BlPoly.plus BlPoly.scale BlPoly.withRoot BlPoly.vanishing
+    BlPoly.newtonStep BlPoly.through FrCoded.pieces FrCoded.lowestValue FrCoded.agreeing FrCoded.decoded FrCoded.digestsOf FrCoded.entryOf FrCoded.fits
+    FrFrames.kindOf FrFrames.retired FrFrames.lengthOf FrFrames.bodyLength FrFrames.entryBytes FrFrames.offerBytes FrFrames.stampBytes FrFrames.bodyBytes
+    FrFrames.headerBytes FrFrames.frameOf FrFrames.build FrFrames.framingTest FrFrames.headerIn FrFrames.headerTest FrFrames.bodyTest FrFrames.stampIn
+    FrFrames.stampTest FrFrames.contentTest FrFrames.frameTest FrFrames.opened FrFrames.openedUnder FrFrames.bodyIn FrFrames.messageIn FrMessages.toFrom
+    FrMessages.toAll FrMessages.clientsFrom FrMessages.toClients FrParams.width FrParams.quota FrParams.largestFrame FrParams.outRoom FrParams.toRoom
+    FrParams.ownTest FrParams.codeTest FrParams.boundsTest
+    FrParams.paramsTest FrStamps.older FrStamps.sameStamp FrStamps.partsAgree SeBroadcast.votes SeBroadcast.enough SeBroadcast.due
+    SeBroadcast.full SeBroadcast.matters SeRules.atTime SeRules.chosen SeRules.regained SeRules.unanimous SeState.freshBlocks SeState.freshSlot
+    SeState.freshReader SeState.freshServer SeState.blockView SeState.presentBlock SeState.presentEntry SeSteps.votedBlock SeSteps.onBlock SeSteps.tellFrom
+    SeSteps.reported SeSteps.accept SeSteps.vouched SeSteps.lowest SeSteps.ripeBy SeSteps.ripe SeSteps.free SeSteps.freed SeSteps.settle SeSteps.onRead
+    SeSteps.onReadComplete SeSteps.onBody
+    SeSteps.effect SeTests.roomTest SeTests.senderRight SeTests.counted SeTests.openTest SeTests.readTest SeTests.doneTest SeTests.reportTest FrCoded.fitTest
+    SeTests.orderTest
+    SeTests.messageTest SeTests.judgeOpened SeTests.judge CB.lengthTest CB.readTest CB.writeTest CB.openRead CB.openWrite CB.beginBy
+    CB.readBegun CB.writeBegun CB.begunOf CB.readBeginning CB.writeBeginning ClRows.placesFrom ClRows.rowView ClRows.hasStamp ClRows.smallest
+    ClRows.placeFor ClRows.atStamp ClRows.rowsFrom ClRows.agreed ClRows.firstBy ClRows.firstAgreed ClRows.foundOf ClRows.foundBy ClRows.search ClState.freshRow
+    ClState.freshClient ClState.largest ClSteps.quorate ClSteps.sendBelow ClSteps.counted ClSteps.gathered ClSteps.largestCounted ClSteps.gatherBy
+    ClSteps.reportBy ClSteps.onReport GrVouching.backed ClSteps.onStamp ClSteps.endBy ClSteps.onAck ClSteps.completeBy
+    ClSteps.settle ClSteps.keepBy ClSteps.onValue ClSteps.onBody ClSteps.effect ClTests.sendRoom ClTests.roomTest ClTests.valueTest ClTests.answers
+    ClTests.ownerRight
+    ClTests.awaited ClTests.orderTest ClTests.messageTest ClTests.judgeOpened ClTests.judge
+its-answered = refl
+
+its-idle : allIdle Z (trace Z calls .seen) 8 ≡ true
+unfolding FrChunks.entryAt RuWorld.start SeDelivery.constructBy SeDelivery.constructTest SeDelivery.construction Toy.toy Toy.zeros Toy.four Toy.setup
+    Toy.handServer Toy.handClient Toy.startRead Toy.startWrite g initial value Z entryFor stamp stampAsked stampFrom blockTo saying block noRoom ackFrom
+    readAsked initialFrom valueFrom readEnded reportTo reportFor asking opening echoing waiting accepted told finished calls found Deliveries.lowestBy
+    Deliveries.freeBy Deliveries.freedBy Deliveries.settledBy Deliveries.votedBy Deliveries.blockBy Deliveries.bodyBy Deliveries.servedBy Deliveries.judgeBy
+    Deliveries.served Asked.searchedBy Asked.keptBy Asked.bodyBy Asked.heardBy Asked.judgeBy Asked.asked sameParty amongSends wasSent allBytes judgedBad
+    verdictBad isFrame honest properFrame properCall advance image refusedIn endIn isHand amongHands handOf isOne handedIn isFrom speaks isFinal idle withHand
+    follow trace allOf allAnswered allIdle QuQuorum.count ArArea.pick ArArea.same ArArea.tableFrom ArArea.table ArArea.joined ArNumbers.be2 ArNumbers.be4
+    ArNumbers.be8 ArNumbers.bytes2
+    ArNumbers.bytes4 ArNumbers.bytes8 _⊕_ FiField.reduction FiField.xtime FiField.shiftAdd _⊗_ FiField.powerOf FiField.Powers FiField.Logs BlCode.blockLength
+    BlCode.padded BlCode.stripe BlCode.blockByte BlCode.blockOf BlCode.encoded BlCode.row BlCode.valueOf BlCode.blocksOf BlCode.candidate BlCode.agree
+    BlCode.decodedAll BlParams.partiesFit BlParams.thresholdFits BlParams.lengthFits BlPoly.eval BlPoly.plus BlPoly.scale BlPoly.withRoot BlPoly.vanishing
+    BlPoly.newtonStep BlPoly.through FrCoded.pieces FrCoded.lowestValue FrCoded.agreeing FrCoded.decoded FrCoded.digestsOf FrCoded.entryOf FrCoded.fits
+    FrFrames.kindOf FrFrames.retired FrFrames.lengthOf FrFrames.bodyLength FrFrames.entryBytes FrFrames.offerBytes FrFrames.stampBytes FrFrames.bodyBytes
+    FrFrames.headerBytes FrFrames.frameOf FrFrames.build FrFrames.framingTest FrFrames.headerIn FrFrames.headerTest FrFrames.bodyTest FrFrames.stampIn
+    FrFrames.stampTest FrFrames.contentTest FrFrames.frameTest FrFrames.opened FrFrames.openedUnder FrFrames.bodyIn FrFrames.messageIn FrMessages.toFrom
+    FrMessages.toAll FrMessages.clientsFrom FrMessages.toClients FrParams.width FrParams.quota FrParams.largestFrame FrParams.outRoom FrParams.toRoom
+    FrParams.ownTest FrParams.codeTest FrParams.boundsTest
+    FrParams.paramsTest FrStamps.older FrStamps.sameStamp FrStamps.partsAgree SeBroadcast.votes SeBroadcast.enough SeBroadcast.due
+    SeBroadcast.full SeBroadcast.matters SeRules.atTime SeRules.chosen SeRules.regained SeRules.unanimous SeState.freshBlocks SeState.freshSlot
+    SeState.freshReader SeState.freshServer SeState.blockView SeState.presentBlock SeState.presentEntry SeSteps.votedBlock SeSteps.onBlock SeSteps.tellFrom
+    SeSteps.reported SeSteps.accept SeSteps.vouched SeSteps.lowest SeSteps.ripeBy SeSteps.ripe SeSteps.free SeSteps.freed SeSteps.settle SeSteps.onRead
+    SeSteps.onReadComplete SeSteps.onBody
+    SeSteps.effect SeTests.roomTest SeTests.senderRight SeTests.counted SeTests.openTest SeTests.readTest SeTests.doneTest SeTests.reportTest FrCoded.fitTest
+    SeTests.orderTest
+    SeTests.messageTest SeTests.judgeOpened SeTests.judge CB.lengthTest CB.readTest CB.writeTest CB.openRead CB.openWrite CB.beginBy
+    CB.readBegun CB.writeBegun CB.begunOf CB.readBeginning CB.writeBeginning ClRows.placesFrom ClRows.rowView ClRows.hasStamp ClRows.smallest
+    ClRows.placeFor ClRows.atStamp ClRows.rowsFrom ClRows.agreed ClRows.firstBy ClRows.firstAgreed ClRows.foundOf ClRows.foundBy ClRows.search ClState.freshRow
+    ClState.freshClient ClState.largest ClSteps.quorate ClSteps.sendBelow ClSteps.counted ClSteps.gathered ClSteps.largestCounted ClSteps.gatherBy
+    ClSteps.reportBy ClSteps.onReport GrVouching.backed ClSteps.onStamp ClSteps.endBy ClSteps.onAck ClSteps.completeBy
+    ClSteps.settle ClSteps.keepBy ClSteps.onValue ClSteps.onBody ClSteps.effect ClTests.sendRoom ClTests.roomTest ClTests.valueTest ClTests.answers
+    ClTests.ownerRight
+    ClTests.awaited ClTests.orderTest ClTests.messageTest ClTests.judgeOpened ClTests.judge
+its-idle = refl
+
+delivering : Delivering
+unfolding FrChunks.entryAt RuWorld.start SeDelivery.constructBy SeDelivery.constructTest SeDelivery.construction Toy.toy Toy.zeros Toy.four Toy.setup
+    Toy.handServer Toy.handClient Toy.startRead Toy.startWrite g initial value Z entryFor stamp stampAsked stampFrom blockTo saying block noRoom ackFrom
+    readAsked initialFrom valueFrom readEnded reportTo reportFor asking opening echoing waiting accepted told finished calls found Deliveries.lowestBy
+    Deliveries.freeBy Deliveries.freedBy Deliveries.settledBy Deliveries.votedBy Deliveries.blockBy Deliveries.bodyBy Deliveries.servedBy Deliveries.judgeBy
+    Deliveries.served Asked.searchedBy Asked.keptBy Asked.bodyBy Asked.heardBy Asked.judgeBy Asked.asked sameParty amongSends wasSent allBytes judgedBad
+    verdictBad isFrame honest properFrame properCall advance image refusedIn endIn isHand amongHands handOf isOne handedIn isFrom speaks isFinal idle withHand
+    follow trace allOf allAnswered allIdle QuQuorum.count ArArea.pick ArArea.same ArArea.tableFrom ArArea.table ArArea.joined ArNumbers.be2 ArNumbers.be4
+    ArNumbers.be8 ArNumbers.bytes2
+    ArNumbers.bytes4 ArNumbers.bytes8 _⊕_ FiField.reduction FiField.xtime FiField.shiftAdd _⊗_ FiField.powerOf FiField.Powers FiField.Logs BlCode.blockLength
+    BlCode.padded BlCode.stripe BlCode.blockByte BlCode.blockOf BlCode.encoded BlCode.row BlCode.valueOf BlCode.blocksOf BlCode.candidate BlCode.agree
+    BlCode.decodedAll BlParams.partiesFit BlParams.thresholdFits BlParams.lengthFits BlPoly.eval BlPoly.plus BlPoly.scale BlPoly.withRoot BlPoly.vanishing
+    BlPoly.newtonStep BlPoly.through FrCoded.pieces FrCoded.lowestValue FrCoded.agreeing FrCoded.decoded FrCoded.digestsOf FrCoded.entryOf FrCoded.fits
+    FrFrames.kindOf FrFrames.retired FrFrames.lengthOf FrFrames.bodyLength FrFrames.entryBytes FrFrames.offerBytes FrFrames.stampBytes FrFrames.bodyBytes
+    FrFrames.headerBytes FrFrames.frameOf FrFrames.build FrFrames.framingTest FrFrames.headerIn FrFrames.headerTest FrFrames.bodyTest FrFrames.stampIn
+    FrFrames.stampTest FrFrames.contentTest FrFrames.frameTest FrFrames.opened FrFrames.openedUnder FrFrames.bodyIn FrFrames.messageIn FrMessages.toFrom
+    FrMessages.toAll FrMessages.clientsFrom FrMessages.toClients FrParams.width FrParams.quota FrParams.largestFrame FrParams.outRoom FrParams.toRoom
+    FrParams.ownTest FrParams.codeTest FrParams.boundsTest
+    FrParams.paramsTest FrStamps.older FrStamps.sameStamp FrStamps.partsAgree SeBroadcast.votes SeBroadcast.enough SeBroadcast.due
+    SeBroadcast.full SeBroadcast.matters SeRules.atTime SeRules.chosen SeRules.regained SeRules.unanimous SeState.freshBlocks SeState.freshSlot
+    SeState.freshReader SeState.freshServer SeState.blockView SeState.presentBlock SeState.presentEntry SeSteps.votedBlock SeSteps.onBlock SeSteps.tellFrom
+    SeSteps.reported SeSteps.accept SeSteps.vouched SeSteps.lowest SeSteps.ripeBy SeSteps.ripe SeSteps.free SeSteps.freed SeSteps.settle SeSteps.onRead
+    SeSteps.onReadComplete SeSteps.onBody
+    SeSteps.effect SeTests.roomTest SeTests.senderRight SeTests.counted SeTests.openTest SeTests.readTest SeTests.doneTest SeTests.reportTest FrCoded.fitTest
+    SeTests.orderTest
+    SeTests.messageTest SeTests.judgeOpened SeTests.judge CB.lengthTest CB.readTest CB.writeTest CB.openRead CB.openWrite CB.beginBy
+    CB.readBegun CB.writeBegun CB.begunOf CB.readBeginning CB.writeBeginning ClRows.placesFrom ClRows.rowView ClRows.hasStamp ClRows.smallest
+    ClRows.placeFor ClRows.atStamp ClRows.rowsFrom ClRows.agreed ClRows.firstBy ClRows.firstAgreed ClRows.foundOf ClRows.foundBy ClRows.search ClState.freshRow
+    ClState.freshClient ClState.largest ClSteps.quorate ClSteps.sendBelow ClSteps.counted ClSteps.gathered ClSteps.largestCounted ClSteps.gatherBy
+    ClSteps.reportBy ClSteps.onReport GrVouching.backed ClSteps.onStamp ClSteps.endBy ClSteps.onAck ClSteps.completeBy
+    ClSteps.settle ClSteps.keepBy ClSteps.onValue ClSteps.onBody ClSteps.effect ClTests.sendRoom ClTests.roomTest ClTests.valueTest ClTests.answers
+    ClTests.ownerRight
     ClTests.awaited ClTests.orderTest ClTests.messageTest ClTests.judgeOpened ClTests.judge
 delivering = record {
-  whole = refl;
+  whole = and-true (trace Z calls .seen .proper) _ its-proper
+      (and-true (allAnswered Z (trace Z calls .seen .log) (trace Z calls .closed)) _ its-answered its-idle);
   nothing-from = refl;
   not-handed = refl;
 }
@@ -143,12 +257,12 @@ delivering = record {
 computed : Computed
 unfolding FrChunks.entryAt RuWorld.start SeDelivery.constructBy SeDelivery.constructTest SeDelivery.construction Toy.toy Toy.zeros Toy.four Toy.setup
     Toy.handServer Toy.handClient Toy.startRead Toy.startWrite g initial value Z entryFor stamp stampAsked stampFrom blockTo saying block noRoom ackFrom
-    readAsked initialFrom valueFrom readEnded asking opening echoing waiting accepted told calls found Deliveries.freeBy Deliveries.freedBy Deliveries.settledBy
-    Deliveries.votedBy Deliveries.blockBy Deliveries.bodyBy Deliveries.servedBy Deliveries.judgeBy Deliveries.served Asked.searchedBy Asked.keptBy
-    Asked.bodyBy Asked.heardBy
-    Asked.judgeBy Asked.asked sameParty amongSends wasSent allBytes judgedBad verdictBad isFrame honest properFrame properCall advance image refusedIn endIn
-    isHand amongHands handOf isOne handedIn isFrom speaks isFinal idle withHand follow trace allOf allAnswered allIdle QuQuorum.count
-    ArArea.pick ArArea.same ArArea.tableFrom ArArea.table ArArea.joined ArNumbers.be2 ArNumbers.be4 ArNumbers.be8 ArNumbers.bytes2
+    readAsked initialFrom valueFrom readEnded reportTo reportFor asking opening echoing waiting accepted told finished calls found Deliveries.lowestBy
+    Deliveries.freeBy Deliveries.freedBy Deliveries.settledBy Deliveries.votedBy Deliveries.blockBy Deliveries.bodyBy Deliveries.servedBy Deliveries.judgeBy
+    Deliveries.served Asked.searchedBy Asked.keptBy Asked.bodyBy Asked.heardBy Asked.judgeBy Asked.asked sameParty amongSends wasSent allBytes judgedBad
+    verdictBad isFrame honest properFrame properCall advance image refusedIn endIn isHand amongHands handOf isOne handedIn isFrom speaks isFinal idle withHand
+    follow trace allOf allAnswered allIdle QuQuorum.count ArArea.pick ArArea.same ArArea.tableFrom ArArea.table ArArea.joined ArNumbers.be2 ArNumbers.be4
+    ArNumbers.be8 ArNumbers.bytes2
     ArNumbers.bytes4 ArNumbers.bytes8 _⊕_ FiField.reduction FiField.xtime FiField.shiftAdd _⊗_ FiField.powerOf FiField.Powers FiField.Logs BlCode.blockLength
     BlCode.padded BlCode.stripe BlCode.blockByte BlCode.blockOf BlCode.encoded BlCode.row BlCode.valueOf BlCode.blocksOf BlCode.candidate BlCode.agree
     BlCode.decodedAll BlParams.partiesFit BlParams.thresholdFits BlParams.lengthFits BlPoly.eval BlPoly.plus BlPoly.scale BlPoly.withRoot BlPoly.vanishing
@@ -156,17 +270,22 @@ unfolding FrChunks.entryAt RuWorld.start SeDelivery.constructBy SeDelivery.const
     FrFrames.kindOf FrFrames.retired FrFrames.lengthOf FrFrames.bodyLength FrFrames.entryBytes FrFrames.offerBytes FrFrames.stampBytes FrFrames.bodyBytes
     FrFrames.headerBytes FrFrames.frameOf FrFrames.build FrFrames.framingTest FrFrames.headerIn FrFrames.headerTest FrFrames.bodyTest FrFrames.stampIn
     FrFrames.stampTest FrFrames.contentTest FrFrames.frameTest FrFrames.opened FrFrames.openedUnder FrFrames.bodyIn FrFrames.messageIn FrMessages.toFrom
-    FrMessages.toAll FrParams.width FrParams.quota FrParams.largestFrame FrParams.outRoom FrParams.toRoom FrParams.ownTest FrParams.codeTest FrParams.boundsTest
+    FrMessages.toAll FrMessages.clientsFrom FrMessages.toClients FrParams.width FrParams.quota FrParams.largestFrame FrParams.outRoom FrParams.toRoom
+    FrParams.ownTest FrParams.codeTest FrParams.boundsTest
     FrParams.paramsTest FrStamps.older FrStamps.sameStamp FrStamps.partsAgree SeBroadcast.votes SeBroadcast.enough SeBroadcast.due
     SeBroadcast.full SeBroadcast.matters SeRules.atTime SeRules.chosen SeRules.regained SeRules.unanimous SeState.freshBlocks SeState.freshSlot
     SeState.freshReader SeState.freshServer SeState.blockView SeState.presentBlock SeState.presentEntry SeSteps.votedBlock SeSteps.onBlock SeSteps.tellFrom
-    SeSteps.accept SeSteps.ripeBy SeSteps.ripe SeSteps.freeBy SeSteps.free SeSteps.freed SeSteps.settle SeSteps.onRead SeSteps.onReadComplete SeSteps.onBody
-    SeSteps.effect SeTests.roomTest SeTests.senderRight SeTests.counted SeTests.openTest SeTests.readTest SeTests.doneTest FrCoded.fitTest SeTests.orderTest
+    SeSteps.reported SeSteps.accept SeSteps.vouched SeSteps.lowest SeSteps.ripeBy SeSteps.ripe SeSteps.free SeSteps.freed SeSteps.settle SeSteps.onRead
+    SeSteps.onReadComplete SeSteps.onBody
+    SeSteps.effect SeTests.roomTest SeTests.senderRight SeTests.counted SeTests.openTest SeTests.readTest SeTests.doneTest SeTests.reportTest FrCoded.fitTest
+    SeTests.orderTest
     SeTests.messageTest SeTests.judgeOpened SeTests.judge CB.lengthTest CB.readTest CB.writeTest CB.openRead CB.openWrite CB.beginBy
     CB.readBegun CB.writeBegun CB.begunOf CB.readBeginning CB.writeBeginning ClRows.placesFrom ClRows.rowView ClRows.hasStamp ClRows.smallest
     ClRows.placeFor ClRows.atStamp ClRows.rowsFrom ClRows.agreed ClRows.firstBy ClRows.firstAgreed ClRows.foundOf ClRows.foundBy ClRows.search ClState.freshRow
-    ClState.freshClient ClState.largest ClSteps.quorate ClSteps.sendBelow ClSteps.gatherBy ClSteps.onStamp ClSteps.endBy ClSteps.onAck ClSteps.completeBy
+    ClState.freshClient ClState.largest ClSteps.quorate ClSteps.sendBelow ClSteps.counted ClSteps.gathered ClSteps.largestCounted ClSteps.gatherBy
+    ClSteps.reportBy ClSteps.onReport GrVouching.backed ClSteps.onStamp ClSteps.endBy ClSteps.onAck ClSteps.completeBy
     ClSteps.settle ClSteps.keepBy ClSteps.onValue ClSteps.onBody ClSteps.effect ClTests.sendRoom ClTests.roomTest ClTests.valueTest ClTests.answers
+    ClTests.ownerRight
     ClTests.awaited ClTests.orderTest ClTests.messageTest ClTests.judgeOpened ClTests.judge
 computed = record {
   would = (refl, refl, refl);
@@ -193,32 +312,32 @@ unfolding Z Toy.setup
 false-server = refl
 
 writes : At (OpensWrite Z 1 1 value) calls 0
-unfolding asking opening echoing waiting accepted told calls Z Toy.setup Toy.startWrite
-writes = at-drop (OpensWrite Z 1 1 value) 42 calls 0 (inl (refl, opens-write-by Z exact [] 1 1 value _ _ (computed .write-opens .0) (computed .write-opens .1)))
+unfolding asking opening echoing waiting accepted told finished calls Z Toy.setup Toy.startWrite
+writes = at-drop (OpensWrite Z 1 1 value) 57 calls 0 (inl (refl, opens-write-by Z exact [] 1 1 value _ _ (computed .write-opens .0) (computed .write-opens .1)))
 
 reads : At (OpensRead Z 2 1) calls 7
-unfolding asking opening echoing waiting accepted told calls Z Toy.setup Toy.startRead
-reads = at-drop (OpensRead Z 2 1) 35 calls 7 (inl (refl, opens-read-by Z exact asking 2 1 _ _ (computed .read-opens .0) (computed .read-opens .1)))
+unfolding asking opening echoing waiting accepted told finished calls Z Toy.setup Toy.startRead
+reads = at-drop (OpensRead Z 2 1) 50 calls 7 (inl (refl, opens-read-by Z exact asking 2 1 _ _ (computed .read-opens .0) (computed .read-opens .1)))
 
 room : At (Refuses Z 10) calls 15
-unfolding asking opening echoing waiting accepted told calls
-room = at-drop (Refuses Z 10) 27 calls 15
+unfolding asking opening echoing waiting accepted told finished calls
+room = at-drop (Refuses Z 10) 42 calls 15
     (inl (refl, refuses-by Z exact (block echo 2 1 ∷ block echo 1 1 ∷ blockTo 3 ∷ blockTo 2 ∷ blockTo 1 ∷ opening) noRoom 10 (computed .no-room)))
 
 ends : At (EndsWrite Z 1 1) calls 34
-unfolding asking opening echoing waiting accepted told calls ackFrom Toy.handClient
-ends = at-drop (EndsWrite Z 1 1) 8 calls 34 (inl (refl, ends-by Z exact accepted (ackFrom 3) 1 1 refl (computed .ended .0) (computed .ended .1)))
+unfolding asking opening echoing waiting accepted told finished calls ackFrom Toy.handClient
+ends = at-drop (EndsWrite Z 1 1) 23 calls 34 (inl (refl, ends-by Z exact accepted (ackFrom 3) 1 1 refl (computed .ended .0) (computed .ended .1)))
 
 completes : At (CompletesRead Z 2 1 found) calls 39
-unfolding asking opening echoing waiting accepted told calls valueFrom Toy.handClient found
-completes = at-drop (CompletesRead Z 2 1 found) 3 calls 39
+unfolding asking opening echoing waiting accepted told finished calls valueFrom Toy.handClient found
+completes = at-drop (CompletesRead Z 2 1 found) 18 calls 39
     (inl (refl, (stops-by Z exact told (valueFrom 3) 2 1 found refl (computed .completed-is .0) (computed .completed-is .1), (value, refl))))
 
 -- ---- up to the second ack
 
 admissible-before : Admissible Z waiting
-unfolding accepted told calls
-admissible-before = admissible .1 .1 .1 .1 .1 .1 .1 .1 .1 .1 .1 .1
+unfolding accepted told finished calls
+admissible-before = admissible .1 .1 .1 .1 .1 .1 .1 .1 .1 .1 .1 .1 .1 .1 .1 .1 .1 .1 .1 .1 .1 .1 .1 .1 .1 .1 .1
 
 ready-sent : Sent Z waiting (P.Server 1) (P.Server 3) (build (saying ready 1))
 ready-sent = sent-by Z exact waiting (image Z waiting .log) (logged Z exact waiting) (P.Server 1) (P.Server 3) (build (saying ready 1)) (computed .would .0)

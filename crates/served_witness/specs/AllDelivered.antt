@@ -2,16 +2,18 @@
 -- the write is accepted, is told of it, and reads it. Server 4 is false and silent. One frame is at first answered 10, for want of room, and offered again. And
 -- the same run up to where two acks have come: the write is open, and no ready has come to server 3. k = 2. These are definitions.
 use Prim.Native.Nat.{ℕ}
-use mathlib.Core.Bool.{true, false}
+use mathlib.Core.Bool.{true}
 use mathlib.Core.Path.{_≡_}
 use mathlib.Core.Option.{some}
 use mathlib.Core.List.{List, [], _∷_}
+use lib.Dec.{leb}
 use Rattle.blocks.specs.declared.Params.{Params}
 use Rattle.frame.specs.declared.Stamp.{Stamp}
 use Rattle.frame.specs.declared.Party.{Party}
 use Rattle.frame.specs.declared.Party.the-variants as P
 use Rattle.frame.specs.Stamps.{zeroStamp}
 use Rattle.frame.specs.Messages.{Entry, offer, Stage, send, echo, ready, Message, message, getStamp, stampIs, blockIs, ack, askRead, readComplete, valueIs}
+use Rattle.frame.specs.Messages.{report}
 use Rattle.frame.specs.Frames.{build}
 use Rattle.group_rules.specs.Coded.{entryOf, digestsOf}
 use Rattle.client_rules.specs.declared.Phase.the-variants as F
@@ -32,9 +34,9 @@ initial = 0 ∷ 0 ∷ []
 unfoldable pub value : List ℕ
 value = 1 ∷ 2 ∷ []
 
--- no client is false
+-- clients 1 and 2 are honest
 unfoldable pub Z : Setup
-Z = setup toy g initial 4 (λ c. false)
+Z = setup toy g initial 4 (λ c. leb 3 c)
 
 -- the write's stamp: the largest time is 0
 unfoldable pub stamp : Stamp
@@ -83,6 +85,14 @@ valueFrom j = handClient g 2 (P.Server j) (message 2 1 (valueIs stamp (entryFor 
 unfoldable pub readEnded : ℕ → Call
 readEnded i = handServer g i (P.Client 2) (message 2 1 readComplete)
 
+-- ---- reports of the write's time, server j's to server i and to client c
+
+unfoldable pub reportTo : ℕ → ℕ → Call
+reportTo j i = handServer g i (P.Server j) (message 1 1 (report 1))
+
+unfoldable pub reportFor : ℕ → ℕ → Call
+reportFor j c = handClient g c (P.Server j) (message 1 1 (report 1))
+
 -- ---- the run, each part latest first
 
 -- Client 1 begins to write; three stamps come, and it sends blocks with the time.
@@ -118,8 +128,14 @@ unfoldable pub told : List Call
 told = valueFrom 2 ∷ valueFrom 1 ∷ readAsked 3 ∷ readAsked 2 ∷ ackFrom 3 ∷ accepted
 
 -- The third value ends the read, and the servers hear of it.
+unfoldable pub ended : List Call
+ended = readEnded 3 ∷ readEnded 2 ∷ readEnded 1 ∷ valueFrom 3 ∷ told
+
+-- The reports come last, to nobody who waits for them.
 unfoldable pub calls : List Call
-calls = readEnded 3 ∷ readEnded 2 ∷ readEnded 1 ∷ valueFrom 3 ∷ told
+calls =
+    reportFor 3 2 ∷ reportFor 3 1 ∷ reportFor 2 2 ∷ reportFor 2 1 ∷ reportFor 1 2 ∷ reportFor 1 1
+    ∷ reportTo 3 3 ∷ reportTo 3 2 ∷ reportTo 3 1 ∷ reportTo 2 3 ∷ reportTo 2 2 ∷ reportTo 2 1 ∷ reportTo 1 3 ∷ reportTo 1 2 ∷ reportTo 1 1 ∷ ended
 
 -- what the read finds
 unfoldable pub found : Found

@@ -13,7 +13,7 @@ use Rattle.server_rules.specs.Scopes.{scopeOf, withScope}
 use Rattle.server.specs.Stages.{slotIn, readerIn}
 
 abbrev made : Server → List Slot → List Reader → Server
-made w l r = record { stamp = w .stamp; slots = l; readers = r }
+made w l r = record { stamp = w .stamp; slots = l; readers = r; reports = w .reports }
 
 module _ (w : Server) (c : ℕ) (x : Scope) (e : x ≡ scopeOf w c) where
   -- nothing was changed

@@ -93,7 +93,7 @@ all-room g d m p r o t o₀ t₀ k size h f R =
     let F = due-few d (toFrom (λ j. m) 1 (g .n)) (g .n) size (from-few m 1 (g .n) size h) in
     room-left p r o t o₀ t₀ (pick d (toFrom (λ j. m) 1 (g .n)) []) (g .n) k (g .n + k) size size f (F .bytes) (F .number) (omega arith) (omega arith) R
 
-pub stamp-room : (g : Params) (p : Place) (k out to : ℕ) → 1 ≤ k → Room p (g .n + k) (largestFrame g) out to → Room p 1 offerAt out to
+pub stamp-room : (g : Params) (p : Place) (m out to : ℕ) → 1 ≤ m → Room p m (largestFrame g) out to → Room p 1 offerAt out to
 unfolding largestFrame
-stamp-room g p k out to l R =
-    room-within p (g .n + k) 1 (largestFrame g) offerAt out to (omega arith) (omega arith) R
+stamp-room g p m out to l R =
+    room-within p m 1 (largestFrame g) offerAt out to (omega arith) (omega arith) R

@@ -41,10 +41,12 @@ pub fn with_scope(s: Server, c: usize, x: Scope) -> Server
     slots[c] = slot;
     let mut readers = s.readers;
     readers[c] = reader;
+    let reports = s.reports;
     Server {
         stamp,
         slots,
         readers,
+        reports,
     }
 }
 

@@ -31,10 +31,10 @@ pub fn room_test(g: Params, area: usize, initial: usize, out: usize, to: usize) 
     if initial < width(g) {
         return Verdict::Bad(Refusal::Room);
     }
-    if out < out_room(g, g.n + 9) {
+    if out < out_room(g, 9 * g.n + 136) {
         return Verdict::Bad(Refusal::Room);
     }
-    if to < to_room(g.n + 9) {
+    if to < to_room(9 * g.n + 136) {
         return Verdict::Bad(Refusal::Room);
     }
     Verdict::Fine

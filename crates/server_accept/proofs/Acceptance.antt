@@ -1,22 +1,22 @@
 -- Acceptance, stage by stage: the values to listeners, and the whole. Assumes nothing.
-use Prim.Native.Nat.{ℕ, suc, _+_, _-_, _≤_, _<_}
+use Prim.Native.Nat.{ℕ, zero, suc, _+_, _-_, _≤_, _<_}
 use native.Mathlib.Omega.{arith}
 use native.Mathlib.Numerals.{add-one}
-use mathlib.Core.Path.{_≡_, refl, ap, sym, _∙_}
-use mathlib.Core.Bool.{Bool, true, false, _&&_}
+use mathlib.Core.Path.{_≡_, refl, ap, ap₂, sym, _∙_}
+use mathlib.Core.Bool.{Bool, true, false, _&&_, _||_}
 use mathlib.Core.Option.{Option, none, some}
 use mathlib.Core.List.{List, [], _∷_, _++_}
-use lib.ListN.{set}
+use lib.ListN.{getD, set}
 use lib.Seq.{set-getD}
-use lib.Dec.{ltb}
-use borrow.Author.Tests.{lt-ltb, le-ltb, ltb-true, ltb-false}
+use lib.Dec.{leb, ltb}
+use borrow.Author.Tests.{lt-ltb, le-ltb, lt-leb, le-leb, ltb-true, leb-true}
 use Rattle.area.specs.Area.{pick}
-use Rattle.area.proofs.Tests.{and-left, and-right}
+use Rattle.area.proofs.Tests.{and-left, and-right, and-false}
 use Rattle.blocks.specs.declared.Params.{Params}
 use Rattle.frame.specs.declared.Party.the-variants as P
 use Rattle.frame.specs.declared.Stamp.{Stamp}
-use Rattle.frame.specs.Stamps.{older, lastTime}
-use Rattle.frame.specs.Messages.{Entry, entry, offer, message, Sending, sending, valueIs, ack}
+use Rattle.frame.specs.Stamps.{older, lastTime, lastSequence}
+use Rattle.frame.specs.Messages.{Entry, entry, offer, message, Sending, sending, valueIs, ack, report, toAll, toClients}
 use Rattle.frame.specs.Outbox.{Outbox, sent}
 use Rattle.frame.specs.Chunks.{entryAt, storeIf, presentAt, completeAt}
 use Rattle.frame.proofs.Outbox.{sent-append, sent-none}
@@ -25,13 +25,12 @@ use Rattle.server_rules.specs.declared.Scope.{Scope}
 use Rattle.server_rules.specs.declared.Slot.{Slot}
 use Rattle.server_rules.specs.declared.Server.{Server}
 use Rattle.server_rules.specs.Broadcast.{kept}
-use Rattle.server_rules.specs.State.{noReader, readerAt, freshSlot, blockView}
-use Rattle.server_rules.specs.Scopes.{withScope}
-use Rattle.server_rules.specs.Steps.{Write, stampOf, tellFrom, accept, ripeBy, ripe, freeBy, free}
-use Rattle.server.specs.Stages.{Holds, Progress, progress, moved}
-use Rattle.server.proofs.Answers.{none-sent}
-use Rattle.server.proofs.Scopes.{as-it-was}
-use Rattle.server_accept.specs.Telling.{toldTo, opensIn, ripeIn, writeIn}
+use Rattle.group_rules.specs.Vouching.{backed}
+use Rattle.server_rules.specs.State.{noReader, readerAt, freshSlot, slotOf, reportOf, blockView}
+use Rattle.server_rules.specs.Scopes.{scopeOf, withScope}
+use Rattle.server_rules.specs.Steps.{Write, stampOf, tellFrom, reported, accept, vouched, ripeBy, ripe, orElse, lowest}
+use Rattle.server.specs.Stages.{Holds, progress, moved}
+use Rattle.server_accept.specs.Telling.{toldTo, opensIn, ripeAt, mayAccept, lowestFrom, writeIn}
 
 -- ---- values to listeners
 
@@ -68,6 +67,15 @@ picked-all : (q : Outbox) (y : List Sending) → sent q (pick true y []) ≡ sen
 unfolding pick
 picked-all q y = refl
 
+-- what is due is sent
+pub all-due : (b : Bool) (q q′ : Outbox) (y : List Sending) → b ≡ true → q′ ≡ sent q y → q′ ≡ sent q (pick b y [])
+unfolding pick
+all-due b q q′ y e f = f ∙ sym (ap (λ (z : Bool). sent q (pick z y [])) e)
+
+pub none-due : (b : Bool) (q : Outbox) (y : List Sending) → b ≡ false → q ≡ sent q (pick b y [])
+unfolding pick
+none-due b q y e = sym (sent-none q) ∙ sym (ap (λ (z : Bool). sent q (pick z y [])) e)
+
 -- one listener
 told-none : (r : Reader) (c : ℕ) (x : Stamp) (e : Entry) (q : Outbox) → r .listening && older (r .noted) x ≡ false → q ≡ sent q (toldTo r c x e)
 unfolding toldTo
@@ -95,7 +103,7 @@ told-due r c x e q q′ o h k l f =
 -- the server of which the scope s was left open for the next write
 opened-next : (w : Server) (c : ℕ) (s z : Scope) (rs : List Reader) (newer : Bool) (g : Params) (a : List ℕ) → Holds w c s rs
     → newer ≡ older (s .stamp) (stampOf (writeIn g s c a)) → z ≡ opensIn s newer (stampOf (writeIn g s c a))
-    → withScope w c z ≡ accept w a (writeIn g s c a) .server
+    → withScope w c z ≡ accept g w a (writeIn g s c a) .server
 unfolding accept opensIn
 opened-next w c s z rs newer g a k h e =
     let x = stampOf (writeIn g s c a) in
@@ -105,97 +113,139 @@ opened-next w c s z rs newer g a k h e =
       stamp = pick (h l) x (i l .stamp);
       slots = set (w .slots) c (freshSlot (s .slot .sequence + 1));
       readers = set (w .readers) c (i l .reader);
+      reports = w .reports;
     })
     ∙ (λ l. record {
       stamp = pick (older (i l .stamp) x) x (w .stamp);
       slots = set (w .slots) c (freshSlot (s .slot .sequence + 1));
       readers = set-getD (w .readers) c noReader l;
+      reports = w .reports;
     })
 
--- the values, the ack, the present entry and the scope; d and b are the two parts of the entry
-pub accepted : (g : Params) (w : Server) (c : ℕ) (s z : Scope) (rs : List Reader) (a a′ d b : List ℕ) (newer : Bool) (q q₁ q₂ : Outbox)
+-- the reports of a time, after a client's write
+abbrev pub raises : Params → ℕ → ℕ → ℕ → List Sending
+raises g c q T = let m = message c q (report T) in toAll g (λ j. m) ++ toClients m
+
+-- the values, the ack, the reports, the present entry and the scope; d and b are the two parts of the entry
+pub accepted : (g : Params) (w : Server) (c : ℕ) (s z : Scope) (rs : List Reader) (a a′ d b : List ℕ) (newer : Bool) (q q₁ q₂ q₃ : Outbox)
     → Holds w c s rs
     → d ≡ entryAt g a (completeAt c) .digests
     → b ≡ entryAt g a (completeAt c) .block
     → newer ≡ older (s .stamp) (stampOf (writeIn g s c a))
     → q₁ ≡ sent q (tellFrom rs (stampOf (writeIn g s c a)) (entry d b) 1 8)
     → q₂ ≡ sent q₁ (sending (P.Client c) (message c (s .slot .sequence) ack) ∷ [])
+    → q₃ ≡ sent q₂ (pick (ltb (s .stamp .time) (s .slot .blocks .time + 1)) (raises g c (s .slot .sequence) (s .slot .blocks .time + 1)) [])
     → a′ ≡ storeIf newer a presentAt (entryAt g a (completeAt c))
     → z ≡ opensIn s newer (stampOf (writeIn g s c a))
-    → progress (withScope w c z) a′ q₂ ≡ moved (accept w a (writeIn g s c a)) q
-unfolding moved accept
-accepted g w c s z rs a a′ d b newer q q₁ q₂ k i j h f n m e =
+    → progress (withScope w c z) a′ q₃ ≡ moved (accept g w a (writeIn g s c a)) q
+unfolding moved accept reported
+accepted g w c s z rs a a′ d b newer q q₁ q₂ q₃ k i j h f n y₃ m e =
     let W = writeIn g s c a in
     let A = sending (P.Client c) (message c (s .slot .sequence) ack) ∷ [] in
     let T = tellFrom (w .readers) (stampOf W) (W .entry) 1 8 in
     let r = k .readers in
     let t : sent q (tellFrom rs (stampOf W) (entry d b) 1 8) ≡ sent q T = λ l. sent q (tellFrom (r l) (stampOf W) (entry (i l) (j l)) 1 8) in
-    let u : q₂ ≡ sent q (T ++ A) = n ∙ ap (λ (y : Outbox). sent y A) (f ∙ t) ∙ sent-append q T A in
+    let B : Bool → List Sending = λ b. pick b (raises g c (s .slot .sequence) (s .slot .blocks .time + 1)) [] in
+    let R = B (ltb (w .stamp .time) (s .slot .blocks .time + 1)) in
+    let o : q₃ ≡ sent q₂ R = y₃ ∙ ap (λ (y : Scope). sent q₂ (B (ltb (y .stamp .time) (s .slot .blocks .time + 1)))) (k .scope) in
+    let v₂ : q₃ ≡ sent q₁ (A ++ R) = o ∙ ap (λ (y : Outbox). sent y R) n ∙ sent-append q₁ A R in
+    let u : q₃ ≡ sent q (T ++ (A ++ R)) = v₂ ∙ ap (λ (y : Outbox). sent y (A ++ R)) (f ∙ t) ∙ sent-append q T (A ++ R) in
     let v : a′ ≡ storeIf (older (w .stamp) (stampOf W)) a presentAt (W .entry) =
     m ∙ ap (λ (y : Bool). storeIf y a presentAt (W .entry)) (h ∙ ap (λ (y : Scope). older (y .stamp) (stampOf W)) (k .scope)) in
     let y = opened-next w c s z rs newer g a k h e in
     λ l. progress (y l) (v l) (u l)
 
--- the two answers of the test
-pub not-complete : (x : Slot) → x .blocks .complete ≡ false → false ≡ ripeIn x
-unfolding ripeIn
-not-complete x h = rw h
+-- ---- which write can be accepted
 
-pub ripe-below : (x : Slot) → x .blocks .complete ≡ true → ltb (x .blocks .time) lastTime ≡ ripeIn x
-unfolding ripeIn
-ripe-below x h = rw h
+with-true : (b : Bool) → (b && true) ≡ b
+with-true true = refl
+with-true false = refl
 
--- the time of a write that can be accepted is below the last
-pub ripe-time : (x : Slot) → ripeIn x ≡ true → x .blocks .time < lastTime
-unfolding ripeIn
-ripe-time x h = ltb-true (x .blocks .time) lastTime (and-right (x .blocks .complete) _ h)
+-- the answers of the test
+module _ (g : Params) (own : ℕ) (rs : List ℕ) (T q : ℕ) where
+  pub last-time : lastTime ≤ T → false ≡ ripeAt g own rs T q
+  unfolding ripeAt
+  last-time h = sym (and-false (leb T own || backed g (λ j. getD rs j 0) T) _ (ap (λ b. b && leb q lastSequence) (le-ltb T lastTime h)))
 
--- nothing can be accepted, or the write is
-module _ (g : Params) (w : Server) (c : ℕ) (s : Scope) (rs : List Reader) (a : List ℕ) (q : Outbox) (k : Holds w c s rs) where
-  abbrev x : Slot
-  x = s .slot
+  pub no-sequence : lastSequence < q → false ≡ ripeAt g own rs T q
+  unfolding ripeAt
+  no-sequence h =
+      sym (and-false (leb T own || backed g (λ j. getD rs j 0) T) _ (and-false (ltb T lastTime) (leb q lastSequence) (lt-leb q lastSequence h)))
 
-  abbrev done : Bool → Option Write
-  done b = ripeBy w c (x .sequence) (kept b (offer (x .blocks .time) (entryAt g a (completeAt c))))
+  module _ (l : T < lastTime) (h : q ≤ lastSequence) where
+    fits : (ltb T lastTime && leb q lastSequence) ≡ true
+    fits = ap₂ (λ b d. b && d) (lt-ltb T lastTime l) (le-leb q lastSequence h)
 
-  ripe-is : (b : Bool) → x .blocks .complete ≡ b → ripe g w a c ≡ done b
-  unfolding ripe blockView
-  ripe-is b h =
-      ap
-      (λ (y : Scope). ripeBy w c (y .slot .sequence) (kept (y .slot .blocks .complete) (offer (y .slot .blocks .time) (entryAt g a (completeAt c)))))
-      (sym (k .scope))
-      ∙ ap done h
+    pub own-reaches : T ≤ own → true ≡ ripeAt g own rs T q
+    unfolding ripeAt
+    own-reaches k = sym (ap₂ (λ b d. (b || backed g (λ j. getD rs j 0) T) && d) (le-leb T own k) fits)
 
-  waits : ripe g w a c ≡ none → progress (withScope w c s) a q ≡ moved (free g w a c) q
-  unfolding free freeBy
-  waits h = none-sent w (withScope w c s) a q (as-it-was w c s (k .scope)) ∙ ap (λ (y : Option Write). moved (freeBy y w a) q) (sym h)
+    pub is-vouched : own < T → (b : Bool) → b ≡ backed g (λ j. getD rs j 0) T → b ≡ ripeAt g own rs T q
+    unfolding ripeAt
+    is-vouched k b e = e ∙ sym (ap₂ (λ x d. (x || backed g (λ j. getD rs j 0) T) && d) (lt-leb T own k) fits ∙ with-true _)
 
-  wait-open : x .blocks .complete ≡ false → progress (withScope w c s) a q ≡ moved (free g w a c) q
-  unfolding ripeBy
-  wait-open h = waits (ripe-is false h)
+-- what is asked of a write that can be accepted
+pub may-within : (g : Params) (s : Server) (c : ℕ) → mayAccept g s c ≡ true
+    → (slotOf s c .blocks .time < lastTime) × (slotOf s c .sequence ≤ lastSequence)
+unfolding mayAccept ripeAt
+may-within g s c e =
+    let x = slotOf s c in
+    let a = and-right (leb (x .blocks .time) (s .stamp .time) || backed g (λ j. getD (s .reports) j 0) (x .blocks .time)) _
+    (and-right (x .blocks .complete) _ e) in
+    (ltb-true _ _ (and-left _ (leb (x .sequence) lastSequence) a), leb-true _ _ (and-right (ltb (x .blocks .time) lastTime) _ a))
 
-  below : (b : Bool) → x .blocks .complete ≡ true → ltb (x .blocks .time) lastTime ≡ b → ripe g w a c ≡ pick b (some (writeIn g s c a)) none
-  unfolding ripeBy
-  below b h l = ripe-is true h ∙ ap (λ (y : Bool). pick y (some (writeIn g s c a)) none) l
+module _ (g : Params) (s : Server) (a : List ℕ) where
+  -- the write of client c
+  abbrev pub writeOf : ℕ → Write
+  writeOf c = writeIn g (scopeOf s c) c a
 
-  wait-last : x .blocks .complete ≡ true → lastTime ≤ x .blocks .time → progress (withScope w c s) a q ≡ moved (free g w a c) q
-  unfolding pick
-  wait-last h l = waits (below false h (le-ltb (x .blocks .time) lastTime l))
-
-  freed : (r : Progress) → x .blocks .complete ≡ true → x .blocks .time < lastTime → r ≡ moved (accept w a (writeIn g s c a)) q → r ≡ moved (free g w a c) q
-  unfolding free freeBy pick
-  freed r h l e = e ∙ ap (λ (y : Option Write). moved (freeBy y w a) q) (sym (below true h (lt-ltb (x .blocks .time) lastTime l)))
-
-  -- where the slot is not ripe nothing is accepted, and where it is the write
-  pub unripe : ripeIn x ≡ false → progress (withScope w c s) a q ≡ moved (free g w a c) q
-  unfolding ripeIn
-  unripe h = go (x .blocks .complete) refl h
+  ripe-is : (c : ℕ) → ripe g s a c ≡ pick (mayAccept g s c) (some (writeOf c)) none
+  unfolding ripe ripeBy blockView mayAccept ripeAt vouched pick
+  ripe-is c = go (slotOf s c .blocks .complete)
     where
-      go : (b : Bool) → x .blocks .complete ≡ b → b && ltb (x .blocks .time) lastTime ≡ false → progress (withScope w c s) a q ≡ moved (free g w a c) q
-      go false i l = wait-open i
-      go true i l = wait-last i (ltb-false (x .blocks .time) lastTime l)
+      x : Slot
+      x = slotOf s c
 
-  pub ripened : (r : Progress) → ripeIn x ≡ true → r ≡ moved (accept w a (writeIn g s c a)) q → r ≡ moved (free g w a c) q
-  unfolding ripeIn
-  ripened r h e =
-      freed r (and-left (x .blocks .complete) _ h) (ltb-true (x .blocks .time) lastTime (and-right (x .blocks .complete) _ h)) e
+      v : Bool
+      v =
+          (leb (x .blocks .time) (s .stamp .time) || backed g (reportOf s) (x .blocks .time))
+          && (ltb (x .blocks .time) lastTime && leb (x .sequence) lastSequence)
+
+      go : (b : Bool) → ripeBy g s c (x .sequence) (kept b (offer (x .blocks .time) (entryAt g a (completeAt c)))) ≡ pick (b && v) (some (writeOf c)) none
+      go true = refl
+      go false = refl
+
+  -- the write of the client that was found, and none of client 0
+  abbrev pub found : ℕ → Option Write
+  found zero = none
+  found (suc c) = some (writeOf (suc c))
+
+  lowest-from : (c m : ℕ) → 1 ≤ c → lowest g s a c m ≡ found (lowestFrom g s c m)
+  unfolding lowest lowestFrom pick
+  lowest-from c zero h = refl
+  lowest-from (suc c) (suc m) h =
+      ap (λ o. orElse o (lowest g s a (suc (suc c)) m)) (ripe-is (suc c)) ∙ go (mayAccept g s (suc c)) (lowest-from (suc (suc c)) m (omega arith))
+    where
+      go : (b : Bool) → lowest g s a (suc (suc c)) m ≡ found (lowestFrom g s (suc (suc c)) m)
+          → orElse (pick b (some (writeOf (suc c))) none) (lowest g s a (suc (suc c)) m) ≡ found (pick b (suc c) (lowestFrom g s (suc (suc c)) m))
+      go true e = refl
+      go false e = e
+  lowest-from zero (suc m) h = absurd (omega (arith, h))
+
+  pub lowest-is : lowest g s a 1 8 ≡ found (lowestFrom g s 1 8)
+  lowest-is = lowest-from 1 8 (omega arith)
+
+-- a client that was found is one of them, and its write can be accepted
+pub found-may : (g : Params) (s : Server) (c m : ℕ) → (lowestFrom g s c m ≡ 0 → ⊥) → (c ≤ lowestFrom g s c m) × (lowestFrom g s c m < c + m)
+    × (mayAccept g s (lowestFrom g s c m) ≡ true)
+unfolding lowestFrom pick
+found-may g s c zero n = absurd (n refl)
+found-may g s c (suc m) n = go (mayAccept g s c) refl n (found-may g s (suc c) m)
+  where
+    go : (b : Bool) → mayAccept g s c ≡ b → (pick b c (lowestFrom g s (suc c) m) ≡ 0 → ⊥)
+        → ((lowestFrom g s (suc c) m ≡ 0 → ⊥) → (suc c ≤ lowestFrom g s (suc c) m) × (lowestFrom g s (suc c) m < suc c + m)
+        × (mayAccept g s (lowestFrom g s (suc c) m) ≡ true))
+        → (c ≤ pick b c (lowestFrom g s (suc c) m)) × (pick b c (lowestFrom g s (suc c) m) < c + suc m)
+        × (mayAccept g s (pick b c (lowestFrom g s (suc c) m)) ≡ true)
+    go true e n f = (omega arith, omega arith, e)
+    go false e n f = let (l, h, q) = f n in (omega (arith, l), omega (arith, h), q)

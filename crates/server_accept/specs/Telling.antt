@@ -1,22 +1,23 @@
 -- Acceptance as the code takes it, listener by listener. The promises of the entry points do not speak of it. These are definitions.
-use Prim.Native.Nat.{ℕ, _+_}
+use Prim.Native.Nat.{ℕ, zero, suc, _+_}
 use mathlib.Core.Path.{_≡_}
-use mathlib.Core.Bool.{Bool, _&&_}
+use mathlib.Core.Bool.{Bool, _&&_, _||_}
 use mathlib.Core.List.{List, [], _∷_}
-use lib.Dec.{ltb}
+use lib.ListN.{getD}
+use lib.Dec.{leb, ltb}
 use Rattle.area.specs.Area.{pick}
 use Rattle.blocks.specs.declared.Params.{Params}
 use Rattle.frame.specs.declared.Stamp.{Stamp}
 use Rattle.frame.specs.declared.Party.the-variants as P
-use Rattle.frame.specs.Stamps.{older, lastTime}
+use Rattle.frame.specs.Stamps.{older, lastTime, lastSequence}
 use Rattle.frame.specs.Messages.{Entry, message, Sending, sending, valueIs}
 use Rattle.frame.specs.Chunks.{entryAt, completeAt}
 use Rattle.frame.specs.Outbox.{Outbox, outbox}
-use Rattle.server_rules.specs.declared.Slot.{Slot}
 use Rattle.server_rules.specs.declared.Reader.{Reader}
 use Rattle.server_rules.specs.declared.Scope.{Scope}
 use Rattle.server_rules.specs.declared.Server.{Server}
-use Rattle.server_rules.specs.State.{freshSlot}
+use Rattle.server_rules.specs.State.{freshSlot, slotOf}
+use Rattle.group_rules.specs.Vouching.{backed}
 use Rattle.server_rules.specs.Scopes.{withScope}
 use Rattle.server_rules.specs.Steps.{Write, Effect}
 use Rattle.server.specs.Stages.{Holds, progress, moved}
@@ -30,9 +31,18 @@ toldTo r c x e = pick (r .listening && older (r .noted) x) (sending (P.Client c)
 unfoldable pub opensIn : Scope → Bool → Stamp → Scope
 opensIn s newer x = record { stamp = pick newer x (s .stamp); slot = freshSlot (s .slot .sequence + 1); reader = s .reader }
 
--- the write of a slot can be accepted
-unfoldable pub ripeIn : Slot → Bool
-ripeIn x = x .blocks .complete && ltb (x .blocks .time) lastTime
+-- a completed write of the time T and the sequence q can be accepted, the server's own time and the servers' reports being these
+unfoldable pub ripeAt : Params → ℕ → List ℕ → ℕ → ℕ → Bool
+ripeAt g own rs T q = (leb T own || backed g (λ j. getD rs j 0) T) && (ltb T lastTime && leb q lastSequence)
+
+-- the open write of client c can be accepted
+unfoldable pub mayAccept : Params → Server → ℕ → Bool
+mayAccept g s c = slotOf s c .blocks .complete && ripeAt g (s .stamp .time) (s .reports) (slotOf s c .blocks .time) (slotOf s c .sequence)
+
+-- the lowest of clients c to c + m - 1 whose write can be accepted, or 0
+unfoldable pub lowestFrom : Params → Server → ℕ → ℕ → ℕ
+lowestFrom g s c zero = 0
+lowestFrom g s c (suc m) = pick (mayAccept g s c) c (lowestFrom g s (suc c) m)
 
 -- the write of client c's scope s, with the time and the entry that were completed
 abbrev pub writeIn : Params → Scope → ℕ → List ℕ → Write

@@ -2,6 +2,7 @@
 use blocks::Params;
 use frame::Place;
 use frame::Stamp;
+use frame::WriteTime;
 use frame::bounds::width;
 use frame::entries::block_at;
 use frame::entries::digests_at;
@@ -9,13 +10,15 @@ use frame::places::BLOCK_AT;
 use frame::places::CHUNK_BYTES;
 use frame::places::CLIENT_CHUNKS;
 use frame::places::ECHOES_BACK;
+use frame::places::LAST_SEQUENCE;
 use frame::send::send_ack;
+use frame::send::send_report;
 use frame::send::send_value;
 use frame::stamps::is_older;
+use group::vouching::is_backed;
 use server_rules::Reader;
 use server_rules::Scope;
 use server_rules::Server;
-use server_rules::Slot;
 use server_rules::fresh::fresh_slot;
 ghost use mathlib.Core.Path.{_≡_};
 ghost use Prim.Native.Nat.{_+_, _*_, _≤_, _<_};
@@ -24,13 +27,14 @@ ghost use lib.Seq.{sets};
 ghost use Rattle.area.specs.Area.{pick, part};
 ghost use Rattle.frame.specs.Params.{Bounded};
 ghost use Rattle.frame.specs.Stamps.{lastTime};
-ghost use Rattle.frame.specs.Messages.{entry};
+ghost use mathlib.Core.List.{_++_, []};
+ghost use Rattle.frame.specs.Messages.{entry, message, report, toAll, toClients};
 ghost use Rattle.frame.specs.Outbox.{outbox, sent, Room};
 ghost use Rattle.frame.specs.Chunks.{entryAt, presentAt, storeIf, chunkBytes, chunkAt};
 ghost use Rattle.frame.specs.Frames.{valueAt};
 ghost use Rattle.server_rules.specs.Steps.{accept, tellFrom};
 ghost use Rattle.server.specs.Stages.{Lent};
-ghost use Rattle.server_accept.specs.Telling.{toldTo, opensIn, ripeIn, writeIn, Freeing};
+ghost use Rattle.server_accept.specs.Telling.{toldTo, opensIn, ripeAt, writeIn, Freeing};
 
 // What an acceptance leaves of its client's scope, and where the next frame of the step goes.
 pub struct Freed {
@@ -86,6 +90,19 @@ fn tell(
     q
 }
 
+// Sends the reports of an acceptance, if the time grows with it.
+fn report_if(due: bool, out: &mut [u8], to: &mut [u8], p: Place, g: Params, w: WriteTime) -> Place
+    requires { ⌜ Bounded g × Room p (g .n + 8) 17 (length (now out)) (length (now to)) ⌝ }
+    ensures { λ q. ⌜ outbox (now (out .exit)) (now (to .exit)) q ≡ sent (outbox (now (out .entry)) (now (to .entry)) p)
+        (pick due (toAll g (λ j. message (w .client) (w .sequence) (report (w .time)))
+        ++ toClients (message (w .client) (w .sequence) (report (w .time)))) []) ⌝ }
+{
+    if due {
+        return send_report(out, to, p, g, w);
+    }
+    p
+}
+
 // Copies n bytes within the area, from index from on to index at on, which lie before them.
 fn copy_down(area: &mut [u8], at: usize, from: usize, n: usize)
     requires { ⌜ (at + n ≤ from) × (from + n ≤ length (now area)) ⌝ }
@@ -133,15 +150,21 @@ fn opens_next(s: Scope, newer: bool, x: Stamp) -> Scope
     y
 }
 
-// Whether the write of a slot can be accepted: it is complete, and its time is not the last.
-pub fn is_ripe(x: Slot) -> bool
-    ensures { λ r. ⌜ r ≡ ripeIn x ⌝ }
+// Whether a completed write can be accepted: neither its time nor its sequence is past the last, and its time is vouched.
+pub fn is_ripe(time: u64, sequence: u64, own: u64, reports: [u64; 11], g: Params) -> bool
+    requires { ⌜ Bounded g ⌝ }
+    ensures { λ r. ⌜ r ≡ ripeAt g own reports time sequence ⌝ }
 {
-    let b = x.blocks;
-    if !b.complete {
+    if Server::LAST_TIME <= time {
         return false;
     }
-    b.time < Server::LAST_TIME
+    if sequence > LAST_SEQUENCE as u64 {
+        return false;
+    }
+    if time <= own {
+        return true;
+    }
+    is_backed(reports, g, time)
 }
 
 // The write of client c's scope is accepted, with the time and the entry that were completed.
@@ -155,9 +178,9 @@ pub fn accept(
     to: &mut [u8],
     p: Place,
 ) -> Freed
-    requires { ⌜ Lent g c (length (now area)) p 9 (length (now out)) (length (now to))
+    requires { ⌜ Lent g c (length (now area)) p (g .n + 17) (length (now out)) (length (now to))
         × (s .slot .blocks .time < lastTime) × (s .slot .sequence < 4294967296) ⌝ }
-    ensures { λ r. ⌜ Freeing s readers c (λ w. accept w (now (area .entry)) (writeIn g s c (now (area .entry))))
+    ensures { λ r. ⌜ Freeing s readers c (λ w. accept g w (now (area .entry)) (writeIn g s c (now (area .entry))))
         (outbox (now (out .entry)) (now (to .entry)) p) r (now (area .exit)) (now (out .exit)) (now (to .exit)) ⌝ }
 {
     let i = c as usize;
@@ -174,7 +197,13 @@ pub fn accept(
     let digests = digests_at(area, from, g);
     let block = block_at(area, from, g);
     let told = tell(readers, x, digests, block, out, to, p);
-    let place = send_ack(out, to, told, c, q);
+    let acked = send_ack(out, to, told, c, q);
+    let w = WriteTime {
+        client: c,
+        sequence: q,
+        time: x.time,
+    };
+    let place = report_if(s.stamp.time < x.time, out, to, acked, g, w);
     replace(newer, area, g, from);
     let scope = opens_next(s, newer, x);
     Freed { scope, place }

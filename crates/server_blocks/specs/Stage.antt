@@ -1,5 +1,5 @@
 -- How the code handles a frame of a write, stage by stage: what each stage asks, and what it leaves. These are definitions.
-use Prim.Native.Nat.{ℕ, _-_, _≤_}
+use Prim.Native.Nat.{ℕ, _+_, _*_, _-_, _≤_}
 use mathlib.Core.Path.{_≡_}
 use mathlib.Core.Bool.{Bool, false, not, _&&_}
 use mathlib.Core.List.{List, []}
@@ -38,6 +38,10 @@ pub record Own (g : Params) (me : ℕ) : Type 0 where
   pub bounded : Bounded g
   pub own-low : 1 ≤ me
   pub own-high : me ≤ g .n
+
+-- the frames of eight acceptances: to each of them belong at most eight values, an ack, and reports to n servers and eight clients
+abbrev pub freedFrames : Params → ℕ
+freedFrames g = 8 * g .n + 136
 
 -- room for all frames of the step k: readies, and those of an acceptance
 abbrev pub RoomFor : Call → ℕ → ℕ → Type 0
@@ -98,19 +102,19 @@ answeredBy k a x d own = record {
 }
 
 module _ (k : Call) (x : Slot) where
-  -- the stage left m, and there is room for the frames of an acceptance
+  -- the stage left m, and there is room for the frames of the acceptances
   pub record Answered (d : Due) (own : Entry) (a₀ out₀ to₀ : List ℕ) (m : Moved) (a out to : List ℕ) : Type 0 where
     pub leaves : left (m .slot) a (outbox out to (m .place)) ≡ counts (answeredBy k a₀ x d own) (outbox out₀ to₀ firstPlace)
-    pub room : Room (m .place) 9 (largestFrame (k .params)) (length out) (length to)
+    pub room : Room (m .place) (freedFrames (k .params)) (largestFrame (k .params)) (length out) (length to)
 
   -- an echo or a ready of the time T and the list d was counted in the slot x; its block does not matter
   pub record BlockVoted (T : ℕ) (d a₀ out₀ to₀ : List ℕ) (m : Moved) (a out to : List ℕ) : Type 0 where
     pub leaves : (b : List ℕ)
         → left (m .slot) a (outbox out to (m .place))
         ≡ counts (votedBlock digestOf (k .params) (k .me) a₀ (k .header .client) x (offer T (entry d b))) (outbox out₀ to₀ firstPlace)
-    pub room : Room (m .place) 9 (largestFrame (k .params)) (length out) (length to)
+    pub room : Room (m .place) (freedFrames (k .params)) (largestFrame (k .params)) (length out) (length to)
 
   -- a frame of the stage z, with the offer o, reached the slot x
   pub record BlockHandled (z : Stage) (o : Offer) (a₀ out₀ to₀ : List ℕ) (r : Counted) (a out to : List ℕ) : Type 0 where
     pub handles : handled r a out to ≡ blockFrame digestOf k x a₀ z o (outbox out₀ to₀ firstPlace)
-    pub room : Room (r .place) 9 (largestFrame (k .params)) (length out) (length to)
+    pub room : Room (r .place) (freedFrames (k .params)) (largestFrame (k .params)) (length out) (length to)

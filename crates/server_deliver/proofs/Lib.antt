@@ -1,9 +1,12 @@
 pub mod Openings
 pub mod Records
 pub mod FreshRecords
-pub mod OneClient
+pub mod Acceptances
+pub mod Finals
 pub mod Settling
 pub mod Votes
-pub mod KindSteps
 pub mod Writes
+pub mod ByteSteps
+pub mod Written
 pub mod RecordBack
+pub mod KindSteps

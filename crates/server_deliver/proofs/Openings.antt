@@ -3,7 +3,7 @@ use Prim.Native.Nat.{ℕ, _+_, _*_, _≤_, _<_}
 use native.Mathlib.Omega.{arith}
 use mathlib.Core.Path.{_≡_, refl, ap, sym, _∙_}
 use mathlib.Core.List.{List}
-use lib.ListN.{length, getD}
+use lib.ListN.{length}
 use lib.Dec.{ltb}
 use borrow.Author.Tests.{ltb-false, lt-ltb, le-ltb}
 use Rattle.area.specs.Area.{pick}
@@ -17,9 +17,9 @@ use Rattle.frame.specs.declared.Refusal.the-variants as R
 use Rattle.frame.specs.declared.Verdict.{Verdict}
 use Rattle.frame.specs.declared.Verdict.the-variants as J
 use Rattle.frame.specs.Refusals.{andThen}
-use Rattle.frame.specs.Params.{width, largestFrame, outRoom, toRoom, paramsTest}
-use Rattle.frame.specs.Messages.{Message, Judged, bad, good, judgedBy, after}
-use Rattle.frame.specs.Frames.{clientAt, headerIn, frameTest, openedBy, opened, messageIn}
+use Rattle.frame.specs.Params.{width, largestFrame, serverFrames, outRoom, toRoom, paramsTest}
+use Rattle.frame.specs.Messages.{Message, Judged, bad, judgedBy, after}
+use Rattle.frame.specs.Frames.{headerIn, frameTest, openedBy, opened, messageIn}
 use Rattle.frame.specs.Chunks.{areaBytes}
 use Rattle.frame.specs.Outbox.{frames, receivers, firstPlace, Room}
 use Rattle.frame.proofs.Verdicts.{fine-not, fine-both, fine-opened}
@@ -28,15 +28,11 @@ use Rattle.frame.proofs.Opening.{opens-facts}
 use Rattle.quorum.proofs.Logic.{impossible}
 use Rattle.server_rules.specs.declared.Server.{Server}
 use Rattle.server_rules.specs.declared.Reply.the-variants as Y
-use Rattle.server_rules.specs.Scopes.{withScope}
 use Rattle.server_rules.specs.Tests.{roomTest, messageTest, judgeOpened, judge}
-use Rattle.server_rules.specs.Steps.{effect}
 use Rattle.server_rules.specs.Delivery.{Outcome, outcome, effectBy, delivered, replyOf, outcomeOf, delivery}
 use Rattle.server.specs.declared.Call.{Call}
-use Rattle.server.specs.declared.Taken.{Taken}
-use Rattle.server.specs.Stages.{outcomeIn, stepped, answered}
 use Rattle.layout.specs.Servers.{serverSize}
-use Rattle.server_deliver.specs.Handed.{Handed, admitted, stepFor}
+use Rattle.server_deliver.specs.Handed.{Handed, admitted}
 use Rattle.server_deliver.specs.Records.{roomsTest}
 
 -- ---- the tests one after the other: p is the verdict of refusals 1 to 3, t of 4 to 9, v of 10
@@ -90,21 +86,21 @@ module _ (g : Params) (me : ℕ) (f : List ℕ) (state area initial out to : ℕ
 record Rooms (g : Params) (area initial out to : ℕ) : Type 0 where
   whole : areaBytes ≤ area
   initial-whole : width g ≤ initial
-  room : Room firstPlace (g .n + 9) (largestFrame g) out to
+  room : Room firstPlace (serverFrames g) (largestFrame g) out to
 
 rooms-of : (g : Params) (area initial out to : ℕ) → roomTest g area initial out to ≡ J.Fine → Rooms g area initial out to
 unfolding roomTest outRoom toRoom
 rooms-of g area initial out to e =
     let a = fine-not (ltb area areaBytes) R.Room _ e in
     let b = fine-not (ltb initial (width g)) R.Room _ (a .1) in
-    let c = fine-not (ltb out ((g .n + 9) * largestFrame g)) R.Room _ (b .1) in
-    let d = fine-not (ltb to (2 * (g .n + 9))) R.Room _ (c .1) in
+    let c = fine-not (ltb out ((serverFrames g) * largestFrame g)) R.Room _ (b .1) in
+    let d = fine-not (ltb to (2 * (serverFrames g))) R.Room _ (c .1) in
     record {
       whole = ltb-false _ _ (a .0);
       initial-whole = ltb-false _ _ (b .0);
       room = record {
-        out-room = omega (arith, ltb-false out ((g .n + 9) * largestFrame g) (c .0));
-        to-room = omega (arith, ltb-false to (2 * (g .n + 9)) (d .0));
+        out-room = omega (arith, ltb-false out ((serverFrames g) * largestFrame g) (c .0));
+        to-room = omega (arith, ltb-false to (2 * (serverFrames g)) (d .0));
       };
     }
 
@@ -138,12 +134,7 @@ module _ (g : Params) (me : ℕ) (f : List ℕ) (state area initial out to : ℕ
         header = A .1;
       }
 
-  -- the client that the frame names
-  pub client-named : getD f clientAt 0 ≡ h .client
-  unfolding headerIn
-  client-named = ap (λ (k : Header). k .client) (let-in .header)
-
--- what the step of such a frame may rely on
+-- what its step may ask for
 pub handed : (k : Call) (f : List ℕ) (state area initial out to : ℕ) (q : Opened) → q ≡ admitted (k .params) (k .me) f state area initial out to
     → q ≡ O.Frame (k .header) → Handed k (length f) area out to × (width (k .params) ≤ initial) × (serverSize ≤ state)
 unfolding opened
@@ -190,15 +181,7 @@ module _ (H : List ℕ → List ℕ) (g : Params) (me : ℕ) (s : Server) (a ini
   unfolding judge opened
   judged = judged-after (paramsTest g me (g .n)) (frameTest g f) (roomTest g (length a) (length initial) (length out) (length to)) (headerIn f)
 
-  -- the message that is taken is the frame's
-  pub taken-is : (m : Message) → judge H g me s a initial from f out to ≡ good m → messageIn g (headerIn f) f ≡ m
-  taken-is m e = go (andThen before (messageTest H g me s from said)) (sym judged ∙ e)
-    where
-      go : (v : Verdict) → judgedBy v said ≡ good m → said ≡ m
-      go J.Fine q = cc
-      go (J.Bad r) q = impossible (cc)
-
-  -- the outcome, given what the tests say of the frame
+  -- the outcome, what the tests leave of the frame being known
   abbrev by : Judged → Outcome
   by j = outcomeOf H g me j (effectBy H g me j s a initial from) out to
 
@@ -210,25 +193,14 @@ module _ (H : List ℕ → List ℕ) (g : Params) (me : ℕ) (s : Server) (a ini
   unfolding outcomeOf effectBy replyOf frames receivers
   refused-by r = refl
 
-  answered-by : (v : Verdict) (m : Message) → answered v s a (effect H g me s a initial from m) out to ≡ by (judgedBy v m)
-  unfolding outcomeOf effectBy replyOf answered stepped frames receivers
-  answered-by (J.Bad r) m = refl
-  answered-by J.Fine m = refl
-
-  -- refusals 1 to 10: nothing is changed
-  pub refused-delivery : (r : Refusal) → before ≡ J.Bad r → outcome (record { reply = Y.Refused r; server = s }) a out to
-      ≡ delivery H g me s a initial from f out to
+  -- 1 to 10: nothing is changed
+  pub refused-delivery : (r : Refusal) → before ≡ J.Bad r
+      → outcome (record { reply = Y.Refused r; server = s }) a out to ≡ delivery H g me s a initial from f out to
   refused-delivery r e = refused-by r ∙ delivery-by (J.Bad r) e
 
-  -- refusals 11 to 14, and the step
-  pub taken-delivery : (h : Header) (x : Outcome) → before ≡ J.Fine → headerIn f ≡ h
-      → x ≡ stepFor H (record { params = g; me = me; from = from; header = h }) s a initial f out to → x ≡ delivery H g me s a initial from f out to
-  unfolding stepFor
-  taken-delivery h x e p i =
-      i
-      ∙ answered-by (messageTest H g me s from (messageIn g h f)) (messageIn g h f)
-      ∙ ap (λ (z : Header). by (judgedBy (messageTest H g me s from (messageIn g z f)) (messageIn g z f))) (sym p)
-      ∙ delivery-by J.Fine e
+  -- and where they find nothing
+  pub judged-fine : before ≡ J.Fine → judge H g me s a initial from f out to ≡ judgedBy (messageTest H g me s from said) said
+  judged-fine e = judged ∙ ap (λ (v : Verdict). judgedBy (andThen v (messageTest H g me s from said)) said) e
 
 -- ---- the tests of a frame handed to a server whose record is lent as bytes, where these are long enough
 

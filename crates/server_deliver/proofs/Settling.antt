@@ -1,15 +1,12 @@
 -- From a counted frame of a write to what the step leaves of the server. Assumes nothing.
-use Prim.Native.Nat.{ℕ, _<_}
+use Prim.Native.Nat.{ℕ}
 use mathlib.Core.Path.{_≡_, refl, ap, sym, _∙_}
 use mathlib.Core.List.{List, []}
-use lib.ListN.{length, length-set, set}
-use lib.Seq.{set-set, getD-set-same}
 use Rattle.blocks.specs.declared.Params.{Params}
-use Rattle.frame.specs.declared.Place.{Place}
 use Rattle.frame.specs.declared.Refusal.{Refusal}
 use Rattle.frame.specs.declared.Verdict.{Verdict}
 use Rattle.frame.specs.declared.Verdict.the-variants as J
-use Rattle.frame.specs.Messages.{Stage, send}
+use Rattle.frame.specs.Messages.{send}
 use Rattle.frame.specs.Outbox.{Outbox, outbox, sent, firstPlace}
 use Rattle.frame.proofs.Outbox.{sent-append}
 use Rattle.frame.proofs.Verdicts.{bad-fine}
@@ -18,9 +15,9 @@ use Rattle.server_rules.specs.declared.Reader.{Reader}
 use Rattle.server_rules.specs.declared.Scope.{Scope}
 use Rattle.server_rules.specs.declared.Server.{Server}
 use Rattle.server_rules.specs.declared.Reply.the-variants as Y
-use Rattle.server_rules.specs.State.{noSlot, withSlot}
-use Rattle.server_rules.specs.Scopes.{scopeOf, withScope}
-use Rattle.server_rules.specs.Steps.{Effect, sendOnly, Counting, behind, free, freed, settle}
+use Rattle.server_rules.specs.State.{withSlot}
+use Rattle.server_rules.specs.Scopes.{withScope}
+use Rattle.server_rules.specs.Steps.{Effect, sendOnly, Counting, behind, freed, settle}
 use Rattle.server.specs.declared.Counted.{Counted}
 use Rattle.server.specs.declared.Taken.{Taken}
 use Rattle.server.specs.Stages.{slotIn, Holds, left, counts, Handled, handled, handledBy, progress, moved, outcomeIn, answered}
@@ -51,21 +48,12 @@ module _ (n : Counted) (x : Slot) (a a′ out out′ to to′ : List ℕ) (p : C
 
 -- ---- the slot is stored, and then the write is accepted if it can be
 
--- frames that are sent after others
+-- frames after those that were sent before
 behind-moved : (p : Counting) (r : Effect) (q : Outbox) → moved r (sent q (p .sends)) ≡ moved (behind p r) q
 unfolding moved
 behind-moved p r q = ap (progress (r .server) (r .area)) (sent-append q (p .sends) (r .sends))
 
 module _ (g : Params) (w : Server) (c : ℕ) (s : Scope) (rs : List Reader) (k : Holds w c s rs) where
-  -- the server with the counted slot has the scope with that slot
-  holds-slot : (x : Slot) (y : Scope) → c < 9 → y ≡ slotIn s x → Holds (withSlot w c x) c y rs
-  holds-slot x y l e =
-      let i = k .scope in
-      let m : c < length (w .slots) = rw (k .many) l in
-      let z : slotIn s x ≡ scopeOf (withSlot w c x) c =
-      λ j. record { stamp = i j .stamp; slot = sym (getD-set-same (w .slots) c x noSlot m) j; reader = i j .reader } in
-      record { many = length-set (w .slots) c x ∙ k .many; scope = e ∙ z; readers = k .readers }
-
   module _ (n : Counted) (a a′ out out′ to to′ : List ℕ) (p : Counting) (v : Verdict)
       (h : handled n a′ out′ to′ ≡ handledBy v (s .slot) a p (outbox out to firstPlace)) where
     pub refused-write : (x : Effect) (r : Refusal) → n .verdict ≡ J.Bad r
@@ -86,20 +74,3 @@ module _ (g : Params) (w : Server) (c : ℕ) (s : Scope) (rs : List Reader) (k :
           ∙ (λ l. moved (sendOnly (withSlot w c (d l .slot)) (d l .area) []) (d l .box))
           ∙ behind-moved p (sendOnly (withSlot w c (p .slot)) (p .area) []) (outbox out to firstPlace) in
           step-is v v w a a′ (settle g w c send p) out to out′ to′ c y (n .place) r refl u b i j
-
-      -- after an echo or a ready
-      pub freed-write : (z : Stage) → ((t : Server) (b : List ℕ) → freed g z t b c ≡ free g t b c) → c < 9
-          → (y′ : Scope) (p′ : Place) (a″ out″ to″ : List ℕ)
-          → ((t : Server) → Holds t c y rs → progress (withScope t c y′) a″ (outbox out″ to″ p′) ≡ moved (free g t a′ c) (outbox out′ to′ (n .place)))
-          → (r : Taken) → r .reply ≡ Y.Step (p′ .count) → r .scope ≡ y′ → outcomeIn w c r a″ out″ to″ ≡ answered v w a (settle g w c z p) out to
-      unfolding settle counts
-      freed-write z m l y′ p′ a″ out″ to″ q r i j =
-          let (u, d) = counted n (s .slot) a a′ out out′ to to′ p v h e in
-          let o = set-set (w .slots) c (n .slot) (y′ .slot) in
-          let b : progress (withScope w c y′) a″ (outbox out″ to″ p′) ≡ moved (settle g w c z p) (outbox out to firstPlace) =
-          sym (λ l. progress (record { stamp = y′ .stamp; slots = o l; readers = set (w .readers) c (y′ .reader) }) a″ (outbox out″ to″ p′))
-          ∙ q (withSlot w c (n .slot)) (holds-slot (n .slot) y l f)
-          ∙ (λ l. moved (free g (withSlot w c (d l .slot)) (d l .area) c) (d l .box))
-          ∙ behind-moved p (free g (withSlot w c (p .slot)) (p .area) c) (outbox out to firstPlace)
-          ∙ ap (λ (x : Effect). moved (behind p x) (outbox out to firstPlace)) (sym (m (withSlot w c (p .slot)) (p .area))) in
-          step-is v v w a a″ (settle g w c z p) out to out″ to″ c y′ p′ r refl u b i j

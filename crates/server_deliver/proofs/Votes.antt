@@ -1,30 +1,23 @@
 -- Frames of a write, by what they say. Assumes nothing.
 use Prim.Native.Nat.{ℕ, zero, suc, _≤_}
 use native.Mathlib.Omega.{arith}
-use mathlib.Core.Path.{_≡_, refl, ap, _∙_}
+use mathlib.Core.Path.{_≡_, refl, ap}
 use mathlib.Core.Bool.{Bool, true, false}
 use mathlib.Core.List.{List}
 use lib.Dec.{eqb}
 use Rattle.area.specs.Area.{pick}
 use Rattle.blocks.specs.declared.Params.{Params}
-use Rattle.frame.specs.declared.Refusal.the-variants as R
-use Rattle.frame.specs.declared.Verdict.the-variants as J
 use Rattle.frame.specs.Messages.{Offer, Stage, send, echo, ready, message, numberIn, blockIs}
 use Rattle.frame.specs.Frames.{offerIn, bodyIn}
-use Rattle.frame.specs.Outbox.{Outbox, outbox, firstPlace}
-use Rattle.frame.proofs.Verdicts.{fine-is, fine-both}
-use Rattle.group_rules.specs.Coded.{fitTest}
+use Rattle.frame.specs.Outbox.{Outbox}
 use Rattle.server_rules.specs.declared.Slot.{Slot}
 use Rattle.server_rules.specs.declared.Server.{Server}
 use Rattle.server_rules.specs.State.{slotOf}
-use Rattle.server_rules.specs.Tests.{senderRight, openTest, counted, placeIn, blockTest, orderTest, messageTest}
-use Rattle.server_rules.specs.Steps.{Counting, votedBlock, onBlock, free, freed, settle, onBody, effect}
+use Rattle.server_rules.specs.Tests.{blockTest, orderTest, messageTest}
+use Rattle.server_rules.specs.Steps.{Counting, onBlock, freeAll, freed, settle, onBody, effect}
 use Rattle.server.specs.declared.Call.{Call}
-use Rattle.server.specs.declared.Counted.{Counted}
-use Rattle.server.specs.Stages.{Left, counts, handled, handledBy, sentBy, blockFrame}
-use Rattle.server.proofs.Answers.{open-fine}
+use Rattle.server.specs.Stages.{handledBy, sentBy, blockFrame}
 use Rattle.server_blocks.specs.Stage.{voteStage}
-use Rattle.server_deliver.proofs.Settling as C
 
 -- ---- by kind
 
@@ -42,12 +35,12 @@ vote-says g f (suc (suc zero)) l h = absurd (omega (arith, l))
 vote-says g f (suc (suc (suc zero))) l h = absurd (omega (arith, l))
 vote-says g f (suc (suc (suc (suc (suc (suc n)))))) l h = absurd (omega (arith, h))
 
--- after an echo or a ready the write is accepted if it can be
-pub vote-frees : (g : Params) (kind c : ℕ) (s : Server) (a : List ℕ) → freed g (voteStage kind) s a c ≡ free g s a c
+-- after an echo or a ready what can be accepted is
+pub vote-frees : (g : Params) (kind : ℕ) (s : Server) (a : List ℕ) → freed g (voteStage kind) s a ≡ freeAll g s a
 unfolding voteStage pick freed
-vote-frees g kind c s a = go (eqb kind 4)
+vote-frees g kind s a = go (eqb kind 4)
   where
-    go : (b : Bool) → freed g (pick b echo ready) s a c ≡ free g s a c
+    go : (b : Bool) → freed g (pick b echo ready) s a ≡ freeAll g s a
     go true = refl
     go false = refl
 
@@ -73,22 +66,3 @@ module _ (H : List ℕ → List ℕ) (k : Call) (a : List ℕ) (w : Server) (z :
       → effect H (k .params) (k .me) w a initial (k .from) (message c (k .header .sequence) (blockIs z o)) ≡ settle (k .params) w c z counting
   unfolding effect onBody
   vote-effect initial = refl
-
--- ---- the write that stays open is the frame's
-
-module _ (H : List ℕ → List ℕ) (k : Call) (x : Slot) (n : Counted) (a a′ out out′ to to′ : List ℕ) where
-  same-sequence : (z : Stage) (o : Offer) → onBlock H (k .params) (k .me) a (k .header .client) x (numberIn (k .from)) z o .slot .sequence ≡ x .sequence
-  unfolding onBlock votedBlock
-  same-sequence send o = refl
-  same-sequence echo o = refl
-  same-sequence ready o = refl
-
-  pub vote-sequence : (z : Stage) (o : Offer) → handled n a′ out′ to′ ≡ blockFrame H k x a z o (outbox out to firstPlace) → n .verdict ≡ J.Fine
-      → n .slot .sequence ≡ k .header .sequence
-  unfolding blockFrame sentBy counts
-  vote-sequence z o h f =
-      let (u, l) = C.counted n x a a′ out out′ to to′ _ _ h f in
-      let r = fine-is (senderRight (k .params) (k .from) (k .header .client) (blockIs z o)) R.Sender _ u .1 in
-      let again = counted x (numberIn (k .from)) (blockIs z o) in
-      let s = fine-both (openTest x (k .header .sequence) again) (fitTest H (o .entry) (placeIn (k .me) z (numberIn (k .from)))) r in
-      ap (λ (y : Left). y .slot .sequence) l ∙ same-sequence z o ∙ open-fine x (k .header .sequence) _ (s .0)

@@ -1,5 +1,5 @@
--- The step of a frame of a write: it is turned down, or its slot is stored, and then the write is accepted if it can be. Assumes nothing.
-use Prim.Native.Nat.{ℕ, _<_}
+-- The step of a client's own frame of its write: turned down, or its slot stored. Assumes nothing.
+use Prim.Native.Nat.{ℕ}
 use mathlib.Core.Path.{_≡_, refl, ap, sym, _∙_}
 use mathlib.Core.List.{List}
 use Rattle.frame.specs.declared.Place.{Place}
@@ -14,16 +14,15 @@ use Rattle.server_rules.specs.declared.Reader.{Reader}
 use Rattle.server_rules.specs.declared.Scope.{Scope}
 use Rattle.server_rules.specs.declared.Server.{Server}
 use Rattle.server_rules.specs.declared.Reply.the-variants as Y
-use Rattle.server_rules.specs.Scopes.{withScope}
 use Rattle.server_rules.specs.Tests.{messageTest}
-use Rattle.server_rules.specs.Steps.{Effect, effect, free, freed, settle}
+use Rattle.server_rules.specs.Steps.{Effect, effect, settle}
 use Rattle.server_rules.specs.Delivery.{Outcome}
 use Rattle.server.specs.declared.Call.{Call}
 use Rattle.server.specs.declared.Counted.{Counted}
 use Rattle.server.specs.declared.Taken.{Taken}
-use Rattle.server.specs.Stages.{slotIn, Holds, handled, handledBy, blockFrame, progress, moved, outcomeIn, answered}
+use Rattle.server.specs.Stages.{slotIn, Holds, handled, handledBy, blockFrame, outcomeIn, answered}
 use Rattle.server_deliver.specs.Handed.{storedBy, stepFor}
-use Rattle.server_deliver.proofs.Settling.{refused-write, stored-write, freed-write}
+use Rattle.server_deliver.proofs.Settling.{refused-write, stored-write}
 use Rattle.server_deliver.proofs.Votes.{counting, vote-handled, vote-effect}
 use Rattle.server_deliver.proofs.KindSteps.{says}
 
@@ -60,7 +59,7 @@ module _ (H : List ℕ → List ℕ) (k : Call) (s : Scope) (rs : List Reader) (
       → u ≡ answered test w a x out to → u ≡ stepFor H k w a i f out to
   says-it u x e p = says H k w a i f out to u (blockIs z o) m (p ∙ ap (λ (y : Effect). answered test w a y out to) (sym e))
 
-  pub write-refused : (r : Refusal) → n .verdict ≡ J.Bad r
+  write-refused : (r : Refusal) → n .verdict ≡ J.Bad r
       → outcomeIn w c (record { reply = Y.Refused r; scope = s }) a′ out′ to′ ≡ stepFor H k w a i f out to
   write-refused r e =
       says-it _ _ (vote-effect H k a w z o i)
@@ -71,15 +70,6 @@ module _ (H : List ℕ → List ℕ) (k : Call) (s : Scope) (rs : List Reader) (
     write-stored v r j p =
         says-it _ _ (vote-effect H k a w z o i ∙ ap (λ (u : Stage). settle (k .params) w c u (counting H k a w z o)) v)
         (stored-write (k .params) w c s rs K n a a′ out out′ to to′ (counting H k a w z o) test on-server e y q r j p)
-
-    module _ (l : (t : Server) (b : List ℕ) → freed (k .params) z t b c ≡ free (k .params) t b c) (b : c < 9) where
-      pub write-freed : (y′ : Scope) (p′ : Place) (a″ out″ to″ : List ℕ)
-          → ((t : Server) → Holds t c y rs
-          → progress (withScope t c y′) a″ (outbox out″ to″ p′) ≡ moved (free (k .params) t a′ c) (outbox out′ to′ (n .place)))
-          → (r : Taken) → r .reply ≡ Y.Step (p′ .count) → r .scope ≡ y′ → outcomeIn w c r a″ out″ to″ ≡ stepFor H k w a i f out to
-      write-freed y′ p′ a″ out″ to″ F r j p =
-          says-it _ _ (vote-effect H k a w z o i)
-          (freed-write (k .params) w c s rs K n a a′ out out′ to to′ (counting H k a w z o) test on-server e y q z l b y′ p′ a″ out″ to″ F r j p)
 
   -- the client's own frame
   pub write-own : z ≡ send → (r : Taken) → r ≡ storedBy (n .verdict) s (n .slot) (n .place) → outcomeIn w c r a′ out′ to′ ≡ stepFor H k w a i f out to

@@ -1,3 +1,4 @@
 pub mod Records
 pub mod Handed
+pub mod Rounds
 pub mod Answers

@@ -1,26 +1,28 @@
 -- A frame handed to a server whose record is lent as bytes: the whole outcome, every byte of the lent areas. The server is the one that the bytes say. H is the
 -- digest, g the parameters, me the server's number. These are definitions.
 use Prim.Native.Nat.{ℕ}
-use mathlib.Core.List.{List}
-use lib.ListN.{length, getD}
-use lib.Dec.{ltb}
+use mathlib.Core.List.{List, [], _∷_}
+use lib.ListN.{length}
+use lib.Dec.{ltb, eqb}
 use lib.Seq.{sets}
 use Rattle.area.specs.Area.{pick}
 use Rattle.area.specs.Responses.{Response}
 use Rattle.blocks.specs.declared.Params.{Params}
+use Rattle.frame.specs.declared.Header.{Header}
 use Rattle.frame.specs.declared.Party.{Party}
 use Rattle.frame.specs.declared.Verdict.{Verdict}
 use Rattle.frame.specs.Refusals.{refused, answeredBy, andThen}
 use Rattle.frame.specs.Params.{paramsTest}
-use Rattle.frame.specs.Frames.{clientAt, frameTest}
-use Rattle.server_rules.specs.declared.Scope.{Scope}
+use Rattle.frame.specs.Frames.{headerIn, frameTest}
+use Rattle.frame.specs.Messages.{numberIn}
 use Rattle.server_rules.specs.declared.Server.{Server}
-use Rattle.server_rules.specs.Scopes.{scopeOf}
+use Rattle.server_rules.specs.State.{slotOf, readerOf, reportOf}
+use Rattle.server_rules.specs.Steps.{Write, Effect}
 use Rattle.server_rules.specs.Tests.{roomTest}
-use Rattle.server_rules.specs.Delivery.{Outcome, Constructed, delivery, construction}
+use Rattle.server_rules.specs.Delivery.{Outcome, Constructed, delivered, delivery, construction}
 use Rattle.layout.specs.Left.{leftBy}
 use Rattle.client_rules.specs.Beginning.{lengthTest}
-use Rattle.layout.specs.Servers.{serverSize, serverBytes, serverIn, scopeSets}
+use Rattle.layout.specs.Servers.{serverSize, serverBytes, serverIn, slotSets, scopeSets, reportSets}
 
 pub record ByteOutcome : Type 0 where
   pub reply : Response ℕ
@@ -32,27 +34,39 @@ pub record ByteOutcome : Type 0 where
 abbrev pub byteOutcome : Response ℕ → List ℕ → List ℕ → List ℕ → List ℕ → ByteOutcome
 byteOutcome a area state out to = record { reply = a; area = area; state = state; out = out; to = to }
 
--- the record's bytes after a step for client c that leaves the scope x: the stamp and that client's slot and reader are written, all other bytes stay as
--- lent; all bytes stay where the frame was turned down
-unfoldable pub scopeAfter : Response ℕ → Scope → ℕ → List ℕ → List ℕ
-scopeAfter a x c state = leftBy a state (scopeSets state c (x .stamp) (x .slot) (x .reader))
+-- What a step writes of the record, as the server s is afterwards. The frame's own part: its sender's report, or the stamp, and the slot and the reader of
+-- the client that it names.
+unfoldable pub frameSets : Server → Header → Party → List ℕ → List ℕ
+frameSets s h from l =
+    pick (eqb (h .kind) 13) (reportSets l (numberIn from) (reportOf s (numberIn from)))
+    (scopeSets l (h .client) (s .stamp) (slotOf s (h .client)) (readerOf s (h .client)))
 
--- the frame names client c
-unfoldable pub outcomeAt : Outcome → ℕ → List ℕ → ByteOutcome
-outcomeAt x c state = byteOutcome (x .reply) (x .area) (scopeAfter (x .reply) (scopeOf (x .server) c) c state) (x .out) (x .to)
+-- the stamp, and the slots of the clients whose writes ws were accepted
+unfoldable pub acceptedSets : Server → List Write → List ℕ → List ℕ
+acceptedSets s [] l = l
+acceptedSets s (w ∷ ws) l = acceptedSets s ws (slotSets l (w .client) (s .stamp) (slotOf s (w .client)))
 
--- refusal 10, of the areas' lengths: the room test of the rules, with one more area, the record's
+-- both; all other bytes stay as lent
+unfoldable pub effectSets : Effect → Header → Party → List ℕ → List ℕ
+effectSets x h from l = acceptedSets (x .server) (x .accepted) (frameSets (x .server) h from l)
+
+-- the whole outcome, x being what the frame does; all bytes stay as lent where it was turned down
+unfoldable pub outcomeAt : Outcome → Effect → Header → Party → List ℕ → ByteOutcome
+outcomeAt o x h from state = byteOutcome (o .reply) (o .area) (leftBy (o .reply) state (effectSets x h from state)) (o .out) (o .to)
+
+-- refusal 10, of the areas' lengths: the record's is one more line of the room test
 unfoldable pub roomsTest : Params → ℕ → ℕ → ℕ → ℕ → ℕ → Verdict
 roomsTest g state area initial out to = pick (ltb state serverSize) (refused 10) (roomTest g area initial out to)
 
--- the area for the record is short: refusal 10, unless one with a lower number applies
+-- the area for the record is short: refusal 10, but a lower number first
 unfoldable pub shortReply : Params → ℕ → List ℕ → Response ℕ
 shortReply g me f = answeredBy (andThen (paramsTest g me (g .n)) (andThen (frameTest g f) (refused 10))) 0
 
 unfoldable pub byteDelivery : (List ℕ → List ℕ) → Params → ℕ → Party → List ℕ → List ℕ → List ℕ → List ℕ → List ℕ → List ℕ → ByteOutcome
 byteDelivery H g me from f area initial state out to =
     pick (ltb (length state) serverSize) (byteOutcome (shortReply g me f) area state out to)
-    (outcomeAt (delivery H g me (serverIn state) area initial from f out to) (getD f clientAt 0) state)
+    (outcomeAt (delivery H g me (serverIn state) area initial from f out to) (delivered H g me (serverIn state) area initial from f out to) (headerIn f) from
+    state)
 
 -- ---- a fresh server
 

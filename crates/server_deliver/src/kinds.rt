@@ -1,13 +1,18 @@
-// The step of a frame that passed refusals 1 to 10, by its kind.
-use blocks::Params;
+// The step of a frame that was let in, by its kind.
+use crate::answers::is_turned_down;
+use crate::rounds::settle;
 use frame::Place;
 use frame::Refusal;
 use frame::Verdict;
 use frame::bounds::width;
+use frame::parties::from_server;
+use frame::parties::number_in;
 use frame::places::BODY_AT;
 use frame::places::OFFER_AT;
-use layout::servers::READERS_AT;
-use layout::servers::readers_at;
+use layout::servers::put_report;
+use layout::servers::put_scope;
+use layout::servers::report_at;
+use layout::servers::scope_at;
 use server::Call;
 use server::Counted;
 use server::Taken;
@@ -16,32 +21,29 @@ use server::asking::on_read;
 use server::asking::on_read_complete;
 use server::replies::taken;
 use server::state::slot_in;
-use server_accept::Freed;
-use server_accept::accept;
-use server_accept::is_ripe;
 use server_blocks::storing::on_block_send;
 use server_blocks::storing::on_block_vote;
 use server_rules::Reply;
 use server_rules::Scope;
+use server_rules::Server;
 use server_rules::Slot;
-ghost use Prim.Native.Nat.{ℕ, _≤_, _<_};
+ghost use Prim.Native.Nat.{ℕ, _≤_};
 ghost use mathlib.Core.Path.{_≡_};
 ghost use mathlib.Core.List.{List};
 ghost use lib.ListN.{length};
+ghost use Rattle.sha256.specs.Hash.{digestOf};
 ghost use Rattle.frame.specs.Params.{width};
 ghost use Rattle.frame.specs.Frames.{offerIn};
-ghost use Rattle.frame.specs.Outbox.{outbox};
-ghost use Rattle.server_rules.specs.Steps.{free};
-ghost use Rattle.server.specs.Stages.{Lent};
-ghost use Rattle.server_accept.specs.Telling.{Freeing};
 ghost use Rattle.server_rules.specs.declared.Reader.{Reader};
+ghost use Rattle.server_rules.specs.Delivery.{replyResponse};
 ghost use Rattle.server_blocks.specs.Stage.{voteStage, BlockHandled};
-ghost use Rattle.layout.specs.Servers.{serverSize, readersPlace, readersAt};
-ghost use Rattle.server_deliver.specs.Handed.{Handed, HandedOwn, storedBy, Stepping};
+ghost use Rattle.layout.specs.Servers.{serverSize};
+ghost use Rattle.server_deliver.specs.Handed.{Handed, HandedOwn, Asks, storedBy, Stepping, scopeAfter, byteStep};
+ghost use Rattle.server_deliver.specs.Records.{byteOutcome};
 
 // ---- the client's own frame of its write: kind 3
 
-// No write is accepted after such a frame: the slot is stored, unless the frame was turned down.
+// Nothing can be accepted after such a frame: the slot is stored, unless the frame was turned down.
 fn stored(s: Scope, n: Counted) -> Taken
     ensures { λ r. ⌜ r ≡ storedBy (n .verdict) s (n .slot) (n .place) ⌝ }
 {
@@ -97,92 +99,11 @@ fn count_vote(x: Slot, k: Call, f: &[u8], area: &mut [u8], out: &mut [u8], to: &
     )
 }
 
-// The second stage of a step: the write of client c is accepted if it can be. Only here are the readers looked at.
-fn settle(
-    s: Scope,
-    state: &[u8],
-    g: Params,
-    c: u8,
-    area: &mut [u8],
-    out: &mut [u8],
-    to: &mut [u8],
-    p: Place,
-) -> Freed
-    requires { ⌜ Lent g c (length (now area)) p 9 (length (now out)) (length (now to))
-        × (s .slot .sequence < 4294967296) × (serverSize ≤ length (now state)) ⌝ }
-    ensures { λ r. ⌜ Freeing s (readersAt (now (state .entry)) readersPlace) c (λ w. free g w (now (area .entry)) c)
-        (outbox (now (out .entry)) (now (to .entry)) p) r (now (area .exit)) (now (out .exit)) (now (to .exit)) ⌝ }
-{
-    let slot = s.slot;
-    if !is_ripe(slot) {
-        return Freed { scope: s, place: p };
-    }
-    let readers = readers_at(state, READERS_AT);
-    accept(s, readers, g, c, area, out, to, p)
-}
+// ---- frames after which nothing can be accepted
 
-// The first stage, the frame counted in its client's scope, and then the second.
-fn step_of_vote(
+// All kinds but 4, 5 and 13; 2, 9 and 11 do not go to servers.
+fn step_of_kind(
     s: Scope,
-    state: &[u8],
-    k: Call,
-    f: &[u8],
-    area: &mut [u8],
-    out: &mut [u8],
-    to: &mut [u8],
-) -> Taken
-    requires { ⌜ Handed k (length (now f)) (length (now area)) (length (now out)) (length (now to)) × (serverSize ≤ length (now state))
-        × (4 ≤ k .header .kind) × (k .header .kind ≤ 5) × (k .header .sequence < 4294967296) ⌝ }
-    ensures { λ r. ⌜ ((i : List ℕ) → Stepping s (readersAt (now (state .entry)) readersPlace) k (now (area .entry)) i (now (f .entry))
-        (now (out .entry)) (now (to .entry)) r (now (area .exit)) (now (out .exit)) (now (to .exit))) ⌝ }
-{
-    let h = k.header;
-    let x = s.slot;
-    let n = count_vote(x, k, f, area, out, to);
-    let v = n.verdict;
-    if let Verdict::Bad(r) = v {
-        return Taken {
-            reply: Reply::Refused(r),
-            scope: s,
-        };
-    }
-    let slot = n.slot;
-    let place = n.place;
-    let y = slot_in(s, slot);
-    let m = settle(y, state, k.params, h.client, area, out, to, place);
-    let scope = m.scope;
-    let last = m.place;
-    taken(scope, last)
-}
-
-// ---- any frame
-
-// Kinds 3 to 5, of a write.
-fn step_of_write(
-    s: Scope,
-    state: &[u8],
-    k: Call,
-    f: &[u8],
-    area: &mut [u8],
-    out: &mut [u8],
-    to: &mut [u8],
-) -> Taken
-    requires { ⌜ Handed k (length (now f)) (length (now area)) (length (now out)) (length (now to)) × (serverSize ≤ length (now state))
-        × (3 ≤ k .header .kind) × (k .header .kind ≤ 5) ⌝ }
-    ensures { λ r. ⌜ ((i : List ℕ) → Stepping s (readersAt (now (state .entry)) readersPlace) k (now (area .entry)) i (now (f .entry))
-        (now (out .entry)) (now (to .entry)) r (now (area .exit)) (now (out .exit)) (now (to .exit))) ⌝ }
-{
-    let h = k.header;
-    if h.kind == 3 {
-        return step_of_send(s, k, f, out, to);
-    }
-    step_of_vote(s, state, k, f, area, out, to)
-}
-
-// Kinds 1 to 5 and 9 to 12; kinds 2, 9 and 11 do not go to servers, so they are refused with 11.
-pub fn step_of_kind(
-    s: Scope,
-    state: &[u8],
     k: Call,
     f: &[u8],
     area: &mut [u8],
@@ -191,9 +112,9 @@ pub fn step_of_kind(
     to: &mut [u8],
 ) -> Taken
     requires { ⌜ Handed k (length (now f)) (length (now area)) (length (now out)) (length (now to)) × (width (k .params) ≤ length (now initial))
-        × (serverSize ≤ length (now state)) ⌝ }
-    ensures { λ r. ⌜ Stepping s (readersAt (now (state .entry)) readersPlace) k (now (area .entry)) (now (initial .entry)) (now (f .entry))
-        (now (out .entry)) (now (to .entry)) r (now (area .exit)) (now (out .exit)) (now (to .exit)) ⌝ }
+        × Asks k ⌝ }
+    ensures { λ r. ⌜ ((rs : List Reader) → Stepping s rs k (now (area .entry)) (now (initial .entry)) (now (f .entry))
+        (now (out .entry)) (now (to .entry)) r (now (area .exit)) (now (out .exit)) (now (to .exit))) ⌝ }
 {
     let g = k.params;
     let h = k.header;
@@ -207,17 +128,140 @@ pub fn step_of_kind(
     if h.kind == 12 {
         return on_read_complete(s, g, from, h);
     }
-    if h.kind == 2 {
-        return Taken {
-            reply: Reply::Refused(Refusal::Sender),
-            scope: s,
-        };
+    if h.kind == 3 {
+        return step_of_send(s, k, f, out, to);
     }
-    if 9 <= h.kind {
-        return Taken {
-            reply: Reply::Refused(Refusal::Sender),
-            scope: s,
-        };
+    Taken {
+        reply: Reply::Refused(Refusal::Sender),
+        scope: s,
     }
-    step_of_write(s, state, k, f, area, out, to)
+}
+
+// Writes what a step for client c left of its scope, unless the frame was turned down.
+fn keep(a: Reply, x: Scope, c: usize, state: &mut [u8])
+    requires { ⌜ (serverSize ≤ length (now state)) × (c ≤ 8) ⌝ }
+    ensures { λ _. ⌜ now (state .exit) ≡ scopeAfter (replyResponse a) x c (now (state .entry)) ⌝ }
+{
+    if is_turned_down(a) {
+        return;
+    }
+    put_scope(x, c, state);
+}
+
+// The step of such a frame, in its client's scope.
+fn step_of_scope(
+    k: Call,
+    f: &[u8],
+    area: &mut [u8],
+    initial: &[u8],
+    state: &mut [u8],
+    out: &mut [u8],
+    to: &mut [u8],
+) -> Reply
+    requires { ⌜ Handed k (length (now f)) (length (now area)) (length (now out)) (length (now to)) × (width (k .params) ≤ length (now initial))
+        × (serverSize ≤ length (now state)) × Asks k ⌝ }
+    ensures { λ r. ⌜ byteOutcome (replyResponse r) (now (area .exit)) (now (state .exit)) (now (out .exit)) (now (to .exit))
+        ≡ byteStep digestOf k (now (f .entry)) (now (area .entry)) (now (initial .entry)) (now (state .entry)) (now (out .entry)) (now (to .entry)) ⌝ }
+{
+    let h = k.header;
+    let c = h.client as usize;
+    let s = scope_at(state, c);
+    let done = step_of_kind(s, k, f, area, initial, out, to);
+    let reply = done.reply;
+    let after = done.scope;
+    keep(reply, after, c, state);
+    reply
+}
+
+// ---- frames after which writes may be accepted
+
+// Kinds 4 and 5: the frame is counted in its client's scope, and then what can be accepted is.
+fn step_of_vote(
+    k: Call,
+    f: &[u8],
+    area: &mut [u8],
+    state: &mut [u8],
+    out: &mut [u8],
+    to: &mut [u8],
+) -> Reply
+    requires { ⌜ Handed k (length (now f)) (length (now area)) (length (now out)) (length (now to)) × (serverSize ≤ length (now state))
+        × (4 ≤ k .header .kind) × (k .header .kind ≤ 5) ⌝ }
+    ensures { λ r. ⌜ ((i : List ℕ) → byteOutcome (replyResponse r) (now (area .exit)) (now (state .exit)) (now (out .exit)) (now (to .exit))
+        ≡ byteStep digestOf k (now (f .entry)) (now (area .entry)) i (now (state .entry)) (now (out .entry)) (now (to .entry))) ⌝ }
+{
+    let h = k.header;
+    let c = h.client as usize;
+    let s = scope_at(state, c);
+    let x = s.slot;
+    let n = count_vote(x, k, f, area, out, to);
+    let v = n.verdict;
+    if let Verdict::Bad(r) = v {
+        return Reply::Refused(r);
+    }
+    let slot = n.slot;
+    let place = n.place;
+    let y = slot_in(s, slot);
+    put_scope(y, c, state);
+    let last = settle(Server::CLIENTS, k.params, state, area, out, to, place);
+    Reply::Step(last.count)
+}
+
+// Kind 13: the report is kept, if it is its server's highest, and then what can be accepted is.
+fn step_of_report(
+    k: Call,
+    f: &[u8],
+    area: &mut [u8],
+    state: &mut [u8],
+    out: &mut [u8],
+    to: &mut [u8],
+) -> Reply
+    requires { ⌜ Handed k (length (now f)) (length (now area)) (length (now out)) (length (now to)) × (serverSize ≤ length (now state))
+        × (k .header .kind ≡ 13) ⌝ }
+    ensures { λ r. ⌜ ((i : List ℕ) → byteOutcome (replyResponse r) (now (area .exit)) (now (state .exit)) (now (out .exit)) (now (to .exit))
+        ≡ byteStep digestOf k (now (f .entry)) (now (area .entry)) i (now (state .entry)) (now (out .entry)) (now (to .entry))) ⌝ }
+{
+    let g = k.params;
+    let from = k.from;
+    if !from_server(g, from) {
+        return Reply::Refused(Refusal::Sender);
+    }
+    let j = number_in(from) as usize;
+    let time = area::read8(f, BODY_AT);
+    if time <= report_at(state, j) {
+        return Reply::Refused(Refusal::Stale);
+    }
+    put_report(time, j, state);
+    let first = Place { at: 0, count: 0 };
+    let last = settle(Server::CLIENTS, g, state, area, out, to, first);
+    Reply::Step(last.count)
+}
+
+// ---- any frame
+
+// The step of a frame that was let in, by its kind.
+pub fn step(
+    k: Call,
+    f: &[u8],
+    area: &mut [u8],
+    initial: &[u8],
+    state: &mut [u8],
+    out: &mut [u8],
+    to: &mut [u8],
+) -> Reply
+    requires { ⌜ Handed k (length (now f)) (length (now area)) (length (now out)) (length (now to)) × (width (k .params) ≤ length (now initial))
+        × (serverSize ≤ length (now state)) ⌝ }
+    ensures { λ r. ⌜ byteOutcome (replyResponse r) (now (area .exit)) (now (state .exit)) (now (out .exit)) (now (to .exit))
+        ≡ byteStep digestOf k (now (f .entry)) (now (area .entry)) (now (initial .entry)) (now (state .entry)) (now (out .entry)) (now (to .entry)) ⌝ }
+{
+    let h = k.header;
+    if h.kind == 13 {
+        return step_of_report(k, f, area, state, out, to);
+    }
+    if h.kind == 4 {
+        return step_of_vote(k, f, area, state, out, to);
+    }
+    if h.kind == 5 {
+        return step_of_vote(k, f, area, state, out, to);
+    }
+    step_of_scope(k, f, area, initial, state, out, to)
 }

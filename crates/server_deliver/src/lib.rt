@@ -1,6 +1,5 @@
 // What a server does with a frame that is handed in, its record being lent as bytes: the entry point deliver.
-use crate::answers::is_turned_down;
-use crate::kinds::step_of_kind;
+use crate::kinds::step;
 use blocks::Params;
 use frame::Opened;
 use frame::Party;
@@ -9,24 +8,19 @@ use frame::Verdict;
 use frame::bounds::params_test;
 use frame::opener::open_frame;
 use layout::servers::SERVER_SIZE;
-use layout::servers::put_scope;
-use layout::servers::scope_at;
 use server::Call;
 use server::tests::room_test;
 use server_rules::Reply;
-use server_rules::Scope;
 ghost use mathlib.Core.Path.{_≡_};
-ghost use Prim.Native.Nat.{_≤_};
-ghost use lib.ListN.{length};
 ghost use Rattle.sha256.specs.Hash.{digestOf};
 ghost use Rattle.server_rules.specs.Delivery.{replyResponse};
-ghost use Rattle.layout.specs.Servers.{serverSize};
 ghost use Rattle.server_deliver.specs.Handed.{admitted};
-ghost use Rattle.server_deliver.specs.Records.{scopeAfter, byteOutcome, byteDelivery};
+ghost use Rattle.server_deliver.specs.Records.{byteOutcome, byteDelivery};
 
 pub mod answers;
 pub mod fresh;
 pub mod kinds;
+pub mod rounds;
 
 // Refusals 1 to 10, for which the server's state is not looked at; of the lent areas only the lengths count.
 pub fn admit(
@@ -59,17 +53,6 @@ pub fn admit(
     Opened::Frame(h)
 }
 
-// Writes what a step for client c left of its scope, unless the frame was turned down.
-fn keep(a: Reply, x: Scope, c: usize, state: &mut [u8])
-    requires { ⌜ (serverSize ≤ length (now state)) × (c ≤ 8) ⌝ }
-    ensures { λ _. ⌜ now (state .exit) ≡ scopeAfter (replyResponse a) x c (now (state .entry)) ⌝ }
-{
-    if is_turned_down(a) {
-        return;
-    }
-    put_scope(x, c, state);
-}
-
 // A frame f is handed in by party from: refused by the lowest number, or a step of the server whose record state holds.
 pub fn deliver(
     g: Params,
@@ -99,19 +82,13 @@ pub fn deliver(
     match opened {
         Opened::Refused(r) => Reply::Refused(r),
         Opened::Frame(header) => {
-            let c = header.client as usize;
-            let x = scope_at(state, c);
             let k = Call {
                 params: g,
                 me: me as u8,
                 from,
                 header,
             };
-            let done = step_of_kind(x, state, k, f, area, initial, out, to);
-            let reply = done.reply;
-            let after = done.scope;
-            keep(reply, after, c, state);
-            reply
+            step(k, f, area, initial, state, out, to)
         }
     }
 }

@@ -21,14 +21,14 @@ use Rattle.frame.specs.declared.Verdict.the-variants as J
 use Rattle.frame.specs.Refusals.{andThen}
 use Rattle.frame.specs.Params.{quota, Bounded}
 use Rattle.frame.specs.Messages.{Entry, Offer, send, echo, Body, getStamp, ack, askRead, readComplete}
-use Rattle.frame.specs.Messages.{stampIs, blockIs, valueIs, Message, message, sending, toAll, numberIn}
+use Rattle.frame.specs.Messages.{stampIs, blockIs, valueIs, report, Message, message, sending, toAll, numberIn}
 use Rattle.group_rules.specs.Coded.{fits, fitTest}
 use Rattle.server_rules.specs.declared.Slot.{Slot}
 use Rattle.server_rules.specs.declared.Reader.{Reader}
 use Rattle.server_rules.specs.declared.Server.{Server}
 use Rattle.server_rules.specs.Broadcast.{Rules, Part, votes, enough, due, full}
 use Rattle.server_rules.specs.Rules.{blockRules}
-use Rattle.server_rules.specs.State.{slotOf, readerOf}
+use Rattle.server_rules.specs.State.{slotOf, readerOf, reportOf}
 use Rattle.server_rules.specs.Steps as S
 use Rattle.server_rules.specs.Tests as ST
 use Rattle.server_rules.proofs.Casts.{all-mem}
@@ -111,7 +111,7 @@ module _ (H : List ℕ → List ℕ) (g : Params) (me : ℕ) (s : Server) where
       (pick-ahead (ltb q (r .sequence)) _ _ h)
 
   order-ahead : (j c q : ℕ) (b : Body) → Ahead (ST.orderTest H g me s j c q b) → slotOf s c .sequence < q
-  unfolding ST.orderTest
+  unfolding ST.orderTest ST.reportTest
   order-ahead j c q getStamp e = impossible (cc e)
   order-ahead j c q ack e = impossible (cc e)
   order-ahead j c q askRead e = absurd (read-ahead (readerOf s c) q e)
@@ -122,6 +122,7 @@ module _ (H : List ℕ → List ℕ) (g : Params) (me : ℕ) (s : Server) where
       (λ h. absurd (fit-ahead (o .entry) (ST.placeIn me z j) h))
       (then-ahead (ST.openTest (slotOf s c) q (ST.counted (slotOf s c) j (blockIs z o))) _ e)
   order-ahead j c q (valueIs x y) e = impossible (cc e)
+  order-ahead j c q (report T) e = ⊎-elim (λ k. impossible (cc (k .1))) (λ k. impossible (cc k)) (pick-ahead (ltb (reportOf s j) T) _ _ e)
 
   -- only a frame above the open write is answered 13
   pub message-ahead : (from : Party) (m : Message) → ST.messageTest H g me s from m ≡ J.Bad R.Ahead → slotOf s (m .client) .sequence < m .sequence

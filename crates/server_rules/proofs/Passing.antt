@@ -1,11 +1,11 @@
 -- What a frame that passes the tests says. Assumes nothing.
-use Prim.Native.Nat.{ℕ, _≤_}
+use Prim.Native.Nat.{ℕ, _≤_, _<_}
 use native.Mathlib.Omega.{arith}
 use mathlib.Core.Bool.{Bool, true, false}
 use mathlib.Core.Path.{_≡_, refl, ap}
 use mathlib.Core.List.{List}
 use lib.Dec.{leb, ltb}
-use borrow.Author.Tests.{ltb-false, leb-true, eqb-true}
+use borrow.Author.Tests.{ltb-true, ltb-false, leb-true, eqb-true}
 use Rattle.quorum.specs.Quorum.{Among}
 use Rattle.quorum.proofs.Logic.{impossible, and-split}
 use Rattle.area.specs.Area.{pick}
@@ -14,12 +14,12 @@ use Rattle.frame.specs.declared.Party.{Party}
 use Rattle.frame.specs.declared.Party.the-variants as P
 use Rattle.frame.specs.declared.Refusal.the-variants as R
 use Rattle.frame.specs.declared.Verdict.the-variants as J
-use Rattle.frame.specs.Messages.{Offer, Stage, send, echo, ready, Body, getStamp, ack, askRead, readComplete, stampIs, blockIs, valueIs, Message}
+use Rattle.frame.specs.Messages.{Offer, Stage, send, echo, ready, Body, getStamp, ack, askRead, readComplete, stampIs, blockIs, valueIs, report, Message}
 use Rattle.frame.specs.Messages.{fromServer, numberIn, Sized}
 use Rattle.frame.proofs.Verdicts.{fine-both, fine-is}
 use Rattle.server_rules.specs.declared.Slot.{Slot}
 use Rattle.server_rules.specs.declared.Server.{Server}
-use Rattle.server_rules.specs.State.{slotOf}
+use Rattle.server_rules.specs.State.{slotOf, reportOf}
 use Rattle.server_rules.specs.Steps as S
 use Rattle.server_rules.specs.Tests as ST
 use Rattle.server_rules.proofs.Shapes.{Counted, block}
@@ -33,6 +33,7 @@ SizedIn g readComplete = Unit {0}
 SizedIn g (stampIs T) = Unit {0}
 SizedIn g (blockIs z o) = Sized g (o .entry)
 SizedIn g (valueIs x e) = Sized g e
+SizedIn g (report T) = Unit {0}
 
 pub open-passed : (x : Slot) (q : ℕ) (again : Bool) → ST.openTest x q again ≡ J.Fine → (q ≡ x .sequence) × (again ≡ false)
 unfolding ST.openTest pick
@@ -94,3 +95,14 @@ pub counted-open : {H : List ℕ → List ℕ} {g : Params} {me : ℕ} {s : Serv
     → (q : ℕ) → ST.orderTest H g me s j c q b ≡ J.Fine → q ≡ slotOf s c .sequence
 unfolding ST.orderTest
 counted-open (block z x) q o = open-passed _ q _ (fine-both _ _ o .0) .0
+
+-- ---- a report
+
+-- it is a server's, and higher than what that server reported before
+pub report-passed : (H : List ℕ → List ℕ) (g : Params) (me : ℕ) (s : Server) (from : Party) (c q T : ℕ) → ST.senderRight g from c (report T) ≡ true
+    → ST.orderTest H g me s (numberIn from) c q (report T) ≡ J.Fine
+    → (from ≡ P.Server (numberIn from)) × Among (g .n) (numberIn from) × (reportOf s (numberIn from) < T)
+unfolding ST.senderRight ST.orderTest ST.reportTest
+report-passed H g me s from c q T h o =
+    let (e, i) = by-number g from c h in
+    (e, i, ltb-true (reportOf s (numberIn from)) T (fine-is (ltb (reportOf s (numberIn from)) T) R.Stale _ o .0))

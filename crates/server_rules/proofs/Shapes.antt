@@ -1,25 +1,29 @@
 -- The law of a server's step: what forms it can have. Who needs to know what a step does goes by these cases and never by a step's text. Assumes nothing.
-use Prim.Native.Nat.{ℕ, _<_}
-use mathlib.Core.Bool.{Bool, true, false}
-use mathlib.Core.Path.{_≡_, refl, _∙_}
+use Prim.Native.Nat.{ℕ, zero, suc, _+_, _≤_, _<_}
+use native.Mathlib.Omega.{arith}
+use native.Mathlib.Decide.{ℕ-discrete}
+use mathlib.Core.Bool.{Bool, true, false, _&&_}
+use mathlib.Core.Path.{_≡_, refl, ap, sym, _∙_, subst}
 use mathlib.Core.Option.{Option, none, some}
 use mathlib.Core.List.{List, [], _∷_}
 use lib.ListN.{length}
-use lib.Dec.{ltb}
-use borrow.Author.Tests.{ltb-true}
+use lib.Dec.{leb, ltb}
+use borrow.Author.Tests.{ltb-true, leb-true}
+use Rattle.quorum.specs.Quorum.{Among}
+use Rattle.quorum.proofs.Logic.{impossible, and-split}
 use Rattle.area.specs.Area.{pick}
 use Rattle.blocks.specs.declared.Params.{Params}
 use Rattle.frame.specs.declared.Party.{Party}
 use Rattle.frame.specs.declared.Refusal.{Refusal}
 use Rattle.frame.specs.declared.Party.the-variants as P
-use Rattle.frame.specs.Stamps.{lastTime}
-use Rattle.frame.specs.Chunks.{storeEntry, storeIf, echoAt, readyAt}
-use Rattle.frame.specs.Messages.{Entry, Offer, offer, Stage, send, echo, ready, Body, getStamp, ack, askRead, readComplete, stampIs, blockIs, valueIs}
+use Rattle.frame.specs.Stamps.{older, lastTime, lastSequence}
+use Rattle.frame.specs.Chunks.{storeEntry, storeIf, presentAt, echoAt, readyAt}
+use Rattle.frame.specs.Messages.{Entry, Offer, offer, Stage, send, echo, ready, Body, getStamp, ack, askRead, readComplete, stampIs, blockIs, valueIs, report}
 use Rattle.frame.specs.Messages.{Message, message, Sending, sending, toAll, numberIn, Judged, bad, good}
 use Rattle.frame.proofs.Chunks.{length-store}
 use Rattle.server_rules.specs.declared.Slot.{Slot}
 use Rattle.server_rules.specs.declared.Server.{Server}
-use Rattle.server_rules.specs.State.{slotOf, readerOf, withSlot, withReader, withBlocks, blockView, presentEntry, blockEcho, blockReady}
+use Rattle.server_rules.specs.State.{slotOf, readerOf, withSlot, withReader, withReport, withBlocks, blockView, presentEntry, blockEcho, blockReady}
 use Rattle.server_rules.specs.Broadcast.{due}
 use Rattle.server_rules.specs.Rules.{blockRules}
 use Rattle.server_rules.specs.Steps as S
@@ -37,41 +41,109 @@ offerOf w = offer (w .time) (w .entry)
 pub record Ripe (g : Params) (s : Server) (a : List ℕ) (w : S.Write) : Type 0 where
   pub sequence : w .sequence ≡ slotOf s (w .client) .sequence
   pub complete : blockView g a (w .client) (slotOf s (w .client)) .done ≡ some (offerOf w)
+  pub vouched : S.vouched g s (w .time) ≡ true
   pub below : w .time < lastTime
+  pub listed : w .sequence ≤ lastSequence
 
--- what a server accepts after a counted frame of client c: nothing, or a write of c
-pub data Freed (g : Params) (s : Server) (a : List ℕ) (c : ℕ) : S.Effect → Type 0 where
-  nothing : Freed g s a c (S.sendOnly s a [])
-  accepts : (w : S.Write) → w .client ≡ c → Ripe g s a w → Freed g s a c (S.accept s a w)
+-- what a server accepts in m rounds at most: nothing, or a ripe write, and then what follows
+pub data Freed (g : Params) : ℕ → Server → List ℕ → S.Effect → Type 0 where
+  nothing : {m : ℕ} {s : Server} {a : List ℕ} → Freed g m s a (S.sendOnly s a [])
+  accepts : {m : ℕ} {s : Server} {a : List ℕ} (w : S.Write) → Among 8 (w .client) → Ripe g s a w → {r : S.Effect}
+      → Freed g m (S.accept g s a w .server) (S.accept g s a w .area) r → Freed g (suc m) s a (S.andAlso (S.accept g s a w) r)
 
-module _ (g : Params) (s : Server) (a : List ℕ) (c : ℕ) where
-  free : Freed g s a c (S.free g s a c)
-  unfolding S.free S.freeBy S.ripe S.ripeBy pick
-  free = go (blockView g a c (slotOf s c) .done) refl
+module _ (g : Params) (s : Server) (a : List ℕ) where
+  -- a write that can be accepted is its client's, and ripe
+  pub ripe-some : (c : ℕ) (w : S.Write) → S.ripe g s a c ≡ some w → (w .client ≡ c) × Ripe g s a w
+  unfolding S.ripe S.ripeBy pick
+  ripe-some c w e = go (blockView g a c (slotOf s c) .done) refl e
     where
-      at : (b : Bool) (o : Offer) → blockView g a c (slotOf s c) .done ≡ some o → ltb (o .time) lastTime ≡ b
-          → Freed g s a c (S.freeBy (pick b (some (record { client = c; sequence = slotOf s c .sequence; time = o .time; entry = o .entry })) none) s a)
-      at true o p z = accepts _ refl (record { sequence = refl; complete = p; below = ltb-true (o .time) lastTime z })
-      at false o p z = nothing
+      write : Offer → S.Write
+      write o = record { client = c; sequence = slotOf s c .sequence; time = o .time; entry = o .entry }
 
-      go : (d : Option Offer) → blockView g a c (slotOf s c) .done ≡ d → Freed g s a c (S.freeBy (S.ripeBy s c (slotOf s c .sequence) d) s a)
-      go none p = nothing
-      go (some o) p = at (ltb (o .time) lastTime) o p refl
+      at : (b : Bool) (o : Offer) → blockView g a c (slotOf s c) .done ≡ some o
+          → (S.vouched g s (o .time) && (ltb (o .time) lastTime && leb (slotOf s c .sequence) lastSequence)) ≡ b
+          → pick b (some (write o)) none ≡ some w → (w .client ≡ c) × Ripe g s a w
+      at true o p z e =
+          let is : write o ≡ w = cc in
+          let h = and-split (S.vouched g s (o .time)) _ z in
+          let k = and-split (ltb (o .time) lastTime) _ (h .1) in
+          subst (λ w. (w .client ≡ c) × Ripe g s a w) is (
+            refl,
+            record {
+              sequence = refl;
+              complete = p;
+              vouched = h .0;
+              below = ltb-true (o .time) lastTime (k .0);
+              listed = leb-true (slotOf s c .sequence) lastSequence (k .1);
+            },
+          )
+      at false o p z e = impossible (cc e)
 
-  pub freed : (z : Stage) → Freed g s a c (S.freed g z s a c)
-  unfolding S.freed
-  freed send = nothing
-  freed echo = free
-  freed ready = free
+      go : (d : Option Offer) → blockView g a c (slotOf s c) .done ≡ d → S.ripeBy g s c (slotOf s c .sequence) d ≡ some w → (w .client ≡ c) × Ripe g s a w
+      go none p e = impossible (cc e)
+      go (some o) p e = at (S.vouched g s (o .time) && (ltb (o .time) lastTime && leb (slotOf s c .sequence) lastSequence)) o p refl e
+
+  -- the lowest of some clients
+  lowest-from : (c m : ℕ) (w : S.Write) → S.lowest g s a c m ≡ some w → (d : ℕ) × (c ≤ d) × (d < c + m) × (S.ripe g s a d ≡ some w)
+  unfolding S.lowest
+  lowest-from c zero w e = impossible (cc e)
+  lowest-from c (suc m) w e = go (S.ripe g s a c) refl e (lowest-from (suc c) m w)
+    where
+      go : (o : Option S.Write) → S.ripe g s a c ≡ o → S.orElse o (S.lowest g s a (suc c) m) ≡ some w
+          → (S.lowest g s a (suc c) m ≡ some w → (d : ℕ) × (suc c ≤ d) × (d < suc c + m) × (S.ripe g s a d ≡ some w))
+          → (d : ℕ) × (c ≤ d) × (d < c + suc m) × (S.ripe g s a d ≡ some w)
+      go none p e f = let (d, l, h, q) = f e in (d, omega (arith, l), omega (arith, h), q)
+      go (some x) p e f = (c, omega arith, omega arith, p ∙ e)
+
+  pub lowest-some : (w : S.Write) → S.lowest g s a 1 8 ≡ some w → Among 8 (w .client) × Ripe g s a w
+  lowest-some w e =
+      let (d, l, h, q) = lowest-from 1 8 w e in
+      let (z, R) = ripe-some d w q in
+      (subst (Among 8) (sym z) (l, omega (arith, h)), R)
+
+  none-from : (c m : ℕ) → S.lowest g s a c m ≡ none → (d : ℕ) → c ≤ d → d < c + m → S.ripe g s a d ≡ none
+  unfolding S.lowest
+  none-from c zero e d l h = absurd (omega (arith, l, h))
+  none-from c (suc m) e d l h = go (λ e l. none-from (suc c) m e d l (omega (arith, h))) (S.ripe g s a c) refl e (ℕ-discrete d c)
+    where
+      go : (S.lowest g s a (suc c) m ≡ none → suc c ≤ d → S.ripe g s a d ≡ none) → (o : Option S.Write) → S.ripe g s a c ≡ o
+          → S.orElse o (S.lowest g s a (suc c) m) ≡ none → Dec (d ≡ c) → S.ripe g s a d ≡ none
+      go f none p e (yes z) = ap (S.ripe g s a) z ∙ p
+      go f none p e (no z) = f e (omega (arith, l, z))
+      go f (some x) p e z = impossible (cc e)
+
+  pub lowest-none : S.lowest g s a 1 8 ≡ none → (c : ℕ) → Among 8 c → S.ripe g s a c ≡ none
+  lowest-none e c is = none-from 1 8 e c (is .0) (omega (arith, is .1))
+
+pub free : (g : Params) (m : ℕ) (s : Server) (a : List ℕ) → Freed g m s a (S.free g m s a)
+unfolding S.free
+free g zero s a = nothing
+free g (suc m) s a = go (λ w. free g m (S.accept g s a w .server) (S.accept g s a w .area)) (S.lowest g s a 1 8) refl
+  where
+    Rest : S.Write → Type 0
+    Rest w = Freed g m (S.accept g s a w .server) (S.accept g s a w .area) (S.free g m (S.accept g s a w .server) (S.accept g s a w .area))
+
+    go : ((w : S.Write) → Rest w) → (o : Option S.Write) → S.lowest g s a 1 8 ≡ o → Freed g (suc m) s a (elim o [
+      | some w ↦ S.andAlso (S.accept g s a w) (S.free g m (S.accept g s a w .server) (S.accept g s a w .area))
+      | none ↦ S.sendOnly s a []
+    ])
+    go f none e = nothing
+    go f (some w) e = let (i, R) = lowest-some g s a w e in accepts w i R (f w)
+
+pub freed : (g : Params) (s : Server) (a : List ℕ) (z : Stage) → Freed g S.rounds s a (S.freed g z s a)
+unfolding S.freed
+freed g s a send = nothing
+freed g s a echo = free g S.rounds s a
+freed g s a ready = free g S.rounds s a
 
 pub length-if : (t : Bool) (a : List ℕ) (p : ℕ) (e : Entry) → length (storeIf t a p e) ≡ length a
 length-if true a p e = length-store a p e
 length-if false a p e = refl
 
-pub freed-length : {g : Params} {s : Server} {a : List ℕ} {c : ℕ} {r : S.Effect} → Freed g s a c r → length (r .area) ≡ length a
+pub freed-length : {g : Params} {m : ℕ} {s : Server} {a : List ℕ} {r : S.Effect} → Freed g m s a r → length (r .area) ≡ length a
 unfolding S.accept
 freed-length nothing = refl
-freed-length (accepts w e R) = rw length-if
+freed-length (accepts {s = s} {a} w i R f) = freed-length f ∙ length-if (older (s .stamp) (S.stampOf w)) a presentAt (w .entry)
 
 -- ---- a step
 
@@ -123,14 +195,16 @@ module _ (H : List ℕ → List ℕ) (g : Params) (me : ℕ) (s : Server) (a ini
       voted-length (storeEntry a (readyAt c j) (o .entry)) (withBlocks (slotOf s c) (blockReady (slotOf s c .blocks) j (o .time))) o
       ∙ length-store a (readyAt c j) (o .entry)
 
-  -- what a step for client c's operation q does: nothing, an answer, a reader noted or ended, or a frame counted and then what is accepted
+  -- what a step for client c's operation q does: nothing, an answer, a reader noted or ended, a frame counted, or a report
+  -- kept, and then what is accepted
   pub data Shape (q : ℕ) : Body → S.Effect → Type 0 where
     idle : (b : Body) → Shape q b (S.sendOnly s a [])
     answers : Shape q getStamp (S.sendOnly s a (sending (P.Client c) (message c q (stampIs (s .stamp .time))) ∷ []))
     notes : Shape q askRead (S.sendOnly (withReader s c (record { sequence = q; listening = true; noted = s .stamp })) a
         (sending (P.Client c) (message c q (valueIs (s .stamp) (presentEntry g (s .stamp) a initial))) ∷ []))
     ends : Shape q readComplete (S.sendOnly (withReader s c (record { sequence = q; listening = false; noted = readerOf s c .noted })) a [])
-    settles : (b : Body) (p : S.Counting) → Counted b p → {r : S.Effect} → Freed g (withSlot s c (p .slot)) (p .area) c r → Shape q b (S.behind p r)
+    settles : (b : Body) (p : S.Counting) → Counted b p → {r : S.Effect} → Freed g S.rounds (withSlot s c (p .slot)) (p .area) r → Shape q b (S.behind p r)
+    hears : (T : ℕ) {r : S.Effect} → Freed g S.rounds (withReport s j T) a r → Shape q (report T) r
 
   pub step-length : {q : ℕ} {b : Body} {r : S.Effect} → Shape q b r → length (r .area) ≡ length a
   step-length (idle b) = refl
@@ -138,6 +212,7 @@ module _ (H : List ℕ → List ℕ) (g : Params) (me : ℕ) (s : Server) (a ini
   step-length notes = refl
   step-length ends = refl
   step-length (settles b p k f) = freed-length f ∙ counted-length k
+  step-length (hears T f) = freed-length f
 
   pub shape : (q : ℕ) (b : Body) → Shape q b (S.onBody H g me s a initial j c q b)
   unfolding S.onBody S.onRead S.onReadComplete S.settle
@@ -146,8 +221,9 @@ module _ (H : List ℕ → List ℕ) (g : Params) (me : ℕ) (s : Server) (a ini
   shape q askRead = notes
   shape q readComplete = ends
   shape q (stampIs T) = idle (stampIs T)
-  shape q (blockIs z o) = settles _ _ (block z o) (freed g _ _ c z)
+  shape q (blockIs z o) = settles _ _ (block z o) (freed g _ _ z)
   shape q (valueIs x e) = idle (valueIs x e)
+  shape q (report T) = hears T (free g S.rounds _ a)
 
 module _ (H : List ℕ → List ℕ) (g : Params) (me : ℕ) (s : Server) (a initial : List ℕ) (from : Party) where
   -- the same of a message

@@ -1,9 +1,9 @@
 -- What a step says: the word of a counted frame goes to all, and answers, values and acks to clients. Assumes nothing.
-use Prim.Native.Nat.{ℕ, _+_, _≤_}
+use Prim.Native.Nat.{ℕ, _+_, _*_, _≤_}
 use native.Mathlib.Omega.{arith}
 use mathlib.Core.Bool.{Bool, true, false}
 use mathlib.Core.Path.{_≡_, sym, subst}
-use mathlib.Core.Logic.{_⊎_, ⊎-elim}
+use mathlib.Core.Logic.{⊎-elim}
 use mathlib.Core.List.{List, [], List·Memᴰ, List·Memᴰ·not-nil, List·Memᴰ·append-cases, Memᴰ·append-left, List·Memᴰ·eq-of-singleton}
 use lib.ListN.{length, length-append}
 use Rattle.quorum.specs.Quorum.{Among}
@@ -16,17 +16,21 @@ use Rattle.server_rules.specs.declared.Server.{Server}
 use Rattle.server_rules.specs.State.{slotOf}
 use Rattle.server_rules.specs.Steps as S
 use Rattle.server_rules.proofs.Casts.{IsCast, all-mem, all-length}
+use Rattle.server_rules.proofs.Accepting.{Says}
+use Rattle.server_rules.proofs.Accepting as Y
 use Rattle.server_rules.proofs.Counting.{said}
 use Rattle.server_rules.proofs.Freeing.{freed-mem, freed-few}
-use Rattle.server_rules.proofs.Shapes.{Freed, Counted, Casts, counted-casts, Shape, idle, answers, notes, ends, settles}
+use Rattle.server_rules.proofs.Shapes.{Freed, Counted, Casts, counted-casts, Shape, idle, answers, notes, ends, settles, hears}
 
--- an acceptance sends no frame of a broadcast
-pub freed-none : {g : Params} {s : Server} {a : List ℕ} {c : ℕ} {r : S.Effect} → Freed g s a c r → (y : Sending) → List·Memᴰ y (r .sends)
+-- what an acceptance sends is none
+says-none : {g : Params} {s : Server} {w : S.Write} {y : Sending} → Says g s w y → IsCast (y .says .body) → ⊥
+says-none (Y.told d i t) h = subst (λ y. IsCast (y .says .body)) (t .is) h
+says-none (Y.acked e) h = subst (λ y. IsCast (y .says .body)) e h
+says-none (Y.reports e t) h = subst (λ m. IsCast (m .body)) e h
+
+pub freed-none : {g : Params} {m : ℕ} {s : Server} {a : List ℕ} {r : S.Effect} → Freed g m s a r → (y : Sending) → List·Memᴰ y (r .sends)
     → IsCast (y .says .body) → ⊥
-freed-none f y u h = ⊎-elim
-    (λ (d, l, m, t). subst (λ y. IsCast (y .says .body)) (t .is) h)
-    (λ e. subst (λ y. IsCast (y .says .body)) e h)
-    (freed-mem f y u .2)
+freed-none f y u h = says-none (freed-mem f y u .2) h
 
 module _ (H : List ℕ → List ℕ) (g : Params) (me : ℕ) (s : Server) (a initial : List ℕ) (j c : ℕ) where
   pub casts-few : {l : List Sending} → Casts H g me s a initial j c l → length l ≤ g .n
@@ -68,9 +72,10 @@ module _ (H : List ℕ → List ℕ) (g : Params) (me : ℕ) (s : Server) (a ini
       (λ v. Memᴰ·append-left (r .sends) (counted-all k to m v i is))
       (λ v. absurd (freed-none f _ v h))
       (List·Memᴰ·append-cases (p .sends) u)
+  step-all q (hears T f) to m h u = absurd (freed-none f _ u h)
 
-  -- "frames out need n + 9 largest frames (server)"
-  pub step-few : (q : ℕ) {b : Body} {r : S.Effect} → Shape H g me s a initial j c q b r → length (r .sends) ≤ g .n + 9
+  -- "A server's out area must now hold 9n + 136 largest frames"
+  pub step-few : (q : ℕ) {b : Body} {r : S.Effect} → Shape H g me s a initial j c q b r → length (r .sends) ≤ 9 * g .n + 136
   step-few q (idle b) = omega arith
   step-few q answers = omega arith
   step-few q notes = omega arith
@@ -78,3 +83,4 @@ module _ (H : List ℕ → List ℕ) (g : Params) (me : ℕ) (s : Server) (a ini
   step-few q (settles b p k {r} f) =
       let l = length-append (p .sends) (r .sends) in
       omega (arith, l, casts-few (counted-casts H g me s a initial j c k), freed-few f)
+  step-few q (hears T f) = let l = freed-few f in omega (arith, l)

@@ -31,7 +31,7 @@ use Rattle.server_rules.specs.WellFormed.{Bounds, Within}
 use Rattle.server_rules.specs.Steps as S
 use Rattle.server_rules.specs.Delivery as SD
 use Rattle.server_rules.proofs.Shapes.{Delivery, refused, taken, shape-delivered}
-use Rattle.server_rules.proofs.Passing.{SizedIn, test-split}
+use Rattle.server_rules.proofs.Passing.{SizedIn}
 use Rattle.server_rules.proofs.Within.{Grants, step-within}
 
 -- ---- opening
@@ -56,7 +56,8 @@ body-sized g f k l =
     (λ u. by-pick (SizedIn g) (eqb k 9) _ _ (λ q. tt)
     (λ u. by-pick (SizedIn g) (eqb k 10) _ _ (λ q. tt)
     (λ u. by-pick (SizedIn g) (eqb k 11) _ _ (λ q. entry-in g f valueAt (let h = long g f k 11 (13 + (listed g + width g)) l refl q in omega (arith, h)))
-    (λ u. tt))))))))
+    (λ u. by-pick (SizedIn g) (eqb k 12) _ _ (λ q. tt)
+    (λ u. tt)))))))))
   where
     offered : (k′ : ℕ) → bodyLength g k′ ≡ 8 + (listed g + width g) → eqb k k′ ≡ true → Sized g (entryIn g f offerAt)
     offered k′ e q = entry-in g f offerAt (let h = long g f k k′ (8 + (listed g + width g)) l e q in omega (arith, h))
@@ -116,4 +117,4 @@ module _ (H : List ℕ → List ℕ) (g : Params) (me : ℕ) where
       go j q (refused x e) = W
       go j q (taken m e x) =
           let T = took s a initial from f out to m (q ∙ e) in
-          step-within B H g me s a initial (numberIn from) (m .client) (m .sequence) W (T .client .1) x (test-split H g me s from m (T .passes) .1) (G m T)
+          step-within B H g me s a initial (numberIn from) (m .client) (m .sequence) W (T .client .1) x (G m T)

@@ -2,26 +2,25 @@
 use Prim.Native.Nat.{ℕ, zero, suc, _+_, _≤_, _<_}
 use native.Mathlib.Omega.{arith}
 use mathlib.Core.Bool.{Bool, true, false}
-use mathlib.Core.Path.{_≡_, refl, ap, sym, _∙_}
-use mathlib.Core.List.{List, [], _∷_}
+use mathlib.Core.Path.{_≡_, refl, sym, _∙_, subst}
+use mathlib.Core.Logic.{⊎-elim}
+use mathlib.Core.List.{List, [], _∷_, List·Memᴰ, List·Memᴰ·not-nil, List·Memᴰ·cases-cons}
 use lib.ListN.{length, getD, set, replicate, length-set}
 use lib.Seq.{getD-set-same}
+use Rattle.quorum.specs.Quorum.{Among}
 use Rattle.area.specs.Area.{pick}
 use Rattle.blocks.specs.declared.Params.{Params}
-use Rattle.frame.specs.declared.Verdict.the-variants as J
-use Rattle.frame.specs.Stamps.{older, zeroStamp, lastTime}
-use Rattle.frame.specs.Messages.{Offer, send, echo, ready, Body, getStamp, ack, askRead, readComplete, stampIs, blockIs, valueIs}
+use Rattle.frame.specs.Stamps.{older, zeroStamp, lastTime, lastSequence}
+use Rattle.frame.specs.Messages.{Offer, send, echo, ready, Body, getStamp, ack, askRead, readComplete, stampIs, blockIs, valueIs, report}
 use Rattle.server_rules.specs.declared.BlockPart.{BlockPart}
 use Rattle.server_rules.specs.declared.Slot.{Slot}
 use Rattle.server_rules.specs.declared.Reader.{Reader}
 use Rattle.server_rules.specs.declared.Server.{Server}
 use Rattle.server_rules.specs.State.{freshBlocks, freshSlot, freshReader, freshServer, noSlot, noReader, slotOf, readerOf}
-use Rattle.server_rules.specs.State.{withSlot, withReader, withBlocks, blockEcho, blockReady}
+use Rattle.server_rules.specs.State.{withSlot, withReader, withReport, withBlocks, blockEcho, blockReady}
 use Rattle.server_rules.specs.WellFormed.{Every, Array, Bounds, SlotWithin, Within}
 use Rattle.server_rules.specs.Steps as S
-use Rattle.server_rules.specs.Tests as ST
-use Rattle.server_rules.proofs.Shapes.{Ripe, Freed, nothing, accepts, Counted, block, counted-sequence, Shape, idle, answers, notes, ends, settles}
-use Rattle.server_rules.proofs.Passing.{counted-open}
+use Rattle.server_rules.proofs.Shapes.{Ripe, Freed, nothing, accepts, Counted, block, Shape, idle, answers, notes, ends, settles, hears}
 
 -- ---- arrays, and one of two
 
@@ -60,6 +59,7 @@ module _ (B : Bounds) where
   TimeIn (stampIs T) = Unit {0}
   TimeIn (blockIs z o) = B .time (o .time)
   TimeIn (valueIs x e) = Unit {0}
+  TimeIn (report T) = B .time T
 
   -- nothing has come
   pub record Empty : Type 0 where
@@ -80,6 +80,7 @@ module _ (B : Bounds) where
     stamp = x;
     slots = (refl, every-replicate (SlotWithin B) 9 (freshSlot 1) (fresh-within E 1 h));
     readers = (refl, every-replicate (B .reader) 9 freshReader r);
+    reports = (refl, every-replicate (B .time) 11 0 (E .time));
   }
 
   module _ {s : Server} (W : Within B s) (c : ℕ) where
@@ -90,10 +91,14 @@ module _ (B : Bounds) where
     reader-within h = getD-every (B .reader) (s .readers) c noReader (W .readers .1) (omega (arith, W .readers .0))
 
     pub with-slot : (x : Slot) → SlotWithin B x → Within B (withSlot s c x)
-    with-slot x y = record { stamp = W .stamp; slots = array-set (SlotWithin B) 9 (s .slots) c x (W .slots) y; readers = W .readers }
+    with-slot x y = record { stamp = W .stamp; slots = array-set (SlotWithin B) 9 (s .slots) c x (W .slots) y; readers = W .readers; reports = W .reports }
 
     with-reader : (x : Reader) → B .reader x → Within B (withReader s c x)
-    with-reader x y = record { stamp = W .stamp; slots = W .slots; readers = array-set (B .reader) 9 (s .readers) c x (W .readers) y }
+    with-reader x y = record { stamp = W .stamp; slots = W .slots; readers = array-set (B .reader) 9 (s .readers) c x (W .readers) y; reports = W .reports }
+
+    pub with-report : (T : ℕ) → B .time T → Within B (withReport s c T)
+    with-report T h =
+        record { stamp = W .stamp; slots = W .slots; readers = W .readers; reports = array-set (B .time) 11 (s .reports) c T (W .reports) h }
 
     pub this-slot : c ≤ 8 → (x : Slot) → slotOf (withSlot s c x) c ≡ x
     this-slot h x = getD-set-same (s .slots) c x noSlot (omega (arith, W .slots .0))
@@ -155,16 +160,35 @@ module _ (B : Bounds) where
   abbrev pub Leaves : S.Write → Type 0
   Leaves w = B .stamp (S.stampOf w) × B .sequence (w .sequence + 1)
 
-  freed-within : Empty → {g : Params} {s : Server} {a : List ℕ} {c : ℕ} {r : S.Effect} → Freed g s a c r → Within B s
-      → ((w : S.Write) → w .client ≡ c → Ripe g s a w → Leaves w) → Within B (r .server)
+  -- what the bounds have to grant to acceptances
+  abbrev pub Granted : Type 0
+  Granted = (w : S.Write) → Among 8 (w .client) → B .sequence (w .sequence) → w .sequence ≤ lastSequence → w .time < lastTime → Leaves w
+
+  pub accept-within : Empty → (g : Params) (s : Server) (a : List ℕ) (w : S.Write) → Among 8 (w .client) → Leaves w → Within B s
+      → Within B (S.accept g s a w .server)
   unfolding S.accept
-  freed-within E nothing W f = W
-  freed-within E {g} {s} (accepts w e R) W f =
-      let (x, q) = f w e R in record {
-        stamp = either (B .stamp) (older (s .stamp) (S.stampOf w)) (S.stampOf w) (s .stamp) x (W .stamp);
-        slots = array-set (SlotWithin B) 9 (s .slots) (w .client) _ (W .slots) (fresh-within E (w .sequence + 1) q);
-        readers = W .readers;
-      }
+  accept-within E g s a w i (x, q) W = record {
+    stamp = either (B .stamp) (older (s .stamp) (S.stampOf w)) (S.stampOf w) (s .stamp) x (W .stamp);
+    slots = array-set (SlotWithin B) 9 (s .slots) (w .client) _ (W .slots) (fresh-within E (w .sequence + 1) q);
+    readers = W .readers;
+    reports = W .reports;
+  }
+
+  -- an accepted write leaves what is granted
+  ripe-leaves : Granted → {g : Params} {s : Server} {a : List ℕ} {w : S.Write} → Among 8 (w .client) → Ripe g s a w → Within B s → Leaves w
+  ripe-leaves G {w = w} i R W = G w i (subst (B .sequence) (sym (R .sequence)) (slot-within W (w .client) (i .1) .sequence)) (R .listed) (R .below)
+
+  pub freed-within : Empty → Granted → {g : Params} {m : ℕ} {s : Server} {a : List ℕ} {r : S.Effect} → Freed g m s a r → Within B s
+      → Within B (r .server) × ((w : S.Write) → List·Memᴰ w (r .accepted) → B .sequence (w .sequence))
+  unfolding S.accept
+  freed-within E G nothing W = (W, λ w u. absurd (List·Memᴰ·not-nil u))
+  freed-within E G {g} (accepts {s = s} {a} w i R f) W =
+      let (X, h) = freed-within E G f (accept-within E g s a w i (ripe-leaves G i R W) W) in (
+        X,
+        λ x u. ⊎-elim
+            (λ e. subst (λ w. B .sequence (w .sequence)) (sym e) (subst (B .sequence) (sym (R .sequence)) (slot-within W (w .client) (i .1) .sequence)))
+            (h x) (List·Memᴰ·cases-cons u),
+      )
 
   module _ (H : List ℕ → List ℕ) (g : Params) (me : ℕ) (s : Server) (a initial : List ℕ) (j c q : ℕ) where
     -- what the bounds have to grant to a step from party j, for client c's operation q
@@ -173,17 +197,15 @@ module _ (B : Bounds) where
       pub counts : {p : S.Counting} → Counted H g me s a initial j c b p → ((l : List Bool) → B .flags l → B .flags (set l j true)) × TimeIn b
       pub noted : B .stamp (s .stamp) → B .reader (record { sequence = q; listening = true; noted = s .stamp })
       pub ended : B .reader (readerOf s c) → B .reader (record { sequence = q; listening = false; noted = readerOf s c .noted })
-      pub leaves : (w : S.Write) → w .client ≡ c → w .sequence ≡ q → w .time < lastTime → Leaves w
+      pub reported : (T : ℕ) → b ≡ report T → B .time T
+      pub leaves : Granted
 
-    pub step-within : Within B s → c ≤ 8 → {b : Body} {r : S.Effect} → Shape H g me s a initial j c q b r → ST.orderTest H g me s j c q b ≡ J.Fine → Grants b
-        → Within B (r .server)
-    step-within W few (idle b) o G = W
-    step-within W few answers o G = W
-    step-within W few notes o G = with-reader W c _ (G .noted (W .stamp))
-    step-within W few ends o G = with-reader W c _ (G .ended (reader-within W c few))
-    step-within W few (settles b p k f) o G =
-        freed-within (G .empty) f (with-slot W c (p .slot) (counted-within H g me s a initial j c (G .counts k .0) (slot-within W c few) k (G .counts k .1)))
-        (λ w e R. G .leaves w e
-        (R .sequence ∙ ap (λ d. slotOf (withSlot s c (p .slot)) d .sequence) e ∙ ap (λ x. x .sequence) (this-slot W c few (p .slot))
-        ∙ counted-sequence H g me s a initial j c k ∙ sym (counted-open k q o))
-        (R .below))
+    pub step-within : Within B s → c ≤ 8 → {b : Body} {r : S.Effect} → Shape H g me s a initial j c q b r → Grants b → Within B (r .server)
+    step-within W few (idle b) G = W
+    step-within W few answers G = W
+    step-within W few notes G = with-reader W c _ (G .noted (W .stamp))
+    step-within W few ends G = with-reader W c _ (G .ended (reader-within W c few))
+    step-within W few (settles b p k f) G =
+        freed-within (G .empty) (G .leaves) f
+        (with-slot W c (p .slot) (counted-within H g me s a initial j c (G .counts k .0) (slot-within W c few) k (G .counts k .1))) .0
+    step-within W few (hears T f) G = freed-within (G .empty) (G .leaves) f (with-report W j T (G .reported T refl)) .0

@@ -1,5 +1,5 @@
--- One client's part of a server: the stamp, and that client's slot and reader. A step whose frame names the client changes nothing else; the exported call
--- reads and writes these bytes of a record alone. These are definitions.
+-- One client's part of a server: the stamp, and that client's slot and reader. The frame's own part of a step changes nothing else, unless it is a report; nor
+-- does an acceptance of that client's write. These are definitions.
 use Prim.Native.Nat.{ℕ}
 use lib.ListN.{set}
 use Rattle.server_rules.specs.declared.Server.{Server}
@@ -11,4 +11,4 @@ scopeOf s c = record { stamp = s .stamp; slot = slotOf s c; reader = readerOf s 
 
 -- the server with client c's scope put back
 abbrev pub withScope : Server → ℕ → Scope → Server
-withScope s c x = record { stamp = x .stamp; slots = set (s .slots) c (x .slot); readers = set (s .readers) c (x .reader) }
+withScope s c x = record { stamp = x .stamp; slots = set (s .slots) c (x .slot); readers = set (s .readers) c (x .reader); reports = s .reports }

@@ -38,9 +38,9 @@ freshSlot q = record { sequence = q; blocks = freshBlocks }
 unfoldable pub freshReader : Reader
 freshReader = record { sequence = 0; listening = false; noted = zeroStamp }
 
--- "A fresh server holds stamp 0, client 0 and sequence 0", and every client's write 1 is open
+-- "A fresh server holds stamp 0, client 0 and sequence 0", and every client's write 1 is open; nothing is reported
 unfoldable pub freshServer : Server
-freshServer = record { stamp = zeroStamp; slots = replicate 9 (freshSlot 1); readers = replicate 9 freshReader }
+freshServer = record { stamp = zeroStamp; slots = replicate 9 (freshSlot 1); readers = replicate 9 freshReader; reports = replicate 11 0 }
 
 -- ---- what client c has in the arrays, and the arrays with one place changed
 
@@ -64,10 +64,17 @@ abbrev pub readerOf : Server → ℕ → Reader
 readerOf s c = readerAt (s .readers) c
 
 abbrev pub withSlot : Server → ℕ → Slot → Server
-withSlot s c x = record { stamp = s .stamp; slots = set (s .slots) c x; readers = s .readers }
+withSlot s c x = record { stamp = s .stamp; slots = set (s .slots) c x; readers = s .readers; reports = s .reports }
 
 abbrev pub withReader : Server → ℕ → Reader → Server
-withReader s c x = record { stamp = s .stamp; slots = s .slots; readers = set (s .readers) c x }
+withReader s c x = record { stamp = s .stamp; slots = s .slots; readers = set (s .readers) c x; reports = s .reports }
+
+-- the highest time that server j reported, and the server with it
+abbrev pub reportOf : Server → ℕ → ℕ
+reportOf s j = getD (s .reports) j 0
+
+abbrev pub withReport : Server → ℕ → ℕ → Server
+withReport s j T = record { stamp = s .stamp; slots = s .slots; readers = s .readers; reports = set (s .reports) j T }
 
 abbrev pub withBlocks : Slot → BlockPart → Slot
 withBlocks x b = record { sequence = x .sequence; blocks = b }

@@ -15,7 +15,7 @@ use Rattle.frame.specs.declared.Verdict.the-variants as J
 use Rattle.frame.specs.declared.Opened.the-variants as O
 use Rattle.frame.specs.Refusals.{andThen, refused}
 use Rattle.frame.specs.Params.{width, serverFrames, outRoom, toRoom, paramsTest}
-use Rattle.frame.specs.Messages.{Offer, Stage, send, echo, ready, Body, getStamp, ack, askRead, readComplete, stampIs, blockIs, valueIs, Message}
+use Rattle.frame.specs.Messages.{Offer, Stage, send, echo, ready, Body, getStamp, ack, askRead, readComplete, stampIs, blockIs, valueIs, report, Message}
 use Rattle.frame.specs.Messages.{numberIn, fromServer, Judged, bad, judgedBy, after}
 use Rattle.frame.specs.Frames.{opened, messageIn}
 use Rattle.frame.specs.Chunks.{areaBytes}
@@ -23,9 +23,9 @@ use Rattle.group_rules.specs.Coded.{fitTest}
 use Rattle.server_rules.specs.declared.Slot.{Slot}
 use Rattle.server_rules.specs.declared.Reader.{Reader}
 use Rattle.server_rules.specs.declared.Server.{Server}
-use Rattle.server_rules.specs.State.{slotOf, readerOf}
+use Rattle.server_rules.specs.State.{slotOf, readerOf, reportOf}
 
--- refusal 10, of the lengths of the lent areas: "frames out need n + 9 largest frames (server) ..; others their full content"
+-- refusal 10, of the lengths of the lent areas: "A server's out area must now hold 9n + 136 largest frames" (request F-9); "others their full content"
 unfoldable pub roomTest : Params → ℕ → ℕ → ℕ → ℕ → Verdict
 roomTest g area initial out to =
     pick (ltb area areaBytes) (refused 10)
@@ -40,7 +40,7 @@ abbrev pub fromOwner : Party → ℕ → Bool
 fromOwner (P.Client d) c = eqb d c
 fromOwner (P.Server j) c = false
 
--- kinds 1, 3, 10, 12 come from the owner c, 4, 5 from a server, and 2, 9, 11 do not go to servers
+-- kinds 1, 3, 10, 12 come from the owner c, 4, 5, 13 from a server, and 2, 9, 11 do not go to servers
 unfoldable pub senderRight : Params → Party → ℕ → Body → Bool
 senderRight g from c getStamp = fromOwner from c
 senderRight g from c ack = false
@@ -51,6 +51,7 @@ senderRight g from c (blockIs send o) = fromOwner from c
 senderRight g from c (blockIs echo o) = fromServer g from
 senderRight g from c (blockIs ready o) = fromServer g from
 senderRight g from c (valueIs s e) = false
+senderRight g from c (report T) = fromServer g from
 
 -- ---- refusals 12 and 13
 
@@ -65,6 +66,7 @@ counted x j (blockIs send o) = x .blocks .sent
 counted x j (blockIs echo o) = getD (x .blocks .echoes) j false
 counted x j (blockIs ready o) = getD (x .blocks .readies) j false
 counted x j (valueIs s e) = false
+counted x j (report T) = false
 
 -- of a frame of the write q: 12 where it is old or counted again, 13 where it is "above the open sequence; offer again"
 unfoldable pub openTest : Slot → ℕ → Bool → Verdict
@@ -84,6 +86,10 @@ doneTest r q =
     pick (ltb q (r .sequence)) (refused 12)
     (pick (eqb q (r .sequence) && not (r .listening)) (refused 12)
     J.Fine)
+
+-- "A kind 13 that isn't higher is 12": r is the highest report of its sender
+unfoldable pub reportTest : ℕ → ℕ → Verdict
+reportTest r T = pick (ltb r T) J.Fine (refused 12)
 
 -- ---- refusals 12 to 14
 
@@ -107,6 +113,7 @@ module _ (H : List ℕ → List ℕ) (g : Params) (me : ℕ) where
   orderTest s j c q (stampIs T) = J.Fine
   orderTest s j c q (blockIs z o) = blockTest (slotOf s c) j q z o
   orderTest s j c q (valueIs x e) = J.Fine
+  orderTest s j c q (report T) = reportTest (reportOf s j) T
 
   -- refusals 11 to 14
   unfoldable pub messageTest : Server → Party → Message → Verdict

@@ -42,3 +42,4 @@ pub record Within (B : Bounds) (s : Server) : Type 0 where
   pub stamp : B .stamp (s .stamp)
   pub slots : Array 9 (SlotWithin B) (s .slots)
   pub readers : Array 9 (B .reader) (s .readers)
+  pub reports : Array 11 (B .time) (s .reports)

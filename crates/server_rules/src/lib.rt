@@ -36,10 +36,12 @@ pub struct Reader {
     pub noted: Stamp,
 }
 
+// The stamp, the clients' slots and readers, and the highest time that each server reported.
 pub struct Server {
     pub stamp: Stamp,
     pub slots: [Slot; Server::PLACES],
     pub readers: [Reader; Server::PLACES],
+    pub reports: [u64; 11],
 }
 
 impl Server {
@@ -63,11 +65,12 @@ impl Server {
             stamp,
             slots,
             readers,
+            reports: [0; 11],
         }
     }
 }
 
-// What a step for one client may change of a server: the stamp, and that client's slot and reader.
+// What a frame of one client may change of a server, and then each acceptance of that client's write: the stamp, and that client's slot and reader.
 pub struct Scope {
     pub stamp: Stamp,
     pub slot: Slot,

@@ -24,21 +24,22 @@ use Rattle.frame.proofs.Verdicts.{fine-both}
 use Rattle.server_rules.specs.declared.Server.{Server}
 use Rattle.server_rules.specs.Broadcast.{Rules, Part}
 use Rattle.server_rules.specs.Rules.{blockRules}
-use Rattle.server_rules.specs.State.{freshSlot, noSlot, slotOf, withSlot, blockView}
+use Rattle.server_rules.specs.State.{freshSlot, noSlot, slotOf, withSlot, withReport, blockView}
 use Rattle.server_rules.specs.Steps as S
 use Rattle.server_rules.specs.Tests as ST
 use Rattle.server_rules.proofs.Parts.{noPart, Says}
 use Rattle.server_rules.proofs.Views.{Shaped, shapes, fresh-block-view}
 use Rattle.server_rules.proofs.Thresholds.{agreed, blocks-sane}
-use Rattle.server_rules.proofs.Shapes.{offerOf, Freed, Counted, counted-sequence, Shape, idle, answers, notes, ends, settles, shape-of}
+use Rattle.server_rules.proofs.Shapes.{offerOf, Freed, Counted, counted-sequence, Shape, idle, answers, notes, ends, settles, hears, shape-of}
 use Rattle.server_rules.proofs.Passing.{SizedIn, block-sender, open-passed, test-split, counted-from, counted-open}
 use Rattle.server_rules.proofs.Within.{slot-within, this-slot}
-use Rattle.server_rules.proofs.Counting.{Hears, hears, counted-others}
+use Rattle.server_rules.proofs.Counting.{Hears, counted-others}
+use Rattle.server_rules.proofs.Counting.{hears as hears-frame}
 use Rattle.server_rules.proofs.Freeing.{freed-ripe, freed-slots, freed-blocks}
 use Rattle.server_rules.proofs.Casts.{IsCast}
 use Rattle.server_rules.proofs.Speaking.{freed-none}
 use Rattle.steps.proofs.PartFacts.{Heard, PartFacts, rest-facts, Brings, count-facts}
-use Rattle.steps.proofs.ServerFits.{ServerShape, counted-shape}
+use Rattle.steps.proofs.ServerFits.{ServerShape, counted-shape, report-shape}
 
 -- client c's part
 abbrev pub partAt : Params → Server → List ℕ → ℕ → Part Offer
@@ -167,6 +168,36 @@ module _ (H : List ℕ → List ℕ) (g : Params) where
         })
         (λ d i. rest-facts rules (g .n) (g .t) agreed _ _ _ _ _ (λ z p u. u))
 
+  -- ---- what is accepted
+
+  module _ (L : Bounded g) {s : Server} {a : List ℕ} {r : S.Effect} (f : Freed g 8 s a r) (F : ServerShape s a) where
+    freed-stays : (d : ℕ) → Stays s (partAt g s a) r d
+    freed-stays d = ⊎-elim
+        (λ e. inl (
+          ap (λ x. x .sequence) e,
+          λ i. ap (blockView g (r .area) d) e ∙ freed-blocks (small g L) f (F .room) d i (slotOf s d) (slot-within shapes (F .within) d (i .1)),
+        ))
+        (λ (k, u, e, z). inr (
+          ap (λ x. x .sequence) z ∙ fresh-sequence _,
+          ap (blockView g (r .area) d) z ∙ fresh-block-view g (r .area) d _,
+          k,
+          u,
+          e,
+        ))
+        (freed-slots (small g L) f (F .within) (F .room) d)
+
+    freed-took : (k : S.Write) → List·Memᴰ k (r .accepted) → Took s (partAt g s a) k
+    freed-took k u = let (i, R) = freed-ripe (small g L) f (F .within) (F .room) k u in (i, R .sequence, R .complete)
+
+  -- a report: all parts stay, but for those accepted
+  pub report-slots : Bounded g → (s : Server) (a : List ℕ) → ServerShape s a → (j T : ℕ) {r : S.Effect} → Freed g 8 (withReport s j T) a r
+      → SlotFacts s a (partAt g s a) (λ d z o. ⊥) r
+  report-slots L s a F j T f = record {
+    this = freed-stays L f (report-shape s a F j T);
+    says = λ b d q z o u. absurd (freed-none f _ u tt);
+    took = freed-took L f (report-shape s a F j T);
+  }
+
   -- ---- a step
 
   module _ (L : Bounded g) (me : ℕ) (s : Server) (a initial : List ℕ) (F : ServerShape s a) (from : Party) (c q : ℕ) (is : Among 8 c)
@@ -190,7 +221,7 @@ module _ (H : List ℕ → List ℕ) (g : Params) where
     brings echo x e n = (block-sender g from c echo x (subst (λ b. ST.senderRight g from c b ≡ true) e right) .0, λ i. message c (n i) (e i))
     brings ready x e n = (block-sender g from c ready x (subst (λ b. ST.senderRight g from c b ≡ true) e right) .0, λ i. message c (n i) (e i))
 
-    module _ {p : S.Counting} (k : Counted H g me s a initial j c b p) {r : S.Effect} (f : Freed g (withSlot s c (p .slot)) (p .area) c r) where
+    module _ {p : S.Counting} (k : Counted H g me s a initial j c b p) {r : S.Effect} (f : Freed g 8 (withSlot s c (p .slot)) (p .area) r) where
       abbrev s₁ : Server
       s₁ = withSlot s c (p .slot)
 
@@ -223,24 +254,14 @@ module _ (H : List ℕ → List ℕ) (g : Params) where
         there = λ d i ne. ap (blockView g (p .area) d) (slot-there d ne)
             ∙ counted-others H g L me s a initial (F .room) j at c is X k Q d i ne (slotOf s d) (slot-within shapes (F .within) d (i .1));
         stays = λ d. ⊎-elim
-            (λ e. inl (
-              ap (λ x. x .sequence) e ∙ same-sequence d,
-              λ i. ap (blockView g (r .area) d) e
-                  ∙ freed-blocks (small g L) (shape .room) is f d i (slotOf s₁ d) (slot-within shapes (shape .within) d (i .1)),
-            ))
-            (λ (k, u, e, z). inr (
-              ap (λ x. x .sequence) z ∙ fresh-sequence _ ∙ ap (λ n. n + 1) (same-sequence d),
-              ap (blockView g (r .area) d) z ∙ fresh-block-view g (r .area) d _,
-              k,
-              u,
-              e,
-            ))
-            (freed-slots (shape .within) is f d);
-        took = λ k u. let (i, R) = freed-ripe is f k u in (i, R .sequence ∙ same-sequence (k .client), R .complete);
+            (λ (e, h). inl (e ∙ same-sequence d, h))
+            (λ t. inr (t .0 ∙ ap (λ n. n + 1) (same-sequence d), t .1, t .2, t .3, t .4))
+            (freed-stays L f shape d);
+        took = λ k u. let (i, e, h) = freed-took L f shape k u in (i, e ∙ same-sequence (k .client), h);
       }
 
       abbrev heard : Hears H g me j c (slotOf s c .sequence) b (p .sends) (partAt g s a c) (blockView g (p .area) c (p .slot))
-      heard = hears H g L me s a initial (F .room) j at c is X k Q
+      heard = hears-frame H g L me s a initial (F .room) j at c is X k Q
 
       abbrev Said : ℕ → Stage → Offer → Type 0
       Said d z y = (d ≡ c) × Says rules (g .n) (g .t) me (partAt g s a c) j (heard .z) (heard .o) z y
@@ -289,3 +310,5 @@ module _ (H : List ℕ → List ℕ) (g : Params) where
       go notes Q h o = idle-facts s a from _ _ refl refl (λ to d n z y u. no-cast to _ _ d n _ _ z y (λ v. v) u) refl
       go ends Q h o = idle-facts s a from _ _ refl refl (λ to d n z y u. List·Memᴰ·not-nil u) refl
       go (settles b p k f) Q h o = settled L me s a initial F from (m .client) (m .sequence) is b Q h o k f
+      go (hears T f) Q h o = facts-of s a from _ (partAt g s a) (λ d z o. ⊥) _ (report-slots L s a F (numberIn from) T f)
+          (λ d i. rest-facts rules (g .n) (g .t) agreed _ _ _ _ _ (λ z p u. u))

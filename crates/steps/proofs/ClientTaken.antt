@@ -3,7 +3,7 @@ use Prim.Native.Nat.{ℕ, _+_, _≤_, _<_}
 use native.Mathlib.Omega.{arith}
 use native.Mathlib.Nat.{mul-comm}
 use mathlib.Core.Bool.{Bool, true, false, _&&_}
-use mathlib.Core.Path.{_≡_, refl, _∙_, subst}
+use mathlib.Core.Path.{_≡_, refl, ap, sym, _∙_, subst}
 use mathlib.Core.List.{List, [], List·Memᴰ·not-nil}
 use lib.ListN.{length}
 use lib.Dec.{eqb}
@@ -39,7 +39,8 @@ use Rattle.client_rules.specs.Beginning as CB
 use Rattle.client_rules.specs.Delivery as CD
 use Rattle.client_rules.specs.State as CS
 use Rattle.client_rules.specs.Steps as C
-use Rattle.client_rules.proofs.Shapes.{Keeps, drops, keeps, Shape, idle, hears, shuts, counts, ends, waits, completes, shape-of}
+use Rattle.client_rules.proofs.Shapes.{Keeps, drops, keeps, Learns, replies, reports, learns-writes, Shape, idle, notes, hears, shuts, counts, ends, waits}
+use Rattle.client_rules.proofs.Shapes.{completes, shape-of}
 use Rattle.client_rules.proofs.Shapes.{sends as disperses}
 use Rattle.client_rules.specs.Tests as CT
 pub use Rattle.client_rules.proofs.CallFacts.{awaited-true}
@@ -54,6 +55,11 @@ by-fine (J.Bad r) n m e = impossible (cc)
 pub after-fine : (v : Verdict) (j : Judged) (m : Message) → after v j ≡ good m → j ≡ good m
 after-fine J.Fine j m e = e
 after-fine (J.Bad r) j m e = impossible (cc)
+
+-- the number of a write that awaits stamps can be said in a frame, whatever frame comes
+pub record Numbered (s : Client) : Type 0 where
+  pub low : CS.asking (s .phase) ≡ true → 1 ≤ s .writes
+  pub high : s .writes < 4294967296
 
 module _ (H : List ℕ → List ℕ) (g : Params) (me : ℕ) where
   pub record Taken (s : Client) (v : List ℕ) (from : Party) (f : List ℕ) (m : Message) : Type 0 where
@@ -135,19 +141,19 @@ module _ (H : List ℕ → List ℕ) (g : Params) (me : ℕ) where
   pub record Passed (s : Client) (from : Party) (m : Message) : Type 0 where
     pub server : fromServer g from ≡ true
     pub answers : CT.answers (m .body) ≡ true
-    pub mine : m .client ≡ me
+    pub owner : CT.ownerRight me (m .client) (m .body) ≡ true
     pub order : CT.orderTest H g me s (numberIn from) (m .sequence) (m .body) ≡ J.Fine
 
   pub passed : (s : Client) (from : Party) (m : Message) → CT.messageTest H g me s from m ≡ J.Fine → Passed s from m
   unfolding CT.messageTest pick CT.answers CT.orderTest
-  passed s from m e = go (fromServer g from && (CT.answers (m .body) && eqb (m .client) me)) refl e
+  passed s from m e = go (fromServer g from && (CT.answers (m .body) && CT.ownerRight me (m .client) (m .body))) refl e
     where
-      go : (b : Bool) → (fromServer g from && (CT.answers (m .body) && eqb (m .client) me)) ≡ b
+      go : (b : Bool) → (fromServer g from && (CT.answers (m .body) && CT.ownerRight me (m .client) (m .body))) ≡ b
           → pick b (CT.orderTest H g me s (numberIn from) (m .sequence) (m .body)) (J.Bad R.Sender) ≡ J.Fine → Passed s from m
       go true p e =
           let w = and-split _ _ p in
           let y = and-split _ _ (w .1) in
-          record { server = w .0; answers = y .0; mine = eqb-true (m .client) me (y .1); order = e }
+          record { server = w .0; answers = y .0; owner = y .1; order = e }
       go false p e = impossible (cc)
 
   -- ---- what clients send
@@ -174,41 +180,82 @@ module _ (H : List ℕ → List ℕ) (g : Params) (me : ℕ) where
   keeps-reads s a v j (drops z) = refl
   keeps-reads s a v j (keeps i z) = refl
 
+  -- ---- the numbers of writes
+
+  -- what an open write has in its first part is learned there
+  pub learns-asking : (s : Client) (a v : List ℕ) (j q : ℕ) {b : Body} {s′ : Client} → CT.orderTest H g me s j q b ≡ J.Fine → Learns H g me s a v j b s′
+      → CS.asking (s .phase) ≡ true
+  unfolding CT.orderTest
+  learns-asking s a v j q o (replies T) = and-split (CS.asking (s .phase)) _ (awaited-true H g me _ o) .0
+  learns-asking s a v j q o (reports T p) = p
+
+  keeps-writes : (s : Client) (a v : List ℕ) (j : ℕ) {x : Stamp} {e : Entry} {s′ : Client} {a′ : List ℕ} → Keeps H g me s a v j x e s′ a′
+      → (s′ .writes ≡ s .writes) × (s′ .phase ≡ s .phase)
+  keeps-writes s a v j (drops z) = (refl, refl)
+  keeps-writes s a v j (keeps i z) = (refl, refl)
+
+  numbered-shape : (s : Client) (a v : List ℕ) (j q : ℕ) {b : Body} {r : C.Effect} → Numbered s → CT.orderTest H g me s j q b ≡ J.Fine
+      → Shape H g me s a v j b r → Numbered (r .client)
+  numbered-shape s a v j q N o (idle b) = N
+  numbered-shape s a v j q N o (notes T p) = record { low = N .low; high = N .high }
+  numbered-shape s a v j q N o (hears b k z) =
+      let e = learns-writes H g me s a v j k in
+      let l = N .low (learns-asking s a v j q o k) in
+      record { low = λ p. omega (arith, e, l); high = omega (arith, e, N .high) }
+  numbered-shape s a v j q N o (disperses b k z l) =
+      let e = learns-writes H g me s a v j k in record { low = λ p. impossible (cc p); high = omega (arith, e, N .high) }
+  numbered-shape s a v j q N o (shuts b k z l) =
+      let e = learns-writes H g me s a v j k in record { low = λ p. impossible (cc p); high = omega (arith, e, N .high) }
+  numbered-shape s a v j q N o (counts z) = record { low = λ p. impossible (cc p); high = N .high }
+  numbered-shape s a v j q N o (ends z) = record { low = λ p. impossible (cc p); high = N .high }
+  numbered-shape s a v j q N o (waits x e k z) =
+      let (w, p) = keeps-writes s a v j k in
+      record { low = λ h. let l = N .low (ap CS.asking (sym p) ∙ h) in omega (arith, l, w); high = omega (arith, w, N .high) }
+  numbered-shape s a v j q N o (completes x e k y z) =
+      let (w, p) = keeps-writes s a v j k in record { low = λ p. impossible (cc p); high = omega (arith, w, N .high) }
+
+  pub numbered-delivered : (s : Client) (a v : List ℕ) (from : Party) (f result out to : List ℕ) → Numbered s
+      → Numbered (CD.delivered H g me s a v from f result out to .client)
+  numbered-delivered s a v from f result out to N = go (delivered s a v from f result out to)
+    where
+      go : {r : C.Effect} → Delivered s a v from f r → Numbered (r .client)
+      go {r} (refused e) = rw e N
+      go {r} (taken m T z e) =
+          rw e (numbered-shape s a v (numberIn from) (m .sequence) N (passed s from m (T .passes) .order) (shape-of H g me s a v from m))
+
   module _ (D : (b : List ℕ) → length (H b) ≡ 32) (is : Among 8 me) where
     said : (q : ℕ) → 1 ≤ q → q < 4294967296 → (b : Body) → FormedBody g b → Formed g (message me q b)
     said q lo hi b f = record { client-low = is .0; client-high = is .1; sequence-low = lo; sequence-high = hi; body = f }
 
-    shape-formed : (s : Client) (a v : List ℕ) (j c q : ℕ) {b : Body} {r : C.Effect} → Formed g (message c q b) → CT.orderTest H g me s j q b ≡ J.Fine
-        → CT.valueTest g (s .phase) (length v) ≡ J.Fine → Shape H g me s a v j b r → AllFormed g (r .sends)
+    shape-formed : (s : Client) (a v : List ℕ) → Numbered s → (j c q : ℕ) {b : Body} {r : C.Effect} → Formed g (message c q b)
+        → CT.orderTest H g me s j q b ≡ J.Fine → CT.valueTest g (s .phase) (length v) ≡ J.Fine → Shape H g me s a v j b r → AllFormed g (r .sends)
     unfolding CT.orderTest
-    shape-formed s a v j c q f o t (idle b) = none-formed
-    shape-formed s a v j c q f o t (hears T z) = none-formed
-    shape-formed s a v j c q f o t (disperses T z l) =
-        let w = and-split (CS.asking (s .phase)) _ (awaited-true H g me _ o) in
-        let y : q ≡ s .writes = eqb-true q (s .writes) (and-split (eqb q (s .writes)) _ (w .1) .0) in
-        let lo : 1 ≤ s .writes = omega (arith, y, f .sequence-low) in
-        let hi : s .writes < 4294967296 = omega (arith, y, f .sequence-high) in
-        let e = value-whole g (s .phase) (length v) t (asking-writing (s .phase) (w .0)) in
-        formed-all g _ (λ i. said (s .writes) lo hi (blockIs send (offer _ (entryOf H g v i))) (entry-size D v e i, omega (arith, l)))
-    shape-formed s a v j c q f o t (shuts T z l) = none-formed
-    shape-formed s a v j c q f o t (counts z) = none-formed
-    shape-formed s a v j c q f o t (ends z) = none-formed
-    shape-formed s a v j c q f o t (waits x e k z) = none-formed
-    shape-formed s a v j c q f o t (completes x e {s′} k y z) =
+    shape-formed s a v N j c q f o t (idle b) = none-formed
+    shape-formed s a v N j c q f o t (notes T p) = none-formed
+    shape-formed s a v N j c q f o t (hears b k z) = none-formed
+    shape-formed s a v N j c q f o t (disperses b k z l) =
+        let w = learns-asking s a v j q o k in
+        let e = value-whole g (s .phase) (length v) t (asking-writing (s .phase) w) in
+        formed-all g _ (λ i. said (s .writes) (N .low w) (N .high) (blockIs send (offer _ (entryOf H g v i))) (entry-size D v e i, omega (arith, l)))
+    shape-formed s a v N j c q f o t (shuts b k z l) = none-formed
+    shape-formed s a v N j c q f o t (counts z) = none-formed
+    shape-formed s a v N j c q f o t (ends z) = none-formed
+    shape-formed s a v N j c q f o t (waits x e k z) = none-formed
+    shape-formed s a v N j c q f o t (completes x e {s′} k y z) =
         let w = and-split (CS.reading (s .phase)) _ (awaited-true H g me _ (fine-both _ _ o .0)) in
         let h : q ≡ s .reads = eqb-true q (s .reads) (and-split (eqb q (s .reads)) _ (w .1) .0) in
         let n = keeps-reads s a v j k in
         formed-all g _ (λ i. said (s′ .reads) (omega (arith, h, n, f .sequence-low)) (omega (arith, h, n, f .sequence-high)) readComplete tt)
 
-    pub delivered-formed : (s : Client) (a v : List ℕ) (from : Party) (f result out to : List ℕ) → Bytes f
+    pub delivered-formed : (s : Client) (a v : List ℕ) → Numbered s → (from : Party) (f result out to : List ℕ) → Bytes f
         → AllFormed g (CD.delivered H g me s a v from f result out to .sends)
-    delivered-formed s a v from f result out to bs = go (delivered s a v from f result out to)
+    delivered-formed s a v N from f result out to bs = go (delivered s a v from f result out to)
       where
         go : {r : C.Effect} → Delivered s a v from f r → AllFormed g (r .sends)
         go {r} (refused e) = rw e none-formed
         go {r} (taken m T z e) =
             let F′ : Formed g m = subst (Formed g) (T .says) (formed-opened g f (T .header) bs (T .opens)) in
-            rw e (shape-formed s a v (numberIn from) (m .client) (m .sequence) F′ (passed s from m (T .passes) .order) (T .value)
+            rw e (shape-formed s a v N (numberIn from) (m .client) (m .sequence) F′ (passed s from m (T .passes) .order) (T .value)
             (shape-of H g me s a v from m))
 
     idle-low : (s : Client) (last : ℕ) → CB.idleTest (s .phase) last ≡ J.Fine → last < lastSequence
@@ -249,3 +296,21 @@ module _ (H : List ℕ → List ℕ) (g : Params) (me : ℕ) where
         go J.Fine e =
             let h = idle-low s (s .writes) (write-idle s v out to e) in
             formed-all g _ (λ i. said (s .writes + 1) (omega arith) (omega (arith, h)) getStamp tt)
+
+    pub numbered-read : (s : Client) (out to : List ℕ) → Numbered s → Numbered (CB.readBegun g me s out to .client)
+    unfolding CB.readBegun CB.openRead CB.beginBy
+    numbered-read s out to N = go (CB.readTest g me s out to)
+      where
+        go : (y : Verdict) → Numbered (CB.beginBy g me y s (CB.openRead g me s) .client)
+        go (J.Bad r) = N
+        go J.Fine = record { low = λ p. impossible (cc p); high = N .high }
+
+    pub numbered-write : (s : Client) (v out to : List ℕ) → Numbered s → Numbered (CB.writeBegun g me s v out to .client)
+    unfolding CB.writeBegun CB.openWrite CB.beginBy
+    numbered-write s v out to N = go (CB.writeTest g me s v out to) refl
+      where
+        go : (y : Verdict) → CB.writeTest g me s v out to ≡ y → Numbered (CB.beginBy g me y s (CB.openWrite g me s) .client)
+        go (J.Bad r) e = N
+        go J.Fine e =
+            let h = idle-low s (s .writes) (write-idle s v out to e) in
+            record { low = λ p. omega arith; high = omega (arith, h) }

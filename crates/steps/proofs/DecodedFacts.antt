@@ -19,13 +19,13 @@ use Rattle.server_rules.specs.State.{noSlot, slotOf, blockView}
 use Rattle.server_rules.specs.Steps as S
 use Rattle.server_rules.specs.Tests as ST
 use Rattle.server_rules.proofs.Decoding.{Has}
-use Rattle.server_rules.proofs.Shapes.{offerOf, Counted, Shape, idle, answers, notes, ends, settles, shape-of}
+use Rattle.server_rules.proofs.Shapes.{offerOf, Counted, Shape, idle, answers, notes, ends, settles, hears, shape-of}
 use Rattle.server_rules.proofs.Views.{shapes}
 use Rattle.server_rules.proofs.Passing.{SizedIn, test-split, counted-from}
 use Rattle.server_rules.proofs.Within.{slot-within}
 use Rattle.server_rules.proofs.Counting.{counted-has}
 use Rattle.steps.proofs.ServerFits.{ServerShape}
-use Rattle.steps.proofs.CastFacts.{partOf, Behind, behind}
+use Rattle.steps.proofs.CastFacts.{partOf, Behind, behind, report-slots}
 
 pub record DecodedFacts (H : List ℕ → List ℕ) (g : Params) (s : Server) (a : List ℕ) (r : S.Effect) : Type 0 where
   pub done : (c : ℕ) → Among 8 c → (y : Offer) → blockView g (r .area) c (slotOf (r .server) c) .done ≡ some y
@@ -73,4 +73,12 @@ module _ (H : List ℕ → List ℕ) (g : Params) (L : Bounded g) (me : ℕ) (s 
                 (λ t. impossible (cc (ap (λ v. v .done) (t .1), u)))
                 (T .stays d);
             took = λ w u. let (i, e, d) = T .took w u in (i, counted-decoded from (m .client) is Q h k T (w .client) i (offerOf w) d);
+          }
+      go (hears T f) Q h o =
+          let X = report-slots H g L s a F (numberIn from) T f in record {
+            done = λ d i y u. ⊎-elim
+                (λ t. inl (sym (ap (λ v. v .done) (t .1 i)) ∙ u))
+                (λ t. impossible (cc (ap (λ v. v .done) (t .1), u)))
+                (X .this d);
+            took = λ w u. let (i, e, d) = X .took w u in (i, inl d);
           }

@@ -8,3 +8,4 @@ pub mod ServerStamps
 pub mod ClientTaken
 pub mod SendCount
 pub mod Outcomes
+pub mod Vouches

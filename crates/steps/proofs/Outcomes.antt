@@ -20,7 +20,7 @@ use Rattle.server_rules.specs.Steps as S
 use Rattle.server_rules.specs.Tests as ST
 use Rattle.server_rules.specs.Delivery as SD
 use Rattle.server_rules.proofs.Freeing.{freed-stamp}
-use Rattle.server_rules.proofs.Shapes.{Shape, idle, answers, notes, ends, settles, step-length, Delivery, refused, taken, shape-delivered}
+use Rattle.server_rules.proofs.Shapes.{Shape, idle, answers, notes, ends, settles, hears, step-length, Delivery, refused, taken, shape-delivered}
 use Rattle.client_rules.specs.declared.Client.{Client}
 use Rattle.client_rules.specs.Steps as C
 use Rattle.client_rules.proofs.Shapes.{shape-of, shape-length}
@@ -44,6 +44,7 @@ left answers = inl refl
 left notes = inl refl
 left ends = inl refl
 left (settles b p k f) = freed-stamp f .0
+left (hears T f) = freed-stamp f .0
 
 module _ (H : List ℕ → List ℕ) (g : Params) (me : ℕ) where
   module _ (s : Server) (a initial : List ℕ) (from : Party) (f out to : List ℕ) where

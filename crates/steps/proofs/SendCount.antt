@@ -1,5 +1,5 @@
--- How many frames a step sends: a server at most n + 9, a client at most n. Assumes nothing.
-use Prim.Native.Nat.{ℕ, _+_, _≤_}
+-- How many frames a step sends: a server at most 9n + 136, a client at most n. Assumes nothing.
+use Prim.Native.Nat.{ℕ, _+_, _*_, _≤_}
 use native.Mathlib.Omega.{arith}
 use mathlib.Core.Path.{_≡_, refl}
 use mathlib.Core.List.{List}
@@ -12,7 +12,7 @@ use Rattle.server_rules.specs.Steps as S
 use Rattle.client_rules.specs.declared.Client.{Client}
 use Rattle.client_rules.specs.State.{largest}
 use Rattle.client_rules.specs.Steps as C
-use Rattle.client_rules.proofs.Shapes.{Shape, idle, hears, shuts, counts, ends, waits, completes}
+use Rattle.client_rules.proofs.Shapes.{Shape, idle, notes, hears, shuts, counts, ends, waits, completes}
 use Rattle.client_rules.proofs.Shapes.{sends as disperses, shape-of as client-shape}
 use Rattle.client_rules.specs.Beginning as CB
 use Rattle.server_rules.proofs.Casts.{all-length}
@@ -23,8 +23,8 @@ all-few : (g : Params) (f : ℕ → Message) → length (toAll g f) ≤ g .n
 all-few g f = let w = all-length g f in omega (arith, w)
 
 module _ (H : List ℕ → List ℕ) (g : Params) (me : ℕ) where
-  -- "frames out need n + 9 largest frames (server)"
-  pub server-sends : (s : Server) (a initial : List ℕ) (from : Party) (m : Message) → length (S.effect H g me s a initial from m .sends) ≤ g .n + 9
+  -- "A server's out area must now hold 9n + 136 largest frames" (request F-9)
+  pub server-sends : (s : Server) (a initial : List ℕ) (from : Party) (m : Message) → length (S.effect H g me s a initial from m .sends) ≤ 9 * g .n + 136
   server-sends s a initial from m = step-few H g me s a initial (numberIn from) (m .client) (m .sequence) (shape-of H g me s a initial from m)
 
   -- ---- a client: also that the answer's case tells how many
@@ -45,9 +45,10 @@ module _ (H : List ℕ → List ℕ) (g : Params) (me : ℕ) where
 
   shape-sends : (s : Client) (a v : List ℕ) (j : ℕ) {b : Body} {r : C.Effect} → Shape H g me s a v j b r → Sends r
   shape-sends s a v j (idle b) = none-sent s a
-  shape-sends s a v j (hears T z) = none-sent _ a
-  shape-sends s a v j (disperses T z l) = record { few = all-few g _; event = refl }
-  shape-sends s a v j (shuts T z l) = record { few = omega arith; event = refl }
+  shape-sends s a v j (notes T p) = none-sent _ a
+  shape-sends s a v j (hears b k z) = none-sent _ a
+  shape-sends s a v j (disperses b k z l) = record { few = all-few g _; event = refl }
+  shape-sends s a v j (shuts b k z l) = record { few = omega arith; event = refl }
   shape-sends s a v j (counts z) = none-sent _ a
   shape-sends s a v j (ends z) = record { few = omega arith; event = refl }
   shape-sends s a v j (waits x e {s′} {a′} k z) = none-sent s′ a′

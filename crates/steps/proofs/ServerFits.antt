@@ -12,7 +12,7 @@ use Rattle.frame.specs.declared.Verdict.the-variants as J
 use Rattle.frame.specs.Chunks.{areaBytes}
 use Rattle.frame.specs.Messages.{Body, Message, numberIn, Judged, bad, good}
 use Rattle.server_rules.specs.declared.Server.{Server}
-use Rattle.server_rules.specs.State.{withSlot}
+use Rattle.server_rules.specs.State.{withSlot, withReport}
 use Rattle.server_rules.specs.WellFormed.{Within}
 use Rattle.server_rules.specs.Delivery as SD
 use Rattle.server_rules.specs.Steps as S
@@ -21,7 +21,8 @@ use Rattle.server_rules.proofs.Parts.{flags-set}
 use Rattle.server_rules.proofs.Views.{shapes}
 use Rattle.server_rules.proofs.Shapes.{Counted, block, counted-length, step-length, shape-of}
 use Rattle.server_rules.proofs.Passing.{test-split, counted-from}
-use Rattle.server_rules.proofs.Within.{TimeIn, Empty, slot-within, with-slot, counted-within, server-within, step-within}
+use Rattle.server_rules.proofs.Within.{TimeIn, slot-within, with-slot, with-report, counted-within, server-within, step-within}
+use Rattle.server_rules.proofs.Freeing.{empty}
 use Rattle.server_rules.proofs.Taking.{Taken, took}
 
 pub record ServerShape (s : Server) (a : List ℕ) : Type 0 where
@@ -42,8 +43,9 @@ counted-shape H g me s a initial F j low c few {b} {p} k = record {
   room = let l = counted-length H g me s a initial j c k in omega (arith, l, F .room);
 }
 
-empty : Empty shapes
-empty = record { flags = record { many = refl; none-first = refl }; time = tt }
+-- and so does a report
+pub report-shape : (s : Server) (a : List ℕ) → ServerShape s a → (j T : ℕ) → ServerShape (withReport s j T) a
+report-shape s a F j T = record { within = with-report shapes (F .within) j T tt; room = F .room }
 
 module _ (H : List ℕ → List ℕ) (g : Params) (few : g .n ≤ 10) (me : ℕ) where
   -- ---- a delivery: refused, and all as it was, or a message taken
@@ -66,12 +68,13 @@ module _ (H : List ℕ → List ℕ) (g : Params) (few : g .n ≤ 10) (me : ℕ)
   shape-effect s a initial F from f m T =
       let (h, o) = test-split H g me s from m (T .passes) in
       let x = shape-of H g me s a initial from m in record {
-        within = step-within shapes H g me s a initial (numberIn from) (m .client) (m .sequence) (F .within) (T .client .1) x o (record {
+        within = step-within shapes H g me s a initial (numberIn from) (m .client) (m .sequence) (F .within) (T .client .1) x (record {
           empty = empty;
           counts = λ k. (λ l u. flags-set l u (numberIn from) (counted-from g from (m .client) (T .client) few k h .0), no-time k);
           noted = λ u. tt;
           ended = λ u. tt;
-          leaves = λ w e q l. (tt, tt);
+          reported = λ T e. tt;
+          leaves = λ w i q l t. (tt, tt);
         });
         room = let l = step-length H g me s a initial (numberIn from) (m .client) x in omega (arith, l, F .room);
       }

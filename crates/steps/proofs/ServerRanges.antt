@@ -23,18 +23,19 @@ use Rattle.frame.specs.Stamps.{zeroStamp, lastTime, partsAgree}
 use Rattle.frame.proofs.Sizes.{Small, small}
 use Rattle.server_rules.specs.declared.Reader.{Reader}
 use Rattle.server_rules.specs.declared.Server.{Server}
-use Rattle.server_rules.specs.State.{presentBlock, freshReader, freshServer, slotOf, withSlot, presentEntry}
+use Rattle.server_rules.specs.State.{presentBlock, freshReader, freshServer, withSlot, withReport, presentEntry}
 use Rattle.server_rules.specs.WellFormed.{Bounds, Within}
 use Rattle.server_rules.specs.Steps as S
 use Rattle.server_rules.specs.Tests as ST
 use Rattle.server_rules.proofs.Casts.{mem-all}
-use Rattle.server_rules.proofs.Views.{shapes}
-use Rattle.server_rules.proofs.Shapes.{Freed, Counted, block, counted-sequence, counted-length, Shape, idle, answers, notes, ends, settles, shape-of}
-use Rattle.server_rules.proofs.Passing.{test-split, counted-open}
-use Rattle.server_rules.proofs.Within.{TimeIn, server-within, reader-within, this-slot, step-within}
+use Rattle.server_rules.proofs.Shapes.{Freed, Counted, block, Shape, idle, answers, notes, ends, settles, hears, shape-of}
+use Rattle.server_rules.proofs.Accepting.{Says}
+use Rattle.server_rules.proofs.Accepting as Y
+use Rattle.server_rules.proofs.Passing.{test-split, counted-open, counted-from}
+use Rattle.server_rules.proofs.Within.{TimeIn, server-within, slot-within, reader-within, with-slot, with-report, counted-within, step-within}
 use Rattle.server_rules.proofs.Counting.{counted-word}
-use Rattle.server_rules.proofs.Freeing.{freed-client, freed-ripe, freed-sized, freed-mem}
-use Rattle.steps.proofs.ServerFits.{ServerShape}
+use Rattle.server_rules.proofs.Freeing.{freed-ripe, freed-sized, freed-mem}
+use Rattle.steps.proofs.ServerFits.{ServerShape, counted-shape, report-shape}
 
 -- ---- stamps in range
 
@@ -79,14 +80,14 @@ pub record ReaderInBounds (x : Reader) : Type 0 where
   pub listening : x .listening ≡ true → (1 ≤ x .sequence) × (x .sequence < 4294967296)
 
 abbrev pub ranges : Bounds
-ranges = record { flags = λ l. Unit {0}; time = λ T. Unit {0}; sequence = λ q. Unit {0}; stamp = StampInBounds; reader = ReaderInBounds }
+ranges = record { flags = λ l. Unit {0}; time = λ T. Unit {0}; sequence = λ q. 1 ≤ q; stamp = StampInBounds; reader = ReaderInBounds }
 
 abbrev pub InBounds : Server → Type 0
 InBounds = Within ranges
 
 pub in-bounds-fresh : InBounds freshServer
 unfolding freshReader
-in-bounds-fresh = server-within ranges (record { flags = tt; time = tt }) tt zero-in-bounds
+in-bounds-fresh = server-within ranges (record { flags = tt; time = tt }) (omega arith) zero-in-bounds
     (record { noted = zero-in-bounds; listening = λ e. impossible (cc e) })
 
 abbrev pub AllFormed : Params → List Sending → Type 0
@@ -141,92 +142,105 @@ module _ (H : List ℕ → List ℕ) (g : Params) (L : Bounded g) (me : ℕ) (s 
   abbrev j : ℕ
   j = numberIn from
 
-  -- ---- after a counted frame
+  -- ---- what is accepted
 
-  module _ (c q : ℕ) (b : Body) (f : Formed g (message c q b)) (o : ST.orderTest H g me s j c q b ≡ J.Fine) {p : S.Counting}
-      (k : Counted H g me s a initial j c b p)
-      {r : S.Effect} (x : Freed g (withSlot s c (p .slot)) (p .area) c r) where
-    room : areaBytes ≤ length (p .area)
-    room = let l = counted-length H g me s a initial j c k in omega (arith, l, F .room)
-
+  module _ {s₁ : Server} {a₁ : List ℕ} {r : S.Effect} (x : Freed g 8 s₁ a₁ r) (F₁ : ServerShape s₁ a₁) (B₁ : InBounds s₁) where
     -- an accepted write is within its bounds
     pub freed-in-bounds : (w : S.Write) → List·Memᴰ w (r .accepted) → WriteInBounds g w
     freed-in-bounds w u =
-        let (i, R) = freed-ripe (f .client-low, f .client-high) x w u in
-        let e : w .sequence ≡ q = R .sequence ∙ ap (λ d. slotOf (withSlot s c (p .slot)) d .sequence) (freed-client x w u)
-        ∙ ap (λ x. x .sequence) (this-slot shapes (F .within) c (f .client-high) (p .slot)) ∙ counted-sequence H g me s a initial j c k
-        ∙ sym (counted-open k q o) in
+        let (i, C) = freed-ripe (small g L) x (F₁ .within) (F₁ .room) w u in
+        let l = C .listed in
         record {
           client = i;
-          low = rw e (f .sequence-low);
-          high = rw e (f .sequence-high);
-          time-high = R .below;
-          sized = freed-sized (small g L) room (f .client-low, f .client-high) x w u;
+          low = subst (λ q. 1 ≤ q) (sym (C .sequence)) (slot-within ranges B₁ (w .client) (i .1) .sequence);
+          high = omega (arith, l);
+          time-high = C .below;
+          sized = freed-sized (small g L) x (F₁ .within) (F₁ .room) w u;
         }
 
     -- and what is sent of it can be said in a frame
     freed-formed : AllFormed g (r .sends)
-    freed-formed y u =
-        let (w, v, h) = freed-mem x y u in
-        let W = freed-in-bounds w v in
-        ⊎-elim
-        (λ (d, l, m, t).
-        let n = reader-within ranges B d m .listening (t .listens) in
-        subst (λ z. Formed g (z .says)) (sym (t .is))
-        (record {
-          client-low = l;
-          client-high = m;
-          sequence-low = n .0;
-          sequence-high = n .1;
-          body = value-formed g (S.stampOf w) (w .entry) (write-stamp-in-bounds g w W) (W .sized);
-        }))
-        (λ e. subst (λ z. Formed g (z .says)) (sym e)
-        (record { client-low = W .client .0; client-high = W .client .1; sequence-low = W .low; sequence-high = W .high; body = tt }))
-        h
+    freed-formed y u = let (w, v, h) = freed-mem x y u in go w (freed-in-bounds w v) h
+      where
+        go : (w : S.Write) → WriteInBounds g w → Says g s₁ w y → Formed g (y .says)
+        go w W (Y.told d i t) =
+            let n = reader-within ranges B₁ d (i .1) .listening (t .listens) in
+            subst (λ z. Formed g (z .says)) (sym (t .is))
+            (record {
+              client-low = i .0;
+              client-high = i .1;
+              sequence-low = n .0;
+              sequence-high = n .1;
+              body = value-formed g (S.stampOf w) (w .entry) (write-stamp-in-bounds g w W) (W .sized);
+            })
+        go w W (Y.acked e) = subst (λ z. Formed g (z .says)) (sym e)
+            (record { client-low = W .client .0; client-high = W .client .1; sequence-low = W .low; sequence-high = W .high; body = tt })
+        go w W (Y.reports e t) = subst (Formed g) (sym e)
+            (record {
+              client-low = W .client .0;
+              client-high = W .client .1;
+              sequence-low = W .low;
+              sequence-high = W .high;
+              body = omega (arith, W .time-high);
+            })
 
   -- ---- a step
 
-  step-writes : {c q : ℕ} {b : Body} {r : S.Effect} → Shape H g me s a initial j c q b r → Formed g (message c q b) → ST.orderTest H g me s j c q b ≡ J.Fine
+  -- between the count, or the report, and what is accepted
+  pub counted-in-bounds : (c : ℕ) → c ≤ 8 → {b : Body} {p : S.Counting} → Counted H g me s a initial j c b p → InBounds (withSlot s c (p .slot))
+  counted-in-bounds c few {b} {p} k =
+      with-slot ranges B c (p .slot) (counted-within ranges H g me s a initial j c (λ l u. tt) (slot-within ranges B c few) k (no-time k))
+
+  pub report-in-bounds : (T : ℕ) → InBounds (withReport s j T)
+  report-in-bounds T = with-report ranges B j T tt
+
+  pub shaped-between : (c : ℕ) → Among 8 c → {b : Body} → ST.senderRight g from c b ≡ true → {p : S.Counting} → Counted H g me s a initial j c b p
+      → ServerShape (withSlot s c (p .slot)) (p .area)
+  shaped-between c is h k = counted-shape H g me s a initial F j (counted-from g from c is (L .servers-high) k h .0) c (is .1) k
+
+  step-writes : {c q : ℕ} {b : Body} {r : S.Effect} → Shape H g me s a initial j c q b r → Among 8 c → ST.senderRight g from c b ≡ true
       → (w : S.Write) → List·Memᴰ w (r .accepted) → WriteInBounds g w
-  step-writes (idle b) f o w u = absurd (List·Memᴰ·not-nil u)
-  step-writes answers f o w u = absurd (List·Memᴰ·not-nil u)
-  step-writes notes f o w u = absurd (List·Memᴰ·not-nil u)
-  step-writes ends f o w u = absurd (List·Memᴰ·not-nil u)
-  step-writes {c} {q} (settles b p k x) f o w u = freed-in-bounds c q b f o k x w u
+  step-writes (idle b) is h w u = absurd (List·Memᴰ·not-nil u)
+  step-writes answers is h w u = absurd (List·Memᴰ·not-nil u)
+  step-writes notes is h w u = absurd (List·Memᴰ·not-nil u)
+  step-writes ends is h w u = absurd (List·Memᴰ·not-nil u)
+  step-writes {c} (settles b p k x) is h w u = freed-in-bounds x (shaped-between c is h k) (counted-in-bounds c (is .1) k) w u
+  step-writes (hears T x) is h w u = freed-in-bounds x (report-shape s a F j T) (report-in-bounds T) w u
 
   step-formed : width g ≤ length initial → {c q : ℕ} {b : Body} {r : S.Effect} → Shape H g me s a initial j c q b r → Formed g (message c q b)
-      → ST.orderTest H g me s j c q b ≡ J.Fine → AllFormed g (r .sends)
-  step-formed I (idle b) f o y u = absurd (List·Memᴰ·not-nil u)
-  step-formed I {c} {q} answers f o y u = one-formed g _ (with-body g c q getStamp (stampIs (s .stamp .time)) f (B .stamp .time-high)) y u
-  step-formed I {c} {q} notes f o y u = one-formed g _
+      → ST.senderRight g from c b ≡ true → ST.orderTest H g me s j c q b ≡ J.Fine → AllFormed g (r .sends)
+  step-formed I (idle b) f h o y u = absurd (List·Memᴰ·not-nil u)
+  step-formed I {c} {q} answers f h o y u = one-formed g _ (with-body g c q getStamp (stampIs (s .stamp .time)) f (B .stamp .time-high)) y u
+  step-formed I {c} {q} notes f h o y u = one-formed g _
       (with-body g c q askRead (valueIs (s .stamp) (presentEntry g (s .stamp) a initial)) f
       (value-formed g (s .stamp) _ (B .stamp) (present-sized g (small g L) (s .stamp) a initial (F .room) I))) y u
-  step-formed I ends f o y u = absurd (List·Memᴰ·not-nil u)
-  step-formed I {c} {q} (settles b p k {r} x) f o y u = ⊎-elim
+  step-formed I ends f h o y u = absurd (List·Memᴰ·not-nil u)
+  step-formed I {c} {q} (settles b p k {r} x) f h o y u = ⊎-elim
       (λ v.
-      let (b′, e, h) = counted-word H g L me s a initial j c k (f .body) y v in
-      subst (Formed g) (sym (e ∙ ap (λ n. message c n b′) (sym (counted-open k q o)))) (with-body g c q b b′ f h))
-      (λ v. freed-formed c q b f o k x y v)
+      let (b′, e, t) = counted-word H g L me s a initial j c k (f .body) y v in
+      subst (Formed g) (sym (e ∙ ap (λ n. message c n b′) (sym (counted-open k q o)))) (with-body g c q b b′ f t))
+      (λ v. freed-formed x (shaped-between c (f .client-low, f .client-high) h k) (counted-in-bounds c (f .client-high) k) y v)
       (List·Memᴰ·append-cases (p .sends) u)
+  step-formed I (hears T x) f h o y u = freed-formed x (report-shape s a F j T) (report-in-bounds T) y u
 
   -- each frame that passes the tests
   module _ (m : Message) (f : Formed g m) (e : ST.messageTest H g me s from m ≡ J.Fine) where
     pub effect-in-bounds : InBounds (S.effect H g me s a initial from m .server)
     effect-in-bounds =
-        let (h, o) = test-split H g me s from m e in
-        step-within ranges H g me s a initial j (m .client) (m .sequence) B (f .client-high) (shape-of H g me s a initial from m) o (record {
+        step-within ranges H g me s a initial j (m .client) (m .sequence) B (f .client-high) (shape-of H g me s a initial from m) (record {
           empty = record { flags = tt; time = tt };
           counts = λ k. (λ l u. tt, no-time k);
           noted = λ u. record { noted = u; listening = λ l. (f .sequence-low, f .sequence-high) };
           ended = λ u. record { noted = u .noted; listening = λ l. impossible (cc l) };
-          leaves = λ w ec eq l. (
+          reported = λ T e. tt;
+          leaves = λ w i q l t. (
             record {
-              time-high = omega (arith, l);
-              writer-high = rw ec (f .client-high);
-              sequence-high = rw eq (f .sequence-high);
-              agree = agree-some (w .time) (w .client) (w .sequence) (rw ec (f .client-low)) (rw eq (f .sequence-low));
+              time-high = omega (arith, t);
+              writer-high = i .1;
+              sequence-high = omega (arith, l);
+              agree = agree-some (w .time) (w .client) (w .sequence) (i .0) q;
             },
-            tt,
+            omega arith,
           );
         })
 
@@ -234,4 +248,4 @@ module _ (H : List ℕ → List ℕ) (g : Params) (L : Bounded g) (me : ℕ) (s 
     effect-good I =
         let (h, o) = test-split H g me s from m e in
         let x = shape-of H g me s a initial from m in
-        record { in-bounds = effect-in-bounds; formed = step-formed I x f o; write-in-bounds = step-writes x f o }
+        record { in-bounds = effect-in-bounds; formed = step-formed I x f h o; write-in-bounds = step-writes x (f .client-low, f .client-high) h }

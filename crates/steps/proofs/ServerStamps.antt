@@ -6,7 +6,7 @@ use native.Mathlib.Decide.{ℕ-discrete}
 use mathlib.Core.Bool.{true, false}
 use mathlib.Core.Path.{_≡_, refl, ap, sym, _∙_, subst}
 use mathlib.Core.Logic.{_⊎_, inl, inr, ⊎-elim}
-use mathlib.Core.List.{List, [], _∷_, List·Memᴰ, List·Memᴰ·not-nil, List·Memᴰ·append-cases, List·Memᴰ·eq-of-singleton}
+use mathlib.Core.List.{List, [], _∷_, _++_, List·Memᴰ, List·Memᴰ·not-nil, List·Memᴰ·append-cases, List·Memᴰ·eq-of-singleton}
 use lib.ListN.{length, getD}
 use lib.Seq.{getD-set-same, getD-set-other}
 use Rattle.quorum.specs.Quorum.{Among}
@@ -18,7 +18,7 @@ use Rattle.frame.specs.declared.Party.{Party}
 use Rattle.frame.specs.declared.Party.the-variants as A
 use Rattle.frame.specs.declared.Verdict.the-variants as J
 use Rattle.frame.specs.Chunks.{entryAt, areaBytes}
-use Rattle.frame.specs.Messages.{Entry, Body, getStamp, ack, askRead, stampIs, valueIs, Message, message, Sending, sending, numberIn, Formed}
+use Rattle.frame.specs.Messages.{Entry, Body, getStamp, ack, askRead, stampIs, valueIs, report, Message, message, Sending, sending, numberIn, Formed}
 use Rattle.frame.specs.Params.{listed, Bounded}
 use Rattle.frame.proofs.Sizes.{small}
 use Rattle.server_rules.specs.declared.Reader.{Reader}
@@ -28,15 +28,17 @@ use Rattle.server_rules.specs.Steps as S
 use Rattle.server_rules.specs.Tests as ST
 use Rattle.server_rules.proofs.Casts.{IsCast}
 use Rattle.server_rules.proofs.Views.{shapes}
-use Rattle.server_rules.proofs.Accepting.{Told, ackOf}
-use Rattle.server_rules.proofs.Shapes.{Freed, Counted, counted-length, Shape, idle, answers, notes, ends, settles, shape-of}
+use Rattle.server_rules.proofs.Accepting.{Told, Says}
+use Rattle.server_rules.proofs.Accepting as Y
+use Rattle.server_rules.proofs.Shapes.{Freed, Counted, Shape, idle, answers, notes, ends, settles, hears, shape-of}
 use Rattle.server_rules.proofs.Passing.{SizedIn, is-owner, test-split, counted-from}
 use Rattle.server_rules.proofs.Within.{slot-within, reader-within}
 use Rattle.server_rules.proofs.Counting.{counted-present}
 use Rattle.server_rules.proofs.Freeing.{freed-readers, freed-present, freed-stamp, freed-mem}
 use Rattle.server_rules.proofs.Speaking.{counted-cast}
-use Rattle.steps.proofs.ServerFits.{ServerShape}
+use Rattle.steps.proofs.ServerFits.{ServerShape, report-shape}
 use Rattle.steps.proofs.ServerRanges.{StampInBounds, ranges, InBounds, write-stamp-in-bounds, freed-in-bounds, effect-in-bounds}
+use Rattle.steps.proofs.ServerRanges.{shaped-between, counted-in-bounds, report-in-bounds}
 use Rattle.steps.proofs.Keys.{key, older-key, not-older}
 
 module _ (H : List ℕ → List ℕ) (g : Params) where
@@ -85,81 +87,84 @@ module _ (H : List ℕ → List ℕ) (g : Params) where
     renamed : {d n : ℕ} → d ≡ c → n ≡ q → (b : Body) → from ≡ A.Client c → (from ≡ A.Client d) × (message c q b ≡ message d n b)
     renamed ec en b e = (e ∙ ap A.Client (sym ec), λ i. message (sym ec i) (sym en i) b)
 
-    -- ---- after a counted frame
+    -- ---- what is accepted
 
-    module _ (b : Body) (f : Formed g (message c q b)) (Q : SizedIn g b) (h : ST.senderRight g from c b ≡ true)
-        (o : ST.orderTest H g me s (numberIn from) c q b ≡ J.Fine)
-        {p : S.Counting} (k : Counted H g me s a initial (numberIn from) c b p) {r : S.Effect} (x : Freed g (withSlot s c (p .slot)) (p .area) c r)
-        (B′ : InBounds (r .server)) where
-      at : Among 8 c
-      at = (f .client-low, f .client-high)
-
+    -- Between s and what is accepted the stamp, the readers and the present value are the same; l was said to servers before.
+    module _ (b : Body) {s₁ : Server} {a₁ : List ℕ} (F₁ : ServerShape s₁ a₁) (B₁ : InBounds s₁) (es : s₁ .stamp ≡ s .stamp) (er : s₁ .readers ≡ s .readers)
+        (eh : held a₁ ≡ held a) (l : List Sending) (casts : (y : Sending) → List·Memᴰ y l → IsCast (y .says .body)) {r : S.Effect} (x : Freed g 8 s₁ a₁ r)
+        (B′ : InBounds (r .server)) (ds : List (List ℕ)) where
       bounds : (w : S.Write) → List·Memᴰ w (r .accepted) → StampInBounds (S.stampOf w)
-      bounds w m = write-stamp-in-bounds g w (freed-in-bounds H g L me s B a initial F from c q b f o k x w m)
+      bounds w m = write-stamp-in-bounds g w (freed-in-bounds H g L me s B a initial F from x F₁ B₁ w m)
 
-      -- a message to a client follows an acceptance
-      behind : (y : Sending) → (IsCast (y .says .body) → ⊥) → List·Memᴰ y (S.behind p r .sends)
-          → (w : S.Write) × List·Memᴰ w (r .accepted) × (key (S.stampOf w) ≤ key (r .server .stamp))
-          × (((d : ℕ) × (1 ≤ d) × (d ≤ 8) × Told (s .readers) (S.stampOf w) (w .entry) d y) ⊎ (y ≡ ackOf w))
+      abbrev whole : S.Effect
+      whole = record { server = r .server; area = r .area; sends = l ++ r .sends; accepted = r .accepted; decodes = ds }
+
+      -- a word to a client is after an acceptance
+      behind : (y : Sending) → (IsCast (y .says .body) → ⊥) → List·Memᴰ y (l ++ r .sends)
+          → (w : S.Write) × List·Memᴰ w (r .accepted) × (key (S.stampOf w) ≤ key (r .server .stamp)) × Says g s₁ w y
       behind y n u = ⊎-elim
-          (λ v. absurd (n (counted-cast H g me s a initial (numberIn from) c k y v)))
+          (λ v. absurd (n (casts y v)))
           (λ v.
           let (w, m, t) = freed-mem x y v in
           (w, m, not-older _ _ (B′ .stamp) (bounds w m) (freed-stamp x .1 w m), t))
-          (List·Memᴰ·append-cases (p .sends) u)
+          (List·Memᴰ·append-cases l u)
 
       tells : (w : S.Write) → List·Memᴰ w (r .accepted) → key (S.stampOf w) ≤ key (r .server .stamp) → (to : Party) (d n : ℕ) (v : Stamp) (e : Entry) (i : ℕ)
-          → 1 ≤ i → i ≤ 8
-          → Told (s .readers) (S.stampOf w) (w .entry) i (sending to (message d n (valueIs v e))) → Tells s (S.behind p r) d n v e
-      tells w m l to d n v e i lo hi t =
+          → Among 8 i → Told (s₁ .readers) (S.stampOf w) (w .entry) i (sending to (message d n (valueIs v e))) → Tells s whole d n v e
+      tells w m l to d n v e i is t₁ =
+          let t : Told (s .readers) (S.stampOf w) (w .entry) i (sending to (message d n (valueIs v e))) =
+          subst (λ rs. Told rs (S.stampOf w) (w .entry) i (sending to (message d n (valueIs v e)))) er t₁ in
           let ed : d ≡ i = ap (λ z. z .says .client) (t .is) in
           let ev : v ≡ S.stampOf w = cc (ap (λ z. z .says .body) (t .is)) in
-          let up = older-key (readerOf s i .noted) (S.stampOf w) (reader-within ranges B i hi .noted) (bounds w m) (t .smaller) in
+          let up = older-key (readerOf s i .noted) (S.stampOf w) (reader-within ranges B i (is .1) .noted) (bounds w m) (t .smaller) in
           record {
             tk = w;
             is = m;
             stamp = ev;
             entry = cc (ap (λ z. z .says .body) (t .is));
-            client = subst (Among 8) (sym ed) (lo, hi);
+            client = subst (Among 8) (sym ed) is;
             newest = ap (λ y. readerOf s y .sequence) ed ∙ sym (ap (λ z. z .says .sequence) (t .is));
             live = ap (λ y. readerOf s y .listening) ed ∙ t .listens;
             above = subst (λ y. key (readerOf s d .noted) < key y) (sym ev) (subst (λ y. key (readerOf s y .noted) < key (S.stampOf w)) (sym ed) up);
             below = subst (λ y. key y ≤ key (r .server .stamp)) (sym ev) l;
           }
 
-      room : areaBytes ≤ length (p .area)
-      room = let l = counted-length H g me s a initial (numberIn from) c k in omega (arith, l, F .room)
+      acked : (to : Party) (d n : ℕ) (w : S.Write) → Says g s₁ w (sending to (message d n ack)) → (w .client ≡ d) × (w .sequence ≡ n)
+      acked to d n w (Y.told i is t) = impossible (cc (ap (λ z. z .says .body) (t .is)))
+      acked to d n w (Y.acked e) = (sym (ap (λ z. z .says .client) e), sym (ap (λ z. z .says .sequence) e))
+      acked to d n w (Y.reports e t) = impossible (cc (ap (λ z. z .body) e))
 
-      held-same : held (p .area) ≡ held a
-      unfolding entryAt
-      held-same = ap (λ e. e .digests) (counted-present H g L me s a initial (F .room) (numberIn from) (counted-from g from c at (L .servers-high) k h) c at
-          (slot-within shapes (F .within) c (f .client-high)) k Q)
+      valued : (to : Party) (d n : ℕ) (v : Stamp) (e : Entry) (w : S.Write) → List·Memᴰ w (r .accepted) → key (S.stampOf w) ≤ key (r .server .stamp)
+          → Says g s₁ w (sending to (message d n (valueIs v e))) → Tells s whole d n v e
+      valued to d n v e w m l (Y.told i is t) = tells w m l to d n v e i is t
+      valued to d n v e w m l (Y.acked z) = impossible (cc (ap (λ z. z .says .body) z))
+      valued to d n v e w m l (Y.reports z t) = impossible (cc (ap (λ z. z .body) z))
 
-      settled : StampFacts s a initial from (message c q b) (S.behind p r)
+      no-stamp : (to : Party) (d n T : ℕ) (w : S.Write) → Says g s₁ w (sending to (message d n (stampIs T))) → ⊥
+      no-stamp to d n T w (Y.told i is t) = impossible (cc (ap (λ z. z .says .body) (t .is)))
+      no-stamp to d n T w (Y.acked e) = impossible (cc (ap (λ z. z .says .body) e))
+      no-stamp to d n T w (Y.reports e t) = impossible (cc (ap (λ z. z .body) e))
+
+      settled : StampFacts s a initial from (message c q b) whole
       unfolding entryAt
       settled = record {
-        up = ⊎-elim (λ e. rw e (omega arith)) (λ e. let l = older-key _ _ (B .stamp) (B′ .stamp) e in omega (arith, l)) (freed-stamp x .0);
-        ack-accepted = λ to d n u.
-            let (w, m, l, t) = behind _ (λ z. z) u in
-            ⊎-elim
-            (λ (i, lo, hi, t). impossible (cc (ap (λ z. z .says .body) (t .is))))
-            (λ e. (w, m, sym (ap (λ z. z .says .client) e), sym (ap (λ z. z .says .sequence) e), l))
-            t;
-        value-written = λ to d n v e u.
-            let (w, m, l, t) = behind _ (λ z. z) u in
-            ⊎-elim
-            (λ (i, lo, hi, t). inr (tells w m l to d n v e i lo hi t))
-            (λ e. impossible (cc (ap (λ z. z .says .body) e)))
-            t;
-        stamped = λ to d n T u.
-            let (w, m, l, t) = behind _ (λ z. z) u in
-            ⊎-elim (λ (i, lo, hi, t). impossible (cc (ap (λ z. z .says .body) (t .is)))) (λ e. impossible (cc (ap (λ z. z .says .body) e))) t;
-        noting = λ d l. inl (ap (λ y. getD y d noReader) (freed-readers x));
+        up = subst (λ y. key y ≤ key (r .server .stamp)) es
+            (⊎-elim (λ e. rw e (omega arith)) (λ e. let l = older-key _ _ (B₁ .stamp) (B′ .stamp) e in omega (arith, l)) (freed-stamp x .0));
+        ack-accepted = λ to d n u. let (w, m, l, t) = behind _ (λ z. z) u in let (ec, en) = acked to d n w t in (w, m, ec, en, l);
+        value-written = λ to d n v e u. let (w, m, l, t) = behind _ (λ z. z) u in inr (valued to d n v e w m l t);
+        stamped = λ to d n T u. let (w, m, l, t) = behind _ (λ z. z) u in absurd (no-stamp to d n T w t);
+        noting = λ d l. inl (ap (λ y. getD y d noReader) (freed-readers x ∙ er));
         present-new = ⊎-elim
-            (λ (e, h). inl (e, ap (λ e. e .digests) h ∙ held-same))
-            (λ (w, m, e, h). inr (w, m, e, ap (λ e. e .digests) h))
-            (freed-present (small g L) room at x);
+            (λ (e, h). inl (e ∙ es, ap (λ e. e .digests) h ∙ eh))
+            (λ (w, m, e, h, o). inr (w, m, e, ap (λ e. e .digests) h))
+            (freed-present (small g L) x (F₁ .room));
       }
+
+    held-same : (b : Body) → Among 8 c → SizedIn g b → ST.senderRight g from c b ≡ true → {p : S.Counting}
+        → Counted H g me s a initial (numberIn from) c b p → held (p .area) ≡ held a
+    unfolding entryAt
+    held-same b at Q h k = ap (λ e. e .digests) (counted-present H g L me s a initial (F .room) (numberIn from)
+        (counted-from g from c at (L .servers-high) k h) c at (slot-within shapes (F .within) c (at .1)) k Q)
 
     -- ---- a step
 
@@ -211,7 +216,13 @@ module _ (H : List ℕ → List ℕ) (g : Params) where
           (reader-cases (f .client-high) (record { sequence = q; listening = false; noted = readerOf s c .noted }) d);
       present-new = inl (refl, refl);
     }
-    step-facts (settles b p k x) f Q h o B′ = settled b f Q h o k x B′
+    step-facts (settles b p k x) f Q h o B′ =
+        let at : Among 8 c = (f .client-low, f .client-high) in
+        settled b (shaped-between H g L me s B a initial F from c at h k) (counted-in-bounds H g L me s B a initial F from c (at .1) k) refl refl
+        (held-same b at Q h k) (p .sends) (counted-cast H g me s a initial (numberIn from) c k) x B′ (p .decodes)
+    step-facts (hears T {r} x) f Q h o B′ =
+        settled (report T) (report-shape s a F (numberIn from) T) (report-in-bounds H g L me s B a initial F from T) refl refl refl []
+        (λ y u. absurd (List·Memᴰ·not-nil u)) x B′ (r .decodes)
 
   -- each frame that passes the tests
   pub order-facts : Bounded g → (me : ℕ) (s : Server) → InBounds s → (a initial : List ℕ) → ServerShape s a → (from : Party) (m : Message) → Formed g m

@@ -6,16 +6,17 @@ use mathlib.Core.Bool.{Bool, true, false}
 use mathlib.Core.Path.{_≡_, refl, ap, sym, _∙_, subst}
 use mathlib.Core.Logic.{_⊎_, inl, inr, ⊎-elim}
 use mathlib.Core.Option.{Option, some}
-use mathlib.Core.List.{List, List·Memᴰ, List·Memᴰ·head, List·Memᴰ·not-nil, List·Memᴰ·eq-of-singleton, Memᴰ·append-left}
+use mathlib.Core.List.{List, List·Memᴰ, List·Memᴰ·not-nil, Memᴰ·append-left}
 use Rattle.quorum.specs.Quorum.{Among}
 use Rattle.quorum.proofs.Logic.{impossible}
 use Rattle.blocks.specs.declared.Params.{Params}
 use Rattle.frame.specs.declared.Party.{Party}
 use Rattle.frame.specs.declared.Party.the-variants as P
 use Rattle.frame.specs.declared.Verdict.the-variants as J
+use Rattle.frame.proofs.Sizes.{small}
 use Rattle.frame.specs.Stamps.{lastTime}
 use Rattle.frame.specs.Params.{Bounded}
-use Rattle.frame.specs.Messages.{Offer, Stage, send, echo, ready, blockIs, Message, message, sending, numberIn}
+use Rattle.frame.specs.Messages.{Offer, Stage, send, echo, ready, Body, blockIs, Message, message, sending, numberIn}
 use Rattle.server_rules.specs.declared.Slot.{Slot}
 use Rattle.server_rules.specs.declared.Server.{Server}
 use Rattle.server_rules.specs.Broadcast.{Rules, Part, kept}
@@ -24,13 +25,14 @@ use Rattle.server_rules.specs.State.{slotOf, blockView}
 use Rattle.server_rules.specs.Steps as S
 use Rattle.server_rules.specs.Tests as ST
 use Rattle.server_rules.proofs.Parts.{put, noPart, counted, put-same, put-cases}
-use Rattle.server_rules.proofs.Shapes.{offerOf, block}
+use Rattle.server_rules.proofs.Shapes.{offerOf, block, Shape, idle, answers, notes, ends, settles, hears, shape-of}
+use Rattle.server_rules.proofs.Freeing.{freed-one}
 use Rattle.server_rules.proofs.Passing.{SizedIn, test-split, counted-from}
 use Rattle.server_rules.proofs.Accepting.{ackOf}
 use Rattle.steps.proofs.CastFacts.{partAt, cast-facts}
-use Rattle.steps.proofs.ServerFits.{ServerShape}
-use Rattle.taking.proofs.Quiet.{Calm, Unripe, calm-empty, counted-calm, counted-ready}
-use Rattle.taking.proofs.Turns.{Turn, stays, counts, accepts-one, turn}
+use Rattle.steps.proofs.ServerFits.{ServerShape, counted-shape, report-shape}
+use Rattle.taking.proofs.Quiet.{Calm, calm-empty, counted-calm}
+use Rattle.taking.proofs.Turns.{Opens, Turn, stays, counts, accepts-one, accepts-other, turn}
 use Rattle.taking.proofs.Words.{Encodes, counted-done, says-ready, says-echo, accepted-acked}
 
 -- a frame of stage z from party j is counted in the part w
@@ -104,8 +106,9 @@ module _ (H : List ℕ → List ℕ) (g : Params) (L : Bounded g) (me : ℕ) (s 
     where
       go : Turn H g me s a from m r d → Got z (after d) i
       go (stays n v x y) = subst (λ w. Got z w i) (sym v) u
-      go (counts k o x y n v t f) = subst (λ w. Got z w i) (sym v) (counted-keeps (before d) z k o i u)
-      go (accepts-one k o x y w f c q n v t l) = absurd (omega (arith, n, e))
+      go (counts k o x y n v t) = subst (λ w. Got z w i) (sym v) (counted-keeps (before d) z k o i u)
+      go (accepts-one k o x y w O t) = absurd (omega (arith, O .next, e))
+      go (accepts-other y w O t) = absurd (omega (arith, O .next, e))
 
   pub takes-got : (d n : ℕ) → Among 8 d → (z : Stage) (o : Offer) → m ≡ message d n (blockIs z o)
       → (n ≡ seq s d) × ((seq (r .server) d ≡ seq s d + 1) ⊎ ((seq (r .server) d ≡ seq s d) × Got z (after d) j))
@@ -113,12 +116,13 @@ module _ (H : List ℕ → List ℕ) (g : Params) (L : Bounded g) (me : ℕ) (s 
     where
       go : Turn H g me s a from m r d → (n ≡ seq s d) × ((seq (r .server) d ≡ seq s d + 1) ⊎ ((seq (r .server) d ≡ seq s d) × Got z (after d) j))
       go (stays q v x y) = absurd (y n z o e)
-      go (counts k p x y q v t f) =
+      go (counts k p x y q v t) =
           let same : message d n (blockIs z o) ≡ message d (seq s d) (blockIs k p) = sym e ∙ x in
           let ez : k ≡ z = cc (ap (λ m. m .body) same) in
           let new = subst (λ k. Got z (counted R (g .n) (g .t) me (before d) j k p) j) (sym ez) (counted-new (before d) z p) in
           (ap (λ m. m .sequence) same, inr (q, subst (λ w. Got z w j) (sym v) new))
-      go (accepts-one k p x y w f c q t v h l) = (ap (λ m. m .sequence) (sym e ∙ x), inl t)
+      go (accepts-one k p x y w O t) = (ap (λ m. m .sequence) (sym e ∙ x), inl (O .next))
+      go (accepts-other y w O t) = absurd (y n z o e)
 
   -- ---- the open sequence
 
@@ -129,8 +133,9 @@ module _ (H : List ℕ → List ℕ) (g : Params) (L : Bounded g) (me : ℕ) (s 
       go : Turn H g me s a from m r d → (seq (r .server) d ≡ seq s d)
           ⊎ ((seq (r .server) d ≡ seq s d + 1) × (w : S.Write) × List·Memᴰ w (r .accepted) × (w .client ≡ d) × (w .sequence ≡ seq s d))
       go (stays n v x y) = inl n
-      go (counts k o x y n v t f) = inl n
-      go (accepts-one k o x y w f c q n v t l) = inr (n, w, subst (List·Memᴰ w) (sym f) (List·Memᴰ·head refl), c, q)
+      go (counts k o x y n v t) = inl n
+      go (accepts-one k o x y w O t) = inr (O .next, w, O .accepted, O .client, O .sequence)
+      go (accepts-other y w O t) = inr (O .next, w, O .accepted, O .client, O .sequence)
 
   -- a sequence that rises is fresh
   pub risen-empty : (d : ℕ) → Among 8 d → seq (r .server) d ≡ seq s d + 1 → after d ≡ noPart
@@ -138,28 +143,20 @@ module _ (H : List ℕ → List ℕ) (g : Params) (L : Bounded g) (me : ℕ) (s 
     where
       go : Turn H g me s a from m r d → after d ≡ noPart
       go (stays n v x y) = absurd (omega (arith, n, e))
-      go (counts k o x y n v t f) = absurd (omega (arith, n, e))
-      go (accepts-one k o x y w f c q n v t l) = v
+      go (counts k o x y n v t) = absurd (omega (arith, n, e))
+      go (accepts-one k o x y w O t) = O .empty
+      go (accepts-other y w O t) = O .empty
 
   -- ---- nothing is left due
 
-  -- nothing is due, what is full is complete, and what is complete cannot be accepted
-  abbrev pub Quiet : Part Offer → Type 0
-  Quiet w = Calm H g w × Unripe H g w
-
-  pub quiet-turn : (d : ℕ) → Among 8 d → Quiet (before d) → Quiet (after d)
-  quiet-turn d id (C, U) = go (its-turn d id)
+  pub calm-turn : (d : ℕ) → Among 8 d → Calm H g (before d) → Calm H g (after d)
+  calm-turn d id C = go (its-turn d id)
     where
-      same-done : (k : Stage) (o : Offer) → k ≡ send → counted R (g .n) (g .t) me (before d) j k o .done ≡ before d .done
-      same-done k o e = ap (λ k. counted R (g .n) (g .t) me (before d) j k o .done) e
-
-      go : Turn H g me s a from m r d → Quiet (after d)
-      go (stays n v x y) = subst Quiet (sym v) (C, U)
-      go (counts k o x y n v t f) = (
-        subst (Calm H g) (sym v) (counted-calm H g me (before d) j k o y C),
-        ⊎-elim (λ e o′ q l. U o′ (sym (same-done k o e) ∙ sym (ap (λ w. w .done) v) ∙ q) l) (λ h. h) t,
-      )
-      go (accepts-one k o x y w f c q n v t l) = subst Quiet (sym v) (calm-empty H g L, λ o′ e l. impossible (cc e))
+      go : Turn H g me s a from m r d → Calm H g (after d)
+      go (stays n v x y) = subst (Calm H g) (sym v) C
+      go (counts k o x y n v t) = subst (Calm H g) (sym v) (counted-calm H g me (before d) j k o y C)
+      go (accepts-one k o x y w O t) = subst (Calm H g) (sym (O .empty)) (calm-empty H g L)
+      go (accepts-other y w O t) = subst (Calm H g) (sym (O .empty)) (calm-empty H g L)
 
   -- ---- what has gone out
 
@@ -196,16 +193,18 @@ module _ (H : List ℕ → List ℕ) (g : Params) (L : Bounded g) (me : ℕ) (s 
     where
       go : Turn H g me s a from m r d → (before d .ready ≡ true) ⊎ ((y : Offer) × ToAll d ready y)
       go (stays n v x y) = inl (sym (ap (λ w. w .ready) v) ∙ u)
-      go (counts k o x y n v t f) = counted-says d id k o x (sym (ap (λ w. w .ready) v) ∙ u)
-      go (accepts-one k o x y w f c q n v t l) = absurd (omega (arith, n, e))
+      go (counts k o x y n v t) = counted-says d id k o x (sym (ap (λ w. w .ready) v) ∙ u)
+      go (accepts-one k o x y w O t) = absurd (omega (arith, O .next, e))
+      go (accepts-other y w O t) = absurd (omega (arith, O .next, e))
 
   pub echo-why : (d : ℕ) → Among 8 d → seq (r .server) d ≡ seq s d → after d .sent ≡ true → (before d .sent ≡ true) ⊎ ((y : Offer) × ToAll d echo y)
   echo-why d id e u = go (its-turn d id)
     where
       go : Turn H g me s a from m r d → (before d .sent ≡ true) ⊎ ((y : Offer) × ToAll d echo y)
       go (stays n v x y) = inl (sym (ap (λ w. w .sent) v) ∙ u)
-      go (counts k o x y n v t f) = counted-echoes d id k o x (sym (ap (λ w. w .sent) v) ∙ u)
-      go (accepts-one k o x y w f c q n v t l) = absurd (omega (arith, n, e))
+      go (counts k o x y n v t) = counted-echoes d id k o x (sym (ap (λ w. w .sent) v) ∙ u)
+      go (accepts-one k o x y w O t) = absurd (omega (arith, O .next, e))
+      go (accepts-other y w O t) = absurd (omega (arith, O .next, e))
 
   -- what is complete was so, or is the server's own entry of a value
   pub done-why : (d : ℕ) → Among 8 d → (y : Offer) → after d .done ≡ some y
@@ -214,8 +213,9 @@ module _ (H : List ℕ → List ℕ) (g : Params) (L : Bounded g) (me : ℕ) (s 
     where
       go : Turn H g me s a from m r d → ((seq (r .server) d ≡ seq s d) × (before d .done ≡ some y)) ⊎ Encodes H g me (y .entry)
       go (stays n v x z) = inl (n, sym (ap (λ w. w .done) v) ∙ u)
-      go (counts k o x z n v t f) = ⊎-elim (λ h. inl (n, h)) (λ h. inr h) (counted-done H g me (before d) j k o y (sym (ap (λ w. w .done) v) ∙ u))
-      go (accepts-one k o x z w f c q n v t l) = impossible (cc (ap (λ w. w .done) v, u))
+      go (counts k o x z n v t) = ⊎-elim (λ h. inl (n, h)) (λ h. inr h) (counted-done H g me (before d) j k o y (sym (ap (λ w. w .done) v) ∙ u))
+      go (accepts-one k o x z w O t) = impossible (cc (ap (λ w. w .done) (O .empty), u))
+      go (accepts-other z w O t) = impossible (cc (ap (λ w. w .done) (O .empty), u))
 
   -- ---- an acceptance
 
@@ -233,25 +233,54 @@ module _ (H : List ℕ → List ℕ) (g : Params) (L : Bounded g) (me : ℕ) (s 
   pub accepted-client : (w : S.Write) → List·Memᴰ w (r .accepted) → Among 8 (w .client)
   accepted-client w u = cast-facts H g L me s a initial F from m is Q pass .took-why w u .0
 
-  pub acceptance : (w : S.Write) → List·Memᴰ w (r .accepted) → Quiet (before (w .client)) → Acceptance w
-  acceptance w u (C, U) = go (its-turn (w .client) id)
+  -- of a client at most one is accepted
+  accepted-one : (w x : S.Write) → List·Memᴰ w (r .accepted) → List·Memᴰ x (r .accepted) → w .client ≡ x .client → w ≡ x
+  accepted-one w x = go (shape-of H g me s a initial from m) (test-split H g me s from m pass .0)
+    where
+      go : {b : Body} {f : S.Effect} → Shape H g me s a initial j (m .client) (m .sequence) b f → ST.senderRight g from (m .client) b ≡ true
+          → List·Memᴰ w (f .accepted) → List·Memᴰ x (f .accepted) → w .client ≡ x .client → w ≡ x
+      go (idle b) h u v e = absurd (List·Memᴰ·not-nil u)
+      go answers h u v e = absurd (List·Memᴰ·not-nil u)
+      go notes h u v e = absurd (List·Memᴰ·not-nil u)
+      go ends h u v e = absurd (List·Memᴰ·not-nil u)
+      go (settles b p k f) h u v e =
+          let X = counted-shape H g me s a initial F j (counted-from g from (m .client) is (L .servers-high) k h .0) (m .client) (is .1) k in
+          freed-one (small g L) f (X .within) (X .room) w x u v e
+      go (hears T f) h u v e = let X = report-shape s a F j T in freed-one (small g L) f (X .within) (X .room) w x u v e
+
+  pub acceptance : (w : S.Write) → List·Memᴰ w (r .accepted) → Calm H g (before (w .client)) → Acceptance w
+  acceptance w u C = go (its-turn (w .client) id)
     where
       id : Among 8 (w .client)
       id = accepted-client w u
 
+      same : (w′ : S.Write) → Opens H g me s a from r (w .client) w′ → w′ ≡ w
+      same w′ O = accepted-one w′ w (O .accepted) u (O .client)
+
       go : Turn H g me s a from m r (w .client) → Acceptance w
       go (stays n v x y) = absurd (x w u refl)
-      go (counts k o x y n v t f) = absurd (List·Memᴰ·not-nil (subst (List·Memᴰ w) f u))
-      go (accepts-one k o x y w′ f c q n v t l) =
-          let e : w ≡ w′ = List·Memᴰ·eq-of-singleton (subst (List·Memᴰ w) f u) in
-          let l′ : w .time < lastTime = subst (λ w. w .time < lastTime) (sym e) l in
-          let t′ : counted R (g .n) (g .t) me (before (w .client)) j k o .done ≡ some (offerOf w) = t ∙ ap (λ w. some (offerOf w)) (sym e) in
+      go (counts k o x y n v t) = absurd (t w u refl)
+      go (accepts-one k o x y w′ O t) =
+          let e = same w′ O in
+          let t′ : counted R (g .n) (g .t) me (before (w .client)) j k o .done ≡ some (offerOf w) = t ∙ ap (λ w. some (offerOf w)) e in
           record {
             client = id;
-            sequence = ap (λ w. w .sequence) e ∙ q;
-            next = n;
-            below = l′;
-            ready-out = counted-says (w .client) id k o x (counted-ready H g me (before (w .client)) j k o y C U (offerOf w) t′ l′);
+            sequence = ap (λ w. w .sequence) (sym e) ∙ O .sequence;
+            next = O .next;
+            below = subst (λ w. w .time < lastTime) e (O .below);
+            ready-out = counted-says (w .client) id k o x (counted-calm H g me (before (w .client)) j k o y C .done-ready (offerOf w) t′);
             acked = accepted-acked H g me s a initial from m w u;
             entry = counted-done H g me (before (w .client)) j k o (offerOf w) t′;
+          }
+      go (accepts-other y w′ O t) =
+          let e = same w′ O in
+          let t′ : before (w .client) .done ≡ some (offerOf w) = t ∙ ap (λ w. some (offerOf w)) e in
+          record {
+            client = id;
+            sequence = ap (λ w. w .sequence) (sym e) ∙ O .sequence;
+            next = O .next;
+            below = subst (λ w. w .time < lastTime) e (O .below);
+            ready-out = inl (C .done-ready (offerOf w) t′);
+            acked = accepted-acked H g me s a initial from m w u;
+            entry = inl t′;
           }

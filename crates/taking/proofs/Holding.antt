@@ -4,7 +4,7 @@ use Prim.Native.Nat.{ℕ, _≤_}
 use native.Mathlib.Omega.{arith}
 use mathlib.Core.Bool.{Bool, true, false}
 use mathlib.Core.Path.{_≡_, refl, ap, sym, _∙_, subst}
-use mathlib.Core.Logic.{_⊎_, inl, inr}
+use mathlib.Core.Logic.{_⊎_, inl, inr, ⊎-elim}
 use mathlib.Core.List.{List, [], _∷_, List·Memᴰ, List·Memᴰ·head}
 use lib.ListN.{length}
 use Rattle.quorum.specs.Quorum.{Among}
@@ -26,11 +26,11 @@ use Rattle.server_rules.specs.State.{slotOf}
 use Rattle.server_rules.specs.Steps as S
 use Rattle.server_rules.specs.Tests as ST
 use Rattle.server_rules.proofs.Views.{shapes}
-use Rattle.server_rules.proofs.Shapes.{offerOf, Freed, nothing, accepts, counted-length, Shape, idle, answers, notes, ends, settles, shape-of}
+use Rattle.server_rules.proofs.Shapes.{counted-length, Shape, idle, answers, notes, ends, settles, hears, shape-of}
 use Rattle.server_rules.proofs.Passing.{SizedIn, test-split, counted-from}
 use Rattle.server_rules.proofs.Within.{slot-within}
 use Rattle.server_rules.proofs.Counting.{counted-present}
-use Rattle.server_rules.proofs.Freeing.{done-sized}
+use Rattle.server_rules.proofs.Freeing.{freed-present}
 use Rattle.steps.proofs.ServerFits.{ServerShape}
 
 module _ (H : List ℕ → List ℕ) (g : Params) (me : ℕ) (s : Server) (from : Party) where
@@ -53,27 +53,6 @@ module _ (H : List ℕ → List ℕ) (g : Params) (me : ℕ) (s : Server) (from 
         ⊎ ((w : S.Write) × List·Memᴰ w (r .accepted) × (r .server .stamp ≡ S.stampOf w) × (entryAt g (r .area) presentAt ≡ w .entry)
         × (older (s .stamp) (S.stampOf w) ≡ true))
 
-    -- after a counted frame
-    freed-presents : {s₁ : Server} {a₁ : List ℕ} {c : ℕ} {r : S.Effect} → Freed g s₁ a₁ c r → s₁ .stamp ≡ s .stamp
-        → entryAt g a₁ presentAt ≡ entryAt g a presentAt → areaBytes ≤ length a₁ → Among 8 c → Presents r
-    unfolding S.accept pick
-    freed-presents nothing e f room is = inl (e, f)
-    freed-presents {s₁} {a₁} (accepts w ec R) e f room is = go (older (s₁ .stamp) (S.stampOf w)) refl
-      where
-        go : (b : Bool) → older (s₁ .stamp) (S.stampOf w) ≡ b
-            → ((pick b (S.stampOf w) (s₁ .stamp) ≡ s .stamp) × (entryAt g (storeIf b a₁ presentAt (w .entry)) presentAt ≡ entryAt g a presentAt))
-            ⊎ ((k : S.Write) × List·Memᴰ k (w ∷ []) × (pick b (S.stampOf w) (s₁ .stamp) ≡ S.stampOf k)
-            × (entryAt g (storeIf b a₁ presentAt (w .entry)) presentAt ≡ k .entry) × (older (s .stamp) (S.stampOf k) ≡ true))
-        go true o = inr (
-          w,
-          List·Memᴰ·head refl,
-          refl,
-          entry-same g (small g L) a₁ presentAt (w .entry)
-              (done-sized g (small g L) a₁ room (w .client) (subst (Among 8) (sym ec) is) (slotOf s₁ (w .client)) (offerOf w) (R .complete)) (omega arith),
-          ap (λ x. older x (S.stampOf w)) (sym e) ∙ o,
-        )
-        go false o = inl (e, f)
-
     pub presents : (m : Message) → Among 8 (m .client) → SizedIn g (m .body) → ST.messageTest H g me s from m ≡ J.Fine
         → Presents (S.effect H g me s a initial from m)
     presents m is Q e = let (h, t) = test-split H g me s from m e in go (shape-of H g me s a initial from m) Q h
@@ -87,6 +66,6 @@ module _ (H : List ℕ → List ℕ) (g : Params) (me : ℕ) (s : Server) (from 
         go (settles b p k f) Q h =
             let at = counted-from g from (m .client) is (L .servers-high) k h in
             let l = counted-length H g me s a initial (numberIn from) (m .client) k in
-            freed-presents f refl
-            (counted-present H g L me s a initial (F .room) (numberIn from) at (m .client) is (slot-within shapes (F .within) (m .client) (is .1)) k Q)
-            (omega (arith, l, F .room)) is
+            let q = counted-present H g L me s a initial (F .room) (numberIn from) at (m .client) is (slot-within shapes (F .within) (m .client) (is .1)) k Q in
+            ⊎-elim (λ (e, h). inl (e, h ∙ q)) (λ w. inr w) (freed-present (small g L) f (omega (arith, l, F .room)))
+        go (hears T f) Q h = freed-present (small g L) f (F .room)

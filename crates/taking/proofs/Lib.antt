@@ -6,3 +6,4 @@ pub mod Does
 pub mod Readers
 pub mod Holding
 pub mod PastRows
+pub mod Ripeness

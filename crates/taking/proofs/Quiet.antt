@@ -9,10 +9,9 @@ use mathlib.Core.List.{List}
 use lib.Dec.{leb}
 use borrow.Author.Tests.{leb-true, le-leb}
 use Rattle.quorum.specs.Quorum.{count}
-use Rattle.quorum.proofs.Logic.{impossible, or-right}
+use Rattle.quorum.proofs.Logic.{impossible, or-left, or-right}
 use Rattle.blocks.specs.declared.Params.{Params}
 use Rattle.frame.specs.Params.{quota, Bounded}
-use Rattle.frame.specs.Stamps.{lastTime}
 use Rattle.frame.specs.Messages.{Offer, Stage, send, echo, ready}
 use Rattle.server_rules.specs.Broadcast.{Rules, Part, kept, undone, isLike, votes, enough, due, full}
 use Rattle.server_rules.specs.Rules.{blockRules}
@@ -51,14 +50,11 @@ module _ (H : List ℕ → List ℕ) (g : Params) where
   abbrev R : Rules Offer
   R = blockRules H g
 
-  -- nothing is due, and what is full is complete
+  -- nothing is due, what is full is complete, and of what is complete a ready has gone out
   pub record Calm (w : Part Offer) : Type 0 where
     pub nothing-due : (x : Offer) → due R (g .n) (g .t) w x ≡ false
     pub full-done : (x : Offer) → full R (g .n) (g .t) w x ≡ true → undone (w .done) ≡ false
-
-  -- what is complete cannot be accepted
-  abbrev pub Unripe : Part Offer → Type 0
-  Unripe w = (o : Offer) → w .done ≡ some o → o .time < lastTime → ⊥
+    pub done-ready : (y : Offer) → w .done ≡ some y → w .ready ≡ true
 
   -- ---- where nothing has come
 
@@ -83,7 +79,11 @@ module _ (H : List ℕ → List ℕ) (g : Params) where
       leb-short (g .n) (count (λ j. false) (g .n) + g .t) (omega (arith, zeros, L .faults-high)) in
       let q : leb (quota g) (count (λ j. false) (g .n)) ≡ false = leb-short (quota g) (count (λ j. false) (g .n)) (omega (arith, zeros, few)) in
       let a : leb (quota g + g .t) (count (λ j. false) (g .n)) ≡ false = leb-short (quota g + g .t) (count (λ j. false) (g .n)) (omega (arith, zeros, few)) in
-      record { nothing-due = λ x. rw (n, q) refl; full-done = λ x e. impossible (cc (ap (λ b. b && R .supports (λ j. none) (λ j. none) x) a, e)) }
+      record {
+        nothing-due = λ x. rw (n, q) refl;
+        full-done = λ x e. impossible (cc (ap (λ b. b && R .supports (λ j. none) (λ j. none) x) a, e));
+        done-ready = λ y e. impossible (cc e);
+      }
 
   -- ---- where a frame is counted
 
@@ -109,21 +109,6 @@ module _ (H : List ℕ → List ℕ) (g : Params) where
     same-of : (x : Offer) → R .alike o x ≡ true → agreed x ≡ agreed o
     same-of x e = sym (blocks-sane H g .same-true o x e)
 
-    pub calm-settled : Calm (settled R (g .n) (g .t) me w o)
-    calm-settled = record {
-      nothing-due = λ x. settled-due x ∙ not-again x (R .alike o x) refl;
-      full-done = λ x e. complete x (R .alike o x) refl (sym (settled-full x) ∙ e);
-    }
-      where
-        not-again : (x : Offer) (b : Bool) → R .alike o x ≡ b → (not (w .ready || due R (g .n) (g .t) w o) && rest x) ≡ false
-        not-again x true e = not-due-again (w .ready) _ (rest x) (sym (O.alike-due H g x o (same-of x e) w) ∙ due-is x)
-        not-again x false e = still-not-due (w .ready) _ (rest x) (sym (due-is x) ∙ O.agrees-due H g x w v ready (E x e) (Q x e) ∙ C .nothing-due x)
-
-        complete : (x : Offer) (b : Bool) → R .alike o x ≡ b → full R (g .n) (g .t) w x ≡ true → undone (settled R (g .n) (g .t) me w o .done) ≡ false
-        complete x true e f = first-full (w .done) (full R (g .n) (g .t) w o) _ (sym (O.alike-full H g x o (same-of x e) w) ∙ f)
-        complete x false e f =
-            first-done (w .done) _ (ap undone done ∙ C .full-done x (sym (O.agrees-full H g x w v ready (E x e) (Q x e)) ∙ f))
-
     -- where the write becomes complete, a ready goes out unless one did
     pub full-ready : full R (g .n) (g .t) w o ≡ true → settled R (g .n) (g .t) me w o .ready ≡ true
     unfolding enough rest votes
@@ -133,14 +118,27 @@ module _ (H : List ℕ → List ℕ) (g : Params) where
         let e : enough R (g .n) (g .t) w o ≡ true = or-right (leb (g .n) (votes R (g .n) (g .t) (w .echoes) o + g .t)) _ q in
         ap (λ b. w .ready || b) (due-is o) ∙ ready-by (w .ready) (rest o) (rw e (full-supported R (g .n) (g .t) w o f))
 
-    pub done-ready : Unripe v → (y : Offer) → settled R (g .n) (g .t) me w o .done ≡ some y → y .time < lastTime → settled R (g .n) (g .t) me w o .ready ≡ true
-    done-ready U y = go (w .done) (full R (g .n) (g .t) w o) refl refl
+    pub calm-settled : Calm (settled R (g .n) (g .t) me w o)
+    calm-settled = record {
+      nothing-due = λ x. settled-due x ∙ not-again x (R .alike o x) refl;
+      full-done = λ x e. complete x (R .alike o x) refl (sym (settled-full x) ∙ e);
+      done-ready = λ y e. readied y (w .done) (full R (g .n) (g .t) w o) refl refl e;
+    }
       where
-        go : (d : Option Offer) (b : Bool) → w .done ≡ d → full R (g .n) (g .t) w o ≡ b → firstOf d (kept b (R .own me (w .echoes) (w .readies) o)) ≡ some y
-            → y .time < lastTime → settled R (g .n) (g .t) me w o .ready ≡ true
-        go (some z) b p q e l = absurd (U y (sym done ∙ p ∙ e) l)
-        go none true p q e l = full-ready q
-        go none false p q e l = impossible (cc e)
+        readied : (y : Offer) (d : Option Offer) (b : Bool) → w .done ≡ d → full R (g .n) (g .t) w o ≡ b
+            → firstOf d (kept b (R .own me (w .echoes) (w .readies) o)) ≡ some y → settled R (g .n) (g .t) me w o .ready ≡ true
+        readied y (some z) b p q e = or-left (w .ready) _ (ready ∙ C .done-ready z (sym done ∙ p))
+        readied y none true p q e = full-ready q
+        readied y none false p q e = impossible (cc e)
+
+        not-again : (x : Offer) (b : Bool) → R .alike o x ≡ b → (not (w .ready || due R (g .n) (g .t) w o) && rest x) ≡ false
+        not-again x true e = not-due-again (w .ready) _ (rest x) (sym (O.alike-due H g x o (same-of x e) w) ∙ due-is x)
+        not-again x false e = still-not-due (w .ready) _ (rest x) (sym (due-is x) ∙ O.agrees-due H g x w v ready (E x e) (Q x e) ∙ C .nothing-due x)
+
+        complete : (x : Offer) (b : Bool) → R .alike o x ≡ b → full R (g .n) (g .t) w x ≡ true → undone (settled R (g .n) (g .t) me w o .done) ≡ false
+        complete x true e f = first-full (w .done) (full R (g .n) (g .t) w o) _ (sym (O.alike-full H g x o (same-of x e) w) ∙ f)
+        complete x false e f =
+            first-done (w .done) _ (ap undone done ∙ C .full-done x (sym (O.agrees-full H g x w v ready (E x e) (Q x e)) ∙ f))
 
   -- a place that was empty
   fresh-place : (f : ℕ → Option Offer) (j : ℕ) (o x : Offer) → f j ≡ none → R .alike o x ≡ false → (i : ℕ) → Agrees H g x (put f j (some o) i) (f i)
@@ -157,17 +155,9 @@ module _ (H : List ℕ → List ℕ) (g : Params) where
 
   withSent-calm : (v : Part Offer) → Calm v → Calm (withSent v)
   unfolding due enough full
-  withSent-calm v C = record { nothing-due = C .nothing-due; full-done = C .full-done }
+  withSent-calm v C = record { nothing-due = C .nothing-due; full-done = C .full-done; done-ready = C .done-ready }
 
   pub counted-calm : (me : ℕ) (v : Part Offer) (j : ℕ) (z : Stage) (o : Offer) → Uncounted v j z → Calm v → Calm (counted R (g .n) (g .t) me v j z o)
   counted-calm me v j send o u C = withSent-calm v C
   counted-calm me v j echo o u C = calm-settled me v (withEcho v j o) o refl refl (λ x. fresh-place (v .echoes) j o x u) (λ x e i. inr refl) C
   counted-calm me v j ready o u C = calm-settled me v (withReady v j o) o refl refl (λ x e i. inr refl) (λ x. fresh-place (v .readies) j o x u) C
-
-  pub counted-ready : (me : ℕ) (v : Part Offer) (j : ℕ) (z : Stage) (o : Offer) → Uncounted v j z → Calm v → Unripe v → (y : Offer)
-      → counted R (g .n) (g .t) me v j z o .done ≡ some y → y .time < lastTime → counted R (g .n) (g .t) me v j z o .ready ≡ true
-  counted-ready me v j send o u C U y e l = absurd (U y e l)
-  counted-ready me v j echo o u C U y e l =
-      done-ready me v (withEcho v j o) o refl refl (λ x. fresh-place (v .echoes) j o x u) (λ x e i. inr refl) C U y e l
-  counted-ready me v j ready o u C U y e l =
-      done-ready me v (withReady v j o) o refl refl (λ x e i. inr refl) (λ x. fresh-place (v .readies) j o x u) C U y e l

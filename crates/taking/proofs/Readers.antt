@@ -20,39 +20,44 @@ use Rattle.frame.specs.declared.Party.the-variants as P
 use Rattle.frame.specs.declared.Verdict.the-variants as J
 use Rattle.frame.specs.Stamps.{older}
 use Rattle.frame.specs.Messages.{Offer, Stage, send, echo, ready, Body, getStamp, ack, askRead, readComplete, stampIs}
-use Rattle.frame.specs.Messages.{blockIs, valueIs, Message, message, Sending, sending, toFrom, toAll, numberIn}
+use Rattle.frame.specs.Messages.{blockIs, valueIs, report, Message, message, Sending, sending, toFrom, toAll, numberIn}
 use Rattle.frame.proofs.Verdicts.{fine-not}
 use Rattle.server_rules.specs.declared.Reader.{Reader}
 use Rattle.server_rules.specs.declared.Server.{Server}
-use Rattle.server_rules.specs.State.{noReader, readerOf, withReader, presentEntry}
+use Rattle.server_rules.specs.State.{noReader, readerOf, withReader, withReport, presentEntry}
 use Rattle.server_rules.specs.Steps as S
 use Rattle.server_rules.specs.Tests as ST
-use Rattle.server_rules.proofs.Accepting.{tell-all}
+use Rattle.server_rules.proofs.Accepting.{tell-all, Says, ToAnyone}
+use Rattle.server_rules.proofs.Accepting as Y
 use Rattle.server_rules.proofs.Freeing.{freed-mem, freed-readers}
 use Rattle.server_rules.proofs.Passing.{is-owner, test-split}
-use Rattle.server_rules.proofs.Shapes.{Freed, freed, nothing, accepts, Counted, block, Shape, idle, answers, notes, ends, settles, shape-of}
+use Rattle.server_rules.proofs.Shapes.{Freed, free, freed, nothing, accepts, Counted, block, Shape, idle, answers, notes, ends, settles, hears, shape-of}
 use Rattle.server_rules.proofs.Views.{shapes}
 use Rattle.server_rules.specs.WellFormed.{Within}
 
 -- ---- listeners are told
 
-accept-tells : (s : Server) (a : List ℕ) (w : S.Write) (d : ℕ) → Among 8 d → readerOf s d .listening ≡ true → older (readerOf s d .noted) (S.stampOf w) ≡ true
-    → List·Memᴰ (sending (P.Client d) (message d (readerOf s d .sequence) (valueIs (S.stampOf w) (w .entry)))) (S.accept s a w .sends)
+accept-tells : (g : Params) (s : Server) (a : List ℕ) (w : S.Write) (d : ℕ) → Among 8 d → readerOf s d .listening ≡ true
+    → older (readerOf s d .noted) (S.stampOf w) ≡ true
+    → List·Memᴰ (sending (P.Client d) (message d (readerOf s d .sequence) (valueIs (S.stampOf w) (w .entry)))) (S.accept g s a w .sends)
 unfolding S.accept
-accept-tells s a w d i u v = Memᴰ·append-left _ (tell-all (s .readers) (S.stampOf w) (w .entry) 1 8 d (i .0) (omega (arith, i .1)) u v)
+accept-tells g s a w d i u v = Memᴰ·append-left _ (tell-all (s .readers) (S.stampOf w) (w .entry) 1 8 d (i .0) (omega (arith, i .1)) u v)
 
-freed-tells : (g : Params) (s : Server) {s₁ : Server} {a₁ : List ℕ} {c : ℕ} {f : S.Effect} → Freed g s₁ a₁ c f → s₁ .readers ≡ s .readers
+freed-tells : (g : Params) (s : Server) {n : ℕ} {s₁ : Server} {a₁ : List ℕ} {f : S.Effect} → Freed g n s₁ a₁ f → s₁ .readers ≡ s .readers
     → (w : S.Write) → List·Memᴰ w (f .accepted) → (d : ℕ) → Among 8 d → readerOf s d .listening ≡ true → older (readerOf s d .noted) (S.stampOf w) ≡ true
     → List·Memᴰ (sending (P.Client d) (message d (readerOf s d .sequence) (valueIs (S.stampOf w) (w .entry)))) (f .sends)
 unfolding S.accept
 freed-tells g s nothing e w v d i l o = absurd (List·Memᴰ·not-nil v)
-freed-tells g s {s₁} {a₁} (accepts k ec R) e w v d i l o =
-    let z : w ≡ k = List·Memᴰ·eq-of-singleton v in
+freed-tells g s (accepts {s = s₁} {a = a₁} k j R {r} f) e w v d i l o =
     let n : readerOf s₁ d ≡ readerOf s d = ap (λ rs. getD rs d noReader) e in
-    subst (λ x. List·Memᴰ (sending (P.Client d) (message d (x .sequence) (valueIs (S.stampOf w) (w .entry)))) (S.accept s₁ a₁ k .sends)) n
-    (subst (λ w. List·Memᴰ (sending (P.Client d) (message d (readerOf s₁ d .sequence) (valueIs (S.stampOf w) (w .entry)))) (S.accept s₁ a₁ k .sends)) (sym z)
-    (accept-tells s₁ a₁ k d i (ap (λ x. x .listening) n ∙ l)
-    (ap (λ x. older (x .noted) (S.stampOf k)) n ∙ ap (λ w. older (readerOf s d .noted) (S.stampOf w)) (sym z) ∙ o)))
+    ⊎-elim
+    (λ z. Memᴰ·append-left (r .sends)
+    (subst (λ x. List·Memᴰ (sending (P.Client d) (message d (x .sequence) (valueIs (S.stampOf w) (w .entry)))) (S.accept g s₁ a₁ k .sends)) n
+    (subst (λ w. List·Memᴰ (sending (P.Client d) (message d (readerOf s₁ d .sequence) (valueIs (S.stampOf w) (w .entry)))) (S.accept g s₁ a₁ k .sends)) (sym z)
+    (accept-tells g s₁ a₁ k d i (ap (λ x. x .listening) n ∙ l)
+    (ap (λ x. older (x .noted) (S.stampOf k)) n ∙ ap (λ w. older (readerOf s d .noted) (S.stampOf w)) (sym z) ∙ o)))))
+    (λ u. Memᴰ·append-right (S.accept g s₁ a₁ k .sends) (freed-tells g s f e w u d i l o))
+    (List·Memᴰ·cases-cons v)
 
 module _ (H : List ℕ → List ℕ) (g : Params) (me : ℕ) (s : Server) (a initial : List ℕ) (from : Party) (m : Message) where
   abbrev r : S.Effect
@@ -71,6 +76,7 @@ module _ (H : List ℕ → List ℕ) (g : Params) (me : ℕ) (s : Server) (a ini
       go notes v = absurd (List·Memᴰ·not-nil v)
       go ends v = absurd (List·Memᴰ·not-nil v)
       go (settles x p k f) v = Memᴰ·append-right (p .sends) (freed-tells g s f refl w v d i l o)
+      go (hears T f) v = freed-tells g s f refl w v d i l o
 
   -- ---- answers
 
@@ -139,8 +145,9 @@ module _ (H : List ℕ → List ℕ) (g : Params) (me : ℕ) (s : Server) (W : W
   note-of askRead h t d = on-read h t d
   note-of readComplete h t d = on-complete h t d
   note-of (stampIs T) h t d = quiet _ _ refl (λ e. impossible (cc e)) d
-  note-of (blockIs z o) h t d = quiet _ _ (freed-readers (freed g _ _ c z)) (λ e. impossible (cc e)) d
+  note-of (blockIs z o) h t d = quiet _ _ (freed-readers (freed g _ _ z)) (λ e. impossible (cc e)) d
   note-of (valueIs x e) h t d = quiet _ _ refl (λ e. impossible (cc e)) d
+  note-of (report T) h t d = quiet _ _ (freed-readers (free g 8 (withReport s (numberIn from) T) a)) (λ e. impossible (cc e)) d
 
 pub note : (H : List ℕ → List ℕ) (g : Params) (me : ℕ) (s : Server) → Within shapes s → (a initial : List ℕ) (from : Party) (m : Message) → Among 8 (m .client)
     → ST.messageTest H g me s from m ≡ J.Fine → (d : ℕ) → Note s from m (S.effect H g me s a initial from m) d
@@ -151,7 +158,7 @@ note H g me s W a initial from m is e d =
 
 -- ---- receivers
 
--- A server sends echoes and readies to servers, and stamps, acks and values to the client that they name.
+-- A server sends echoes and readies to servers, stamps, acks and values to the client that they name, and reports to anyone.
 abbrev pub Right : Params → Party → ℕ → Body → Type 0
 Right g b c getStamp = ⊥
 Right g b c ack = b ≡ P.Client c
@@ -162,6 +169,7 @@ Right g b c (blockIs send o) = ⊥
 Right g b c (blockIs echo o) = (i : ℕ) × Among (g .n) i × (b ≡ P.Server i)
 Right g b c (blockIs ready o) = (i : ℕ) × Among (g .n) i × (b ≡ P.Server i)
 Right g b c (valueIs x e) = b ≡ P.Client c
+Right g b c (report T) = ToAnyone g b
 
 abbrev pub RightTo : Params → Sending → Type 0
 RightTo g x = Right g (x .receiver) (x .says .client) (x .says .body)
@@ -200,11 +208,13 @@ module _ (H : List ℕ → List ℕ) (g : Params) (me : ℕ) (s : Server) (a ini
   counted-right j c (block echo o) x u = if-right _ ready _ c _ (λ e. impossible (cc e)) x u
   counted-right j c (block ready o) x u = if-right _ ready _ c _ (λ e. impossible (cc e)) x u
 
-  freed-right : {s₁ : Server} {a₁ : List ℕ} {c : ℕ} {r : S.Effect} → Freed g s₁ a₁ c r → (x : Sending) → List·Memᴰ x (r .sends) → RightTo g x
-  freed-right f x u = ⊎-elim
-      (λ (d, l, h, t). subst (RightTo g) (sym (t .is)) refl)
-      (λ e. subst (RightTo g) (sym e) refl)
-      (freed-mem f x u .2)
+  says-right : {s₁ : Server} (w : S.Write) (x : Sending) → Says g s₁ w x → RightTo g x
+  says-right w x (Y.told d i t) = subst (RightTo g) (sym (t .is)) refl
+  says-right w x (Y.acked e) = subst (RightTo g) (sym e) refl
+  says-right w x (Y.reports e t) = subst (λ m. Right g (x .receiver) (m .client) (m .body)) (sym e) t
+
+  freed-right : {s₁ : Server} {a₁ : List ℕ} {r : S.Effect} → Freed g 8 s₁ a₁ r → (x : Sending) → List·Memᴰ x (r .sends) → RightTo g x
+  freed-right f x u = let (w, v, h) = freed-mem f x u in says-right w x h
 
   pub right : (from : Party) (m : Message) (x : Sending) → List·Memᴰ x (S.effect H g me s a initial from m .sends) → RightTo g x
   right from m x = go (shape-of H g me s a initial from m)
@@ -215,3 +225,4 @@ module _ (H : List ℕ → List ℕ) (g : Params) (me : ℕ) (s : Server) (a ini
       go notes u = subst (RightTo g) (sym (List·Memᴰ·eq-of-singleton u)) refl
       go ends u = absurd (List·Memᴰ·not-nil u)
       go (settles b p k f) u = ⊎-elim (λ v. counted-right (numberIn from) (m .client) k x v) (λ v. freed-right f x v) (List·Memᴰ·append-cases (p .sends) u)
+      go (hears T f) u = freed-right f x u

@@ -41,7 +41,7 @@ use Rattle.server_rules.proofs.Counting.{said}
 use Rattle.server_rules.proofs.Accepting.{ackOf}
 use Rattle.server_rules.proofs.Freeing.{freed-acked}
 use Rattle.server_rules.proofs.Speaking.{freed-none}
-use Rattle.server_rules.proofs.Shapes.{Counted, block, shape-of, Shape, idle, answers, notes, ends, settles}
+use Rattle.server_rules.proofs.Shapes.{Counted, block, shape-of, Shape, idle, answers, notes, ends, settles, hears}
 use Rattle.server_rules.proofs.Within.{slot-within}
 use Rattle.steps.proofs.CastFacts.{partAt}
 use Rattle.steps.proofs.ServerFits.{ServerShape}
@@ -219,6 +219,7 @@ module _ (H : List ℕ → List ℕ) (g : Params) where
           (λ v. counted-coded L me s a initial (numberIn from) (m .client) k b d n y v)
           (λ v. absurd (freed-none f _ v tt))
           (List·Memᴰ·append-cases (p .sends) u)
+      go (hears T f) u = absurd (freed-none f _ u tt)
 
   -- ---- the ack
 
@@ -233,3 +234,4 @@ module _ (H : List ℕ → List ℕ) (g : Params) where
       go notes u = absurd (List·Memᴰ·not-nil u)
       go ends u = absurd (List·Memᴰ·not-nil u)
       go (settles x p k f) u = Memᴰ·append-right (p .sends) (freed-acked f w u)
+      go (hears T f) u = freed-acked f w u

@@ -15,13 +15,13 @@ use Rattle.frame.specs.Stamps.{lastTime, lastClient, zeroStamp}
 use Rattle.frame.specs.Refusals.{andThen}
 use Rattle.frame.specs.Frames.{opened}
 use Rattle.frame.specs.Messages.{Entry, Sized, Body, getStamp, ack, askRead, readComplete, stampIs}
-use Rattle.frame.specs.Messages.{blockIs, valueIs, Sending, numberIn, Judged, bad, good, after}
+use Rattle.frame.specs.Messages.{blockIs, valueIs, report, Sending, numberIn, Judged, bad, good, after}
 use Rattle.frame.specs.Chunks.{entryAt, storeEntry, placeAt, rowsBytes}
 use Rattle.frame.proofs.Sizes.{Small}
 use Rattle.client_rules.specs.declared.Row.{Row}
 use Rattle.client_rules.specs.declared.Client.{Client}
 use Rattle.client_rules.specs.Rows.{Kept, used, placesFrom, rowView, placeFor, rowWith, Found, search}
-use Rattle.client_rules.specs.State.{rowOf, inPhase, withRow, largest}
+use Rattle.client_rules.specs.State.{asking, rowOf, inPhase, withRow, withReport}
 use Rattle.client_rules.specs.declared.Phase.the-variants as F
 use Rattle.client_rules.specs.Steps as C
 use Rattle.client_rules.specs.Tests as CT
@@ -67,6 +67,7 @@ module _ (H : List ℕ → List ℕ) (g : Params) (me : ℕ) where
   bodyBy s f v j (stampIs T) = heard (C.onBody H g me s [] v j (stampIs T)) f
   bodyBy s f v j (blockIs z o) = heard (C.onBody H g me s [] v j (blockIs z o)) f
   bodyBy s f v j (valueIs x e) = keptBy (placeFor (rowOf s j) x) s f j x e
+  bodyBy s f v j (report T) = heard (C.onBody H g me s [] v j (report T)) f
 
   unfoldable pub heardBy : Judged → Client → (ℕ → Entry) → List ℕ → Party → Heard
   heardBy (bad r) s f v from = heard (C.quiet s []) f
@@ -130,8 +131,14 @@ module _ (H : List ℕ → List ℕ) (g : Params) (B : Bounded g) (M : Small g) 
   gather-seen : (s : Client) (a : List ℕ) (f : ℕ → Entry) → Shows g rowsBytes a f → (v : List ℕ) (b : Bool)
       → Hears g (C.gatherBy H g me b s a v) (heard (C.gatherBy H g me b s [] v) f)
   unfolding C.gatherBy
-  gather-seen s a f X v true = send-seen s a f X v _ (ltb (largest (λ j. getD (s .times) j 0) (g .n)) lastTime)
+  gather-seen s a f X v true = send-seen s a f X v _ (ltb (C.largestCounted g s) lastTime)
   gather-seen s a f X v false = record { client = refl; sends = refl; event = refl; area = X }
+
+  report-seen : (s : Client) (a : List ℕ) (f : ℕ → Entry) → Shows g rowsBytes a f → (v : List ℕ) (b : Bool)
+      → Hears g (C.reportBy H g me b s a v) (heard (C.reportBy H g me b s [] v) f)
+  unfolding C.reportBy
+  report-seen s a f X v true = gather-seen s a f X v (C.gathered g s)
+  report-seen s a f X v false = record { client = refl; sends = refl; event = refl; area = X }
 
   end-seen : (s : Client) (a : List ℕ) (f : ℕ → Entry) → Shows g rowsBytes a f → (h : List Bool) (b : Bool)
       → Hears g (C.endBy H g me b s a h) (heard (C.endBy H g me b s [] h) f)
@@ -141,13 +148,14 @@ module _ (H : List ℕ → List ℕ) (g : Params) (B : Bounded g) (M : Small g) 
 
   body-seen : (s : Client) (a : List ℕ) (f : ℕ → Entry) → Shows g rowsBytes a f → (v : List ℕ) (j : ℕ) → 1 ≤ j → j ≤ 10 → (b : Body) → SizedIn g b
       → Hears g (C.onBody H g me s a v j b) (bodyBy H g me s f v j b)
-  unfolding C.onBody C.onStamp C.onAck C.onValue bodyBy
+  unfolding C.onBody C.onStamp C.onReport C.onAck C.onValue bodyBy
   body-seen s a f X v j lo hi getStamp Q = record { client = refl; sends = refl; event = refl; area = X }
   body-seen s a f X v j lo hi ack Q = end-seen s a f X (set (s .heard) j true) (C.quorate g (set (s .heard) j true))
   body-seen s a f X v j lo hi askRead Q = record { client = refl; sends = refl; event = refl; area = X }
   body-seen s a f X v j lo hi readComplete Q = record { client = refl; sends = refl; event = refl; area = X }
   body-seen s a f X v j lo hi (stampIs T) Q =
-      gather-seen (inPhase s F.Asking (set (s .heard) j true) (set (s .times) j T)) a f X v (C.quorate g (set (s .heard) j true))
+      gather-seen (inPhase (withReport s j T) F.Asking (set (s .heard) j true) (set (s .times) j T)) a f X v (C.gathered g _)
+  body-seen s a f X v j lo hi (report T) Q = report-seen (withReport s j T) a f X v (asking (s .phase))
   body-seen s a f X v j lo hi (blockIs z o) Q = record { client = refl; sends = refl; event = refl; area = X }
   body-seen s a f X v j lo hi (valueIs x e) Q = keep-seen s a f X j lo hi x e Q (placeFor (rowOf s j) x) refl
 

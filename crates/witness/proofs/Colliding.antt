@@ -24,6 +24,7 @@ use Rattle.blocks.specs.Code as BlCode
 use Rattle.blocks.specs.Params as BlParams
 use Rattle.blocks.specs.Poly as BlPoly
 use Rattle.group_rules.specs.Coded as FrCoded
+use Rattle.group_rules.specs.Vouching as GrVouching
 use Rattle.frame.specs.Frames as FrFrames
 use Rattle.frame.specs.Messages as FrMessages
 use Rattle.frame.specs.Params as FrParams
@@ -81,10 +82,10 @@ record Computed : Type 0 where
 
 computed : Computed
 unfolding FrChunks.entryAt RuWorld.start SeDelivery.constructTest SeDelivery.constructBy SeDelivery.construction blind g initial other Z question answer lie
-    first second calls found Toy.zeros Toy.four Toy.setup Toy.handServer Toy.handClient Toy.startRead Served.freeBy Served.freedBy Served.settledBy
-    Served.votedBy Served.blockBy Served.bodyBy Served.servedBy Served.judgeBy Served.served Asked.searchedBy Asked.keptBy Asked.bodyBy Asked.heardBy
-    Asked.judgeBy Asked.asked sameParty amongSends wasSent allBytes isFrame honest properFrame properCall advance image acceptedIn endIn QuQuorum.count
-    ArArea.pick ArArea.same ArArea.tableFrom ArArea.table ArArea.joined ArNumbers.be2 ArNumbers.be4 ArNumbers.be8 ArNumbers.bytes2
+    first second calls found Toy.zeros Toy.four Toy.setup Toy.handServer Toy.handClient Toy.startRead Served.lowestBy Served.freeBy Served.freedBy
+    Served.settledBy Served.votedBy Served.blockBy Served.bodyBy Served.servedBy Served.judgeBy Served.served Asked.searchedBy Asked.keptBy Asked.bodyBy
+    Asked.heardBy Asked.judgeBy Asked.asked sameParty amongSends wasSent allBytes isFrame honest properFrame properCall advance image acceptedIn endIn
+    QuQuorum.count ArArea.pick ArArea.same ArArea.tableFrom ArArea.table ArArea.joined ArNumbers.be2 ArNumbers.be4 ArNumbers.be8 ArNumbers.bytes2
     ArNumbers.bytes4 ArNumbers.bytes8 _⊕_ FiField.reduction FiField.xtime FiField.shiftAdd _⊗_ FiField.powerOf FiField.Powers FiField.Logs BlCode.blockLength
     BlCode.padded BlCode.stripe BlCode.blockByte BlCode.blockOf BlCode.encoded BlCode.row BlCode.valueOf BlCode.blocksOf BlCode.candidate BlCode.agree
     BlCode.decodedAll BlParams.partiesFit BlParams.thresholdFits BlParams.lengthFits BlPoly.eval BlPoly.plus BlPoly.scale BlPoly.withRoot BlPoly.vanishing
@@ -92,17 +93,22 @@ unfolding FrChunks.entryAt RuWorld.start SeDelivery.constructTest SeDelivery.con
     FrFrames.kindOf FrFrames.retired FrFrames.lengthOf FrFrames.bodyLength FrFrames.entryBytes FrFrames.offerBytes FrFrames.stampBytes FrFrames.bodyBytes
     FrFrames.headerBytes FrFrames.frameOf FrFrames.build FrFrames.framingTest FrFrames.headerIn FrFrames.headerTest FrFrames.bodyTest FrFrames.stampIn
     FrFrames.stampTest FrFrames.contentTest FrFrames.frameTest FrFrames.opened FrFrames.openedUnder FrFrames.bodyIn FrFrames.messageIn FrMessages.toFrom
-    FrMessages.toAll FrParams.width FrParams.quota FrParams.largestFrame FrParams.outRoom FrParams.toRoom FrParams.ownTest FrParams.codeTest FrParams.boundsTest
+    FrMessages.toAll FrMessages.clientsFrom FrMessages.toClients FrParams.width FrParams.quota FrParams.largestFrame FrParams.outRoom FrParams.toRoom
+    FrParams.ownTest FrParams.codeTest FrParams.boundsTest
     FrParams.paramsTest FrStamps.older FrStamps.sameStamp FrStamps.partsAgree SeBroadcast.votes SeBroadcast.enough SeBroadcast.due
     SeBroadcast.full SeBroadcast.matters SeRules.atTime SeRules.chosen SeRules.regained SeRules.unanimous SeState.freshBlocks SeState.freshSlot
     SeState.freshReader SeState.freshServer SeState.blockView SeState.presentBlock SeState.presentEntry SeSteps.votedBlock SeSteps.onBlock SeSteps.tellFrom
-    SeSteps.accept SeSteps.ripeBy SeSteps.ripe SeSteps.freeBy SeSteps.free SeSteps.freed SeSteps.settle SeSteps.onRead SeSteps.onReadComplete SeSteps.onBody
-    SeSteps.effect SeTests.roomTest SeTests.senderRight SeTests.counted SeTests.openTest SeTests.readTest SeTests.doneTest FrCoded.fitTest SeTests.orderTest
+    SeSteps.reported SeSteps.accept SeSteps.vouched SeSteps.lowest SeSteps.ripeBy SeSteps.ripe SeSteps.free SeSteps.freed SeSteps.settle SeSteps.onRead
+    SeSteps.onReadComplete SeSteps.onBody
+    SeSteps.effect SeTests.roomTest SeTests.senderRight SeTests.counted SeTests.openTest SeTests.readTest SeTests.doneTest SeTests.reportTest FrCoded.fitTest
+    SeTests.orderTest
     SeTests.messageTest SeTests.judgeOpened SeTests.judge CB.lengthTest CB.readTest CB.writeTest CB.openRead CB.openWrite CB.beginBy
     CB.readBegun CB.writeBegun CB.begunOf CB.readBeginning CB.writeBeginning ClRows.placesFrom ClRows.rowView ClRows.hasStamp ClRows.smallest
     ClRows.placeFor ClRows.atStamp ClRows.rowsFrom ClRows.agreed ClRows.firstBy ClRows.firstAgreed ClRows.foundOf ClRows.foundBy ClRows.search ClState.freshRow
-    ClState.freshClient ClState.largest ClSteps.quorate ClSteps.sendBelow ClSteps.gatherBy ClSteps.onStamp ClSteps.endBy ClSteps.onAck ClSteps.completeBy
+    ClState.freshClient ClState.largest ClSteps.quorate ClSteps.sendBelow ClSteps.counted ClSteps.gathered ClSteps.largestCounted ClSteps.gatherBy
+    ClSteps.reportBy ClSteps.onReport GrVouching.backed ClSteps.onStamp ClSteps.endBy ClSteps.onAck ClSteps.completeBy
     ClSteps.settle ClSteps.keepBy ClSteps.onValue ClSteps.onBody ClSteps.effect ClTests.sendRoom ClTests.roomTest ClTests.valueTest ClTests.answers
+    ClTests.ownerRight
     ClTests.awaited ClTests.orderTest ClTests.messageTest ClTests.judgeOpened ClTests.judge
 computed = record {
   proper = refl;

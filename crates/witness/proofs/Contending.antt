@@ -24,6 +24,7 @@ use Rattle.blocks.specs.Code as BlCode
 use Rattle.blocks.specs.Params as BlParams
 use Rattle.blocks.specs.Poly as BlPoly
 use Rattle.group_rules.specs.Coded as FrCoded
+use Rattle.group_rules.specs.Vouching as GrVouching
 use Rattle.frame.specs.Frames as FrFrames
 use Rattle.frame.specs.Messages as FrMessages
 use Rattle.frame.specs.Params as FrParams
@@ -82,13 +83,14 @@ record Computed : Type 0 where
   pub completes : endIn Z (image Z told) (valueFrom 2 4) ≡ stopped found
   pub number : image Z told .clients 3 .client .reads ≡ 1
 
-computed : Computed
+-- each by itself: together they take more steps than one declaration may
+its-proper : image Z calls .proper ≡ true
 unfolding judgedBad verdictBad refusedIn FrChunks.entryAt RuWorld.start SeDelivery.constructTest SeDelivery.constructBy SeDelivery.construction Toy.toy
     Toy.startWrite g initial value nobodys Z largest stamp entryFor offerFor stampAsked stampFrom blockTo block readAsked initialFrom valueFrom falseValue
-    falseEcho falseTime noFrame timeAlone falseBlock noRoom opening asking refused rounds spread first second told calls write found Toy.zeros Toy.four
-    Toy.setup Toy.handServer Toy.handClient Toy.startRead Served.freeBy Served.freedBy Served.settledBy Served.votedBy Served.blockBy Served.bodyBy
-    Served.servedBy Served.judgeBy Served.served Asked.searchedBy Asked.keptBy Asked.bodyBy Asked.heardBy Asked.judgeBy Asked.asked sameParty amongSends wasSent
-    allBytes isFrame honest properFrame properCall advance image acceptedIn endIn QuQuorum.count ArArea.pick ArArea.same ArArea.tableFrom
+    falseEcho falseTime noFrame timeAlone falseBlock noRoom opening asking refused rounds spread first second told calls write found Toy.zeros Toy.enormous
+    Toy.four Toy.setup Toy.handServer Toy.handClient Toy.startRead Served.lowestBy Served.freeBy Served.freedBy Served.settledBy Served.votedBy Served.blockBy
+    Served.bodyBy Served.servedBy Served.judgeBy Served.served Asked.searchedBy Asked.keptBy Asked.bodyBy Asked.heardBy Asked.judgeBy Asked.asked sameParty
+    amongSends wasSent allBytes isFrame honest properFrame properCall advance image acceptedIn endIn QuQuorum.count ArArea.pick ArArea.same ArArea.tableFrom
     ArArea.table ArArea.joined ArNumbers.be2 ArNumbers.be4 ArNumbers.be8 ArNumbers.bytes2 ArNumbers.bytes4 ArNumbers.bytes8 _⊕_ FiField.reduction FiField.xtime
     FiField.shiftAdd _⊗_ FiField.powerOf FiField.Powers FiField.Logs BlCode.blockLength BlCode.padded BlCode.stripe BlCode.blockByte BlCode.blockOf
     BlCode.encoded BlCode.row BlCode.valueOf BlCode.blocksOf BlCode.candidate BlCode.agree BlCode.decodedAll BlParams.partiesFit BlParams.thresholdFits
@@ -96,74 +98,215 @@ unfolding judgedBad verdictBad refusedIn FrChunks.entryAt RuWorld.start SeDelive
     FrCoded.lowestValue FrCoded.agreeing FrCoded.decoded FrCoded.digestsOf FrCoded.entryOf FrCoded.fits FrFrames.kindOf FrFrames.retired FrFrames.lengthOf
     FrFrames.bodyLength FrFrames.entryBytes FrFrames.offerBytes FrFrames.stampBytes FrFrames.bodyBytes FrFrames.headerBytes FrFrames.frameOf FrFrames.build
     FrFrames.framingTest FrFrames.headerIn FrFrames.headerTest FrFrames.bodyTest FrFrames.stampIn FrFrames.stampTest FrFrames.contentTest FrFrames.frameTest
-    FrFrames.opened FrFrames.openedUnder FrFrames.bodyIn FrFrames.messageIn FrMessages.toFrom FrMessages.toAll FrParams.width FrParams.quota
+    FrFrames.opened FrFrames.openedUnder FrFrames.bodyIn FrFrames.messageIn FrMessages.toFrom FrMessages.toAll FrMessages.clientsFrom FrMessages.toClients
+    FrParams.width FrParams.quota
     FrParams.largestFrame FrParams.outRoom FrParams.toRoom FrParams.ownTest FrParams.codeTest FrParams.boundsTest FrParams.paramsTest FrStamps.older
     FrStamps.sameStamp FrStamps.partsAgree SeBroadcast.votes SeBroadcast.enough SeBroadcast.due SeBroadcast.full SeBroadcast.matters
     SeRules.atTime SeRules.chosen SeRules.regained SeRules.unanimous SeState.freshBlocks SeState.freshSlot SeState.freshReader SeState.freshServer
-    SeState.blockView SeState.presentBlock SeState.presentEntry SeSteps.votedBlock SeSteps.onBlock SeSteps.tellFrom SeSteps.accept SeSteps.ripeBy SeSteps.ripe
-    SeSteps.freeBy SeSteps.free SeSteps.freed SeSteps.settle SeSteps.onRead SeSteps.onReadComplete SeSteps.onBody SeSteps.effect SeTests.roomTest
-    SeTests.senderRight SeTests.counted SeTests.openTest SeTests.readTest SeTests.doneTest FrCoded.fitTest SeTests.orderTest SeTests.messageTest
+    SeState.blockView SeState.presentBlock SeState.presentEntry SeSteps.votedBlock SeSteps.onBlock SeSteps.tellFrom SeSteps.reported SeSteps.accept
+    SeSteps.vouched SeSteps.lowest SeSteps.ripeBy SeSteps.ripe
+    SeSteps.free SeSteps.freed SeSteps.settle SeSteps.onRead SeSteps.onReadComplete SeSteps.onBody SeSteps.effect SeTests.roomTest
+    SeTests.senderRight SeTests.counted SeTests.openTest SeTests.readTest SeTests.doneTest SeTests.reportTest FrCoded.fitTest SeTests.orderTest
+    SeTests.messageTest
     SeTests.judgeOpened SeTests.judge CB.lengthTest CB.readTest CB.writeTest CB.openRead CB.openWrite CB.beginBy CB.readBegun
     CB.writeBegun CB.begunOf CB.readBeginning CB.writeBeginning ClRows.placesFrom ClRows.rowView ClRows.hasStamp ClRows.smallest ClRows.placeFor
     ClRows.atStamp ClRows.rowsFrom ClRows.agreed ClRows.firstBy ClRows.firstAgreed ClRows.foundOf ClRows.foundBy ClRows.search ClState.freshRow
-    ClState.freshClient ClState.largest ClSteps.quorate ClSteps.sendBelow ClSteps.gatherBy ClSteps.onStamp ClSteps.endBy ClSteps.onAck ClSteps.completeBy
+    ClState.freshClient ClState.largest ClSteps.quorate ClSteps.sendBelow ClSteps.counted ClSteps.gathered ClSteps.largestCounted ClSteps.gatherBy
+    ClSteps.reportBy ClSteps.onReport GrVouching.backed ClSteps.onStamp ClSteps.endBy ClSteps.onAck ClSteps.completeBy
     ClSteps.settle ClSteps.keepBy ClSteps.onValue ClSteps.onBody ClSteps.effect ClTests.sendRoom ClTests.roomTest ClTests.valueTest ClTests.answers
+    ClTests.ownerRight
+    ClTests.awaited ClTests.orderTest ClTests.messageTest ClTests.judgeOpened ClTests.judge
+its-proper = refl
+
+its-larger : acceptedIn Z (image Z first) (block ready 2 2 1) ≡ write 2 ∷ []
+unfolding judgedBad verdictBad refusedIn FrChunks.entryAt RuWorld.start SeDelivery.constructTest SeDelivery.constructBy SeDelivery.construction Toy.toy
+    Toy.startWrite g initial value nobodys Z largest stamp entryFor offerFor stampAsked stampFrom blockTo block readAsked initialFrom valueFrom falseValue
+    falseEcho falseTime noFrame timeAlone falseBlock noRoom opening asking refused rounds spread first second told calls write found Toy.zeros Toy.enormous
+    Toy.four Toy.setup Toy.handServer Toy.handClient Toy.startRead Served.lowestBy Served.freeBy Served.freedBy Served.settledBy Served.votedBy Served.blockBy
+    Served.bodyBy Served.servedBy Served.judgeBy Served.served Asked.searchedBy Asked.keptBy Asked.bodyBy Asked.heardBy Asked.judgeBy Asked.asked sameParty
+    amongSends wasSent allBytes isFrame honest properFrame properCall advance image acceptedIn endIn QuQuorum.count ArArea.pick ArArea.same ArArea.tableFrom
+    ArArea.table ArArea.joined ArNumbers.be2 ArNumbers.be4 ArNumbers.be8 ArNumbers.bytes2 ArNumbers.bytes4 ArNumbers.bytes8 _⊕_ FiField.reduction FiField.xtime
+    FiField.shiftAdd _⊗_ FiField.powerOf FiField.Powers FiField.Logs BlCode.blockLength BlCode.padded BlCode.stripe BlCode.blockByte BlCode.blockOf
+    BlCode.encoded BlCode.row BlCode.valueOf BlCode.blocksOf BlCode.candidate BlCode.agree BlCode.decodedAll BlParams.partiesFit BlParams.thresholdFits
+    BlParams.lengthFits BlPoly.eval BlPoly.plus BlPoly.scale BlPoly.withRoot BlPoly.vanishing BlPoly.newtonStep BlPoly.through FrCoded.pieces
+    FrCoded.lowestValue FrCoded.agreeing FrCoded.decoded FrCoded.digestsOf FrCoded.entryOf FrCoded.fits FrFrames.kindOf FrFrames.retired FrFrames.lengthOf
+    FrFrames.bodyLength FrFrames.entryBytes FrFrames.offerBytes FrFrames.stampBytes FrFrames.bodyBytes FrFrames.headerBytes FrFrames.frameOf FrFrames.build
+    FrFrames.framingTest FrFrames.headerIn FrFrames.headerTest FrFrames.bodyTest FrFrames.stampIn FrFrames.stampTest FrFrames.contentTest FrFrames.frameTest
+    FrFrames.opened FrFrames.openedUnder FrFrames.bodyIn FrFrames.messageIn FrMessages.toFrom FrMessages.toAll FrMessages.clientsFrom FrMessages.toClients
+    FrParams.width FrParams.quota
+    FrParams.largestFrame FrParams.outRoom FrParams.toRoom FrParams.ownTest FrParams.codeTest FrParams.boundsTest FrParams.paramsTest FrStamps.older
+    FrStamps.sameStamp FrStamps.partsAgree SeBroadcast.votes SeBroadcast.enough SeBroadcast.due SeBroadcast.full SeBroadcast.matters
+    SeRules.atTime SeRules.chosen SeRules.regained SeRules.unanimous SeState.freshBlocks SeState.freshSlot SeState.freshReader SeState.freshServer
+    SeState.blockView SeState.presentBlock SeState.presentEntry SeSteps.votedBlock SeSteps.onBlock SeSteps.tellFrom SeSteps.reported SeSteps.accept
+    SeSteps.vouched SeSteps.lowest SeSteps.ripeBy SeSteps.ripe
+    SeSteps.free SeSteps.freed SeSteps.settle SeSteps.onRead SeSteps.onReadComplete SeSteps.onBody SeSteps.effect SeTests.roomTest
+    SeTests.senderRight SeTests.counted SeTests.openTest SeTests.readTest SeTests.doneTest SeTests.reportTest FrCoded.fitTest SeTests.orderTest
+    SeTests.messageTest
+    SeTests.judgeOpened SeTests.judge CB.lengthTest CB.readTest CB.writeTest CB.openRead CB.openWrite CB.beginBy CB.readBegun
+    CB.writeBegun CB.begunOf CB.readBeginning CB.writeBeginning ClRows.placesFrom ClRows.rowView ClRows.hasStamp ClRows.smallest ClRows.placeFor
+    ClRows.atStamp ClRows.rowsFrom ClRows.agreed ClRows.firstBy ClRows.firstAgreed ClRows.foundOf ClRows.foundBy ClRows.search ClState.freshRow
+    ClState.freshClient ClState.largest ClSteps.quorate ClSteps.sendBelow ClSteps.counted ClSteps.gathered ClSteps.largestCounted ClSteps.gatherBy
+    ClSteps.reportBy ClSteps.onReport GrVouching.backed ClSteps.onStamp ClSteps.endBy ClSteps.onAck ClSteps.completeBy
+    ClSteps.settle ClSteps.keepBy ClSteps.onValue ClSteps.onBody ClSteps.effect ClTests.sendRoom ClTests.roomTest ClTests.valueTest ClTests.answers
+    ClTests.ownerRight
+    ClTests.awaited ClTests.orderTest ClTests.messageTest ClTests.judgeOpened ClTests.judge
+its-larger = refl
+
+its-smaller : acceptedIn Z (image Z second) (block ready 1 2 1) ≡ write 1 ∷ []
+unfolding judgedBad verdictBad refusedIn FrChunks.entryAt RuWorld.start SeDelivery.constructTest SeDelivery.constructBy SeDelivery.construction Toy.toy
+    Toy.startWrite g initial value nobodys Z largest stamp entryFor offerFor stampAsked stampFrom blockTo block readAsked initialFrom valueFrom falseValue
+    falseEcho falseTime noFrame timeAlone falseBlock noRoom opening asking refused rounds spread first second told calls write found Toy.zeros Toy.enormous
+    Toy.four Toy.setup Toy.handServer Toy.handClient Toy.startRead Served.lowestBy Served.freeBy Served.freedBy Served.settledBy Served.votedBy Served.blockBy
+    Served.bodyBy Served.servedBy Served.judgeBy Served.served Asked.searchedBy Asked.keptBy Asked.bodyBy Asked.heardBy Asked.judgeBy Asked.asked sameParty
+    amongSends wasSent allBytes isFrame honest properFrame properCall advance image acceptedIn endIn QuQuorum.count ArArea.pick ArArea.same ArArea.tableFrom
+    ArArea.table ArArea.joined ArNumbers.be2 ArNumbers.be4 ArNumbers.be8 ArNumbers.bytes2 ArNumbers.bytes4 ArNumbers.bytes8 _⊕_ FiField.reduction FiField.xtime
+    FiField.shiftAdd _⊗_ FiField.powerOf FiField.Powers FiField.Logs BlCode.blockLength BlCode.padded BlCode.stripe BlCode.blockByte BlCode.blockOf
+    BlCode.encoded BlCode.row BlCode.valueOf BlCode.blocksOf BlCode.candidate BlCode.agree BlCode.decodedAll BlParams.partiesFit BlParams.thresholdFits
+    BlParams.lengthFits BlPoly.eval BlPoly.plus BlPoly.scale BlPoly.withRoot BlPoly.vanishing BlPoly.newtonStep BlPoly.through FrCoded.pieces
+    FrCoded.lowestValue FrCoded.agreeing FrCoded.decoded FrCoded.digestsOf FrCoded.entryOf FrCoded.fits FrFrames.kindOf FrFrames.retired FrFrames.lengthOf
+    FrFrames.bodyLength FrFrames.entryBytes FrFrames.offerBytes FrFrames.stampBytes FrFrames.bodyBytes FrFrames.headerBytes FrFrames.frameOf FrFrames.build
+    FrFrames.framingTest FrFrames.headerIn FrFrames.headerTest FrFrames.bodyTest FrFrames.stampIn FrFrames.stampTest FrFrames.contentTest FrFrames.frameTest
+    FrFrames.opened FrFrames.openedUnder FrFrames.bodyIn FrFrames.messageIn FrMessages.toFrom FrMessages.toAll FrMessages.clientsFrom FrMessages.toClients
+    FrParams.width FrParams.quota
+    FrParams.largestFrame FrParams.outRoom FrParams.toRoom FrParams.ownTest FrParams.codeTest FrParams.boundsTest FrParams.paramsTest FrStamps.older
+    FrStamps.sameStamp FrStamps.partsAgree SeBroadcast.votes SeBroadcast.enough SeBroadcast.due SeBroadcast.full SeBroadcast.matters
+    SeRules.atTime SeRules.chosen SeRules.regained SeRules.unanimous SeState.freshBlocks SeState.freshSlot SeState.freshReader SeState.freshServer
+    SeState.blockView SeState.presentBlock SeState.presentEntry SeSteps.votedBlock SeSteps.onBlock SeSteps.tellFrom SeSteps.reported SeSteps.accept
+    SeSteps.vouched SeSteps.lowest SeSteps.ripeBy SeSteps.ripe
+    SeSteps.free SeSteps.freed SeSteps.settle SeSteps.onRead SeSteps.onReadComplete SeSteps.onBody SeSteps.effect SeTests.roomTest
+    SeTests.senderRight SeTests.counted SeTests.openTest SeTests.readTest SeTests.doneTest SeTests.reportTest FrCoded.fitTest SeTests.orderTest
+    SeTests.messageTest
+    SeTests.judgeOpened SeTests.judge CB.lengthTest CB.readTest CB.writeTest CB.openRead CB.openWrite CB.beginBy CB.readBegun
+    CB.writeBegun CB.begunOf CB.readBeginning CB.writeBeginning ClRows.placesFrom ClRows.rowView ClRows.hasStamp ClRows.smallest ClRows.placeFor
+    ClRows.atStamp ClRows.rowsFrom ClRows.agreed ClRows.firstBy ClRows.firstAgreed ClRows.foundOf ClRows.foundBy ClRows.search ClState.freshRow
+    ClState.freshClient ClState.largest ClSteps.quorate ClSteps.sendBelow ClSteps.counted ClSteps.gathered ClSteps.largestCounted ClSteps.gatherBy
+    ClSteps.reportBy ClSteps.onReport GrVouching.backed ClSteps.onStamp ClSteps.endBy ClSteps.onAck ClSteps.completeBy
+    ClSteps.settle ClSteps.keepBy ClSteps.onValue ClSteps.onBody ClSteps.effect ClTests.sendRoom ClTests.roomTest ClTests.valueTest ClTests.answers
+    ClTests.ownerRight
+    ClTests.awaited ClTests.orderTest ClTests.messageTest ClTests.judgeOpened ClTests.judge
+its-smaller = refl
+
+its-completes : endIn Z (image Z told) (valueFrom 2 4) ≡ stopped found
+unfolding judgedBad verdictBad refusedIn FrChunks.entryAt RuWorld.start SeDelivery.constructTest SeDelivery.constructBy SeDelivery.construction Toy.toy
+    Toy.startWrite g initial value nobodys Z largest stamp entryFor offerFor stampAsked stampFrom blockTo block readAsked initialFrom valueFrom falseValue
+    falseEcho falseTime noFrame timeAlone falseBlock noRoom opening asking refused rounds spread first second told calls write found Toy.zeros Toy.enormous
+    Toy.four Toy.setup Toy.handServer Toy.handClient Toy.startRead Served.lowestBy Served.freeBy Served.freedBy Served.settledBy Served.votedBy Served.blockBy
+    Served.bodyBy Served.servedBy Served.judgeBy Served.served Asked.searchedBy Asked.keptBy Asked.bodyBy Asked.heardBy Asked.judgeBy Asked.asked sameParty
+    amongSends wasSent allBytes isFrame honest properFrame properCall advance image acceptedIn endIn QuQuorum.count ArArea.pick ArArea.same ArArea.tableFrom
+    ArArea.table ArArea.joined ArNumbers.be2 ArNumbers.be4 ArNumbers.be8 ArNumbers.bytes2 ArNumbers.bytes4 ArNumbers.bytes8 _⊕_ FiField.reduction FiField.xtime
+    FiField.shiftAdd _⊗_ FiField.powerOf FiField.Powers FiField.Logs BlCode.blockLength BlCode.padded BlCode.stripe BlCode.blockByte BlCode.blockOf
+    BlCode.encoded BlCode.row BlCode.valueOf BlCode.blocksOf BlCode.candidate BlCode.agree BlCode.decodedAll BlParams.partiesFit BlParams.thresholdFits
+    BlParams.lengthFits BlPoly.eval BlPoly.plus BlPoly.scale BlPoly.withRoot BlPoly.vanishing BlPoly.newtonStep BlPoly.through FrCoded.pieces
+    FrCoded.lowestValue FrCoded.agreeing FrCoded.decoded FrCoded.digestsOf FrCoded.entryOf FrCoded.fits FrFrames.kindOf FrFrames.retired FrFrames.lengthOf
+    FrFrames.bodyLength FrFrames.entryBytes FrFrames.offerBytes FrFrames.stampBytes FrFrames.bodyBytes FrFrames.headerBytes FrFrames.frameOf FrFrames.build
+    FrFrames.framingTest FrFrames.headerIn FrFrames.headerTest FrFrames.bodyTest FrFrames.stampIn FrFrames.stampTest FrFrames.contentTest FrFrames.frameTest
+    FrFrames.opened FrFrames.openedUnder FrFrames.bodyIn FrFrames.messageIn FrMessages.toFrom FrMessages.toAll FrMessages.clientsFrom FrMessages.toClients
+    FrParams.width FrParams.quota
+    FrParams.largestFrame FrParams.outRoom FrParams.toRoom FrParams.ownTest FrParams.codeTest FrParams.boundsTest FrParams.paramsTest FrStamps.older
+    FrStamps.sameStamp FrStamps.partsAgree SeBroadcast.votes SeBroadcast.enough SeBroadcast.due SeBroadcast.full SeBroadcast.matters
+    SeRules.atTime SeRules.chosen SeRules.regained SeRules.unanimous SeState.freshBlocks SeState.freshSlot SeState.freshReader SeState.freshServer
+    SeState.blockView SeState.presentBlock SeState.presentEntry SeSteps.votedBlock SeSteps.onBlock SeSteps.tellFrom SeSteps.reported SeSteps.accept
+    SeSteps.vouched SeSteps.lowest SeSteps.ripeBy SeSteps.ripe
+    SeSteps.free SeSteps.freed SeSteps.settle SeSteps.onRead SeSteps.onReadComplete SeSteps.onBody SeSteps.effect SeTests.roomTest
+    SeTests.senderRight SeTests.counted SeTests.openTest SeTests.readTest SeTests.doneTest SeTests.reportTest FrCoded.fitTest SeTests.orderTest
+    SeTests.messageTest
+    SeTests.judgeOpened SeTests.judge CB.lengthTest CB.readTest CB.writeTest CB.openRead CB.openWrite CB.beginBy CB.readBegun
+    CB.writeBegun CB.begunOf CB.readBeginning CB.writeBeginning ClRows.placesFrom ClRows.rowView ClRows.hasStamp ClRows.smallest ClRows.placeFor
+    ClRows.atStamp ClRows.rowsFrom ClRows.agreed ClRows.firstBy ClRows.firstAgreed ClRows.foundOf ClRows.foundBy ClRows.search ClState.freshRow
+    ClState.freshClient ClState.largest ClSteps.quorate ClSteps.sendBelow ClSteps.counted ClSteps.gathered ClSteps.largestCounted ClSteps.gatherBy
+    ClSteps.reportBy ClSteps.onReport GrVouching.backed ClSteps.onStamp ClSteps.endBy ClSteps.onAck ClSteps.completeBy
+    ClSteps.settle ClSteps.keepBy ClSteps.onValue ClSteps.onBody ClSteps.effect ClTests.sendRoom ClTests.roomTest ClTests.valueTest ClTests.answers
+    ClTests.ownerRight
+    ClTests.awaited ClTests.orderTest ClTests.messageTest ClTests.judgeOpened ClTests.judge
+its-completes = refl
+
+computed : Computed
+unfolding judgedBad verdictBad refusedIn FrChunks.entryAt RuWorld.start SeDelivery.constructTest SeDelivery.constructBy SeDelivery.construction Toy.toy
+    Toy.startWrite g initial value nobodys Z largest stamp entryFor offerFor stampAsked stampFrom blockTo block readAsked initialFrom valueFrom falseValue
+    falseEcho falseTime noFrame timeAlone falseBlock noRoom opening asking refused rounds spread first second told calls write found Toy.zeros Toy.enormous
+    Toy.four Toy.setup Toy.handServer Toy.handClient Toy.startRead Served.lowestBy Served.freeBy Served.freedBy Served.settledBy Served.votedBy Served.blockBy
+    Served.bodyBy Served.servedBy Served.judgeBy Served.served Asked.searchedBy Asked.keptBy Asked.bodyBy Asked.heardBy Asked.judgeBy Asked.asked sameParty
+    amongSends wasSent allBytes isFrame honest properFrame properCall advance image acceptedIn endIn QuQuorum.count ArArea.pick ArArea.same ArArea.tableFrom
+    ArArea.table ArArea.joined ArNumbers.be2 ArNumbers.be4 ArNumbers.be8 ArNumbers.bytes2 ArNumbers.bytes4 ArNumbers.bytes8 _⊕_ FiField.reduction FiField.xtime
+    FiField.shiftAdd _⊗_ FiField.powerOf FiField.Powers FiField.Logs BlCode.blockLength BlCode.padded BlCode.stripe BlCode.blockByte BlCode.blockOf
+    BlCode.encoded BlCode.row BlCode.valueOf BlCode.blocksOf BlCode.candidate BlCode.agree BlCode.decodedAll BlParams.partiesFit BlParams.thresholdFits
+    BlParams.lengthFits BlPoly.eval BlPoly.plus BlPoly.scale BlPoly.withRoot BlPoly.vanishing BlPoly.newtonStep BlPoly.through FrCoded.pieces
+    FrCoded.lowestValue FrCoded.agreeing FrCoded.decoded FrCoded.digestsOf FrCoded.entryOf FrCoded.fits FrFrames.kindOf FrFrames.retired FrFrames.lengthOf
+    FrFrames.bodyLength FrFrames.entryBytes FrFrames.offerBytes FrFrames.stampBytes FrFrames.bodyBytes FrFrames.headerBytes FrFrames.frameOf FrFrames.build
+    FrFrames.framingTest FrFrames.headerIn FrFrames.headerTest FrFrames.bodyTest FrFrames.stampIn FrFrames.stampTest FrFrames.contentTest FrFrames.frameTest
+    FrFrames.opened FrFrames.openedUnder FrFrames.bodyIn FrFrames.messageIn FrMessages.toFrom FrMessages.toAll FrMessages.clientsFrom FrMessages.toClients
+    FrParams.width FrParams.quota
+    FrParams.largestFrame FrParams.outRoom FrParams.toRoom FrParams.ownTest FrParams.codeTest FrParams.boundsTest FrParams.paramsTest FrStamps.older
+    FrStamps.sameStamp FrStamps.partsAgree SeBroadcast.votes SeBroadcast.enough SeBroadcast.due SeBroadcast.full SeBroadcast.matters
+    SeRules.atTime SeRules.chosen SeRules.regained SeRules.unanimous SeState.freshBlocks SeState.freshSlot SeState.freshReader SeState.freshServer
+    SeState.blockView SeState.presentBlock SeState.presentEntry SeSteps.votedBlock SeSteps.onBlock SeSteps.tellFrom SeSteps.reported SeSteps.accept
+    SeSteps.vouched SeSteps.lowest SeSteps.ripeBy SeSteps.ripe
+    SeSteps.free SeSteps.freed SeSteps.settle SeSteps.onRead SeSteps.onReadComplete SeSteps.onBody SeSteps.effect SeTests.roomTest
+    SeTests.senderRight SeTests.counted SeTests.openTest SeTests.readTest SeTests.doneTest SeTests.reportTest FrCoded.fitTest SeTests.orderTest
+    SeTests.messageTest
+    SeTests.judgeOpened SeTests.judge CB.lengthTest CB.readTest CB.writeTest CB.openRead CB.openWrite CB.beginBy CB.readBegun
+    CB.writeBegun CB.begunOf CB.readBeginning CB.writeBeginning ClRows.placesFrom ClRows.rowView ClRows.hasStamp ClRows.smallest ClRows.placeFor
+    ClRows.atStamp ClRows.rowsFrom ClRows.agreed ClRows.firstBy ClRows.firstAgreed ClRows.foundOf ClRows.foundBy ClRows.search ClState.freshRow
+    ClState.freshClient ClState.largest ClSteps.quorate ClSteps.sendBelow ClSteps.counted ClSteps.gathered ClSteps.largestCounted ClSteps.gatherBy
+    ClSteps.reportBy ClSteps.onReport GrVouching.backed ClSteps.onStamp ClSteps.endBy ClSteps.onAck ClSteps.completeBy
+    ClSteps.settle ClSteps.keepBy ClSteps.onValue ClSteps.onBody ClSteps.effect ClTests.sendRoom ClTests.roomTest ClTests.valueTest ClTests.answers
+    ClTests.ownerRight
     ClTests.awaited ClTests.orderTest ClTests.messageTest ClTests.judgeOpened ClTests.judge
 computed = record {
-  proper = refl;
+  proper = its-proper;
   stale = refl;
   busy = refl;
   framing = refl;
   kind = refl;
   digest = refl;
   room = refl;
-  larger = refl;
-  smaller = refl;
-  completes = refl;
+  larger = its-larger;
+  smaller = its-smaller;
+  completes = its-completes;
   number = refl;
 }
 
 -- ---- so
 
-stale : At (Refuses Z 12) calls 18
+stale : At (Refuses Z 12) calls 20
 unfolding opening asking refused rounds spread first second told calls
-stale = at-drop (Refuses Z 12) 34 calls 18 (inl (refl, refuses-by Z exact asking (readAsked 1) 12 (computed .stale)))
+stale = at-drop (Refuses Z 12) 34 calls 20 (inl (refl, refuses-by Z exact asking (readAsked 1) 12 (computed .stale)))
 
-busy : At (Refuses Z 15) calls 19
+busy : At (Refuses Z 15) calls 21
 unfolding opening asking refused rounds spread first second told calls
-busy = at-drop (Refuses Z 15) 33 calls 19 (inl (refl, refuses-by Z exact (readAsked 1 ∷ asking) (Toy.startWrite g 1 (value 2)) 15 (computed .busy)))
+busy = at-drop (Refuses Z 15) 33 calls 21 (inl (refl, refuses-by Z exact (readAsked 1 ∷ asking) (Toy.startWrite g 1 (value 2)) 15 (computed .busy)))
 
-framing : At (Refuses Z 4) calls 20
+framing : At (Refuses Z 4) calls 22
 unfolding opening asking refused rounds spread first second told calls
-framing = at-drop (Refuses Z 4) 32 calls 20
+framing = at-drop (Refuses Z 4) 32 calls 22
     (inl (refl, refuses-by Z exact (Toy.startWrite g 1 (value 2) ∷ readAsked 1 ∷ asking) noFrame 4 (computed .framing)))
 
-kind : At (Refuses Z 6) calls 21
+kind : At (Refuses Z 6) calls 23
 unfolding opening asking refused rounds spread first second told calls
-kind = at-drop (Refuses Z 6) 31 calls 21
+kind = at-drop (Refuses Z 6) 31 calls 23
     (inl (refl, refuses-by Z exact (noFrame ∷ Toy.startWrite g 1 (value 2) ∷ readAsked 1 ∷ asking) timeAlone 6 (computed .kind)))
 
-digest : At (Refuses Z 14) calls 22
+digest : At (Refuses Z 14) calls 24
 unfolding opening asking refused rounds spread first second told calls
-digest = at-drop (Refuses Z 14) 30 calls 22
+digest = at-drop (Refuses Z 14) 30 calls 24
     (inl (refl, refuses-by Z exact (timeAlone ∷ noFrame ∷ Toy.startWrite g 1 (value 2) ∷ readAsked 1 ∷ asking) falseBlock 14 (computed .digest)))
 
-room : At (Refuses Z 10) calls 23
+room : At (Refuses Z 10) calls 25
 unfolding opening asking refused rounds spread first second told calls
-room = at-drop (Refuses Z 10) 29 calls 23
+room = at-drop (Refuses Z 10) 29 calls 25
     (inl (refl, refuses-by Z exact (falseBlock ∷ timeAlone ∷ noFrame ∷ Toy.startWrite g 1 (value 2) ∷ readAsked 1 ∷ asking) noRoom 10 (computed .room)))
 
-larger : At (Accepts Z 1 (write 2)) calls 42
+larger : At (Accepts Z 1 (write 2)) calls 44
 unfolding opening asking refused rounds spread first second told calls block Toy.handServer
-larger = at-drop (Accepts Z 1 (write 2)) 10 calls 42
+larger = at-drop (Accepts Z 1 (write 2)) 10 calls 44
     (inl (refl, accepts-by Z exact first (block ready 2 2 1) 1 (write 2) refl (rw (computed .larger) (List·Memᴰ·head refl))))
 
-smaller : At (Accepts Z 1 (write 1)) calls 45
+smaller : At (Accepts Z 1 (write 1)) calls 47
 unfolding opening asking refused rounds spread first second told calls block Toy.handServer
-smaller = at-drop (Accepts Z 1 (write 1)) 7 calls 45
+smaller = at-drop (Accepts Z 1 (write 1)) 7 calls 47
     (inl (refl, accepts-by Z exact second (block ready 1 2 1) 1 (write 1) refl (rw (computed .smaller) (List·Memᴰ·head refl))))
 
-completes : At (CompletesRead Z 3 1 found) calls 52
+completes : At (CompletesRead Z 3 1 found) calls 54
 unfolding opening asking refused rounds spread first second told calls valueFrom Toy.handClient found
 completes = inl (refl, (stops-by Z exact told (valueFrom 2 4) 3 1 found refl (computed .number) (computed .completes), (value 2, refl)))
 
@@ -187,15 +330,15 @@ not-older = (refl, refl)
 module _ (D : Demand3 Z calls) where
   one : List·Memᴰ (writing 1) (D .row)
   unfolding writing write stamp largest ArArea.pick
-  one = D .all (writing 1) (inr (refl, (1, write 1, 45, smaller, refl, refl, refl)))
+  one = D .all (writing 1) (inr (refl, (1, write 1, 47, smaller, refl, refl, refl)))
 
   two : List·Memᴰ (writing 2) (D .row)
   unfolding writing write stamp largest ArArea.pick
-  two = D .all (writing 2) (inr (refl, (1, write 2, 42, larger, refl, refl, refl)))
+  two = D .all (writing 2) (inr (refl, (1, write 2, 44, larger, refl, refl, refl)))
 
   last : List·Memᴰ reading (D .row)
   unfolding reading found
-  last = D .all reading (inl (refl, (found, 52, completes, refl)))
+  last = D .all reading (inl (refl, (found, 54, completes, refl)))
 
   not-back : InOrder Z calls (writing 2) (writing 1) → ⊥
   unfolding writing

@@ -280,10 +280,15 @@ module _ (Z : Setup) (G : Exact Z) where
 
   -- ---- events
 
+  -- the writes that a delivery accepts
+  pub accepted-by : (ks : List Call) (i : ℕ) (from : Party) (f out to : List ℕ)
+      → serverEffect Z (run Z ks) i from f out to .accepted ≡ acceptedIn Z (image Z ks) (toServer i from f out to)
+  unfolding acceptedIn
+  accepted-by ks i from f out to = server-at (run Z ks) (image Z ks) (depicts ks) i from f out to .accepted
+
   pub accepts-by : (ks : List Call) (k : Call) (i : ℕ) (x : Write) → caller k ≡ P.Server i → List·Memᴰ x (acceptedIn Z (image Z ks) k) → Accepts Z i x ks k
   unfolding acceptedIn
-  accepts-by ks (toServer j from f out to) i x h e =
-      (ap numberIn (sym h), subst (List·Memᴰ x) (sym (server-at (run Z ks) (image Z ks) (depicts ks) j from f out to .accepted)) e)
+  accepts-by ks (toServer j from f out to) i x h e = (ap numberIn (sym h), subst (List·Memᴰ x) (sym (accepted-by ks j from f out to)) e)
   accepts-by ks (toClient c from f lent result out to) i x h e = impossible (cc)
   accepts-by ks (beginRead c out to) i x h e = impossible (cc)
   accepts-by ks (beginWrite c v out to) i x h e = impossible (cc)

@@ -20,6 +20,7 @@ use Rattle.blocks.specs.Params as BlParams
 use Rattle.blocks.specs.Poly as BlPoly
 use Rattle.frame.specs.Chunks as FrChunks
 use Rattle.group_rules.specs.Coded as FrCoded
+use Rattle.group_rules.specs.Vouching as GrVouching
 use Rattle.frame.specs.Frames as FrFrames
 use Rattle.frame.specs.Messages as FrMessages
 use Rattle.frame.specs.Outbox as FrOutbox
@@ -64,15 +65,17 @@ unfolding allBytes Toy.toy Toy.zeros Toy.four Toy.setup Toy.handServer Toy.handC
     SeDelivery.effectBy SeDelivery.delivered SeDelivery.replyOf SeDelivery.outcomeOf SeDelivery.delivery SeDelivery.constructTest SeDelivery.constructBy
     SeDelivery.construction SeRules.atTime SeRules.chosen SeRules.regained SeRules.unanimous SeState.freshBlocks SeState.freshSlot SeState.freshReader
     SeState.freshServer SeState.blockView SeState.presentBlock SeState.presentEntry SeSteps.votedBlock SeSteps.onBlock SeSteps.tellFrom SeSteps.accept
-    SeSteps.ripeBy SeSteps.ripe SeSteps.freeBy SeSteps.free SeSteps.freed SeSteps.settle SeSteps.onRead SeSteps.onReadComplete SeSteps.onBody SeSteps.effect
-    SeTests.roomTest SeTests.senderRight SeTests.counted SeTests.openTest SeTests.readTest SeTests.doneTest FrCoded.fitTest SeTests.orderTest
+    SeSteps.ripeBy SeSteps.ripe SeSteps.free SeSteps.freed SeSteps.settle SeSteps.onRead SeSteps.onReadComplete SeSteps.onBody SeSteps.effect
+    SeTests.roomTest SeTests.senderRight SeTests.counted SeTests.openTest SeTests.readTest SeTests.doneTest SeTests.reportTest FrCoded.fitTest SeTests.orderTest
     SeTests.messageTest SeTests.judgeOpened SeTests.judge ClBeginning.lengthTest ClBeginning.readTest
     ClBeginning.writeTest ClBeginning.openRead ClBeginning.openWrite ClBeginning.beginBy ClBeginning.readBegun ClBeginning.writeBegun
     ClBeginning.begunOf ClBeginning.readBeginning ClBeginning.writeBeginning ClDelivery.progressBy ClDelivery.answerOf ClDelivery.resultOf ClDelivery.outcomeOf
     ClDelivery.effectBy ClDelivery.delivered ClDelivery.delivery ClRows.placesFrom ClRows.rowView ClRows.hasStamp ClRows.smallest ClRows.placeFor ClRows.atStamp
     ClRows.rowsFrom ClRows.agreed ClRows.firstBy ClRows.firstAgreed ClRows.foundOf ClRows.foundBy ClRows.search ClState.freshRow ClState.freshClient
-    ClState.largest ClSteps.quorate ClSteps.sendBelow ClSteps.gatherBy ClSteps.onStamp ClSteps.endBy ClSteps.onAck ClSteps.completeBy ClSteps.settle
-    ClSteps.keepBy ClSteps.onValue ClSteps.onBody ClSteps.effect ClTests.sendRoom ClTests.roomTest ClTests.valueTest ClTests.answers ClTests.awaited
+    ClState.largest ClSteps.quorate ClSteps.sendBelow ClSteps.counted ClSteps.gathered ClSteps.largestCounted ClSteps.gatherBy ClSteps.reportBy
+    ClSteps.onReport GrVouching.backed ClSteps.onStamp ClSteps.endBy ClSteps.onAck ClSteps.completeBy ClSteps.settle
+    ClSteps.keepBy ClSteps.onValue ClSteps.onBody ClSteps.effect ClTests.sendRoom ClTests.roomTest ClTests.valueTest ClTests.answers ClTests.ownerRight
+    ClTests.awaited
     ClTests.orderTest ClTests.messageTest ClTests.judgeOpened ClTests.judge RuWorld.start RuWorld.step RuWorld.run RuWorld.sends
 computed = (
   inl (refl, ((refl, refl, refl), (initial, refl))),

@@ -8,3 +8,4 @@ pub mod WriteRead
 pub mod FalseParties
 pub mod Colliding
 pub mod Contending
+pub mod Waiting

@@ -1,12 +1,12 @@
 -- A delivery to a server, with what its chunks hold in place of its area: the same server, frames and acceptance. Assumes nothing.
-use Prim.Native.Nat.{ℕ}
+use Prim.Native.Nat.{ℕ, zero, suc}
 use native.Mathlib.Omega.{arith}
 use mathlib.Core.Bool.{Bool, true, false, not, _&&_}
 use mathlib.Core.Path.{_≡_, refl, ap, subst}
 use mathlib.Core.Option.{Option, none, some}
 use mathlib.Core.List.{List, [], _∷_, _++_}
 use lib.ListN.{length, getD, take}
-use lib.Dec.{ltb, eqb}
+use lib.Dec.{eqb}
 use Rattle.quorum.specs.Quorum.{Among}
 use Rattle.quorum.proofs.Logic.{and-split}
 use Rattle.area.specs.Area.{pick}
@@ -14,23 +14,25 @@ use Rattle.blocks.specs.declared.Params.{Params}
 use Rattle.frame.specs.declared.Party.{Party}
 use Rattle.frame.specs.declared.Party.the-variants as P
 use Rattle.frame.specs.Params.{width, Bounded, paramsTest}
-use Rattle.frame.specs.Stamps.{older, lastTime}
+use Rattle.frame.specs.Stamps.{older}
 use Rattle.frame.specs.Frames.{opened}
 use Rattle.frame.specs.Messages.{Entry, entry, Offer, offer, Sized, Stage, send, echo, ready, Body, getStamp, ack, askRead, readComplete}
-use Rattle.frame.specs.Messages.{stampIs, blockIs, valueIs, message, Sending, sending, toAll, numberIn, Judged, bad, good, after}
+use Rattle.frame.specs.Messages.{stampIs, blockIs, valueIs, report, message, Sending, sending, toAll, numberIn, Judged, bad, good, after}
 use Rattle.frame.specs.Chunks.{entryAt, completeAt, echoAt, readyAt, areaBytes}
 use Rattle.frame.proofs.Sizes.{Small}
 use Rattle.server_rules.specs.declared.Slot.{Slot}
 use Rattle.server_rules.specs.declared.Server.{Server}
 use Rattle.server_rules.specs.Broadcast.{Part, kept, due, full}
 use Rattle.server_rules.specs.Rules.{blockRules}
-use Rattle.server_rules.specs.State.{slotOf, withSlot, withReader, withBlocks, blockView, presentBlock, presentEntry, blockEcho, blockReady, blockMarks}
+use Rattle.server_rules.specs.State.{slotOf, withSlot, withReader, withReport, withBlocks, blockView, presentBlock, presentEntry, blockEcho, blockReady}
+use Rattle.server_rules.specs.State.{blockMarks}
 use Rattle.server_rules.specs.Steps as S
 use Rattle.server_rules.specs.Tests as ST
 use Rattle.server_rules.specs.Delivery as SD
 use Rattle.server_rules.proofs.Decoding.{coded}
 use Rattle.server_rules.proofs.Freeing.{done-sized}
 use Rattle.server_rules.proofs.Passing.{SizedIn, SenderIs, block-sender, test-split}
+use Rattle.server_rules.proofs.Shapes.{offerOf, Ripe, lowest-some}
 use Rattle.server_rules.proofs.Taking.{took}
 use Rattle.runs.specs.World.{put}
 use Rattle.witness.proofs.Areas.{putIf, Shows, stored, stored-if}
@@ -64,21 +66,39 @@ viewBy f c x = record {
   done = kept (x .blocks .complete) (offer (x .blocks .time) (f (completeAt c)));
 }
 
--- a write is accepted if there is one
-unfoldable pub freeBy : Option S.Write → Server → (ℕ → Entry) → Seen
-freeBy none s f = seen (S.sendOnly s [] []) f
-freeBy (some w) s f = seen (S.accept s [] w) (putIf (older (s .stamp) (S.stampOf w)) f 0 (w .entry))
+-- client c's write that can be accepted, and that of the lowest of clients c to c + m - 1
+abbrev pub ripeBy : Params → Server → (ℕ → Entry) → ℕ → Option S.Write
+ripeBy g s f c = S.ripeBy g s c (slotOf s c .sequence) (viewBy f c (slotOf s c) .done)
 
-unfoldable pub freedBy : Stage → Server → (ℕ → Entry) → ℕ → Seen
-freedBy send s f c = seen (S.sendOnly s [] []) f
-freedBy echo s f c = freeBy (S.ripeBy s c (slotOf s c .sequence) (viewBy f c (slotOf s c) .done)) s f
-freedBy ready s f c = freeBy (S.ripeBy s c (slotOf s c .sequence) (viewBy f c (slotOf s c) .done)) s f
+unfoldable pub lowestBy : Params → Server → (ℕ → Entry) → ℕ → ℕ → Option S.Write
+lowestBy g s f c zero = none
+lowestBy g s f c (suc m) = S.orElse (ripeBy g s f c) (lowestBy g s f (suc c) m)
+
+-- an acceptance, and what follows it
+abbrev pub alsoBy : S.Effect → Seen → Seen
+alsoBy x y = record { server = y .server; entries = y .entries; sends = x .sends ++ y .sends; accepted = x .accepted ++ y .accepted }
+
+abbrev pub acceptedBy : (ℕ → Entry) → Server → S.Write → (ℕ → Entry)
+acceptedBy f s w = putIf (older (s .stamp) (S.stampOf w)) f 0 (w .entry)
+
+-- writes are accepted while there is one, m at most
+unfoldable pub freeBy : Params → ℕ → Server → (ℕ → Entry) → Seen
+freeBy g zero s f = seen (S.sendOnly s [] []) f
+freeBy g (suc m) s f = elim (lowestBy g s f 1 8) [
+  | some w ↦ alsoBy (S.accept g s [] w) (freeBy g m (S.accept g s [] w .server) (acceptedBy f s w))
+  | none ↦ seen (S.sendOnly s [] []) f
+]
+
+unfoldable pub freedBy : Params → Stage → Server → (ℕ → Entry) → Seen
+freedBy g send s f = seen (S.sendOnly s [] []) f
+freedBy g echo s f = freeBy g 8 s f
+freedBy g ready s f = freeBy g 8 s f
 
 abbrev pub behindBy : List Sending → Seen → Seen
 behindBy l r = record { server = r .server; entries = r .entries; sends = l ++ r .sends; accepted = r .accepted }
 
-unfoldable pub settledBy : Server → ℕ → Stage → Counted → Seen
-settledBy s c z n = behindBy (n .sends) (freedBy z (withSlot s c (n .slot)) (n .entries) c)
+unfoldable pub settledBy : Params → Server → ℕ → Stage → Counted → Seen
+settledBy g s c z n = behindBy (n .sends) (freedBy g z (withSlot s c (n .slot)) (n .entries))
 
 module _ (H : List ℕ → List ℕ) (g : Params) (me : ℕ) where
   unfoldable pub votedBy : Part Offer → (ℕ → Entry) → ℕ → Slot → Offer → Counted
@@ -116,8 +136,9 @@ module _ (H : List ℕ → List ℕ) (g : Params) (me : ℕ) where
   }
   bodyBy s f initial j c q readComplete = seen (S.onBody H g me s [] initial j c q readComplete) f
   bodyBy s f initial j c q (stampIs T) = seen (S.onBody H g me s [] initial j c q (stampIs T)) f
-  bodyBy s f initial j c q (blockIs z o) = settledBy s c z (blockBy f c (slotOf s c) j z o)
+  bodyBy s f initial j c q (blockIs z o) = settledBy g s c z (blockBy f c (slotOf s c) j z o)
   bodyBy s f initial j c q (valueIs x e) = seen (S.onBody H g me s [] initial j c q (valueIs x e)) f
+  bodyBy s f initial j c q (report T) = freeBy g 8 (withReport s j T) f
 
   unfoldable pub servedBy : Judged → Server → (ℕ → Entry) → List ℕ → Party → Seen
   servedBy (bad r) s f initial from = seen (S.sendOnly s [] []) f
@@ -151,53 +172,83 @@ view-seen g a f h c x i = record {
 }
 
 module _ (H : List ℕ → List ℕ) (g : Params) (B : Bounded g) (M : Small g) (me : ℕ) where
-  done-seen : (s : Server) (a : List ℕ) (f : ℕ → Entry) → Shows g areaBytes a f → (c q : ℕ) (d : Option Offer)
-      → ((y : Offer) → d ≡ some y → Sized g (y .entry))
-      → Sees g (S.freeBy (S.ripeBy s c q d) s a) (freeBy (S.ripeBy s c q d) s f)
-  unfolding S.freeBy S.ripeBy S.accept freeBy pick
-  done-seen s a f X c q none Q = record { server = refl; sends = refl; accepted = refl; area = X }
-  done-seen s a f X c q (some o) Q = go (ltb (o .time) lastTime)
+  ripe-seen : (s : Server) (a : List ℕ) (f : ℕ → Entry) → Shows g areaBytes a f → (c : ℕ) → S.ripe g s a c ≡ ripeBy g s f c
+  unfolding S.ripe
+  ripe-seen s a f X c = ap (λ v. S.ripeBy g s c (slotOf s c .sequence) (v .done)) (view-seen g a f (X .at) c (slotOf s c))
+
+  lowest-seen : (s : Server) (a : List ℕ) (f : ℕ → Entry) → Shows g areaBytes a f → (c m : ℕ) → S.lowest g s a c m ≡ lowestBy g s f c m
+  unfolding S.lowest lowestBy
+  lowest-seen s a f X c zero = refl
+  lowest-seen s a f X c (suc m) = let e = ripe-seen s a f X c in let h = lowest-seen s a f X (suc c) m in λ i. S.orElse (e i) (h i)
+
+  accept-seen : (s : Server) (a : List ℕ) (f : ℕ → Entry) → Shows g areaBytes a f → (w : S.Write) → Among 8 (w .client) → Ripe g s a w
+      → Sees g (S.accept g s a w) (seen (S.accept g s [] w) (acceptedBy f s w))
+  unfolding S.accept
+  accept-seen s a f X w i R = record {
+    server = refl;
+    sends = refl;
+    accepted = refl;
+    area = stored-if g M areaBytes a f X 0 (omega arith) (w .entry) (older (s .stamp) (S.stampOf w))
+        (λ h. done-sized g M a (omega (arith, X .long)) (w .client) i (slotOf s (w .client)) (offerOf w) (R .complete));
+  }
+
+  same-server : (s : Server) (a : List ℕ) (w : S.Write) → S.accept g s a w .server ≡ S.accept g s [] w .server
+  unfolding S.accept
+  same-server s a w = refl
+
+  free-seen : (m : ℕ) (s : Server) (a : List ℕ) (f : ℕ → Entry) → Shows g areaBytes a f → Sees g (S.free g m s a) (freeBy g m s f)
+  unfolding S.free freeBy
+  free-seen zero s a f X = record { server = refl; sends = refl; accepted = refl; area = X }
+  free-seen (suc m) s a f X =
+      subst (λ o. Sees g (S.free g (suc m) s a) (Next o)) (lowest-seen s a f X 1 8)
+      (go (λ w Y. free-seen m (S.accept g s a w .server) (S.accept g s a w .area) (acceptedBy f s w) Y) (S.lowest g s a 1 8) refl)
     where
-      w : S.Write
-      w = record { client = c; sequence = q; time = o .time; entry = o .entry }
+      Next : Option S.Write → Seen
+      Next o = elim o [
+        | some w ↦ alsoBy (S.accept g s [] w) (freeBy g m (S.accept g s [] w .server) (acceptedBy f s w))
+        | none ↦ seen (S.sendOnly s [] []) f
+      ]
 
-      go : (b : Bool) → Sees g (S.freeBy (pick b (some w) none) s a) (freeBy (pick b (some w) none) s f)
-      go true = record {
-        server = refl;
-        sends = refl;
-        accepted = refl;
-        area = stored-if g M areaBytes a f X 0 (omega arith) (o .entry) (older (s .stamp) (S.stampOf w)) (λ h. Q o refl);
-      }
-      go false = record { server = refl; sends = refl; accepted = refl; area = X }
+      Real : Option S.Write → S.Effect
+      Real o = elim o [
+        | some w ↦ S.andAlso (S.accept g s a w) (S.free g m (S.accept g s a w .server) (S.accept g s a w .area))
+        | none ↦ S.sendOnly s a []
+      ]
 
-  free-seen : (s : Server) (a : List ℕ) (f : ℕ → Entry) → Shows g areaBytes a f → (c : ℕ) → Among 8 c
-      → Sees g (S.free g s a c) (freeBy (S.ripeBy s c (slotOf s c .sequence) (viewBy f c (slotOf s c) .done)) s f)
-  unfolding S.free S.ripe
-  free-seen s a f X c is =
-      subst (λ v. Sees g (S.free g s a c) (freeBy (S.ripeBy s c (slotOf s c .sequence) (v .done)) s f))
-      (view-seen g a f (X .at) c (slotOf s c))
-      (done-seen s a f X c (slotOf s c .sequence) (blockView g a c (slotOf s c) .done)
-      (λ y e. done-sized g M a (omega (arith, X .long)) c is (slotOf s c) y e))
+      go : ((w : S.Write) → Shows g areaBytes (S.accept g s a w .area) (acceptedBy f s w)
+          → Sees g (S.free g m (S.accept g s a w .server) (S.accept g s a w .area)) (freeBy g m (S.accept g s a w .server) (acceptedBy f s w)))
+          → (o : Option S.Write) → S.lowest g s a 1 8 ≡ o → Sees g (Real o) (Next o)
+      go rest none e = record { server = refl; sends = refl; accepted = refl; area = X }
+      go rest (some w) e =
+          let (i, R) = lowest-some g s a w e in
+          let A = accept-seen s a f X w i R in
+          let q = subst (λ t. Sees g (S.free g m (S.accept g s a w .server) (S.accept g s a w .area)) (freeBy g m t (acceptedBy f s w))) (same-server s a w)
+          (rest w (A .area)) in
+          record {
+            server = q .server;
+            sends = λ z. A .sends z ++ q .sends z;
+            accepted = λ z. A .accepted z ++ q .accepted z;
+            area = q .area;
+          }
 
-  freed-seen : (s : Server) (a : List ℕ) (f : ℕ → Entry) → Shows g areaBytes a f → (c : ℕ) → Among 8 c → (z : Stage)
-      → Sees g (S.freed g z s a c) (freedBy z s f c)
+  freed-seen : (s : Server) (a : List ℕ) (f : ℕ → Entry) → Shows g areaBytes a f → (z : Stage) → Sees g (S.freed g z s a) (freedBy g z s f)
   unfolding S.freed freedBy
-  freed-seen s a f X c is send = record { server = refl; sends = refl; accepted = refl; area = X }
-  freed-seen s a f X c is echo = free-seen s a f X c is
-  freed-seen s a f X c is ready = free-seen s a f X c is
+  freed-seen s a f X send = record { server = refl; sends = refl; accepted = refl; area = X }
+  freed-seen s a f X echo = free-seen 8 s a f X
+  freed-seen s a f X ready = free-seen 8 s a f X
 
   settle-seen : (s : Server) (c : ℕ) → Among 8 c → (p : S.Counting) (f : ℕ → Entry) → Shows g areaBytes (p .area) f → (z : Stage)
-      → Sees g (S.settle g s c z p) (settledBy s c z (counted p f))
+      → Sees g (S.settle g s c z p) (settledBy g s c z (counted p f))
   unfolding S.settle settledBy
   settle-seen s c is p f X z =
-      let r = freed-seen (withSlot s c (p .slot)) (p .area) f X c is z in
+      let r = freed-seen (withSlot s c (p .slot)) (p .area) f X z in
       record { server = r .server; sends = ap (λ l. p .sends ++ l) (r .sends); accepted = r .accepted; area = r .area }
 
   voted-seen : (s : Server) (a : List ℕ) (f : ℕ → Entry) → Shows g areaBytes a f → (c : ℕ) → Among 8 c → (z : Stage) (x : Slot) (o : Offer) → Sized g (o .entry)
-      → Sees g (S.settle g s c z (S.votedBlock H g me a c x o)) (settledBy s c z (votedBy H g me (viewBy f c x) f c x o))
+      → Sees g (S.settle g s c z (S.votedBlock H g me a c x o)) (settledBy g s c z (votedBy H g me (viewBy f c x) f c x o))
   unfolding S.votedBlock votedBy
   voted-seen s a f X c is z x o Q =
-      subst (λ w. Sees g (S.settle g s c z (S.votedBlock H g me a c x o)) (settledBy s c z (votedBy H g me w f c x o))) (view-seen g a f (X .at) c x)
+      subst (λ w. Sees g (S.settle g s c z (S.votedBlock H g me a c x o)) (settledBy g s c z (votedBy H g me w f c x o))) (view-seen g a f (X .at) c x)
       (settle-seen s c is (S.votedBlock H g me a c x o) _
       (stored-if g M areaBytes a f X (completeAt c) (omega (arith, is .0, is .1)) _
       (not (x .blocks .complete) && full (blockRules H g) (g .n) (g .t) (blockView g a c x) o)
@@ -205,7 +256,7 @@ module _ (H : List ℕ → List ℕ) (g : Params) (B : Bounded g) (M : Small g) 
 
   block-seen : (s : Server) (a : List ℕ) (f : ℕ → Entry) → Shows g areaBytes a f → (c : ℕ) → Among 8 c → (j : ℕ) (z : Stage) (o : Offer) → Sized g (o .entry)
       → (from : Party) → SenderIs g from c z → j ≡ numberIn from
-      → Sees g (S.settle g s c z (S.onBlock H g me a c (slotOf s c) j z o)) (settledBy s c z (blockBy H g me f c (slotOf s c) j z o))
+      → Sees g (S.settle g s c z (S.onBlock H g me a c (slotOf s c) j z o)) (settledBy g s c z (blockBy H g me f c (slotOf s c) j z o))
   unfolding S.onBlock blockBy
   block-seen s a f X c is j send o Q from h n = settle-seen s c is (S.onBlock H g me a c (slotOf s c) j send o) f X send
   block-seen s a f X c is j echo o Q from h n =
@@ -235,6 +286,7 @@ module _ (H : List ℕ → List ℕ) (g : Params) (B : Bounded g) (M : Small g) 
   body-seen s a f X initial from c q is readComplete Q p = record { server = refl; sends = refl; accepted = refl; area = X }
   body-seen s a f X initial from c q is (stampIs T) Q p = record { server = refl; sends = refl; accepted = refl; area = X }
   body-seen s a f X initial from c q is (blockIs z o) Q p = block-seen s a f X c is (numberIn from) z o Q from (block-sender g from c z o p) refl
+  body-seen s a f X initial from c q is (report T) Q p = free-seen 8 (withReport s (numberIn from) T) a f X
   body-seen s a f X initial from c q is (valueIs x e) Q p = record { server = refl; sends = refl; accepted = refl; area = X }
 
   pub judge-seen : (s : Server) (a initial : List ℕ) (from : Party) (f out to : List ℕ) → length a ≡ areaBytes → length initial ≡ width g

@@ -22,7 +22,7 @@ use Rattle.runs.specs.World.{Setup, Sound, Call, toServer}
 use Rattle.runs.specs.Admissible.{Admissible}
 use Rattle.runs.specs.Events.{At, Accepts, CompletesRead}
 use Rattle.runs.specs.Demand.{Operation, Stands, Demand3}
-use Rattle.witness.specs.Toy.{toy, four, setup, handServer, handClient, startRead, startWrite}
+use Rattle.witness.specs.Toy.{toy, enormous, four, setup, handServer, handClient, startRead, startWrite}
 use Rattle.witness.specs.Refusals.{Refuses}
 
 unfoldable pub g : Params
@@ -42,12 +42,12 @@ nobodys = 8 ∷ 8 ∷ []
 unfoldable pub Z : Setup
 Z = setup toy g initial 4 (λ c. false)
 
--- the largest time that client c is told: server 4 tells client 2 that it is 6
+-- the largest time that counts at client c: server 4 tells client 2 of an enormous one, which nobody else reports
 unfoldable pub largest : ℕ → ℕ
-largest c = pick (eqb c 1) 0 6
+largest c = 0
 
 unfoldable pub stamp : ℕ → Stamp
-stamp c = pick (eqb c 1) (record { time = 1; writer = 1; sequence = 1 }) (record { time = 7; writer = 2; sequence = 1 })
+stamp c = pick (eqb c 1) (record { time = 1; writer = 1; sequence = 1 }) (record { time = 1; writer = 2; sequence = 1 })
 
 -- what server j gets of a value
 unfoldable pub entryFor : List ℕ → ℕ → Entry
@@ -119,11 +119,11 @@ noRoom = toServer 2 (P.Client 2) (build (message 2 1 (blockIs send (offerFor 2 2
 unfoldable pub opening : List Call
 opening = falseValue ∷ initialFrom 2 ∷ initialFrom 1 ∷ readAsked 2 ∷ readAsked 1 ∷ startRead g 3 ∷ []
 
--- Clients 1 and 2 begin to write; three stamps come to each, and they send blocks with the times.
+-- Clients 1 and 2 begin to write; three stamps come to each, to client 2 a fourth, since server 4's does not count; and they send blocks with the times.
 unfoldable pub asking : List Call
 asking =
-    stampFrom 2 4 6 ∷ stampFrom 2 2 0 ∷ stampFrom 2 1 0 ∷ stampFrom 1 4 0 ∷ stampFrom 1 2 0 ∷ stampFrom 1 1 0
-    ∷ stampAsked 2 2 ∷ stampAsked 2 1 ∷ stampAsked 1 2 ∷ stampAsked 1 1
+    stampFrom 2 3 0 ∷ stampFrom 2 4 enormous ∷ stampFrom 2 2 0 ∷ stampFrom 2 1 0 ∷ stampFrom 1 4 0 ∷ stampFrom 1 2 0 ∷ stampFrom 1 1 0
+    ∷ stampAsked 2 3 ∷ stampAsked 2 2 ∷ stampAsked 2 1 ∷ stampAsked 1 2 ∷ stampAsked 1 1
     ∷ startWrite g 2 (value 2) ∷ startWrite g 1 (value 1) ∷ opening
 
 -- Six calls are refused.
@@ -181,15 +181,15 @@ pub record Shown : Type 0 where
   pub admissible : Admissible Z calls
   -- six calls are refused: a read asked again (12), a write while one is open (15), what is no frame (4), a retired kind (6), a block against its
   -- digest (14), no room (10)
-  pub stale : At (Refuses Z 12) calls 18
-  pub busy : At (Refuses Z 15) calls 19
-  pub framing : At (Refuses Z 4) calls 20
-  pub kind : At (Refuses Z 6) calls 21
-  pub digest : At (Refuses Z 14) calls 22
-  pub room : At (Refuses Z 10) calls 23
+  pub stale : At (Refuses Z 12) calls 20
+  pub busy : At (Refuses Z 15) calls 21
+  pub framing : At (Refuses Z 4) calls 22
+  pub kind : At (Refuses Z 6) calls 23
+  pub digest : At (Refuses Z 14) calls 24
+  pub room : At (Refuses Z 10) calls 25
   -- server 1 accepts client 2's write, then client 1's, and the read ends with client 2's
-  pub larger : At (Accepts Z 1 (write 2)) calls 42
-  pub smaller : At (Accepts Z 1 (write 1)) calls 45
-  pub completes : At (CompletesRead Z 3 1 found) calls 52
-  -- in the row client 1's write comes before client 2's, and the read after both
+  pub larger : At (Accepts Z 1 (write 2)) calls 44
+  pub smaller : At (Accepts Z 1 (write 1)) calls 47
+  pub completes : At (CompletesRead Z 3 1 found) calls 54
+  -- in the row client 1's write is before client 2's, and the read after both
   pub in-order : (D : Demand3 Z calls) → Stands (D .row) (writing 1) (writing 2) × Stands (D .row) (writing 2) reading

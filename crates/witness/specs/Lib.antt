@@ -4,3 +4,4 @@ pub mod FalseParties
 pub mod Colliding
 pub mod Refusals
 pub mod Contending
+pub mod Waiting

@@ -19,6 +19,10 @@ toy b = take 32 (b ++ replicate 32 0)
 unfoldable pub zeros : ℕ → List ℕ
 zeros n = replicate n 0
 
+-- the largest time but one
+unfoldable pub enormous : ℕ
+enormous = 18446744073709551614
+
 -- n = 4, t = 1
 unfoldable pub four : ℕ → ℕ → Params
 four k size = record { n = 4; t = 1; k = k; size = size }

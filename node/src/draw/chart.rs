@@ -211,9 +211,13 @@ fn label(svg: &mut Svg, (x0, x1): (Length, Length), y: Length, bold: bool, text:
 
 /// Receivers in few words.
 fn receivers(columns: &Columns, to: &[Who]) -> String {
-    let all: Vec<Who> = (1..=columns.servers).map(|number| Who { server: true, number }).collect();
+    let mut all: Vec<Who> = (1..=columns.servers).map(|number| Who { server: true, number }).collect();
     if to == all {
         return "all".into();
+    }
+    all.extend((1..=u16::from(sem::CLIENTS)).map(|number| Who { server: false, number }));
+    if to == all {
+        return "everybody".into();
     }
     let one = |who: &Who| format!("{} {}", if who.server { "server" } else { "client" }, who.number);
     to.iter().map(one).collect::<Vec<_>>().join(", ")
@@ -274,7 +278,7 @@ fn legend(svg: &mut Svg, whole: bool, y: Length) {
         Anchor::Start,
         SMALL,
         false,
-        "An arrow is drawn when its frame is handed in, not when it was sent. What a step sends is after →; to all: to each server.",
+        "An arrow is drawn when its frame is handed in, not when it was sent. What a step sends is after →; to all: to each server; to everybody: to all clients too.",
     );
 }
 
@@ -310,6 +314,20 @@ mod tests {
             assert!(p.svg.contains(part), "{part}: {}", p.svg);
         }
         assert!(p.line.contains("4 calls; 1 of them refused. 4 frames were sent and never handed in"), "{}", p.line);
+    }
+
+    /// A report goes to all servers and clients; who is only told of a time has no column.
+    #[test]
+    fn reports_go_to_everybody_and_make_no_columns() {
+        let report = "000f010d01000000010000000000000001";
+        let servers: String = (1..=4).map(|s| format!("\n> s {s} {report}")).collect();
+        let clients: String = (1..=8).map(|c| format!("\n> c {c} {report}")).collect();
+        let handed_in = format!("C 2 s 1 {report}");
+        let p = draw(&run(&[("S 1 s 2 00", &format!("step{servers}{clients}")), (&handed_in, "step")]), &LAST);
+        assert!(p.svg.contains(">→ report to everybody<") && p.svg.contains(">report<"), "{}", p.svg);
+        assert!(p.svg.contains(">client 2<") && !p.svg.contains(">client 1<"), "{}", p.svg);
+        let p = draw(&run(&[("S 1 s 2 00", &format!("step{clients}"))]), &LAST);
+        assert!(p.svg.contains("report to client 1, client 2,"), "{}", p.svg);
     }
 
     #[test]

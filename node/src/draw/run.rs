@@ -95,7 +95,7 @@ impl Run {
         clients
     }
 
-    /// Everybody who is handed something or is named as a sender or receiver.
+    /// Everybody who is handed something or is named as a sender or receiver; not who is only sent reports, which go to all there may be.
     fn parties(&self) -> impl Iterator<Item = Who> + '_ {
         self.calls.iter().filter(|c| c.answer != Answer::What).flat_map(|c| {
             let from = match &c.asked {
@@ -103,7 +103,7 @@ impl Run {
                 _ => None,
             };
             let receivers = match &c.answer {
-                Answer::Step { sent, .. } => sent.iter().map(|(to, _)| *to).collect(),
+                Answer::Step { sent, .. } => sent.iter().filter(|(_, frame)| !sem::is_report(frame)).map(|(to, _)| *to).collect(),
                 _ => vec![],
             };
             receivers.into_iter().chain([c.to]).chain(from)

@@ -12,6 +12,7 @@ pub fn kind(kind: u8) -> String {
         10 => "read",
         11 => "value",
         12 => "read-complete",
+        13 => "report",
         _ => return format!("kind {kind}"),
     };
     name.to_string()

@@ -195,7 +195,7 @@ fn bounds(w: &World, failures: &mut Vec<String>) {
             }
         }
         for (stream, o) in &core.state.streams.outs {
-            if stream.to.class != SERVER && stream.from.class == SERVER && o.near.len() > 6 {
+            if stream.to.class != SERVER && stream.from.class == SERVER && o.near.len() > 7 {
                 failures.push(format!("8: n{node} owes a client {} frames by {stream:?}", o.near.len()));
             }
             let own = core.state.is_own(stream.to);

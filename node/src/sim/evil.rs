@@ -248,9 +248,10 @@ impl Evil {
         if to.class == CLIENT {
             let sequence = 1 + r.below(6) as u32;
             let time = if r.one_in(30) { u64::MAX } else { r.below(40) };
-            return Some(match r.below(3) {
+            return Some(match r.below(4) {
                 0 => Evil::head(2, to.number, sequence, &time.to_be_bytes()),
                 1 => Evil::head(9, to.number, sequence, &[]),
+                2 => Evil::head(13, 1 + r.below(8) as u8, sequence, &time.to_be_bytes()),
                 _ => {
                     let (_, known) = self.learned.iter().find(|(_, f)| matches!(sem::head(f), Some((3..=5, _, _))))?;
                     let list = known.get(17..)?;
@@ -258,6 +259,10 @@ impl Evil {
                     Evil::head(11, to.number, sequence, &body)
                 }
             });
+        }
+        if r.one_in(8) {
+            let time = if r.one_in(10) { u64::MAX } else { r.below(40) };
+            return Some(Evil::head(13, 1 + r.below(8) as u8, 1 + r.below(6) as u32, &time.to_be_bytes()));
         }
         if !self.friends.contains(&to.number) {
             return None;

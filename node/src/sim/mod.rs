@@ -62,9 +62,9 @@ mod tests {
 
     const FALLS: [(Mutant, u64); 9] = [
         (Mutant::SendEarly, 7),
-        (Mutant::AckEarly, 23),
+        (Mutant::AckEarly, 53),
         (Mutant::NoSettle, 251),
-        (Mutant::SnapshotAhead, 388),
+        (Mutant::SnapshotAhead, 10),
         (Mutant::NumbersLost, 1),
         (Mutant::NoWait, 7),
         (Mutant::SignPasses, 2498),

@@ -18,8 +18,6 @@ const CHAOS: u64 = 12_000 * MS;
 const MENDED: u64 = 120_000 * MS;
 /// The wall clocks when a run begins, in milliseconds.
 pub const WALL: u64 = 1_700_000_000_000;
-/// The refusal of a write after one that closed as out of stamps.
-const OUT_OF_STAMPS: u8 = 17;
 /// A run with more events than this goes round in a circle.
 const EVENTS_MOST: u64 = 600_000;
 
@@ -115,8 +113,6 @@ pub struct World {
     pub operations: BTreeMap<(u8, u64), Seen>,
     left: BTreeMap<u8, u64>,
     asking: BTreeMap<u8, u64>,
-    /// Clients that can't write any more.
-    readers: BTreeSet<u8>,
     /// Every frame that an honest node put on a link, by its stream and number.
     pub wire: BTreeMap<(StreamId, u64), Vec<u8>>,
     pub failures: Vec<String>,
@@ -176,7 +172,6 @@ impl World {
             operations: BTreeMap::new(),
             left: BTreeMap::new(),
             asking: BTreeMap::new(),
-            readers: BTreeSet::new(),
             wire: BTreeMap::new(),
             failures: vec![],
             wall: |_, boot| WALL + boot,
@@ -814,7 +809,7 @@ impl World {
         let id = self.order;
         self.asks.insert(id, (client, node as u64, self.events));
         self.asking.insert(client, id);
-        let ask = if self.readers.contains(&client) || self.r.one_in(2) {
+        let ask = if self.r.one_in(2) {
             Ask::Read { client, register: 0 }
         } else {
             let mut value = self.r.bytes(self.plan.cluster.parameters.size);
@@ -841,12 +836,7 @@ impl World {
                 self.later(wait, Will::Ask { node: node as usize, client });
             }
             Response::Refused { number, why } => {
-                // a false server can close a client's writes, by the largest time there is
-                if number == OUT_OF_STAMPS && !self.plan.evil.is_empty() {
-                    self.readers.insert(client);
-                } else {
-                    self.failures.push(format!("an ask of client {client} was refused {number}: {why}"));
-                }
+                self.failures.push(format!("an ask of client {client} was refused {number}: {why}"));
                 self.asks.remove(&id);
                 self.asking.remove(&client);
                 self.later(MS, Will::Ask { node: node as usize, client });

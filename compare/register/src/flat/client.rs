@@ -1,6 +1,6 @@
 //! A client on lent areas.
 
-use super::{block_in, list_in, row_chunk, store, Done, Out, Outcome, ROWS_AREA, SEATS};
+use super::{block_in, list_in, row_chunk, store, vouched, Done, Out, Outcome, ROWS_AREA, SEATS};
 use crate::blocks::{agree, block_of, decode_into};
 use crate::client::KEPT;
 use crate::frame::{open, Body, Frame, Stage, Stamp};
@@ -22,12 +22,14 @@ pub struct Client {
     pub writes: u32,
     pub reads: u32,
     pub out_of_stamps: bool,
-    /// Servers whose stamp, or then ack, was counted, and the times of the stamps.
+    /// Servers whose first stamp, or then ack, came, and the times of the stamps.
     pub counted: [bool; SEATS],
     pub times: [u64; SEATS],
     /// Stamps kept of each server, and how many; a number above four stands for four.
     pub kept: [u64; SEATS],
     pub stamps: [[Stamp; KEPT]; SEATS],
+    /// The highest time that each server reported, across operations.
+    pub reports: [u64; SEATS],
 }
 
 impl Client {
@@ -42,12 +44,14 @@ impl Client {
             times: [0; SEATS],
             kept: [0; SEATS],
             stamps: [[zero; KEPT]; SEATS],
+            reports: [0; SEATS],
         }
     }
 
-    /// The largest time counted.
-    pub fn largest(&self, p: &Params) -> u64 {
-        self.times[1..=p.n].iter().copied().max().unwrap_or(0)
+    /// The time of a server's first stamp, if it came and counts: t + 1 servers have reported that time or more.
+    fn reply(&self, p: &Params, server: usize) -> Option<u64> {
+        let time = self.times[server];
+        (self.counted[server] && vouched(p, &self.reports, time)).then_some(time)
     }
 
     /// How many stamps are kept of a server.
@@ -138,14 +142,31 @@ impl Client {
             return Err(Refusal::Room);
         }
         let server = match from {
-            Party::Server(j) if 1 <= j && j <= p.n && frame.client as usize == own => j,
+            Party::Server(j)
+                if 1 <= j && j <= p.n && (frame.client as usize == own || frame.body.kind() == 13) =>
+            {
+                j
+            }
             _ => return Err(Refusal::Sender),
         };
         let mut out = Out { out, to, bytes: 0, frames: 0 };
         let outcome = match frame.body {
             Body::Stamp { time } => {
                 self.await_frame(Operation::Stamps, self.writes, &frame)?;
-                self.stamp(p, server, &frame, time, written, &mut out)?
+                self.count(p, server)?;
+                self.times[server] = time;
+                self.reports[server] = self.reports[server].max(time);
+                self.gather(p, own, written, &mut out)
+            }
+            Body::Report { time } => {
+                if time <= self.reports[server] {
+                    return Err(Refusal::Old);
+                }
+                self.reports[server] = time;
+                match self.operation {
+                    Operation::Stamps => self.gather(p, own, written, &mut out),
+                    _ => Outcome::Going,
+                }
             }
             Body::Ack => {
                 self.await_frame(Operation::Acks, self.writes, &frame)?;
@@ -177,25 +198,20 @@ impl Client {
         Ok(self.counted[1..=p.n].iter().filter(|&&x| x).count() >= p.most())
     }
 
-    fn stamp(
-        &mut self,
-        p: &Params,
-        server: usize,
-        frame: &Frame,
-        time: u64,
-        written: &[u8],
-        out: &mut Out,
-    ) -> Result<Outcome, Refusal> {
-        let enough = self.count(p, server)?;
-        self.times[server] = time;
-        if !enough {
-            return Ok(Outcome::Going);
+    /// Once n − t stamps count, the blocks go out with the largest time that counts.
+    fn gather(&mut self, p: &Params, own: usize, written: &[u8], out: &mut Out) -> Outcome {
+        let (mut count, mut largest) = (0, 0);
+        for time in (1..=p.n).filter_map(|server| self.reply(p, server)) {
+            count += 1;
+            largest = time.max(largest);
         }
-        let largest = self.largest(p);
+        if count < p.most() {
+            return Outcome::Going;
+        }
         if largest == u64::MAX {
             self.operation = Operation::None;
             self.out_of_stamps = true;
-            return Ok(Outcome::OutOfStamps);
+            return Outcome::OutOfStamps;
         }
         self.operation = Operation::Acks;
         self.counted = [false; SEATS];
@@ -210,9 +226,9 @@ impl Client {
         for (j, block) in blocks.iter().enumerate().take(p.n + 1).skip(1) {
             let block = &block[..p.block()];
             let body = Body::Block { stage: Stage::Send, time: largest, digests, block };
-            out.send(1, j, &Frame { body, ..*frame });
+            out.send(1, j, &Frame { client: own as u8, sequence: self.writes, body });
         }
-        Ok(Outcome::Going)
+        Outcome::Going
     }
 
     fn ack(&mut self, p: &Params, server: usize) -> Result<Outcome, Refusal> {

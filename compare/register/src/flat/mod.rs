@@ -17,6 +17,7 @@ pub use server::{Reader, Server, Slot};
 use crate::client::KEPT;
 use crate::frame::{write, Frame, Stamp};
 use crate::params::{Params, CLIENTS, MAX_SERVERS};
+use std::ops::RangeInclusive;
 
 pub const CHUNK: usize = 576;
 pub const BLOCK_AT: usize = 320;
@@ -71,14 +72,19 @@ pub struct Done {
 #[derive(Clone, Copy, Debug, PartialEq, Eq)]
 pub enum Outcome {
     Going,
-    /// A server accepted a write.
-    Accepted,
+    /// A server accepted writes of these clients; place c is client c's.
+    Accepted([bool; DESKS]),
     /// A read ended; its value is in the value area.
     Value(Stamp),
     /// A read ended, since the blocks found disagree.
     Disagreement,
     Written,
     OutOfStamps,
+}
+
+/// t + 1 of servers 1 to n have reported this time or more.
+fn vouched(p: &Params, reports: &[u64; SEATS], time: u64) -> bool {
+    reports[1..=p.n].iter().filter(|&&report| report >= time).count() > p.t
 }
 
 /// Frames written so far.
@@ -105,13 +111,28 @@ impl Out<'_> {
     fn send_servers(&mut self, n: usize, frame: &Frame) {
         let start = self.bytes;
         self.send(1, 1, frame);
+        self.copies(start, 1, 2..=n);
+    }
+
+    /// The last frame, which begins at `start`, to further receivers of a class.
+    fn copies(&mut self, start: usize, class: u8, numbers: RangeInclusive<usize>) {
         let length = self.bytes - start;
-        for j in 2..=n {
+        for number in numbers {
             self.out.copy_within(start..start + length, self.bytes);
             self.bytes += length;
-            self.to[2 * self.frames] = 1;
-            self.to[2 * self.frames + 1] = j as u8;
+            self.to[2 * self.frames] = class;
+            self.to[2 * self.frames + 1] = number as u8;
             self.frames += 1;
         }
+    }
+
+    /// A report to servers 1 to n and then to all clients.
+    fn send_report(&mut self, n: usize, frame: &Frame) {
+        let mut start = self.bytes;
+        self.send(1, 1, frame);
+        self.copies(start, 1, 2..=n);
+        start = self.bytes;
+        self.send(0, 1, frame);
+        self.copies(start, 0, 2..=CLIENTS);
     }
 }

@@ -1,6 +1,6 @@
 //! A server on lent areas.
 
-use super::{block_in, complete_chunk, echo_chunk, list_in, ready_chunk, store, Done, Out, Outcome};
+use super::{block_in, complete_chunk, echo_chunk, list_in, ready_chunk, store, vouched, Done, Out, Outcome};
 use super::{BLOCK_AT, CHUNK, DESKS, SEATS, STATE_AREA};
 use crate::blocks::{block_of, decode_into};
 use crate::frame::{open, Body, Frame, Stage, Stamp};
@@ -72,6 +72,8 @@ pub struct Server {
     pub stamp: Stamp,
     pub slots: [Slot; DESKS],
     pub readers: [Reader; DESKS],
+    /// The highest time that each server reported; place j is server j's.
+    pub reports: [u64; SEATS],
 }
 
 /// The blocks of a group, by rising server number.
@@ -135,6 +137,7 @@ impl Server {
             stamp: Stamp::default(),
             slots: [Slot::fresh(1); DESKS],
             readers: [Reader::default(); DESKS],
+            reports: [0; SEATS],
         })
     }
 
@@ -160,7 +163,7 @@ impl Server {
         p.check_server(own)?;
         let frame = open(p, bytes)?;
         if out.len() < p.server_room()
-            || to.len() < 2 * (p.n + 9)
+            || to.len() < 2 * p.server_frames()
             || area.len() < STATE_AREA
             || initial.len() < p.block()
         {
@@ -202,7 +205,7 @@ impl Server {
         let from = Server::sender(p, &frame, from)?;
         let mut out = Out { out, to, bytes: 0, frames: 0 };
         let c = frame.client as usize;
-        let mut accepted = false;
+        let mut outcome = Outcome::Going;
         match frame.body {
             Body::GetStamp => {
                 let body = Body::Stamp { time: self.stamp.time };
@@ -217,7 +220,7 @@ impl Server {
                     out.send_servers(p.n, &Frame { body, ..frame });
                 } else {
                     self.compare(p, own, area, &frame, group, &mut out);
-                    accepted = self.accept(p, area, &frame, &mut out);
+                    outcome = self.free(p, area, &mut out);
                 }
             }
             Body::Read => {
@@ -239,9 +242,15 @@ impl Server {
                 }
                 *reader = Reader { newest: s, listening: false, noted: reader.noted };
             }
+            Body::Report { time } => {
+                if time <= self.reports[from] {
+                    return Err(Refusal::Old);
+                }
+                self.reports[from] = time;
+                outcome = self.free(p, area, &mut out);
+            }
             Body::Stamp { .. } | Body::Ack | Body::Value { .. } => return Err(Refusal::Sender),
         }
-        let outcome = if accepted { Outcome::Accepted } else { Outcome::Going };
         Ok(Done { frames: out.frames, bytes: out.bytes, outcome })
     }
 
@@ -249,7 +258,7 @@ impl Server {
     fn sender(p: &Params, frame: &Frame, from: Party) -> Result<usize, Refusal> {
         match (frame.body.kind(), from) {
             (1 | 3 | 10 | 12, Party::Client(c)) if c == frame.client as usize => Ok(c),
-            (4 | 5, Party::Server(j)) if 1 <= j && j <= p.n => Ok(j),
+            (4 | 5 | 13, Party::Server(j)) if 1 <= j && j <= p.n => Ok(j),
             _ => Err(Refusal::Sender),
         }
     }
@@ -356,15 +365,35 @@ impl Server {
         }
     }
 
-    fn accept(&mut self, p: &Params, area: &mut [u8], frame: &Frame, out: &mut Out) -> bool {
-        let c = frame.client as usize;
-        let slot = &mut self.slots[c];
-        if !slot.complete || slot.time == u64::MAX {
-            return false;
+    /// Whether a client's write may be accepted. A record of no run may have a complete write whose sequence no stamp can hold: not that.
+    fn is_free(&self, p: &Params, client: usize) -> bool {
+        let slot = &self.slots[client];
+        slot.complete
+            && slot.time < u64::MAX
+            && slot.open <= u32::MAX as u64
+            && (slot.time <= self.stamp.time || vouched(p, &self.reports, slot.time))
+    }
+
+    /// Accepts the lowest client's write that may be accepted, and from the lowest again, until none is left.
+    fn free(&mut self, p: &Params, area: &mut [u8], out: &mut Out) -> Outcome {
+        let mut outcome = Outcome::Going;
+        let mut accepted = [false; DESKS];
+        while let Some(client) = (1..=CLIENTS).find(|&client| self.is_free(p, client)) {
+            self.accept(p, area, client, out);
+            accepted[client] = true;
+            outcome = Outcome::Accepted(accepted);
         }
-        let stamp = Stamp { time: slot.time + 1, writer: frame.client, sequence: frame.sequence };
-        *slot = Slot::fresh(frame.sequence as u64 + 1);
+        outcome
+    }
+
+    /// Accepts a client's write: values, its ack, and reports if the time grew.
+    fn accept(&mut self, p: &Params, area: &mut [u8], c: usize, out: &mut Out) {
+        let slot = &mut self.slots[c];
+        let (writer, sequence) = (c as u8, slot.open as u32);
+        let stamp = Stamp { time: slot.time + 1, writer, sequence };
+        *slot = Slot::fresh(slot.open + 1);
         let chunk = complete_chunk(c);
+        let grown = stamp.time > self.stamp.time;
         if stamp > self.stamp {
             self.stamp = stamp;
             let start = chunk * CHUNK;
@@ -383,7 +412,10 @@ impl Server {
                 });
             }
         }
-        out.send_client(&Frame { body: Body::Ack, ..*frame });
-        true
+        out.send_client(&Frame { client: writer, sequence, body: Body::Ack });
+        if grown {
+            let body = Body::Report { time: stamp.time };
+            out.send_report(p.n, &Frame { client: writer, sequence, body });
+        }
     }
 }

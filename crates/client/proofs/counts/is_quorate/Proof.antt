@@ -1,4 +1,4 @@
-use Rattle.client.proofs.RowLaws.{quorate-law}
+use Rattle.client.proofs.Countings.{quorate-law}
 use native.Mathlib.Omega.{arith}
 use borrow.Author.Needs.{needs}
 use Rattle.client.proofs.counts.is_quorate.Statement.{statement}

@@ -1,5 +1,5 @@
 -- The tests; then the value is kept. Assumes nothing.
-use Rattle.client_rules.specs.Tests.{messageTest, orderTest, answers}
+use Rattle.client_rules.specs.Tests.{messageTest, orderTest, answers, ownerRight}
 use Rattle.client_deliver.proofs.Senders.{fine-sender}
 use Rattle.client_deliver.proofs.Answers.{refused-is, step-is}
 use Rattle.client_deliver.proofs.ReadLaws.{kept-from, value-verdict}
@@ -17,7 +17,7 @@ enum-known-v : tie.Need-enum-known-v
 enum-known-v c = search needs
 
 returns : tie.Need-returns
-unfolding messageTest orderTest answers
+unfolding messageTest orderTest answers ownerRight
 returns c =
     let a = c .before .before .before .before .before .before .before .before .before .before .before .args in
     refused-is _ _ (a .s) (a .area .now) _ _ _ _ (value-verdict (a .k .params) (a .k .me) (a .s) (a .k .from) (a .k .header) _ _ _ _ (c .before .before .before .before .stamp-in .ensures) (c .before .before .before .entry-test .ensures)) _ (c .before .v .given .1)
@@ -50,7 +50,7 @@ same-length-4 : tie.Need-same-length-4
 same-length-4 c = search needs
 
 returns-2 : tie.Need-returns-2
-unfolding messageTest orderTest answers
+unfolding messageTest orderTest answers ownerRight
 returns-2 c =
     let a = c .before .before .before .before .before .before .before .before .before .before .before .before .before .before .before .before .before .before .before .before .before .before .before .before .args in
     step-is _ _ (a .s) (a .area .now) _ _ _ _ (value-verdict (a .k .params) (a .k .me) (a .s) (a .k .from) (a .k .header) _ _ _ _ (c .before .before .before .before .before .before .before .before .before .before .before .before .before .before .before .before .before .stamp-in .ensures) (c .before .before .before .before .before .before .before .before .before .before .before .before .before .before .before .before .entry-test .ensures)) _ (c .before .before .before .before .before .before .before .before .before .before .before .before .before .before .enum-told .given .1)

@@ -1,25 +1,19 @@
--- The largest time is the last, or the blocks go out with it. Assumes nothing.
-use Rattle.client_deliver.proofs.WriteLaws.{out-of-stamps, write-sent}
+-- So many count, or the write waits. Assumes nothing.
+use Rattle.client_deliver.proofs.WriteLaws.{gather-waits, gather-goes}
 use borrow.Author.Needs.{needs}
 use Rattle.client_deliver.proofs.writing.gather.Statement.{statement}
 use Rattle.client_deliver.proofs.writing.gather.Tie as tie
 
-largest-time-requires : tie.Need-largest-time-requires
-largest-time-requires c κs = search needs
-
-shut-requires : tie.Need-shut-requires
-shut-requires c κs = search needs
+is-gathered-requires : tie.Need-is-gathered-requires
+is-gathered-requires c κs = search needs
 
 returns : tie.Need-returns
 returns c =
-    let a = c .before .before .before .before .before .before .before .args in
-    λ z l. out-of-stamps (a .g) (a .me) (a .s) (a .value .now) z l _ _ _ _ (c .before .before .largest-time .ensures) (c .before .if1 .taken) (c .shut .ensures)
+    let a = c .before .before .before .before .before .args in
+    λ z l. gather-waits (a .g) (a .me) (a .s) (a .value .now) z l _ _ _ (c .before .is-gathered .ensures) (c .if1 .taken)
 
-disperse-requires : tie.Need-disperse-requires
-disperse-requires c κs = search needs
-
-in-phase-requires : tie.Need-in-phase-requires
-in-phase-requires c κs = search needs
+send-largest-requires : tie.Need-send-largest-requires
+send-largest-requires c κs = search needs
 
 same-length : tie.Need-same-length
 same-length c = search needs
@@ -29,18 +23,16 @@ same-length-2 c = search needs
 
 returns-2 : tie.Need-returns-2
 returns-2 c =
-    let a = c .before .before .before .before .before .before .before .before .before .before .before .before .before .before .args in
-    λ z l. write-sent (a .g) (a .me) (a .s) (a .value .now) z l _ _ _ _ _ _ _ (c .before .before .before .before .before .before .before .before .before .largest-time .ensures) (c .before .before .before .before .before .before .before .before .if1 .left) (c .in-phase .ensures) (c .before .before .before .before .before .disperse .ensures)
+    let a = c .before .before .before .before .before .before .before .before .before .before .before .before .args in
+    λ z l. gather-goes (a .g) (a .me) (a .s) (a .value .now) z l _ _ _ (c .before .before .before .before .before .before .before .before .is-gathered .ensures) _ (c .before .before .before .before .before .before .before .if1 .left) (c .before .before .before .before .send-largest .ensures z l)
 
 pub gather-spec : {M : Type 1} → statement M
 gather-spec =
     tie.close
     (tie.spec
-    largest-time-requires
-    shut-requires
+    is-gathered-requires
     returns
-    disperse-requires
-    in-phase-requires
+    send-largest-requires
     same-length
     same-length-2
     returns-2)

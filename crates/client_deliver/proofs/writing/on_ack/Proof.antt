@@ -1,6 +1,6 @@
 -- The tests; then the ack is counted, and at n - t the write has ended. Assumes nothing.
 use Rattle.client_rules.specs.State.{acking}
-use Rattle.client_rules.specs.Tests.{messageTest, orderTest, answers}
+use Rattle.client_rules.specs.Tests.{messageTest, orderTest, answers, ownerRight}
 use Rattle.client_deliver.proofs.Senders.{fine-sender}
 use Rattle.client_deliver.proofs.Answers.{refused-is, step-is, verdict-in}
 use Rattle.client_deliver.proofs.WriteLaws.{ack-waits, ack-ends}
@@ -19,7 +19,7 @@ enum-known-v : tie.Need-enum-known-v
 enum-known-v c = search needs
 
 returns : tie.Need-returns
-unfolding messageTest orderTest answers
+unfolding messageTest orderTest answers ownerRight
 returns c =
     let a = c .before .before .before .before .before .before .before .before .args in
     λ z l o t. refused-is _ _ (a .s) z _ l o t (verdict-in _ _ _ _ (acking (a .s .phase)) _ (c .before .before .before .reply-test .ensures) (c .before .before .before .before .is-acking .ensures)) _ (c .before .v .given .1)
@@ -46,7 +46,7 @@ in-phase-requires : tie.Need-in-phase-requires
 in-phase-requires c κs = search needs
 
 returns-2 : tie.Need-returns-2
-unfolding messageTest orderTest answers
+unfolding messageTest orderTest answers ownerRight
 returns-2 c =
     let a = c .before .before .before .before .before .before .before .before .before .before .before .args in
     λ z l o t. step-is _ _ (a .s) z _ l o t (verdict-in _ _ _ _ (acking (a .s .phase)) _ (c .before .before .before .before .before .before .reply-test .ensures) (c .before .before .before .before .before .before .before .is-acking .ensures)) _ (c .before .before .before .before .enum-told .given .1)
@@ -56,7 +56,7 @@ in-phase-requires-2 : tie.Need-in-phase-requires-2
 in-phase-requires-2 c κs = search needs
 
 returns-3 : tie.Need-returns-3
-unfolding messageTest orderTest answers
+unfolding messageTest orderTest answers ownerRight
 returns-3 c =
     let a = c .before .before .before .before .before .before .before .before .before .before .before .args in
     λ z l o t. step-is _ _ (a .s) z _ l o t (verdict-in _ _ _ _ (acking (a .s .phase)) _ (c .before .before .before .before .before .before .reply-test .ensures) (c .before .before .before .before .before .before .before .is-acking .ensures)) _ (c .before .before .before .before .enum-told .given .1)

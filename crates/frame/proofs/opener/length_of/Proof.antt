@@ -38,7 +38,11 @@ returns-6 : tie.Need-returns-6
 unfolding lengthOf pick
 returns-6 c = (search tests, omega arith)
 
+returns-7 : tie.Need-returns-7
+unfolding lengthOf pick
+returns-7 c = (search tests, omega arith)
+
 pub length-of-spec : {M : Type 1} → statement M
 length-of-spec =
     tie.close
-    (tie.spec returns returns-2 add-result returns-3 returns-4 add-result-2 returns-5 returns-6)
+    (tie.spec returns returns-2 add-result returns-3 returns-4 add-result-2 returns-5 returns-6 returns-7)

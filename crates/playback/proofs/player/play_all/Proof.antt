@@ -21,7 +21,7 @@ use Rattle.playback.proofs.player.play_all.Tie as tie
 abbrev Inv-loop : tie.InvT-loop
 Inv-loop g me value trace area₀ initial state₀ out₀ to₀ at₀ used₀ area state out to at used =
     Turn digestOf g me initial trace (played digestOf g me initial (serverIn state₀) area₀ (traceOf trace .entries)) out₀ (serverIn state) area out at used
-    × (length to ≡ 38) × (length area ≡ length area₀) × (length state ≡ length state₀) × (length out ≡ length out₀) × Bytes state
+    × (length to ≡ 452) × (length area ≡ length area₀) × (length state ≡ length state₀) × (length out ≡ length out₀) × Bytes state
     × (state ≡ sets state₀ 0 (serverBytes (serverIn state))) × (serverSize ≤ length state)
 
 abbrev μ-loop : tie.MeasureT-loop

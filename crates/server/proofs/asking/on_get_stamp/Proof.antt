@@ -1,4 +1,5 @@
 -- The step of one kind: refused as the tests say, or its whole outcome. Assumes nothing.
+use Prim.Native.Nat.{_+_, _*_}
 use Rattle.server.proofs.Answers.{refused-is, step-is, only-sent}
 use Rattle.server.proofs.Sending.{stamp-room}
 use Rattle.server_rules.specs.Tests.{messageTest, senderRight, orderTest}
@@ -29,7 +30,7 @@ returns c =
 send-stamp-requires : tie.Need-send-stamp-requires
 send-stamp-requires c κs =
     let z = c .before .before .before .before .before .before .before in
-    stamp-room (z .args .g) _ 9 _ _ (omega arith) (z .pre .1)
+    stamp-room (z .args .g) _ (9 * z .args .g .n + 136) _ _ (omega arith) (z .pre .1)
 
 taken-requires : tie.Need-taken-requires
 taken-requires c κs = search needs

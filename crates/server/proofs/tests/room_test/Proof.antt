@@ -30,6 +30,9 @@ returns-2 c =
     let i : a .initial < width (a .g) = omega arith in
     search tests
 
+mul-out-room : tie.Need-mul-out-room
+mul-out-room c = search needs
+
 add-out-room : tie.Need-add-out-room
 add-out-room c = search needs
 
@@ -42,8 +45,11 @@ returns-3 c =
     let a = c .before .before .before .before .before .before .args in
     let h : 97344 ≤ a .area = omega arith in
     let i : width (a .g) ≤ a .initial = omega arith in
-    let o : a .out < outRoom (a .g) (a .g .n + 9) = omega arith in
+    let o : a .out < outRoom (a .g) (9 * a .g .n + 136) = omega arith in
     search tests
+
+mul-to-room : tie.Need-mul-to-room
+mul-to-room c = search needs
 
 add-to-room : tie.Need-add-to-room
 add-to-room c = search needs
@@ -57,8 +63,8 @@ returns-4 c =
     let a = c .before .before .before .before .before .before .before .before .before .args in
     let h : 97344 ≤ a .area = omega arith in
     let i : width (a .g) ≤ a .initial = omega arith in
-    let o : outRoom (a .g) (a .g .n + 9) ≤ a .out = omega arith in
-    let t : a .to < toRoom (a .g .n + 9) = omega arith in
+    let o : outRoom (a .g) (9 * a .g .n + 136) ≤ a .out = omega arith in
+    let t : a .to < toRoom (9 * a .g .n + 136) = omega arith in
     search tests
 
 returns-5 : tie.Need-returns-5
@@ -67,8 +73,8 @@ returns-5 c =
     let a = c .before .before .before .before .before .before .before .before .before .args in
     let h : 97344 ≤ a .area = omega arith in
     let i : width (a .g) ≤ a .initial = omega arith in
-    let o : outRoom (a .g) (a .g .n + 9) ≤ a .out = omega arith in
-    let t : toRoom (a .g .n + 9) ≤ a .to = omega arith in
+    let o : outRoom (a .g) (9 * a .g .n + 136) ≤ a .out = omega arith in
+    let t : toRoom (9 * a .g .n + 136) ≤ a .to = omega arith in
     search tests
 
 pub room-test-spec : {M : Type 1} → statement M
@@ -78,9 +84,11 @@ room-test-spec =
     returns
     width-requires
     returns-2
+    mul-out-room
     add-out-room
     out-room-requires
     returns-3
+    mul-to-room
     add-to-room
     to-room-requires
     returns-4

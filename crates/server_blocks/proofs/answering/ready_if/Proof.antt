@@ -10,7 +10,7 @@ returns : tie.Need-returns
 returns c = not-due _ _ _ (not-true _ (c .if1 .taken))
 
 block-all-requires : tie.Need-block-all-requires
-block-all-requires c κs = let P = c .before .before .before .before .before .before .before .before .before .before .pre in (P .0, offer-room _ _ 9 _ _ _ _ (P .2) (P .1))
+block-all-requires c κs = let P = c .before .before .before .before .before .before .before .before .before .before .pre in (P .0, offer-room _ _ _ _ _ _ (P .2) (P .1))
 
 same-length : tie.Need-same-length
 same-length c = search needs

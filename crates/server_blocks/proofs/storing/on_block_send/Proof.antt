@@ -25,7 +25,7 @@ enum-told : tie.Need-enum-told
 enum-told c = search needs
 
 block-all-requires : tie.Need-block-all-requires
-block-all-requires c κs = let P = c .before .before .before .before .before .before .before .before .before .before .before .pre in (P .0 .bounded, offer-room _ _ 9 _ _ _ _ (P .2) (P .1))
+block-all-requires c κs = let P = c .before .before .before .before .before .before .before .before .before .before .before .pre in (P .0 .bounded, offer-room _ _ _ _ _ _ (P .2) (P .1))
 
 block-sent-requires : tie.Need-block-sent-requires
 block-sent-requires c κs = search needs

@@ -1,188 +1,69 @@
-//! The page in a browser: Debian's chromium without a window, asked by its debugging protocol. `node/browser` installs it and runs this.
+//! The page in a browser: Debian's chromium without a window. `node/browser` installs it and runs this; `node/test` does so where chromium is there.
+//! With SEMDUOLI_PICTURES the pictures of docs/NODE.md are put into that folder.
+#[path = "common/chromium.rs"]
+mod chromium;
 mod common;
 #[path = "common/site.rs"]
 mod site;
+#[path = "common/tricks.rs"]
+mod tricks;
 
-use common::{temporary, Nodes};
+use chromium::{wait, Browser};
+use common::{Desk, Nodes};
 use serde_json::{json, Value};
 use site::Page;
 use std::fs;
-use std::io::{Read, Write};
-use std::net::TcpStream;
-use std::path::PathBuf;
-use std::process::{Child, Command, Stdio};
-use std::time::{Duration, Instant};
+use std::path::Path;
+use tricks::{forget_what_was_read, frame, FalsePartner};
 
 const SMALL: (usize, usize, usize, usize) = (4, 1, 2, 8);
-const PATIENCE: Duration = Duration::from_secs(30);
-const LOOK: Duration = Duration::from_millis(50);
-const PHONE: (u32, u32) = (390, 844);
-
-struct Browser {
-    _process: Process,
-    socket: TcpStream,
-    asked: u64,
-    /// What the browser told meanwhile.
-    events: Vec<Value>,
-}
-
-fn wait<T>(what: &str, mut look: impl FnMut() -> Option<T>) -> T {
-    let until = Instant::now() + PATIENCE;
-    loop {
-        if let Some(found) = look() {
-            return found;
-        }
-        assert!(Instant::now() < until, "never {what}");
-        std::thread::sleep(LOOK);
-    }
-}
-
-/// The address of the browser's first tab, on its debugging port.
-fn tab(port: &str) -> Option<String> {
-    let mut stream = TcpStream::connect(format!("127.0.0.1:{port}")).ok()?;
-    stream.set_read_timeout(Some(PATIENCE)).ok()?;
-    write!(stream, "GET /json/list HTTP/1.1\r\nHost: 127.0.0.1:{port}\r\n\r\n").ok()?;
-    let head = head_of(&mut stream);
-    let length = head.lines().find_map(|l| l.strip_prefix("Content-Length:"))?.trim().parse().ok()?;
-    let mut body = vec![0; length];
-    stream.read_exact(&mut body).ok()?;
-    let tabs: Value = serde_json::from_slice(&body).ok()?;
-    let tab = tabs.as_array()?.iter().find(|t| t["type"] == "page")?;
-    Some(tab["webSocketDebuggerUrl"].as_str()?.split_once("//")?.1.split_once('/')?.1.to_string())
-}
-
-/// The head of an answer of HTTP.
-fn head_of(stream: &mut TcpStream) -> String {
-    let mut head = vec![];
-    while !head.ends_with(b"\r\n\r\n") {
-        let mut byte = [0];
-        stream.read_exact(&mut byte).expect("an answer");
-        head.push(byte[0]);
-    }
-    String::from_utf8(head).expect("text")
-}
-
-/// A process that is ended with the test, however that ends.
-struct Process(Child, PathBuf);
-
-impl Drop for Process {
-    fn drop(&mut self) {
-        let _ = self.0.kill();
-        let _ = self.0.wait();
-        let _ = fs::remove_dir_all(&self.1);
-    }
-}
-
-impl Browser {
-    fn start() -> Browser {
-        let folder = temporary("browser");
-        let mut command = Command::new("chromium");
-        command.args(["--headless", "--no-sandbox", "--disable-gpu", "--remote-debugging-port=0", "about:blank"]);
-        command.arg(format!("--user-data-dir={}", folder.display())).stdin(Stdio::null()).stdout(Stdio::null()).stderr(Stdio::null());
-        let process = Process(command.spawn().expect("chromium runs; node/browser installs it"), folder.clone());
-        let port = wait("a port", || fs::read_to_string(folder.join("DevToolsActivePort")).ok()?.lines().next().map(str::to_string));
-        let path = wait("a tab", || tab(&port));
-        let mut socket = TcpStream::connect(format!("127.0.0.1:{port}")).expect("a connection");
-        socket.set_read_timeout(Some(PATIENCE)).expect("a time");
-        let request = "Upgrade: websocket\r\nConnection: Upgrade\r\nSec-WebSocket-Key: AAAAAAAAAAAAAAAAAAAAAA==\r\nSec-WebSocket-Version: 13";
-        write!(socket, "GET /{path} HTTP/1.1\r\nHost: 127.0.0.1:{port}\r\n{request}\r\n\r\n").expect("sent");
-        assert!(head_of(&mut socket).starts_with("HTTP/1.1 101 "));
-        let mut browser = Browser { _process: process, socket, asked: 0, events: vec![] };
-        for domain in ["Page", "Runtime", "Log"] {
-            browser.call(&format!("{domain}.enable"), json!({}));
-        }
-        browser
-    }
-
-    /// A message of the socket: its frames, put together.
-    fn receive(&mut self) -> Value {
-        let mut message = vec![];
-        loop {
-            let [first, second] = self.take::<2>();
-            let length = match second & 0x7f {
-                126 => u16::from_be_bytes(self.take()).into(),
-                127 => u64::from_be_bytes(self.take()),
-                short => short.into(),
-            };
-            let mut piece = vec![0; length as usize];
-            self.socket.read_exact(&mut piece).expect("a frame");
-            message.extend(piece);
-            if first & 0x80 != 0 {
-                return serde_json::from_slice(&message).expect("an object");
-            }
-        }
-    }
-
-    fn take<const N: usize>(&mut self) -> [u8; N] {
-        let mut bytes = [0; N];
-        self.socket.read_exact(&mut bytes).expect("a frame");
-        bytes
-    }
-
-    fn call(&mut self, method: &str, parameters: Value) -> Value {
-        self.asked += 1;
-        let text = json!({ "id": self.asked, "method": method, "params": parameters }).to_string();
-        // a frame of text with a mask of zeros
-        let mut frame = vec![0x81, 0x80 | 127];
-        frame.extend((text.len() as u64).to_be_bytes());
-        frame.extend([0; 4]);
-        frame.extend(text.as_bytes());
-        self.socket.write_all(&frame).expect("sent");
-        loop {
-            let message = self.receive();
-            if message["id"] == self.asked {
-                assert!(message["error"].is_null(), "{method}: {message}");
-                return message["result"].clone();
-            }
-            self.events.push(message);
-        }
-    }
-
-    fn script(&mut self, expression: &str) -> Value {
-        self.call("Runtime.evaluate", json!({ "expression": expression, "returnByValue": true }))["result"]["value"].clone()
-    }
-
-    /// Waits until an expression has a value.
-    fn wait_for(&mut self, expression: &str, wanted: Value) {
-        let until = Instant::now() + PATIENCE;
-        loop {
-            let found = self.script(expression);
-            if found == wanted {
-                return;
-            }
-            assert!(Instant::now() < until, "{expression}: {found}, never {wanted}");
-            std::thread::sleep(LOOK);
-        }
-    }
-
-    fn press_tab(&mut self) -> Value {
-        for kind in ["keyDown", "keyUp"] {
-            self.call("Input.dispatchKeyEvent", json!({ "type": kind, "key": "Tab", "code": "Tab", "windowsVirtualKeyCode": 9 }));
-        }
-        self.script("document.activeElement.getAttribute('href') ?? document.activeElement.getAttribute('aria-label')")
-    }
-
-    /// What the browser complained of: refused scripts and styles, missing files, exceptions.
-    fn complaints(&self) -> Vec<&Value> {
-        let bad = |e: &&Value| e["method"] == "Runtime.exceptionThrown" || e["params"]["entry"]["level"] == "error";
-        self.events.iter().filter(bad).collect()
-    }
-}
+const SCREEN: (u32, u32) = (740, 600);
+const PHONE: (u32, u32) = (360, 740);
+/// The least contrast of text that is easily read: WCAG's level AA.
+const CONTRAST: f64 = 4.5;
 
 const STAMP: &str = "document.querySelector('td[data-label=stamp]').textContent";
 const LINKS: &str = "[...document.querySelectorAll('td[data-label=link]')].map(c => c.previousSibling.textContent + ' ' + c.textContent)";
-const ATTENTION: &str = "document.getElementById('attention-part').textContent.includes('There is no link to s2.')";
-const DRAWN: &str = "[...document.querySelectorAll('img')].every(i => i.complete && i.naturalWidth > 0) && document.querySelectorAll('img').length";
+const WIDTH: &str = "document.documentElement.scrollWidth";
 
-/// By keyboard, on a phone, on paper.
+/// Whether the page says something under "What needs attention".
+fn attention(line: &str) -> String {
+    format!("document.getElementById('attention-part').textContent.includes({})", json!(line))
+}
+
+/// The least contrast between text and what is behind it, of all elements that have text of their own.
+const LEAST_CONTRAST: &str = "(() => {
+    const linear = v => v <= 0.04045 ? v / 12.92 : ((v + 0.055) / 1.055) ** 2.4;
+    const light = colour => {
+        const [r, g, b] = colour.match(/[\\d.]+/g).slice(0, 3).map(v => linear(v / 255));
+        return 0.2126 * r + 0.7152 * g + 0.0722 * b;
+    };
+    const contrast = (a, b) => (Math.max(a, b) + 0.05) / (Math.min(a, b) + 0.05);
+    const paper = light(getComputedStyle(document.body).backgroundColor);
+    const texts = [...document.body.querySelectorAll('*')].filter(e => [...e.childNodes].some(n => n.nodeType === 3 && n.data.trim()));
+    return Math.min(...texts.map(e => contrast(light(getComputedStyle(e).color), paper)));
+})()";
+
+/// By keyboard, on a phone, in the dark, on paper.
 fn looked_at_in_other_ways(browser: &mut Browser) {
     // by keyboard, round the page: the way past the links comes first, then each of them
     let reached: Vec<Value> = (0..20).map(|_| browser.press_tab()).collect();
     let order = ["#main", "#attention", "#partners", "#parties", "#history", "#run", "#log", "/status.json", "/metrics"];
     assert!(reached.windows(order.len()).any(|part| part == order), "{reached:?}");
-    // on a phone nothing is wider than the screen; on paper it is A4
-    browser.call("Emulation.setDeviceMetricsOverride", json!({ "width": PHONE.0, "height": PHONE.1, "deviceScaleFactor": 1, "mobile": true }));
-    assert_eq!(browser.script("document.documentElement.scrollWidth"), PHONE.0);
+    // nothing is wider than the screen of a phone
+    browser.screen(PHONE, true);
+    assert_eq!(browser.script(WIDTH), PHONE.0);
+    let mut papers = vec![];
+    for scheme in ["light", "dark"] {
+        browser.call("Emulation.setEmulatedMedia", json!({ "features": [{ "name": "prefers-color-scheme", "value": scheme }] }));
+        let contrast = browser.script(LEAST_CONTRAST).as_f64().expect("a contrast");
+        assert!(contrast >= CONTRAST, "{scheme}: {contrast}");
+        papers.push(browser.script("getComputedStyle(document.body).backgroundColor"));
+    }
+    assert!(papers[0] == "rgb(255, 255, 255)" && papers[1] != papers[0], "{papers:?}");
+    // on paper it is black on white also where the screen is dark
+    browser.call("Emulation.setEmulatedMedia", json!({ "media": "print", "features": [{ "name": "prefers-color-scheme", "value": "dark" }] }));
+    assert_eq!(browser.script("getComputedStyle(document.body).backgroundColor"), papers[0]);
     let printed = browser.call("Page.printToPDF", json!({ "preferCSSPageSize": true }));
     assert!(printed["data"].as_str().is_some_and(|pdf| pdf.starts_with("JVBERi")), "no PDF");
 }
@@ -197,9 +78,7 @@ fn a_browser_shows_what_the_node_says_and_goes_on_by_itself() {
     nodes.wait_for_rest();
     let page = Page::start(&nodes.path("s1"));
     let mut browser = Browser::start();
-    browser.call("Page.navigate", json!({ "url": format!("http://{}/", page.address) }));
-    browser.wait_for("document.readyState", json!("complete"));
-    browser.wait_for(DRAWN, json!(2));
+    browser.open(&page.address);
 
     let told: Value = serde_json::from_str(&page.body("/status.json")).expect("an object");
     let links: Vec<String> =
@@ -213,14 +92,103 @@ fn a_browser_shows_what_the_node_says_and_goes_on_by_itself() {
     assert_eq!(desk.write(2, b"two.....")["outcome"], "written");
     browser.wait_for(STAMP, json!("2.2.1"));
     nodes.kill("s2");
-    browser.wait_for(ATTENTION, json!(true));
-    browser.wait_for(DRAWN, json!(2));
+    browser.wait_for(&attention("There is no link to s2."), json!(true));
     assert_eq!(browser.script("window.mark"), 7);
     assert_eq!(browser.script("document.activeElement.getAttribute('aria-label')"), "History of the desks, a picture");
 
     looked_at_in_other_ways(&mut browser);
     assert!(browser.complaints().is_empty(), "{:?}", browser.complaints());
+    // all that was loaded is the page's own
+    let loaded = browser.script("performance.getEntriesByType('resource').every(r => new URL(r.name).host === location.host)");
+    assert_eq!(loaded, true);
 
     drop(page);
     browser.wait_for("document.getElementById('state').className", json!("state stale"));
+}
+
+/// Gives the nodes names as banks have them, and two of them desks.
+fn as_banks(nodes: &Nodes) {
+    for folder in nodes.names() {
+        let path = nodes.at(&folder).join("cluster.toml");
+        let mut text = fs::read_to_string(&path).expect("a cluster file");
+        let changes =
+            [("s1", "north"), ("s2", "south"), ("s3", "east"), ("s4", "west")].map(|(old, new)| (format!("\"{old}\""), format!("\"{new}\"")));
+        let desks = [("server = 1\n", "server = 1\nclients = [1, 2]\n"), ("server = 3\n", "server = 3\nclients = [3, 4]\n")];
+        let rest = [("clients = [1, 2, 3, 4, 5, 6, 7, 8]", "clients = [5, 6, 7, 8]")];
+        for (old, new) in rest.iter().chain(&desks).map(|(a, b)| (a.to_string(), b.to_string())).chain(changes) {
+            assert!(text.contains(&old), "{old}");
+            text = text.replace(&old, &new);
+        }
+        fs::write(&path, text).expect("a cluster file");
+    }
+}
+
+/// Waits for a line of attention, and takes a picture of the page up to the end of a part.
+fn pictured(browser: &mut Browser, name: &str, line: &str, to: &str) {
+    browser.wait_for(&attention(line), json!(true));
+    let picture = browser.picture(to);
+    assert!(picture.starts_with(b"\x89PNG"), "{name}");
+    if let Some(folder) = std::env::var_os("SEMDUOLI_PICTURES") {
+        fs::write(Path::new(&folder).join(format!("{name}.png")), picture).expect("a picture");
+    }
+}
+
+/// Writes and reads of a bank's two desks.
+fn a_season(folder: &Path, [one, two]: [u8; 2]) {
+    let mut desk = Desk::new(folder).expect("the socket");
+    for value in [b"rye 92 %", b"rye 88 %", b"rye 90 %"] {
+        assert_eq!(desk.write(one, value)["outcome"], "written");
+        assert_eq!(desk.read(two)["outcome"], "value");
+    }
+}
+
+#[test]
+#[ignore = "needs Debian's chromium: run node/browser"]
+fn what_staff_must_see_is_on_the_page_in_words() {
+    let mut nodes = Nodes::new("browser-banks", SMALL);
+    as_banks(&nodes);
+    nodes.start_all();
+    a_season(&nodes.at("s1"), [1, 2]);
+    a_season(&nodes.at("s3"), [3, 4]);
+    nodes.wait_for_rest();
+    let mut browser = Browser::start();
+    browser.screen(SCREEN, false);
+    let page = Page::start(&nodes.path("s1"));
+    browser.open(&page.address);
+    pictured(&mut browser, "healthy", "Nothing: all partners are linked", "section.history");
+
+    nodes.kill("s2");
+    let mut desk = Desk::new(&nodes.at("s1")).expect("the socket");
+    assert_eq!(desk.write(1, b"oat 75 %")["outcome"], "written");
+    let owed = "[...document.querySelectorAll('td[data-label=\"owed to it\"]')].map(c => c.textContent !== 'nothing')";
+    browser.wait_for(owed, json!([true, false, false, false]));
+    pictured(&mut browser, "away", "There is no link to south.", "section.partners");
+
+    for name in ["s3", "s4"] {
+        nodes.kill(name);
+    }
+    desk.tell(&json!({ "ask": "read", "client": 2, "register": 0 })).expect("asked");
+    pictured(&mut browser, "open", "A read of client 2 has been open for 10 s or more; servers 2, 3, 4 have not answered.", "section.parties");
+    for name in ["s2", "s3", "s4"] {
+        nodes.start(name);
+    }
+    browser.wait_for(&attention("Nothing: all partners are linked"), json!(true));
+
+    // server 4 is false from here on: an echo with a block that does not fit its digests, and an ack, which is for clients
+    nodes.kill("s4");
+    let mut partner = FalsePartner::new(&nodes, 4);
+    let body = [&1u64.to_be_bytes()[..], &[7; 4 * 32], &[1, 2, 3, 4]].concat();
+    partner.send(7, &frame(4, 7, 1, &body));
+    partner.send(0, &frame(9, 7, 1, &[]));
+    browser.wait_for("document.querySelectorAll('li.bad').length", json!(2));
+    pictured(&mut browser, "false", "west has sent what no honest machine sends, 2 times: it may be a false machine.", "section.partners");
+
+    // until the node rests, its own next batch does not fit the altered ones
+    let east = wait("a history without order", || {
+        forget_what_was_read(&nodes.at("s3"));
+        Some(Page::start(&nodes.path("s3"))).filter(|page| page.body("/").contains("has no order"))
+    });
+    browser.open(&east.address);
+    pictured(&mut browser, "offending", "The history of this node's desks has no order", "section.history");
+    assert!(browser.complaints().is_empty(), "{:?}", browser.complaints());
 }

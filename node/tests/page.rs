@@ -70,7 +70,7 @@ fn who_has_gone_and_who_has_not_answered_is_said() {
     assert!(open.contains("servers 2, 3, 4") || open.contains("servers 1, 2, 3, 4"), "{open}");
     nodes.kill("s1");
     let down = page.wait_for("The node does not answer");
-    assert!(down.contains("<title>(1) Node no answer</title>"), "{down}");
+    assert!(down.contains("<title>(1) Node s1</title>"), "{down}");
     assert_eq!((page.get("/status.json").0, sample(&page.body("/metrics"), "semduoli_up")), (503, 0.0));
 }
 

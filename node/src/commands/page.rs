@@ -69,6 +69,8 @@ struct Kept {
 struct Site {
     folder: PathBuf,
     cluster: Cluster,
+    /// The node's place in the cluster file.
+    me: usize,
     hosts: Vec<String>,
     busy: AtomicUsize,
     drawn: Mutex<Option<Kept>>,
@@ -76,7 +78,7 @@ struct Site {
 
 /// Serves the page; comes back only if that can't begin.
 pub fn page(page: Page, as_json: bool) -> Result<(), Failure> {
-    let (cluster, _) = read_own(&page.folder, page.cluster.as_deref())?;
+    let (cluster, me) = read_own(&page.folder, page.cluster.as_deref())?;
     let failed = |e: std::io::Error| Failure::new(code::CLUSTER, format!("{}: {e}", page.listen));
     let listener = TcpListener::bind(page.listen).map_err(failed)?;
     let address = listener.local_addr().map_err(failed)?;
@@ -87,7 +89,7 @@ pub fn page(page: Page, as_json: bool) -> Result<(), Failure> {
         true => out::line(json!({ "page": format!("http://{address}/") }))?,
         false => out::line(format!("http://{address}/"))?,
     }
-    let site = Site { folder: page.folder, cluster, hosts: page.host, busy: AtomicUsize::new(0), drawn: Mutex::new(None) };
+    let site = Site { folder: page.folder, cluster, me, hosts: page.host, busy: AtomicUsize::new(0), drawn: Mutex::new(None) };
     let site = Arc::new(site);
     loop {
         match listener.accept() {
@@ -162,6 +164,7 @@ impl Site {
             pictures: (*drawn).as_ref().map(|d| &d.pictures).map_err(String::as_str),
             free: run::free_space(&self.folder),
             now: SystemTime::now().duration_since(UNIX_EPOCH).map_or(0, |d| d.as_millis() as u64),
+            name: &self.cluster.nodes[self.me].name,
         };
         Response::good(http::HTML, view::page(&shown))
     }

@@ -13,6 +13,7 @@ pub const ICON: &str =
 <path fill=\"none\" stroke=\"#222\" d=\"M5.5 5.5h2v2h-2z\"/></svg>\n";
 /// An operation that has been open for so many ms needs attention.
 const LONG_OPEN: u64 = 10_000;
+const AGES: [u64; 5] = [LONG_OPEN, 60_000, 600_000, 3_600_000, 86_400_000];
 /// So few bytes free need attention: a node does not start with fewer than 64 MiB.
 const LITTLE_SPACE: u64 = 1 << 30;
 
@@ -35,6 +36,8 @@ pub struct Shown<'a> {
     pub free: Option<u64>,
     /// ms since 1970.
     pub now: u64,
+    /// The node's name by the cluster file: it has one also while it does not answer.
+    pub name: &'a str,
 }
 
 fn list(value: &Value) -> impl Iterator<Item = &Value> {
@@ -65,12 +68,12 @@ fn times(n: u64) -> String {
 /// What a person should look at, most pressing first.
 pub fn attention(shown: &Shown) -> Vec<String> {
     let mut all = vec![];
+    if shown.pictures.is_ok_and(|p| p.no_order) {
+        all.push("The history of this node's desks has no order: something is wrong with more than t servers. Keep everything.".into());
+    }
     match shown.answer {
         Ok(answer) => of_status(&answer["status"], &mut all),
         Err(why) => all.push(format!("The node does not answer: {why}")),
-    }
-    if shown.pictures.is_ok_and(|p| p.no_order) {
-        all.push("The history of this node's desks has no order: something is wrong with more than t servers. Keep everything.".into());
     }
     if let Some(free) = shown.free.filter(|f| *f < LITTLE_SPACE) {
         all.push(format!("Little space is left on the disk: {}.", size(free)));
@@ -102,18 +105,23 @@ fn of_status(status: &Value, all: &mut Vec<String>) {
         }
     }
     for d in list(&status["desks"]).filter(|d| d["open"].is_string() && count(&d["age"]) >= LONG_OPEN) {
-        let (client, kind, long) = (&d["client"], plain(&d["open"]), age(count(&d["age"])));
+        let (client, kind, long) = (&d["client"], plain(&d["open"]), at_least(count(&d["age"])));
         all.push(format!("A {kind} of client {client} has been open for {long}; servers {} have not answered.", joined(&d["awaited"])));
     }
 }
 
+/// How long at least, in few steps: what needs attention is read out anew whenever its words change.
+fn at_least(ms: u64) -> String {
+    let step = AGES.iter().rev().find(|step| **step <= ms).unwrap_or(&LONG_OPEN);
+    format!("{} or more", age(*step))
+}
+
 /// The whole page.
 pub fn page(shown: &Shown) -> String {
-    let name = shown.answer.map_or_else(|_| "no answer".into(), |a| plain(&a["status"]["name"]));
     let attention = attention(shown);
     let mark = if attention.is_empty() { String::new() } else { format!("({}) ", attention.len()) };
     let parts = [
-        part("attention", "What needs attention", &attention_part(&attention)),
+        live_part("attention", "What needs attention", " role=\"status\"", &attention_part(&attention)),
         shown.answer.map_or_else(|_| String::new(), of_answer),
         pictures(shown),
         part("log", "Log and disk", &log_part(shown)),
@@ -123,8 +131,10 @@ pub fn page(shown: &Shown) -> String {
          <meta name=\"viewport\" content=\"width=device-width, initial-scale=1\">\n<link rel=\"stylesheet\" href=\"/page.css\">\n\
          <link rel=\"icon\" href=\"/icon.svg\" type=\"image/svg+xml\">\n\
          <script src=\"/page.js\" defer></script>\n</head>\n<body>\n<a class=\"skip\" href=\"#main\">To what is shown</a>\n<header>\n\
-         <h1>Node {0}</h1>\n<p class=\"state\" id=\"state\" data-part>{1}</p>\n{NAVIGATION}</header>\n<main id=\"main\">\n{2}</main>\n</body>\n</html>\n",
-        escape(&name),
+         <h1>Node {0}</h1>\n<p class=\"state\" id=\"state\" data-part>{1}</p>\n\
+         <noscript><p>This page goes on by itself where scripts are allowed; here it is loaded anew by hand.</p></noscript>\n\
+         {NAVIGATION}</header>\n<main id=\"main\">\n{2}</main>\n</body>\n</html>\n",
+        escape(shown.name),
         escape(&state(shown)),
         parts.concat()
     )
@@ -144,15 +154,21 @@ fn state(shown: &Shown) -> String {
 
 /// A part of the page, that is put in anew when it has changed.
 fn part(id: &str, title: &str, inner: &str) -> String {
-    format!("<section class=\"{id}\" aria-labelledby=\"{id}\">\n<h2 id=\"{id}\">{title}</h2>\n<div id=\"{id}-part\" data-part>\n{inner}</div>\n</section>\n")
+    live_part(id, title, "", inner)
+}
+
+/// The same with a role: what has one stays on the page, and only its words change, so that they can be read out.
+fn live_part(id: &str, title: &str, role: &str, inner: &str) -> String {
+    let head = format!("<h2 id=\"{id}\">{title}</h2>");
+    format!("<section class=\"{id}\" aria-labelledby=\"{id}\">\n{head}\n<div id=\"{id}-part\" data-part{role}>\n{inner}</div>\n</section>\n")
 }
 
 fn attention_part(all: &[String]) -> String {
     match all.is_empty() {
-        true => "<p class=\"well\" role=\"status\">Nothing: all partners are linked, and no operation has been open for long.</p>\n".into(),
+        true => "<p class=\"well\">Nothing: all partners are linked, and no operation has been open for long.</p>\n".into(),
         false => {
             let items: String = all.iter().map(|line| format!("<li>▲ {}</li>\n", escape(line))).collect();
-            format!("<ul role=\"status\">\n{items}</ul>\n")
+            format!("<ul>\n{items}</ul>\n")
         }
     }
 }
@@ -328,7 +344,7 @@ mod tests {
     }
 
     fn shown<'a>(answer: &'a Value, pictures: &'a Pictures) -> Shown<'a> {
-        Shown { answer: Ok(answer), pictures: Ok(pictures), free: Some(5 << 30), now: 1_700_000_001_000 }
+        Shown { answer: Ok(answer), pictures: Ok(pictures), free: Some(5 << 30), now: 1_700_000_001_000, name: "north<1>" }
     }
 
     #[test]
@@ -338,14 +354,14 @@ mod tests {
         for part in [
             "There is no link to south.",
             "east has sent what no honest machine sends, 3 times: it may be a false machine.",
-            "A read of client 2 has been open for 65 s; servers 2, 3 have not answered.",
+            "A read of client 2 has been open for 60 s or more; servers 2, 3 have not answered.",
             "has no order",
         ] {
             assert!(all.iter().any(|line| line.contains(part)), "{part}: {all:?}");
         }
-        let down = Shown { answer: Err("no node"), pictures: Err("no log"), free: Some(1), now: 0 };
+        let down = Shown { answer: Err("no node"), pictures: Err("no log"), free: Some(1), now: 0, name: "north" };
         assert_eq!(attention(&down).len(), 2);
-        assert!(page(&down).contains("The node does not answer: no node"));
+        assert!(page(&down).contains("The node does not answer: no node") && page(&down).contains("<title>(2) Node north</title>"));
     }
 
     #[test]

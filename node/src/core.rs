@@ -377,6 +377,10 @@ impl Core {
         if self.settings.is(Mutant::SignForgotten) {
             self.state.signs.clear();
         }
+        if self.settings.is(Mutant::GivenUpForgotten) {
+            self.state.given_up.clear();
+            self.state.streams.outs.values_mut().for_each(|o| o.given_up = false);
+        }
         if self.stop_if_lost(out) {
             return;
         }

@@ -94,6 +94,8 @@ pub enum Mutant {
     SignForgotten,
     /// A frame's sender is the one that the frame names.
     SenderByFrame,
+    /// That a server was given up is forgotten at the next start.
+    GivenUpForgotten,
 }
 
 impl Settings {

@@ -4,7 +4,7 @@ use semduoli::settings::Mutant;
 use semduoli::sim;
 use std::time::Instant;
 
-const MUTANTS: [(&str, Mutant); 11] = [
+const MUTANTS: [(&str, Mutant); 12] = [
     ("send-early", Mutant::SendEarly),
     ("ack-early", Mutant::AckEarly),
     ("no-settle", Mutant::NoSettle),
@@ -16,6 +16,7 @@ const MUTANTS: [(&str, Mutant); 11] = [
     ("sign-passes", Mutant::SignPasses),
     ("sign-forgotten", Mutant::SignForgotten),
     ("sender-by-frame", Mutant::SenderByFrame),
+    ("given-up-forgotten", Mutant::GivenUpForgotten),
 ];
 
 fn usage() -> ! {
@@ -31,7 +32,7 @@ fn main() {
     let mutant = words.get(2).map(|name| MUTANTS.iter().find(|m| m.0 == name).map_or_else(|| usage(), |m| m.1));
     let begun = Instant::now();
     let (mut failed, mut events, mut operations, mut crashes, mut torn, mut hash) = (0, 0, 0, 0, 0, 0);
-    let (mut rolled, mut caught, mut fetches, mut removed) = (0, 0, 0, 0);
+    let (mut rolled, mut caught, mut given_up, mut fetches, mut removed) = (0, 0, 0, 0, 0);
     for (done, seed) in (first..first.saturating_add(count)).enumerate() {
         let report = sim::run(seed, mutant);
         events += report.events;
@@ -42,6 +43,7 @@ fn main() {
         removed += report.removed;
         rolled += report.rolled;
         caught += report.caught;
+        given_up += report.given_up;
         hash ^= report.hash.rotate_left((seed % 64) as u32);
         if !report.failures.is_empty() {
             failed += 1;
@@ -57,7 +59,7 @@ fn main() {
         }
     }
     print!("{count} seeds from {first}: {failed} failed; {events} events, {operations} operations, {crashes} crashes, {torn} torn batches, ");
-    print!("{fetches} pieces of logs read for what is owed, {removed} segments removed, ");
+    print!("{fetches} pieces of logs read for what is owed, {removed} segments removed, {given_up} times a server given up, ");
     println!("{caught} of {rolled} old folders caught, hash {hash:016x}");
     std::process::exit(i32::from((failed > 0) != mutant.is_some()));
 }

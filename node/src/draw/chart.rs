@@ -278,7 +278,7 @@ fn legend(svg: &mut Svg, whole: bool, y: Length) {
         Anchor::Start,
         SMALL,
         false,
-        "An arrow is drawn when its frame is handed in, not when it was sent. What a step sends is after →; to all: to each server; to everybody: to all clients too.",
+        "An arrow is drawn when its frame is handed in, not when it was sent. What a step sends is after →; all: each server; everybody: clients too.",
     );
 }
 

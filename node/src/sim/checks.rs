@@ -149,17 +149,23 @@ fn same(a: &StreamId, b: &StreamId) -> bool {
     a.from == b.from && a.to == b.to && (a.owner == b.owner || b.owner == 0)
 }
 
-/// Check 6: nothing is open, owed or held, and the servers are equal.
+/// Checks 6 and 12: nothing is open, owed or held, and the servers are equal; of whom was given up nothing is asked, and only one that is away for long is.
 fn served(w: &World, failures: &mut Vec<String>) {
     if let Some(why) = w.unquiet() {
         failures.push(format!("6: {why}"));
     }
     let mut held: BTreeMap<(Stamp, Vec<u8>), Vec<usize>> = BTreeMap::new();
+    let given_up = w.given_up();
     for node in w.healthy() {
-        for s in w.slots[node].core.iter().flat_map(|c| c.state.servers.values()) {
+        let servers = w.slots[node].core.iter().flat_map(|c| c.state.servers.values());
+        for s in servers.filter(|s| !given_up.contains(&Party::server(s.me))) {
             let list = s.digests(&w.plan.cluster.parameters).to_vec();
             held.entry((s.stamp(), list)).or_default().push(node);
         }
+    }
+    let away = w.plan.away.and_then(|a| w.plan.cluster.nodes[a.node].server).map(Party::server);
+    if let Some(party) = given_up.iter().find(|party| Some(**party) != away) {
+        failures.push(format!("12: {party} is given up, and was never away for long"));
     }
     if held.len() > 1 {
         let stamps: Vec<_> = held.iter().map(|(k, nodes)| (k.0, nodes)).collect();

@@ -23,6 +23,8 @@ pub struct Report {
     /// Nodes that were put back from an older and shorter copy of their folder, and those of them that saw it and stopped.
     pub rolled: u64,
     pub caught: u64,
+    /// Servers that nodes have given up, counted by both.
+    pub given_up: u64,
     /// Which checks failed, and how; none if the run is as it should be.
     pub failures: Vec<String>,
 }
@@ -60,9 +62,9 @@ mod tests {
         }
     }
 
-    const FALLS: [(Mutant, u64); 9] = [
+    const FALLS: [(Mutant, u64); 10] = [
         (Mutant::SendEarly, 7),
-        (Mutant::AckEarly, 53),
+        (Mutant::AckEarly, 4),
         (Mutant::NoSettle, 251),
         (Mutant::SnapshotAhead, 10),
         (Mutant::NumbersLost, 1),
@@ -70,6 +72,7 @@ mod tests {
         (Mutant::SignPasses, 2498),
         (Mutant::SignForgotten, 6),
         (Mutant::SenderByFrame, 2),
+        (Mutant::GivenUpForgotten, 4),
     ];
 
     /// Longer than a run, in milliseconds.

@@ -1,10 +1,23 @@
 //! What a seed draws: the register, the nodes, which of them are false, which faults are on, and the settings.
 use crate::cluster::Cluster;
 use crate::random::Random;
-use crate::settings::{Mutant, Settings};
+use crate::settings::{Mutant, Settings, BLOCK};
 use crate::streams::Limits;
 use std::collections::BTreeSet;
 use std::fmt::Write;
+
+/// A server's node that is away for long, and from when to when, in milliseconds.
+#[derive(Clone, Copy, Debug)]
+pub struct Away {
+    pub node: usize,
+    pub begins: u64,
+    pub ends: u64,
+}
+
+/// What the draws of who is away are made from, with the seed.
+const AWAY: u64 = 0x6177_6179;
+/// Milliseconds that a node is down after a crash, at most.
+const DOWN_MOST: u64 = 1_500;
 
 pub struct Plan {
     pub seed: u64,
@@ -28,6 +41,10 @@ pub struct Plan {
     pub lying: bool,
     /// False servers flood readers.
     pub floods: bool,
+    /// Who is away so long that it may be given up.
+    pub away: Option<Away>,
+    /// A node that crashed starts again within so many milliseconds.
+    pub down_most: u64,
     /// Operations that each desk asks for.
     pub operations: u64,
 }
@@ -117,7 +134,7 @@ impl Plan {
         let cluster = shape.cluster(&mut r);
         let evil = shape.evil(&mut r);
         let settings = settings(&mut r, mutant);
-        Plan {
+        let mut plan = Plan {
             seed,
             crash: if r.one_in(4) { 0 } else { 100 + r.below(1500) },
             power: !r.one_in(3),
@@ -129,11 +146,34 @@ impl Plan {
             rollback: r.one_in(5),
             lying: r.one_in(8),
             floods: r.one_in(3),
+            away: None,
+            down_most: DOWN_MOST,
             operations: 2 + r.below(8),
             random: r,
             cluster,
             settings,
             evil,
+        };
+        plan.draw_away();
+        plan
+    }
+
+    /// In some runs without false nodes a server's node is away for long, while the log may grow by little. It may be given up and then counts among the
+    /// false, so nobody else is out of reach for long. Its numbers are drawn apart: a seed without it means the same as before there was this.
+    fn draw_away(&mut self) {
+        let mut r = Random::new(self.seed ^ AWAY);
+        if !self.evil.is_empty() || self.rollback || self.lying || !r.one_in(3) {
+            return;
         }
+        let node = r.below(self.cluster.parameters.n as u64) as usize;
+        self.away = Some(Away { node, begins: 1_000 + r.below(3_000), ends: 7_000 + r.below(5_000) });
+        (self.cuts, self.slow, self.full, self.down_most) = (false, false, false, 50);
+        self.operations = 12 + r.below(12);
+        // a log grows by the servers' number squared; what a short absence costs must be within its limit
+        let (s, servers) = (&mut self.settings, self.cluster.parameters.n as u64);
+        s.segment = BLOCK * (3 + r.below(3)) * servers * servers;
+        s.snapshot_every = s.segment / (1 + r.below(4));
+        s.keep = s.segment * (3 + r.below(3));
+        s.owed = s.segment * r.below(3);
     }
 }

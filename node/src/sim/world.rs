@@ -2,13 +2,14 @@
 //! stands in one row by its time.
 use super::disk::{micros, Disk, Micro};
 use super::evil::Evil;
-use super::plan::Plan;
+use super::plan::{Away, Plan};
 use super::Report;
 use crate::core::Core;
 use crate::events::{exit, Action, Ask, DiskId, DiskOp, Ended, Event, Lane, Level, Now, Response, Start};
 use crate::log::segment_number;
 use crate::messages::{self, Front, Message, MESSAGE_MOST};
 use crate::random::Random;
+use crate::sem::Party;
 use crate::streams::StreamId;
 use std::collections::{BTreeMap, BTreeSet, VecDeque};
 
@@ -34,6 +35,8 @@ pub enum Will {
     Cut,
     Fault,
     Evil { node: usize },
+    Away { node: usize },
+    Back { node: usize },
     Mend,
 }
 
@@ -69,6 +72,11 @@ pub struct Slot {
     signs: Vec<(usize, u64)>,
     /// Who gave signs that its log must have.
     signs_kept: BTreeSet<usize>,
+    /// Servers that it gave up since its start, with a batch of its log by which the log must have it; and those that its log must have.
+    given: Vec<(Party, u64)>,
+    given_kept: BTreeSet<Party>,
+    /// Its machine is off for long.
+    away: bool,
     old_disk: Option<Disk>,
 }
 
@@ -109,6 +117,7 @@ pub struct World {
     removed: u64,
     rolled: u64,
     caught: u64,
+    given_up: u64,
     asks: BTreeMap<u64, (u8, u64, u64)>,
     pub operations: BTreeMap<(u8, u64), Seen>,
     left: BTreeMap<u8, u64>,
@@ -143,6 +152,9 @@ impl Slot {
             let_out: 0,
             signs: vec![],
             signs_kept: BTreeSet::new(),
+            given: vec![],
+            given_kept: BTreeSet::new(),
+            away: false,
             old_disk: None,
         }
     }
@@ -168,6 +180,7 @@ impl World {
             removed: 0,
             rolled: 0,
             caught: 0,
+            given_up: 0,
             asks: BTreeMap::new(),
             operations: BTreeMap::new(),
             left: BTreeMap::new(),
@@ -199,6 +212,10 @@ impl World {
         }
         self.later(200 * MS, Will::Cut);
         self.later(300 * MS, Will::Fault);
+        if let Some(Away { node, begins, ends }) = self.plan.away {
+            self.later(begins * MS, Will::Away { node });
+            self.later(ends * MS, Will::Back { node });
+        }
         self.later(CHAOS, Will::Mend);
     }
 
@@ -246,13 +263,18 @@ impl World {
         self.honest().into_iter().filter(|n| self.slots[*n].exited.is_none() && !self.slots[*n].rolled).collect()
     }
 
-    /// Nothing is open, owed to a healthy node, or held.
+    /// Servers that an honest node has given up: they count among the false.
+    pub fn given_up(&self) -> BTreeSet<Party> {
+        self.slots.iter().filter_map(|s| s.core.as_ref()).flat_map(|c| c.state.given_up.iter().copied()).collect()
+    }
+
+    /// Nothing is open, owed to a healthy node, or held; but for servers that were given up.
     pub fn is_quiet(&self) -> bool {
         self.unquiet().is_none()
     }
 
     pub fn unquiet(&self) -> Option<String> {
-        let healthy = self.healthy();
+        let (healthy, given_up) = (self.healthy(), self.given_up());
         for node in &healthy {
             let Some(core) = self.slots[*node].core.as_ref().filter(|_| self.slots[*node].ready) else {
                 return Some(format!("n{node} is not up"));
@@ -265,7 +287,7 @@ impl World {
                     return Some(format!("client {client} has an operation open"));
                 }
             }
-            for (stream, o) in &core.state.streams.outs {
+            for (stream, o) in core.state.streams.outs.iter().filter(|(s, _)| !given_up.contains(&s.to)) {
                 let to = self.plan.cluster.node_of(stream.to);
                 if o.owed(stream.to) > 0 && to.is_some_and(|to| healthy.contains(&to)) {
                     let (next, durable, acked, sent) = (o.next, o.durable, o.acked, o.sent);
@@ -275,7 +297,7 @@ impl World {
                     ));
                 }
             }
-            for (stream, i) in &core.state.streams.ins {
+            for (stream, i) in core.state.streams.ins.iter().filter(|(s, _)| !given_up.contains(&s.to)) {
                 let from = self.plan.cluster.node_of(stream.from);
                 if !i.held.is_empty() && from.is_some_and(|from| healthy.contains(&from)) {
                     return Some(format!("n{node} holds {} frames of {stream:?}", i.held.len()));
@@ -306,6 +328,14 @@ impl World {
             Will::Cut => self.cut(),
             Will::Fault => self.fault(),
             Will::Evil { node } => self.evil(node),
+            Will::Away { node } => {
+                self.stop(node);
+                self.slots[node].away = true;
+            }
+            Will::Back { node } => {
+                self.slots[node].away = false;
+                self.start(node);
+            }
             Will::Mend => self.mend(),
         }
     }
@@ -313,7 +343,7 @@ impl World {
     // ---- nodes
 
     fn start(&mut self, node: usize) {
-        if self.slots[node].core.is_some() || self.slots[node].exited.is_some() {
+        if self.slots[node].core.is_some() || self.slots[node].exited.is_some() || self.slots[node].away {
             return;
         }
         let slot = &mut self.slots[node];
@@ -384,6 +414,7 @@ impl World {
             Action::Ready => {
                 self.slots[node].ready = true;
                 self.signs_remembered(node);
+                self.given_up_remembered(node);
                 if self.slots[node].rolled {
                     self.ask_at_once(node);
                 }
@@ -401,6 +432,7 @@ impl World {
                     self.torn += 1;
                 }
                 self.sign_given(node, &line);
+                self.note_given_up(node);
                 if self.verbose && level <= Level::Notice {
                     eprintln!("{:>9} n{node}: {line}", self.now / MS);
                 }
@@ -447,6 +479,7 @@ impl World {
         let slot = &mut self.slots[node];
         let durable = slot.core.as_ref().map_or(0, |c| c.writer.durable.batch);
         slot.signs_kept.extend(slot.signs.drain(..).filter(|(_, batch)| *batch <= durable).map(|(by, _)| by));
+        slot.given_kept.extend(slot.given.drain(..).filter(|(_, batch)| *batch <= durable).map(|(party, _)| party));
         (slot.core, slot.ready, slot.tick_at) = (None, false, None);
         slot.epoch += 1;
         slot.backlog.clear();
@@ -481,7 +514,7 @@ impl World {
         }
         self.r = r;
         self.stop(node);
-        let wait = 10 * MS + self.r.below(1500) * MS;
+        let wait = 10 * MS + self.r.below(self.plan.down_most) * MS;
         self.later(wait, Will::Start { node });
     }
 
@@ -656,6 +689,7 @@ impl World {
         while let Front::Whole(message, length) = messages::read(rest, MESSAGE_MOST) {
             if let Message::Data { stream, number, frame } = message {
                 self.slots[node].let_out += u64::from(self.slots[node].rolled);
+                self.nothing_to_given_up(node, &stream);
                 let first = self.wire.entry((stream, number)).or_insert_with(|| frame.to_vec());
                 if *first != frame {
                     let what = format!("2: n{node} sends another frame as number {number} of {stream:?}");
@@ -685,6 +719,37 @@ impl World {
         let gone = slot.signs_kept.iter().find(|by| !known.contains(&names[**by].name));
         if let Some(by) = gone.filter(|_| !slot.lied) {
             self.failures.push(format!("11: n{node} has forgotten that n{by} gave a sign of lost state"));
+        }
+    }
+
+    /// A node has given servers up, if any are new.
+    fn note_given_up(&mut self, node: usize) {
+        let slot = &mut self.slots[node];
+        let Some(core) = &slot.core else { return };
+        let next = core.writer.place.number;
+        for party in &core.state.given_up {
+            if !slot.given_kept.contains(party) && slot.given.iter().all(|(p, _)| p != party) {
+                slot.given.push((*party, next));
+                self.given_up += 1;
+            }
+        }
+    }
+
+    /// Check 12: who was given up is so after every later start, once a batch that was closed after it is on the disk.
+    fn given_up_remembered(&mut self, node: usize) {
+        let slot = &self.slots[node];
+        let known = slot.core.as_ref().map(|c| &c.state.given_up);
+        let gone = slot.given_kept.iter().find(|party| known.is_none_or(|known| !known.contains(party)));
+        if let Some(party) = gone.filter(|_| !slot.lied) {
+            self.failures.push(format!("12: n{node} has forgotten that {party} was given up"));
+        }
+    }
+
+    /// Check 12: nothing is sent to whom a node has given up.
+    fn nothing_to_given_up(&mut self, node: usize, stream: &StreamId) {
+        let slot = &self.slots[node];
+        if slot.given_kept.contains(&stream.to) || slot.given.iter().any(|(party, _)| *party == stream.to) {
+            self.failures.push(format!("12: n{node} sends a frame to {}, which it has given up", stream.to));
         }
     }
 
@@ -761,6 +826,7 @@ impl World {
                 self.stop(node);
                 self.slots[node].disk = old;
                 self.slots[node].signs_kept.clear();
+                self.slots[node].given_kept.clear();
                 self.slots[node].archive.clear();
                 self.later(100 * MS, Will::Start { node });
             }
@@ -778,6 +844,7 @@ impl World {
     fn mend(&mut self) {
         self.mended = true;
         self.cuts.clear();
+        self.slots.iter_mut().for_each(|s| s.away = false);
         for node in 0..self.slots.len() {
             let disk = &mut self.slots[node].disk;
             (disk.full, disk.fail_sync, disk.lying) = (false, false, false);
@@ -899,6 +966,7 @@ impl World {
             removed: self.removed,
             rolled: self.rolled,
             caught: self.caught,
+            given_up: self.given_up,
             failures: self.failures,
         }
     }

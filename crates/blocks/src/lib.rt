@@ -1,4 +1,5 @@
 // The block code of document 01: a value as n blocks, any k of which give it back. This crate ships by itself to partners who only decode.
+#![tactic(auto)]
 ghost use Rattle.std.specs.Prelude.{◌≡◌};
 ghost use Rattle.blocks.specs.Calls.{outcome, encoding, decoding};
 
@@ -13,7 +14,7 @@ pub mod faults;
 pub mod polynomial;
 
 // A register's parameters: n servers, of which at most t are false; a value of size bytes (L in document 01) is decoded from k blocks.
-#[derive(Drop)]
+#[derive(Clone, Copy)]
 pub struct Params {
     pub n: usize,
     pub t: usize,
@@ -22,7 +23,7 @@ pub struct Params {
 }
 
 // Why a call is turned down. `number_of` gives document 01's number.
-#[derive(Drop)]
+#[derive(Clone, Copy)]
 pub enum Fault {
     Parties,
     Threshold,
@@ -33,7 +34,7 @@ pub enum Fault {
 }
 
 // What a call answers.
-#[derive(Drop)]
+#[derive(Clone, Copy)]
 pub enum Coded {
     Done,
     Refused(Fault),

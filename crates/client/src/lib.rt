@@ -1,4 +1,5 @@
 // A client's tests, rows, counts and record, and the entry points that begin a read or a write.
+#![tactic(auto)]
 use blocks::Params;
 use frame::{Header, Party};
 
@@ -11,7 +12,7 @@ pub mod rows;
 pub mod tests;
 
 // A frame that reached client me: the parameters, the party that handed it in, and its header.
-#[derive(Drop)]
+#[derive(Clone, Copy)]
 pub struct Call {
     pub params: Params,
     pub me: u8,
@@ -20,7 +21,7 @@ pub struct Call {
 }
 
 // Where a new stamp goes in a row.
-#[derive(Drop)]
+#[derive(Clone, Copy)]
 pub enum Spot {
     At(usize),
     Nowhere,

@@ -19,7 +19,7 @@ use frame::{Place, WriteTime};
 use group::digesting::digests;
 
 // A write that goes out, and the parameters.
-#[derive(Drop)]
+#[derive(Clone, Copy)]
 pub struct Dispersal {
     pub params: Params,
     pub write: WriteTime,

@@ -1,4 +1,5 @@
 // The search of a client's rows, and the end of a read.
+#![tactic(auto)]
 pub mod at_stamp;
 pub mod ending;
 pub mod searching;
@@ -15,21 +16,21 @@ use ending::finish;
 use searching::search;
 
 // What a server's row has at a stamp: whether there is an entry, and the chunk of the rows area in which it lies.
-#[derive(Drop)]
+#[derive(Clone, Copy)]
 pub struct Hit {
     pub found: bool,
     pub chunk: usize,
 }
 
 // The same of all servers, place j for server j; place 0 stays empty.
-#[derive(Drop)]
+#[derive(Clone, Copy)]
 pub struct Hits {
     pub on: [bool; 11],
     pub at: [usize; 11],
 }
 
 // Where a search stops: at a place of a server's row, or nowhere.
-#[derive(Drop)]
+#[derive(Clone, Copy)]
 pub enum Stop {
     At(usize, usize),
     Nowhere,

@@ -1,4 +1,5 @@
 // Entries of a trace (document 02, F-8): each is a frame and its sender.
+#![tactic(auto)]
 use frame::{Party, Refusal};
 
 pub mod reader;
@@ -14,7 +15,7 @@ pub const VERSION: u8 = 1;
 pub const LONGEST: usize = 65532;
 
 // How a trace closes: whole, or at an entry that is malformed or inside which it ends. `closing_number` gives document 02's number.
-#[derive(Drop)]
+#[derive(Clone, Copy)]
 pub enum Closing {
     Whole,
     Malformed,
@@ -22,28 +23,28 @@ pub enum Closing {
 }
 
 // An entry at the front of some bytes: who sent its frame, and where it ends.
-#[derive(Drop)]
+#[derive(Clone, Copy)]
 pub struct Found {
     pub sender: Party,
     pub end: usize,
 }
 
 // What is at the front of some bytes.
-#[derive(Drop)]
+#[derive(Clone, Copy)]
 pub enum Reading {
     Entry(Found),
     Closed(Closing),
 }
 
 // What writing an entry gives: how many bytes it takes, or why it is turned down.
-#[derive(Drop)]
+#[derive(Clone, Copy)]
 pub enum Writing {
     Written(usize),
     Refused(Refusal),
 }
 
 // How many entries a trace has before it closes.
-#[derive(Drop)]
+#[derive(Clone, Copy)]
 pub struct Survey {
     pub count: usize,
     pub closing: Closing,

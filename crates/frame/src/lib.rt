@@ -1,4 +1,5 @@
 // What servers and clients share: parties, stamps and refusals, and frames as they are opened and written.
+#![tactic(auto)]
 pub mod bounds;
 pub mod entries;
 pub mod opener;
@@ -9,14 +10,14 @@ pub mod send;
 pub mod stamps;
 
 // A client 1 to 8 or a server 1 to n, as the host names it.
-#[derive(Drop)]
+#[derive(Clone, Copy)]
 pub enum Party {
     Client(u8),
     Server(u8),
 }
 
 // A stamp is (time, writer, write sequence), compared in that order.
-#[derive(Drop)]
+#[derive(Clone, Copy)]
 pub struct Stamp {
     pub time: u64,
     pub writer: u8,
@@ -24,7 +25,7 @@ pub struct Stamp {
 }
 
 // Why a frame or a call is turned down, in the order of document 01's numbers 1 to 19.
-#[derive(Drop)]
+#[derive(Clone, Copy)]
 pub enum Refusal {
     Parties,
     Threshold,
@@ -48,14 +49,14 @@ pub enum Refusal {
 }
 
 // What a test says: nothing against it, or the reason to turn it down.
-#[derive(Drop)]
+#[derive(Clone, Copy)]
 pub enum Verdict {
     Fine,
     Bad(Refusal),
 }
 
 // What comes before a frame's body, without length and version. The client is the operation's owner.
-#[derive(Drop)]
+#[derive(Clone, Copy)]
 pub struct Header {
     pub kind: u8,
     pub client: u8,
@@ -63,21 +64,21 @@ pub struct Header {
 }
 
 // What opening a frame finds. The parts of the body lie at fixed places after the header.
-#[derive(Drop)]
+#[derive(Clone, Copy)]
 pub enum Opened {
     Frame(Header),
     Refused(Refusal),
 }
 
 // Where the next frame goes in the out area, and how many are there already.
-#[derive(Drop)]
+#[derive(Clone, Copy)]
 pub struct Place {
     pub at: usize,
     pub count: usize,
 }
 
 // A write of a client, and the time that its frames carry.
-#[derive(Drop)]
+#[derive(Clone, Copy)]
 pub struct WriteTime {
     pub client: u8,
     pub sequence: u32,
@@ -85,14 +86,14 @@ pub struct WriteTime {
 }
 
 // What a server sends to all in a broadcast.
-#[derive(Drop)]
+#[derive(Clone, Copy)]
 pub enum Broadcast {
     Echo,
     Ready,
 }
 
 // What a client asks of all servers with no body.
-#[derive(Drop)]
+#[derive(Clone, Copy)]
 pub enum Ask {
     GetStamp,
     Read,

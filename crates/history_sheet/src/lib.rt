@@ -1,4 +1,5 @@
 // The season sheet (document 02, F-5): a history that has an order, laid out on pages of 72 columns and 60 lines in a lent area.
+#![tactic(auto)]
 pub mod answers;
 pub mod line;
 pub mod number;
@@ -15,7 +16,7 @@ use order::judge::Answer;
 use order::operation::Operation;
 
 // Pages: how many were laid. Offending: the line numbers of the earlier and of the later operation. Refused: the number.
-#[derive(Drop)]
+#[derive(Clone, Copy)]
 pub enum Laid {
     Pages(usize),
     Offending(usize, usize),

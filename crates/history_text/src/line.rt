@@ -6,21 +6,21 @@ use crate::number::{Field, read_field};
 use order::operation::Operation;
 
 // Start and end and how many bytes they take.
-#[derive(Drop)]
+#[derive(Clone, Copy)]
 pub enum Interval {
     Times(u32, u32, usize),
     Bad,
 }
 
 // The parts of a stamp and how many bytes they take.
-#[derive(Drop)]
+#[derive(Clone, Copy)]
 pub enum Stamp {
     Parts(u64, u8, u32, usize),
     Bad,
 }
 
 // An operation and how many bytes its line takes.
-#[derive(Drop)]
+#[derive(Clone, Copy)]
 pub enum Line {
     Record(Operation, usize),
     Bad,

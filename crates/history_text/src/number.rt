@@ -3,7 +3,7 @@ ghost use Rattle.std.specs.Prelude.{◌≡◌, ◌+◌, ◌-◌, ◌*◌, ◌<�
 ghost use Rattle.history_text.specs.ReadNumbers.{digit_of, digits_of, number_of, field_of, WithinField};
 
 // A number and how many bytes it takes, or no number.
-#[derive(Drop)]
+#[derive(Clone, Copy)]
 pub enum Field {
     Number(u64, usize),
     Bad,

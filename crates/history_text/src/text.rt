@@ -10,7 +10,7 @@ use history_row::{History, add, empty, judge_first};
 use order::judge::{Verdict, refuse};
 
 // What was read of a text: whether a line is malformed, and if none is the operations.
-#[derive(Drop)]
+#[derive(Clone, Copy)]
 pub struct Reading {
     pub malformed: bool,
     pub history: History,

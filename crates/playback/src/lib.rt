@@ -1,4 +1,5 @@
 // Playing back a site's trace (document 02, F-8): the frames of its entries one after the other, from a fresh server.
+#![tactic(auto)]
 ghost use Rattle.std.specs.Prelude.{◌≡◌, ◌≤◌, ◌<◌};
 ghost use Rattle.frame.specs.Params.{Bounded};
 ghost use Rattle.sha256.specs.Hash.{digest_of};
@@ -21,7 +22,7 @@ pub mod reports;
 pub mod resume;
 
 // Where a playback ended: after the last entry, or at one, counted from 1, that is malformed (22) or inside which the trace ends (23).
-#[derive(Drop)]
+#[derive(Clone, Copy)]
 pub enum Ending {
     Whole,
     Malformed(usize),
@@ -29,14 +30,14 @@ pub enum Ending {
 }
 
 // How many entries were played, and how many bytes of the out area they took.
-#[derive(Drop)]
+#[derive(Clone, Copy)]
 pub struct Summary {
     pub entries: usize,
     pub bytes: usize,
     pub ending: Ending,
 }
 
-#[derive(Drop)]
+#[derive(Clone, Copy)]
 pub enum Answer {
     Played(Summary),
     Refused(Refusal),

@@ -1,5 +1,6 @@
 // The register for hosts in C and Rust: a static library whose functions take numbers and lent areas of bytes only.
 // include/semduoli.h says the same for a host.
+#![tactic(auto)]
 pub mod accession;
 pub mod asked;
 pub mod clients;

@@ -1,4 +1,5 @@
 // A server's code below its stages: the parts of its state, the tests of a frame, what clients ask, construction; and what the stages of a step hand on.
+#![tactic(auto)]
 use blocks::Params;
 use frame::{Header, Party, Place, Verdict};
 use server_rules::{Reply, Scope, Slot};
@@ -11,7 +12,7 @@ pub mod state;
 pub mod tests;
 
 // A frame that reached server me: the parameters, the party that handed it in, and its header.
-#[derive(Drop)]
+#[derive(Clone, Copy)]
 pub struct Call {
     pub params: Params,
     pub me: u8,
@@ -20,7 +21,7 @@ pub struct Call {
 }
 
 // A frame of a write: why it is turned down, or Fine; its client's slot afterwards; where the next frame of the step goes.
-#[derive(Drop)]
+#[derive(Clone, Copy)]
 pub struct Counted {
     pub verdict: Verdict,
     pub slot: Slot,
@@ -28,14 +29,14 @@ pub struct Counted {
 }
 
 // What a stage leaves of a slot, and where the next frame of the step goes.
-#[derive(Drop)]
+#[derive(Clone, Copy)]
 pub struct Moved {
     pub slot: Slot,
     pub place: Place,
 }
 
 // A reply, and what a step leaves of its scope.
-#[derive(Drop)]
+#[derive(Clone, Copy)]
 pub struct Taken {
     pub reply: Reply,
     pub scope: Scope,

@@ -1,4 +1,5 @@
 // Acceptance: the write of a client that is complete. Only here are readers and the stamp seen.
+#![tactic(auto)]
 ghost use Rattle.std.specs.Prelude.{◌≡◌, ◌+◌, ◌*◌, ◌≤◌, ◌<◌, length, ◌++◌, []};
 ghost use Rattle.std.proofs.lemmas.List.Edits.{sets};
 ghost use Rattle.area.specs.Area.{pick, part};
@@ -24,7 +25,7 @@ use server_rules::fresh::fresh_slot;
 use server_rules::{Reader, Scope, Server};
 
 // What an acceptance leaves of its client's scope, and where the next frame of the step goes.
-#[derive(Drop)]
+#[derive(Clone, Copy)]
 pub struct Freed {
     pub scope: Scope,
     pub place: Place,

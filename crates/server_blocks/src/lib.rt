@@ -1,4 +1,5 @@
 // A server's stage for a write: an echo or a ready was counted, and what follows from it before anything is accepted.
+#![tactic(auto)]
 ghost use Rattle.std.specs.Prelude.{◌≡◌, true, length};
 ghost use Rattle.frame.specs.Params.{listed};
 ghost use Rattle.server_blocks.specs.Votes.{matters_by, voters_of};
@@ -19,7 +20,7 @@ pub mod storing;
 mod votes;
 
 // For a time and a digest list: the servers whose kept echo or ready has both, and how many they are.
-#[derive(Drop)]
+#[derive(Clone, Copy)]
 pub struct Voters {
     pub echoes: [bool; 11],
     pub readies: [bool; 11],
@@ -28,14 +29,14 @@ pub struct Voters {
 }
 
 // The servers whose blocks are compared, and the chunks in which these lie.
-#[derive(Drop)]
+#[derive(Clone, Copy)]
 pub struct Group {
     pub on: [bool; 11],
     pub at: [usize; 11],
 }
 
 // What a counted echo or ready leads to: readies to all servers, the completed entry; and the time of both.
-#[derive(Drop)]
+#[derive(Clone, Copy)]
 pub struct Due {
     pub ready: bool,
     pub complete: bool,

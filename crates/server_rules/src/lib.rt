@@ -1,4 +1,5 @@
 // A server: its state by value. Place j of an array belongs to server or client j; place 0 stays empty.
+#![tactic(auto)]
 ghost use Rattle.std.specs.Prelude.{◌≡◌};
 ghost use Rattle.server_rules.specs.State.{fresh_server};
 
@@ -10,7 +11,7 @@ pub mod fresh;
 
 // What was counted of one write: flags, and the times of the kept echoes, of the kept readies and of the completed group. The entries themselves lie in
 // the state area.
-#[derive(Drop)]
+#[derive(Clone, Copy)]
 pub struct BlockPart {
     pub sent: bool,
     pub ready: bool,
@@ -23,14 +24,14 @@ pub struct BlockPart {
 }
 
 // A client's open write; the sequence 4294967296 means none.
-#[derive(Drop)]
+#[derive(Clone, Copy)]
 pub struct Slot {
     pub sequence: u64,
     pub blocks: BlockPart,
 }
 
 // A client's newest read, whether it still listens, and the stamp noted for it.
-#[derive(Drop)]
+#[derive(Clone, Copy)]
 pub struct Reader {
     pub sequence: u32,
     pub listening: bool,
@@ -38,7 +39,7 @@ pub struct Reader {
 }
 
 // The stamp, the clients' slots and readers, and the highest time that each server reported.
-#[derive(Drop)]
+#[derive(Clone, Copy)]
 pub struct Server {
     pub stamp: Stamp,
     pub slots: [Slot; Server::PLACES],
@@ -73,7 +74,7 @@ impl Server {
 }
 
 // What a frame of one client may change of a server, and then each acceptance of that client's write: the stamp, and that client's slot and reader.
-#[derive(Drop)]
+#[derive(Clone, Copy)]
 pub struct Scope {
     pub stamp: Stamp,
     pub slot: Slot,
@@ -81,13 +82,13 @@ pub struct Scope {
 }
 
 // A step, with the number of frames that it sent, or the reason why there is none.
-#[derive(Drop)]
+#[derive(Clone, Copy)]
 pub enum Reply {
     Step(usize),
     Refused(Refusal),
 }
 
-#[derive(Drop)]
+#[derive(Clone, Copy)]
 pub struct Served {
     pub reply: Reply,
     pub server: Server,

@@ -1,4 +1,5 @@
 // SHA-256 (FIPS 180-4) of messages of at most 256 bytes.
+#![tactic(auto)]
 ghost use Rattle.std.specs.Prelude.{◌≡◌, ◌+◌, ◌*◌, ◌<◌, ◌≤◌, length};
 ghost use Rattle.std.proofs.lemmas.List.Edits.{sets};
 ghost use Rattle.sha256.specs.Words.{rotr, ch, maj, big_sigma0, big_sigma1, sigma0, sigma1};
@@ -10,7 +11,7 @@ ghost use Rattle.sha256.specs.Steps.{zeros, laid, four, word_from, stored, store
 use std::num::wrapping_add_u32;
 
 // The hash value between blocks, and the working variables within one.
-#[derive(Drop)]
+#[derive(Clone, Copy)]
 pub struct State {
     pub a: u32,
     pub b: u32,

@@ -1,4 +1,5 @@
 // The client's record lent to a delivery, which updates it; a client's answers to a host.
+#![tactic(auto)]
 pub mod answers;
 pub mod short;
 

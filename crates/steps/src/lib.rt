@@ -1,1 +1,2 @@
 // Theory only: what one step of a server or a client changes, in proofs/.
+#![tactic(auto)]

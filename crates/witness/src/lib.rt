@@ -1,1 +1,2 @@
 // Theory only: computed runs, in proofs/.
+#![tactic(auto)]

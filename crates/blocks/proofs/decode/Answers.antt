@@ -1,0 +1,73 @@
+-- A refusal is returned; a value is stored once all blocks are known to be its blocks. Assumes nothing.
+use mathlib.Core.Path.{sym, ap, ◌∙◌}
+use Prim.Native.Nat.{ℕ, ◌*◌}
+use lib.ListN.{length}
+use lib.Seq.{length-take-le, length_front}
+use Rattle.blocks.specs.Code.{block_length}
+use Rattle.blocks.proofs.CallLaws.{decodes, decode_refused, disagreed, agreed}
+use Rattle.blocks.proofs.Values.{front_back, zeros}
+use native.Mathlib.Omega.{arith}
+use Rattle.blocks.proofs.decode.Goals as goal
+
+pub returns-in_default : goal.returns-in_default
+returns-in_default c = decode_refused _ _ _ _ _ _ c.decode_test-tested.ensures c.in_default.is
+
+pub slice_bounds-value-end : goal.slice_bounds-value-end
+slice_bounds-value-end c =
+    let f = decodes _ _ _ _ (sym c.decode_test-tested.ensures ∙ c.in-Done.is) in
+    f.within.size-high
+
+pub slice_bounds-decode_all-end : goal.slice_bounds-decode_all-end
+slice_bounds-decode_all-end c =
+    let f = decodes _ _ _ _ (sym c.decode_test-tested.ensures ∙ c.in-Done.is) in
+    sym (length-take-le _ (zeros 256) f.within.size-high)
+
+pub decode_all-requires : goal.decode_all-requires
+decode_all-requires c =
+    let f = decodes _ _ _ _ (sym c.decode_test-tested.ensures ∙ c.in-Done.is) in
+    let g = f.within in
+    let z = length-take-le _ (zeros 256) g.size-high in (
+      omega arith,
+      omega arith,
+      f.enough,
+      omega arith,
+      omega arith,
+      f.whole ∙ ap (λ (x : ℕ). length c.args.numbers.now * block_length x c.args.g.k) (sym z),
+      record { powers = c.powers-ps.ensures; logs = c.logs-ls.ensures },
+    )
+
+pub returns-then-not-decode_all : goal.returns-then-not-decode_all
+returns-then-not-decode_all c =
+    let f = decodes _ _ _ _ (sym c.decode_test-tested.ensures ∙ c.in-Done.is) in
+    disagreed _ _ _ _ _ _ _ c.decode_test-tested.ensures c.in-Done.is (length-take-le _ (zeros 256) f.within.size-high)
+    c.decode_all.ensures.0 c.if-not-decode_all.true-raw
+
+pub slice_bounds-value-end-2 : goal.slice_bounds-value-end-2
+slice_bounds-value-end-2 c =
+    let f = decodes _ _ _ _ (sym c.decode_test-tested.ensures ∙ c.in-Done.is) in
+    let g = f.within in
+    let d = c.decode_all in
+    omega (arith, length_front (zeros 256) d.new.1.1.1.0 c.args.g.size d.auto.1.1.1.0)
+
+pub slice_bounds-put-end : goal.slice_bounds-put-end
+slice_bounds-put-end c =
+    let f = decodes _ _ _ _ (sym c.decode_test-tested.ensures ∙ c.in-Done.is) in
+    let d = c.decode_all in
+    let z = length-take-le _ (zeros 256) f.within.size-high in
+    sym (ap length (front_back (zeros 256) d.new.1.1.1.0 _ f.within.size-high d.auto.1.1.1.0) ∙ d.auto.1.1.1.0 ∙ z)
+
+pub put-requires : goal.put-requires
+put-requires c =
+    let f = decodes _ _ _ _ (sym c.decode_test-tested.ensures ∙ c.in-Done.is) in
+    let d = c.decode_all in
+    let z = length-take-le _ (zeros 256) f.within.size-high in
+    let n = ap length (front_back (zeros 256) d.new.1.1.1.0 _ f.within.size-high d.auto.1.1.1.0) ∙ d.auto.1.1.1.0 ∙ z in
+    omega arith
+
+pub returns : goal.returns
+returns c =
+    let f = decodes _ _ _ _ (sym c.decode_test-tested.ensures ∙ c.in-Done.is) in
+    let d = c.decode_all in
+    agreed _ _ _ _ _ _ _ c.decode_test-tested.ensures c.in-Done.is (length-take-le _ (zeros 256) f.within.size-high)
+    d.ensures.0 _ _ c.if-not-decode_all.false c.put.ensures
+    (front_back (zeros 256) d.new.1.1.1.0 _ f.within.size-high d.auto.1.1.1.0 ∙ d.ensures.1)

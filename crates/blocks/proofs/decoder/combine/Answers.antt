@@ -1,0 +1,65 @@
+-- After i turns the sum of the first i rows, each times its block's byte, is the polynomial with these values, and 0 at the other points. Assumes nothing.
+use mathlib.Core.Path.{sym, ap, ◌∙◌}
+use Prim.Native.Nat.{ℕ, ◌+◌, ◌-◌, ◌*◌}
+use lib.ListN.{length, length-replicate}
+use Rattle.blocks.proofs.Stripes.{product_small}
+use Rattle.blocks.proofs.Values.{index_below, index_small, row_length}
+use Rattle.blocks.proofs.Linear.{basis_start, basis_end, row_room, row_is_long, combine_turn}
+use native.Mathlib.Omega.{arith}
+use Rattle.blocks.proofs.decoder.combine.Goals as goal
+
+pub loop-i-init : goal.loop-i-init
+loop-i-init c =
+    let k : ℕ = length c.args.js.now in
+    (omega arith, ap length c.requires.4 ∙ length-replicate k 0, c.requires.4 ∙ basis_start c.args.js.now _ (row_length k c.args.b c.args.w.now c.args.r))
+
+pub overflow_mul-at : goal.overflow_mul-at
+overflow_mul-at c =
+    record { fits = omega (arith, product_small c.loop-i.i (length c.args.js.now) (omega arith) (omega arith)) }
+
+pub overflow_add-end : goal.overflow_add-end
+overflow_add-end c =
+    record { fits = omega (arith, product_small c.loop-i.i (length c.args.js.now) (omega arith) (omega arith)) }
+
+pub slice_bounds-add_scaled-end : goal.slice_bounds-add_scaled-end
+slice_bounds-add_scaled-end c =
+    omega (arith, row_room c.loop-i.i (length c.args.js.now) _ c.loop-i-test.true c.requires.5.room)
+
+pub overflow_mul-i : goal.overflow_mul-i
+overflow_mul-i c =
+    record { fits = omega (arith, product_small c.loop-i.i c.args.b (omega arith) (omega arith)) }
+
+pub overflow_add-i : goal.overflow_add-i
+overflow_add-i c =
+    record { fits = omega (arith, index_small c.loop-i.i (length c.args.js.now) c.args.r c.args.b c.loop-i-test.true c.requires.2 c.requires.0 c.requires.1) }
+
+pub bounds-w-i : goal.bounds-w-i
+bounds-w-i c =
+    omega (arith, index_below c.loop-i.i (length c.args.js.now) c.args.r c.args.b c.loop-i-test.true c.requires.2)
+
+pub add_scaled-requires : goal.add_scaled-requires
+add_scaled-requires c =
+    (c.loop-i.invariant.1 ∙ sym (row_is_long c.args.js.now c.args.table.now c.loop-i.i c.requires.5 c.loop-i-test.true), c.requires.6)
+
+pub loop-i-smaller : goal.loop-i-smaller
+loop-i-smaller c = omega arith
+
+pub loop-i-preserved : goal.loop-i-preserved
+loop-i-preserved c =
+    let t : tie.At-loop invariant-loop decreases-loop = c in
+    let i : ℕ = t.loop.i in
+    let y = c.type_inv.w (i * c.args.b + c.args.r) in (
+      omega arith,
+      c.add_scaled.auto.0 ∙ t.loop.invariant.1,
+      combine_turn c.args.js.now c.args.table.now c.args.w.now t.loop.p _ c.args.b c.args.r i c.requires.5 c.loop-i-test.true (omega (arith, y))
+          t.loop.invariant.2 c.add_scaled.ensures,
+    )
+
+pub shape_of-p : goal.shape_of-p
+shape_of-p c =
+    c.loop-i.invariant.1 ∙ sym (ap length c.requires.4 ∙ length-replicate (length c.args.js.now) 0)
+
+pub returns : goal.returns
+returns c =
+    let n = row_length (length c.args.js.now) c.args.b c.args.w.now c.args.r in
+    c.loop-i.invariant.2 ∙ basis_end c.args.js.now _ c.loop-i.i (omega (arith, n))

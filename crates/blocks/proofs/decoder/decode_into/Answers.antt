@@ -1,0 +1,68 @@
+-- After r turns the first r stripes are stored. Assumes nothing.
+use mathlib.Core.Path.{◌≡◌, refl, sym, ap, ap₂, ◌∙◌}
+use mathlib.Core.List.{List}
+use Prim.Native.Nat.{ℕ, ◌-◌, ◌*◌}
+use native.Mathlib.Nat.{mul-le-mul}
+use lib.ListN.{length, take}
+use lib.Seq.{sets}
+use Rattle.area.specs.Area.{joined}
+use Rattle.area.proofs.Sets.{sets_whole}
+use Rattle.blocks.specs.Poly.{through}
+use Rattle.blocks.specs.Code.{block_length, row, value_of}
+use Rattle.blocks.proofs.Stripes.{starts, block_small}
+use Rattle.blocks.proofs.Values.{value_start, stripe_turn, through_row_length, stripes, length_value_of}
+use native.Mathlib.Omega.{arith}
+use Rattle.blocks.proofs.decoder.decode_into.Goals as goal
+
+pub put_basis-requires : goal.put_basis-requires
+put_basis-requires c =
+    let s = mul-le-mul c.requires.1 c.requires.1 in
+    (c.requires.1, omega (arith, s), c.requires.4)
+
+pub loop-r-init : goal.loop-r-init
+loop-r-init c =
+    let L : ℕ = length c.args.value.now in
+    (c.block_length-b.ensures, omega arith, refl, value_start (stripes c.args.js.now L c.args.w.now) L c.args.value.now)
+
+pub put_stripe-requires : goal.put_stripe-requires
+put_stripe-requires c =
+    let t : tie.At-loop invariant-loop decreases-loop = c in
+    let k : ℕ = length c.args.js.now in
+    let L : ℕ = length c.args.value.now in
+    let s = starts L k t.loop.r c.requires.0 (omega arith) in
+    let small = block_small L k c.requires.0 in
+    (c.requires.1, omega arith, c.loop-r-test.true, c.requires.3 ∙ ap (λ (x : ℕ). k * x) (sym t.loop.invariant.0), omega arith, omega arith, c.put_basis.ensures, c.requires.4)
+
+pub loop-r-smaller : goal.loop-r-smaller
+loop-r-smaller c = omega arith
+
+pub loop-r-preserved : goal.loop-r-preserved
+unfolding stripes
+loop-r-preserved c =
+    let t : tie.At-loop invariant-loop decreases-loop = c in
+    let p = c.put_stripe in
+    let js : List ℕ = c.args.js.now in
+    let w : List ℕ = c.args.w.now in
+    let k : ℕ = length js in
+    let L : ℕ = length c.args.value.now in
+    let r : ℕ = t.loop.r in
+    let s = starts L k r c.requires.0 (omega arith) in (
+      t.loop.invariant.0,
+      omega arith,
+      p.auto.1.1.1.1.1.0 ∙ t.loop.invariant.2,
+      p.ensures ∙ ap₂ (λ (n b : ℕ). sets t.loop.value (r * k) (take (n - r * k) (through js (row k b w r)))) t.loop.invariant.2 t.loop.invariant.0
+          ∙ stripe_turn (stripes js L w) k L r c.args.value.now t.loop.value (through_row_length js w (block_length L k)) (omega arith) t.loop.invariant.3,
+    )
+
+pub shape_of-value : goal.shape_of-value
+shape_of-value c = c.loop-r.invariant.2
+
+pub returns : goal.returns
+unfolding value_of stripes
+returns c =
+    let js : List ℕ = c.args.js.now in
+    let w : List ℕ = c.args.w.now in
+    let L : ℕ = length c.args.value.now in
+    let e : c.loop-r.r ≡ block_length L (length js) = omega arith in
+    c.loop-r.invariant.3 ∙ ap (λ m. sets c.args.value.now 0 (take L (joined (stripes js L w) 0 m))) e
+    ∙ sets_whole c.args.value.now (value_of js L w) (length_value_of js w L c.requires.0)

@@ -1,0 +1,22 @@
+-- After j turns r is the largest of the times that count, of servers 1 to j. Assumes nothing.
+use Prim.Native.Nat.{◌-◌}
+use mathlib.Core.Path.{refl}
+use Rattle.client_rules.specs.State.{largest}
+use Rattle.client.proofs.Countings.{largest_turn, largest_end}
+use native.Mathlib.Omega.{arith}
+use Rattle.client.proofs.counts.largest_counted.Goals as goal
+
+pub loop-j-init : goal.loop-j-init
+unfolding largest
+loop-j-init c = (refl, omega arith)
+
+pub loop-j-preserved : goal.loop-j-preserved
+loop-j-preserved c =
+    let i = c.loop-j.invariant in
+    (largest_turn _ _ _ _ _ _ _ c.is_counted-counts.ensures _ _ i.0 c.time_if.ensures c.larger-r.ensures, omega arith)
+
+pub returns : goal.returns
+returns c =
+    let i = c.loop-j.invariant in
+    let a = c.args in
+    largest_end a.g a.s _ _ c.loop-j-test.false i.1 i.0

@@ -1,0 +1,34 @@
+-- The tests in the order of their numbers, then the step. Assumes nothing.
+use Rattle.client_deliver.proofs.Deliveries.{bounded_of_call, admitted_by, call_refused, not_opened, room_refused, frame_answered}
+use Rattle.client_deliver.proofs.deliver.Goals as goal
+
+pub returns-in-Bad : goal.returns-in-Bad
+returns-in-Bad c =
+    let a = c.args in
+    call_refused a.g a.me a.s a.area.now a.value.now a.from a.f.now a.result.now _ _ _ c.call_test-call.ensures _ c.in-Bad.is
+
+pub open_frame-opened-requires : goal.open_frame-opened-requires
+open_frame-opened-requires c = bounded_of_call c.args.g c.args.me _ _ c.call_test-call.ensures c.in_default.is
+
+pub room_test-room-requires : goal.room_test-room-requires
+room_test-room-requires c = bounded_of_call c.args.g c.args.me _ _ c.call_test-call.ensures c.in_default.is
+
+pub returns-in-Bad-room : goal.returns-in-Bad-room
+returns-in-Bad-room c =
+    let a = c.args in
+    room_refused a.g a.me a.s a.area.now a.value.now a.from a.f.now a.result.now _ _ _ c.call_test-call.ensures c.in_default.is _ c.open_frame-opened.ensures _ c.in-Frame.is _ c.room_test-room.ensures _ c.in-Bad-room.is
+
+pub step-requires : goal.step-requires
+step-requires c =
+    let a = c.args in
+    admitted_by a.g a.me a.s _ _ _ _ _ _ _ _ _ _ c.call_test-call.ensures c.in_default.is c.open_frame-opened.ensures c.in-Frame.is c.room_test-room.ensures c.in_default-room.is
+
+pub returns-in-Refused : goal.returns-in-Refused
+returns-in-Refused c =
+    let a = c.args in
+    not_opened a.g a.me a.s a.area.now a.value.now a.from a.f.now a.result.now _ _ _ c.call_test-call.ensures c.in_default.is _ c.open_frame-opened.ensures _ c.in-Refused.is
+
+pub returns-in_default-room : goal.returns-in_default-room
+returns-in_default-room c =
+    let a = c.args in
+    frame_answered a.g a.me a.s a.area.now a.value.now a.from a.f.now a.result.now _ _ _ c.call_test-call.ensures c.in_default.is _ c.open_frame-opened.ensures _ c.in-Frame.is _ c.room_test-room.ensures _ c.in_default-room.is c.step.ensures

@@ -1,0 +1,44 @@
+-- The buffer's first bytes are server j's block; it goes out with the digest list. Assumes nothing.
+use Prim.Native.Nat.{◌+◌, ◌≤◌}
+use mathlib.Core.Path.{◌≡◌, sym, ap}
+use lib.ListN.{length, take}
+use lib.Seq.{length-take-le}
+use Rattle.frame.specs.Params.{entry_length, width}
+use Rattle.frame.proofs.Sizes.{small}
+use Rattle.frame.proofs.Writing.{room_of}
+use Rattle.group.proofs.Digests.{length_digests}
+use Rattle.client_deliver.proofs.OwnBlocks.{length_own_block, own_block, own_sent}
+use native.Mathlib.Omega.{arith}
+use Rattle.client_deliver.proofs.dispersal.send_own.Goals as goal
+
+pub encode_block-requires : goal.encode_block-requires
+unfolding width
+encode_block-requires c =
+    let D = c.requires.0 in
+    let B = D.bounded in
+    let M = small c.args.d.params B in
+    (B.blocks-low, omega (arith, B.blocks-high, B.faults-low, B.servers-high), omega (arith, D.whole, B.size-high), rw D.whole (omega (arith, M.block_room)), D.tables)
+
+pub slice_bounds-block-end : goal.slice_bounds-block-end
+slice_bounds-block-end c = omega (arith, c.width-b.ensures.2, c.encode_block.auto.1.1.1.0)
+
+pub slice_bounds-send_block-end : goal.slice_bounds-send_block-end
+slice_bounds-send_block-end c =
+    let n : c.width-b.result ≤ length c.encode_block.new.1.1.1.0 = omega (arith, c.width-b.ensures.2, c.encode_block.auto.1.1.1.0) in
+    sym (length-take-le _ _ n)
+
+pub send_block-requires : goal.send_block-requires
+send_block-requires c =
+    let a = c.args in
+    let D = c.requires.0 in
+    let b = own_block a.d.params a.value.now D.whole _ _ a.j _ D.bounded c.width-b.ensures.0 (omega arith) c.encode_block.ensures in
+    let e : 17 + entry_length a.d.params ≡ 17 + (length a.list.now + length (take c.width-b.result c.encode_block.new.1.1.1.0)) =
+    omega (arith, ap length D.list-is, length_digests a.d.params a.value.now, ap length b, length_own_block a.d.params a.value.now D.whole a.j) in
+    room_of _ _ _ _ _ _ e c.requires.1
+
+pub returns : goal.returns
+returns c =
+    let a = c.args in
+    let D = c.requires.0 in
+    let b = own_block a.d.params a.value.now D.whole _ _ a.j _ D.bounded c.width-b.ensures.0 (omega arith) c.encode_block.ensures in
+    own_sent a.d.params a.value.now D.whole _ _ _ _ _ _ D.list-is b c.send_block.ensures

@@ -1,0 +1,27 @@
+-- After j turns the flags and chunks of servers 0 to j - 1 are stored. Assumes nothing.
+use Prim.Native.Nat.{◌-◌}
+use mathlib.Core.Bool.{false}
+use mathlib.Core.Path.{refl, ap}
+use Rattle.area.specs.Area.{table, table_from}
+use Rattle.group.proofs.Lists.{table_turn, table_end}
+use Rattle.client_search.proofs.Firsts.{hits_law}
+use native.Mathlib.Omega.{arith}
+use Rattle.client_search.proofs.at_stamp.hits.Goals as goal
+
+pub loop-j-init : goal.loop-j-init
+unfolding table table_from
+loop-j-init c = (refl, refl, omega arith)
+
+pub loop-j-preserved : goal.loop-j-preserved
+loop-j-preserved c =
+    let l = c.loop-j in
+    let p = table_turn _ _ _ _ _ l.invariant.0 (ap (λ h. h.found) c.hit_at-h.ensures) in
+    let q = table_turn _ _ _ _ _ l.invariant.1 (ap (λ h. h.chunk) c.hit_at-h.ensures) in
+    (p, q, omega arith)
+
+pub returns : goal.returns
+returns c =
+    let l = c.loop-j in
+    let p = table_end _ _ _ _ _ refl c.loop-j-test.false l.invariant.2 l.invariant.0 in
+    let q = table_end _ _ _ _ _ refl c.loop-j-test.false l.invariant.2 l.invariant.1 in
+    hits_law _ _ _ _ p q

@@ -1,0 +1,26 @@
+-- Each turn stores one more line. Assumes nothing.
+use mathlib.Core.Path.{refl, ◌∙◌}
+use Prim.Native.Nat.{◌-◌}
+use Rattle.history_sheet.specs.Sheet.{filled, ended}
+use Rattle.history_sheet.proofs.Lines.{length_blank}
+use Rattle.history_sheet.proofs.Pages.{no_lines, turn, all_lines}
+use native.Mathlib.Omega.{arith}
+use borrow.Author.Rules.{rules}
+use Rattle.history_sheet.proofs.page.put_blanks.Goals as goal
+
+pub loop-j-init : goal.loop-j-init
+loop-j-init c = (search rules, refl, no_lines _ _ _ _)
+
+pub loop-j-preserved : goal.loop-j-preserved
+loop-j-preserved c =
+    let l = c.loop-j in
+    let a = c.args in
+    (search rules, c.put_blank.auto.0 ∙ l.invariant.1, turn (λ i. ended (filled [])) 73 0 l.j a.out.now l.out _ a.at (λ k p q. length_blank) l.invariant.2 c.put_blank.ensures)
+
+pub shape_of-out : goal.shape_of-out
+shape_of-out c = c.loop-j.invariant.1
+
+pub returns : goal.returns
+returns c =
+    let l = c.loop-j in
+    all_lines (λ i. ended (filled [])) 0 l.j c.args.count _ _ c.args.at l.invariant.2 (omega arith)

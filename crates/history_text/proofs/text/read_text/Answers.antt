@@ -1,0 +1,58 @@
+-- The lines read so far and those that are left give what is read of the whole text. Assumes nothing.
+use mathlib.Core.Path.{sym, ap, subst, ◌∙◌}
+use mathlib.Core.Bool.{true}
+use Prim.Native.Nat.{◌-◌, ◌<◌}
+use lib.ListN.{length}
+use Rattle.history_text.specs.ReadLines.{WithinLine}
+use Rattle.history_text.proofs.Readings.{final_start, final_bad, final_next, final_end, reading}
+use native.Mathlib.Omega.{arith}
+use borrow.Author.Rules.{rules}
+use Rattle.history_text.proofs.text.read_text.Goals as goal
+
+pub loop-at-init : goal.loop-at-init
+loop-at-init c =
+    let s = c.args.s.now in
+    (omega arith, (length s, omega arith, final_start c.empty-history.result s c.empty-history.ensures))
+
+pub returns-in_default : goal.returns-in_default
+returns-in_default c =
+    let s = c.args.s.now in
+    let l = c.loop-at in
+    let h : l.at < length s = omega arith in
+    ap (reading true) c.empty.ensures
+    ∙ sym (final_bad l.history l.invariant.1.0 l.at s h l.invariant.1.1 c.read_line-line.ensures.0 c.in_default.is) ∙ l.invariant.1.2
+
+pub overflow_add-at : goal.overflow_add-at
+overflow_add-at c =
+    let s = c.args.s.now in
+    let l = c.loop-at in
+    let r = c.read_line-line in
+    let x = c.line-1.given in
+    let w = subst (WithinLine (length s - l.at)) x.1 r.ensures.1 in
+    record { fits = omega arith }
+
+pub loop-at-smaller : goal.loop-at-smaller
+loop-at-smaller c =
+    let s = c.args.s.now in
+    let l = c.loop-at in
+    let r = c.read_line-line in
+    let x = c.line-1.given in
+    let w = subst (WithinLine (length s - l.at)) x.1 r.ensures.1 in
+    omega arith
+
+pub loop-at-preserved : goal.loop-at-preserved
+loop-at-preserved c =
+    let s = c.args.s.now in
+    let l = c.loop-at in
+    let r = c.read_line-line in
+    let x = c.line-1.given in
+    let w = subst (WithinLine (length s - l.at)) x.1 r.ensures.1 in
+    let h : l.at < length s = omega arith in
+    let m = final_next l.history l.invariant.1.0 l.at x.0.1.0 s x.0.0 h l.invariant.1.1 w.0 w.1 r.ensures.0 x.1 c.add-history.ensures l.invariant.1.2 in
+    (omega arith, m)
+
+pub returns : goal.returns
+returns c =
+    let s = c.args.s.now in
+    let l = c.loop-at in
+    sym (final_end l.history l.invariant.1.0 l.at s (search rules)) ∙ l.invariant.1.2

@@ -1,0 +1,15 @@
+-- The whole outcome, by the laws of AskedLaws.antt. Assumes nothing.
+use Rattle.semduoli.proofs.AskedLaws.{none_below, none_above, worked_short, worked_done}
+use Rattle.semduoli.proofs.asked.semduoli_server_open.Goals as goal
+
+pub returns-then-client-lt1 : goal.returns-then-client-lt1
+returns-then-client-lt1 c = none_below _ _ c.if-client-lt1.true
+
+pub returns-then-client-gt-CLIENTS : goal.returns-then-client-gt-CLIENTS
+returns-then-client-gt-CLIENTS c = none_above _ _ c.if-client-lt1.false c.if-client-gt-CLIENTS.true
+
+pub returns-then-state-lt-SERVER_SIZE : goal.returns-then-state-lt-SERVER_SIZE
+returns-then-state-lt-SERVER_SIZE c = worked_short _ _ c.if-client-lt1.false c.if-client-gt-CLIENTS.false c.if-state-lt-SERVER_SIZE.true
+
+pub returns : goal.returns
+returns c = worked_done _ _ c.if-client-lt1.false c.if-client-gt-CLIENTS.false _ c.if-state-lt-SERVER_SIZE.false c.scope_at-x.ensures

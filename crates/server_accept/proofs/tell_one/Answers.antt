@@ -1,0 +1,16 @@
+use Rattle.server_accept.proofs.Acceptance.{told_silent, told_late, told_due}
+use borrow.Author.Tests.{not-true, not-false}
+use Rattle.server_accept.proofs.tell_one.Goals as goal
+
+pub returns-then-not-r : goal.returns-then-not-r
+returns-then-not-r c = let a = c.args in told_silent a.r a.c a.x _ _ (not-true _ c.if-not-r.true)
+
+pub returns-then-not-is_older : goal.returns-then-not-is_older
+returns-then-not-is_older c =
+    let a = c.args in
+    told_late a.r a.c a.x _ _ _ (not-false _ c.if-not-r.false) c.is_older.ensures (not-true _ c.if-not-is_older.true-raw)
+
+pub returns : goal.returns
+returns c =
+    let a = c.args in
+    told_due a.r a.c a.x _ _ _ _ (not-false _ c.if-not-r.false) c.is_older.ensures (not-false _ c.if-not-is_older.false) c.send_value.ensures

@@ -1,0 +1,60 @@
+-- A server's frame: turned down as the tests say, or counted. Assumes nothing.
+use mathlib.Core.Path.{ap, ◌∙◌}
+use Rattle.frame.specs.Messages.{entry, offer}
+use Rattle.server_rules.specs.declared.Slot.{Slot}
+use Rattle.server_blocks.specs.Stage.{vote_stage}
+use Rattle.server_blocks.proofs.Rooms.{entry_fits, whole_after, room_before}
+use Rattle.server_blocks.proofs.BlockSteps.{vote_open, vote_verdict_lem, turned_down_lem, let_in, block_voted}
+use native.Mathlib.Omega.{arith}
+use Rattle.server_blocks.proofs.storing.on_block_vote.Goals as goal
+
+pub vote_test-v-requires : goal.vote_test-v-requires
+vote_test-v-requires c = let P = c.requires in (P.0.bounded, P.1)
+
+pub returns-in-Bad : goal.returns-in-Bad
+returns-in-Bad c =
+    let a = c.args in
+    let k = a.k in
+    let o = offer a.time (entry a.list.now a.block.now) in
+    record {
+      handles = turned_down_lem k a.x _ o (vote_stage k.header.kind) a.area.now _ _ _ (vote_verdict_lem k a.x _ o c.vote_test-v.ensures) _ c.in-Bad.is;
+      room = room_before _ _ _ c.requires.0.room;
+    }
+
+pub votes_from-first-requires : goal.votes_from-first-requires
+votes_from-first-requires c = let P = c.requires.0 in (P.client-low, P.client-high)
+
+pub put_entry-requires : goal.put_entry-requires
+put_entry-requires c =
+    let a = c.args in
+    let P = c.requires.0 in
+    let F = entry_fits _ _ _ P.bounded c.requires.1 in
+    let W = vote_open a.k a.x _ (entry a.list.now a.block.now) c.vote_test-v.ensures c.in_default.is in
+    (omega (arith, P.whole, P.bounded.servers-high, W.high, c.number_in-j.ensures, c.votes_from-first.ensures.1), F.0, F.1)
+
+pub count_vote-y-requires : goal.count_vote-y-requires
+count_vote-y-requires c =
+    let a = c.args in
+    let W = vote_open a.k a.x _ (entry a.list.now a.block.now) c.vote_test-v.ensures c.in_default.is in
+    omega (arith, W.high, c.number_in-j.ensures, c.requires.0.bounded.servers-high)
+
+pub voted_block-m-requires : goal.voted_block-m-requires
+voted_block-m-requires c =
+    let a = c.args in
+    let P = c.requires.0 in
+    let W = vote_open a.k a.x _ (entry a.list.now a.block.now) c.vote_test-v.ensures c.in_default.is in (
+      record { bounded = P.bounded; client_low = P.client-low; client_high = P.client-high; whole = whole_after _ _ _ _ c.put_entry.ensures P.whole; room = P.room },
+      ap (λ (y : Slot). y.sequence) c.count_vote-y.ensures ∙ W.at_open,
+      c.requires.1.list-is,
+    )
+
+pub returns : goal.returns
+returns c =
+    let a = c.args in
+    let k = a.k in
+    let o = offer a.time (entry a.list.now a.block.now) in
+    record {
+      handles = let_in k a.x _ o (vote_stage k.header.kind) a.area.now _ _ _ (vote_verdict_lem k a.x _ o c.vote_test-v.ensures) _ _ _ c.in_default.is
+          (block_voted k a.area.now _ a.x _ _ _ o _ _ c.number_in-j.ensures c.votes_from-first.ensures.0 c.put_entry.ensures c.count_vote-y.ensures (c.voted_block-m.ensures.leaves a.block.now));
+      room = c.voted_block-m.ensures.room;
+    }

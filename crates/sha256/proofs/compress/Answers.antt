@@ -1,0 +1,7 @@
+-- By the definition. Assumes nothing.
+use Rattle.sha256.specs.Hash.{compressed}
+use Rattle.sha256.proofs.compress.Goals as goal
+
+pub returns : goal.returns
+unfolding compressed
+returns c = cc

@@ -1,0 +1,7 @@
+-- By the definition. Assumes nothing.
+use Rattle.sha256.specs.Hash.{t1}
+use Rattle.sha256.proofs.first_sum.Goals as goal
+
+pub returns : goal.returns
+unfolding t1
+returns c = cc

@@ -1,0 +1,15 @@
+-- The parameters first, then the value, then the frame. Assumes nothing.
+use Rattle.site.proofs.ShortLaws.{bounded_by, stamp_refused, stamp_value, stamp_opened}
+use Rattle.site.proofs.short.stamp_short.Goals as goal
+
+pub returns-in-Bad : goal.returns-in-Bad
+returns-in-Bad c = stamp_refused _ _ _ _ _ _ c.params_test-params.ensures _ c.in-Bad.is
+
+pub returns-in-Bad-whole : goal.returns-in-Bad-whole
+returns-in-Bad-whole c = stamp_value _ _ _ _ _ _ c.params_test-params.ensures _ c.in_default.is c.value_test-whole.ensures _ c.in-Bad-whole.is
+
+pub open_frame-opened-requires : goal.open_frame-opened-requires
+open_frame-opened-requires c = bounded_by _ _ _ _ c.params_test-params.ensures c.in_default.is
+
+pub returns : goal.returns
+returns c = stamp_opened _ _ _ _ _ _ c.params_test-params.ensures _ c.in_default.is c.value_test-whole.ensures _ _ c.in_default-whole.is c.open_frame-opened.ensures c.opened_short.ensures

@@ -76,6 +76,24 @@ def own_names(texts):
     return {n: s for n, s in (changed | lemmas | {n: s for n, s in OTHER.items() if n in names}).items() if n != s}
 
 
+def fields_of(texts):
+    """The fields of records, by name: these are respelled behind a dot too."""
+    fields = set()
+    for path, text in texts.items():
+        inside = None
+        for line in text.split("\n"):
+            indent = len(line) - len(line.lstrip())
+            if inside is not None and line.strip() and indent <= inside:
+                inside = None
+            if re.match(r" *(?:pub )?(?:pattern )?record ", line) and re.search(r"\bwhere\s*$", line):
+                inside = indent
+            elif inside is not None:
+                m = re.match(r" *(?:pub )?([^:=(){}]+?) :(?: |$)", line)
+                if m:
+                    fields |= set(m[1].split())
+    return fields
+
+
 def is_own(module, crates):
     steps = module.split(".")
     return steps[0] == "Rattle" and len(steps) > 1 and steps[1] in crates
@@ -96,7 +114,7 @@ def imports(text, crates):
     return lent, short
 
 
-def turned(text, path, names, crates):
+def turned(text, path, names, crates, fields):
     lent, short = imports(text, crates)
     stays = set(lent)
     if is_of_function(path):
@@ -109,6 +127,10 @@ def turned(text, path, names, crates):
         at = m.start()
         if "-" in it and at and text_of[at - 1] == ".":
             before = re.search(r"[^\s(){};,@\[\]]*$", text_of[:at])[0].rstrip(".")
+            # A field of a record; but what Rattle makes for a function's goals stands behind c and its places.
+            made = before == "c" or before.endswith(".before")
+            if it in fields and not (made and is_of_function(path)):
+                return names[it]
             if before.split(".")[-1] not in short and not is_own(before, crates):
                 return it
         return names[it]
@@ -166,9 +188,10 @@ def main(argv):
     crates = set(os.listdir("crates"))
     texts = {p: read(p) for p in antt_files()}
     names = own_names(texts)
+    fields = fields_of(texts)
     written, met = {}, []
     for p, t in texts.items():
-        new = turned(t, p, names, crates)
+        new = turned(t, p, names, crates, fields)
         met += fallen_together(paths_apart(t), paths_apart(new), p, NAME)
         written[p] = new
     for p in sorted(glob.glob("crates/*/src/**/*.rt", recursive=True)):

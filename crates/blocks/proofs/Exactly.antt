@@ -127,9 +127,9 @@ module _ (g : Params) (js w out : List ℕ) (e : decode_test g js (length w) (le
   given : Given g.k g.size js w
   given =
       let d : Decodes g js (length w) (length out) = decodes g js (length w) (length out) e in
-      let n : g.n < 256 = omega (arith, d.within.servers-high) in
+      let n : g.n < 256 = omega (arith, d.within.servers_high) in
       let f : Bytes js × Distinct js = numbers_facts g.n js n d.numbered in
-      record { one = d.within.blocks-low; enough = d.enough; numbers = f.0; different = f.1; whole = d.whole }
+      record { one = d.within.blocks_low; enough = d.enough; numbers = f.0; different = f.1; whole = d.whole }
 
   outcome_by : Coded → Bool → Outcome
   outcome_by t b = written (and_then t (demand b (fault 21) Done)) out value

@@ -59,16 +59,16 @@ module _ {K P : Type 0} (W : Views K P) (n t few all : ℕ) (faulty_server fault
     pub supports_agree : (c s : ℕ) (x y : P) → Support ks c s x → Support ks c s y → x ≡ y
     supports_agree c s x y a b =
         let (h, is, g, f) = quorums_meet F a b in
-        I.echo-once h c s x y (f.0 g) (f.1 g)
+        I.echo_once h c s x y (f.0 g) (f.1 g)
 
     module _ (most : t < all) where
       pub readies_supported : (c s : ℕ) (x : P) → Readies ks c s x → Support ks c s x
       readies_supported c s x e =
           let (j, is, g, f) = honest_member F (at_least_fewer most e) in
-          I.ready-supported j c s x (f g)
+          I.ready_supported j c s x (f g)
 
       pub accepted_supported : (i c s : ℕ) (x : P) → Accepted ks i c s x → Support ks c s x
-      accepted_supported i c s x u = readies_supported c s x (I.accepted-readies i c s x u)
+      accepted_supported i c s x u = readies_supported c s x (I.accepted_readies i c s x u)
 
       pub accepted_agree : (i j c s : ℕ) (x y : P) → Accepted ks i c s x → Accepted ks j c s y → x ≡ y
       accepted_agree i j c s x y u v = supports_agree c s x y (accepted_supported i c s x u) (accepted_supported j c s y v)
@@ -77,69 +77,69 @@ module _ {K P : Type 0} (W : Views K P) (n t few all : ℕ) (faulty_server fault
 
   module _ (F : Faults n t faulty_server) (more : t < few) (ks : List K) (k : K) (M : Lawful ks k) (I : Invariant ks) where
     support_stays : (c s : ℕ) (x : P) → Support ks c s x → Support (k ∷ ks) c s x
-    support_stays c s x = at_least_map (λ j i f g. M.echo-stays j c s x (f g))
+    support_stays c s x = at_least_map (λ j i f g. M.echo_stays j c s x (f g))
 
     by_echoes : (i c : ℕ) (x : P) → AtLeast n (n - t) (HeardEcho ks i c x) → Support ks c (sequence ks i c) x
-    by_echoes i c x = at_least_map (λ j is f g. ⊎_elim (I.echo-heard i c j x is g) (λ u. u) (f g))
+    by_echoes i c x = at_least_map (λ j is f g. ⊎_elim (I.echo_heard i c j x is g) (λ u. u) (f g))
 
     -- m readies that server i heard of honest servers were sent
     heard : (i c m : ℕ) (x : P) → AtLeast n m (HeardReady ks i c x) → AtLeast n m (λ j. faulty_server j ≡ false → SentReady ks j c (sequence ks i c) x)
-    heard i c m x = at_least_map (λ j is f g. ⊎_elim (I.ready-heard i c j x is g) (λ u. u) (f g))
+    heard i c m x = at_least_map (λ j is f g. ⊎_elim (I.ready_heard i c j x is g) (λ u. u) (f g))
 
     by_readies : (i c : ℕ) (x : P) → AtLeast n few (HeardReady ks i c x) → Support ks c (sequence ks i c) x
     by_readies i c x e =
         let (j, is, g, f) = honest_member F (at_least_fewer more (heard i c few x e)) in
-        I.ready-supported j c (sequence ks i c) x (f g)
+        I.ready_supported j c (sequence ks i c) x (f g)
 
     readies_stay : (c s : ℕ) (x : P) → Readies ks c s x → Readies (k ∷ ks) c s x
-    readies_stay c s x = at_least_map (λ j i f g. M.ready-stays j c s x (f g))
+    readies_stay c s x = at_least_map (λ j i f g. M.ready_stays j c s x (f g))
 
     next_past : (i c s : ℕ) (x : P) → SentEcho (k ∷ ks) i c s x → Past (k ∷ ks) i c s
     next_past i c s x u = ⊎_elim
         (λ old. ⊎_elim
-        (λ on. ⊎_elim (λ l. inl (omega arith)) (λ e. inr (e.0 ∙ sym on.0, on.1 e.1)) (I.echo-past i c s x old))
-        (λ on. ⊎_elim (λ l. inl (omega arith)) (λ e. inl (omega arith)) (I.echo-past i c s x old))
+        (λ on. ⊎_elim (λ l. inl (omega arith)) (λ e. inr (e.0 ∙ sym on.0, on.1 e.1)) (I.echo_past i c s x old))
+        (λ on. ⊎_elim (λ l. inl (omega arith)) (λ e. inl (omega arith)) (I.echo_past i c s x old))
         (M.onward i c))
         (λ w. ⊎_elim (λ z. inr (w.current ∙ sym z.0, z.1)) (λ z. inl (omega (arith, w.current))) w.then)
-        (M.echo-new i c s x u)
+        (M.echo_new i c s x u)
 
     -- two echoes of which the first is older are of one payload
     once_old : (i c s : ℕ) (x y : P) → SentEcho ks i c s x → SentEcho (k ∷ ks) i c s y → x ≡ y
     once_old i c s x y u v = ⊎_elim
-        (λ old. I.echo-once i c s x y u old)
-        (λ w. ⊎_elim (λ l. absurd (omega (arith, w.current))) (λ e. impossible (cc (w.first, e.1))) (I.echo-past i c s x u))
-        (M.echo-new i c s y v)
+        (λ old. I.echo_once i c s x y u old)
+        (λ w. ⊎_elim (λ l. absurd (omega (arith, w.current))) (λ e. impossible (cc (w.first, e.1))) (I.echo_past i c s x u))
+        (M.echo_new i c s y v)
 
     next_once : (i c s : ℕ) (x y : P) → SentEcho (k ∷ ks) i c s x → SentEcho (k ∷ ks) i c s y → x ≡ y
-    next_once i c s x y u v = ⊎_elim (λ e. e) (⊎_elim (λ a. once_old i c s x y a v) (λ b. sym (once_old i c s y x b u))) (M.echo-one i c s x y u v)
+    next_once i c s x y u v = ⊎_elim (λ e. e) (⊎_elim (λ a. once_old i c s x y a v) (λ b. sym (once_old i c s y x b u))) (M.echo_one i c s x y u v)
 
     next_heard_echo : (i c j : ℕ) (x : P) → Among n j → faulty_server j ≡ false → KeptEcho (k ∷ ks) i c j x → SentEcho (k ∷ ks) j c (sequence (k ∷ ks) i c) x
     next_heard_echo i c j x is g u =
-        let w = M.echo-kept i c j x is g u in
-        rw w.0 (M.echo-stays j c (sequence ks i c) x (⊎_elim (I.echo-heard i c j x is g) (λ z. z) w.1))
+        let w = M.echo_kept i c j x is g u in
+        rw w.0 (M.echo_stays j c (sequence ks i c) x (⊎_elim (I.echo_heard i c j x is g) (λ z. z) w.1))
 
     next_heard_ready : (i c j : ℕ) (x : P) → Among n j → faulty_server j ≡ false → KeptReady (k ∷ ks) i c j x
         → SentReady (k ∷ ks) j c (sequence (k ∷ ks) i c) x
     next_heard_ready i c j x is g u =
-        let w = M.ready-kept i c j x is g u in
-        rw w.0 (M.ready-stays j c (sequence ks i c) x (⊎_elim (I.ready-heard i c j x is g) (λ z. z) w.1))
+        let w = M.ready_kept i c j x is g u in
+        rw w.0 (M.ready_stays j c (sequence ks i c) x (⊎_elim (I.ready_heard i c j x is g) (λ z. z) w.1))
 
     next_ready : (i c s : ℕ) (x : P) → SentReady (k ∷ ks) i c s x → Support (k ∷ ks) c s x
     next_ready i c s x u = support_stays c s x (⊎_elim
-        (I.ready-supported i c s x)
+        (I.ready_supported i c s x)
         (λ w. rw w.0 (⊎_elim (by_echoes i c x) (by_readies i c x) w.1))
-        (M.ready-new i c s x u))
+        (M.ready_new i c s x u))
 
     next_delivered : (i c : ℕ) (x : P) → Delivered (k ∷ ks) i c x → Readies (k ∷ ks) c (sequence (k ∷ ks) i c) x
     next_delivered i c x u =
-        let w = M.delivered-new i c x u in
-        rw w.0 (readies_stay c (sequence ks i c) x (⊎_elim (I.delivered-readies i c x) (heard i c all x) w.1))
+        let w = M.delivered_new i c x u in
+        rw w.0 (readies_stay c (sequence ks i c) x (⊎_elim (I.delivered_readies i c x) (heard i c all x) w.1))
 
     next_accepted : (i c s : ℕ) (x : P) → Accepted (k ∷ ks) i c s x → Readies (k ∷ ks) c s x
     next_accepted i c s x u = readies_stay c s x (⊎_elim
-        (I.accepted-readies i c s x)
-        (λ w. rw w.0 (⊎_elim (I.delivered-readies i c x) (heard i c all x) w.1))
-        (M.accepted-new i c s x u))
+        (I.accepted_readies i c s x)
+        (λ w. rw w.0 (⊎_elim (I.delivered_readies i c x) (heard i c all x) w.1))
+        (M.accepted_new i c s x u))
 
     next : Invariant (k ∷ ks)
     next = record {
@@ -150,20 +150,20 @@ module _ {K P : Type 0} (W : Views K P) (n t few all : ℕ) (faulty_server fault
       ready_supported = next_ready;
       delivered_readies = next_delivered;
       accepted_readies = next_accepted;
-      echo_valid = λ i c s x h u. M.client-stays c s x (⊎_elim (I.echo-valid i c s x h) (λ w. w.sent h) (M.echo-new i c s x u));
+      echo_valid = λ i c s x h u. M.client_stays c s x (⊎_elim (I.echo_valid i c s x h) (λ w. w.sent h) (M.echo_new i c s x u));
     }
 
   module _ (F : Faults n t faulty_server) (more : t < few) (most : t < all) (E : L.Fresh W n t few all faulty_server faulty_client) where
     pub invariant : {ks : List K} → Run ks → Invariant ks
     invariant L.fresh = record {
-      echo_past = λ i c s x u. absurd (E.no-echo i c s x u);
-      echo_once = λ i c s x y u v. absurd (E.no-echo i c s x u);
-      echo_heard = λ i c j x is g u. absurd (E.no-kept-echo i c j x u);
-      ready_heard = λ i c j x is g u. absurd (E.no-kept-ready i c j x u);
-      ready_supported = λ i c s x u. absurd (E.no-ready i c s x u);
-      delivered_readies = λ i c x u. absurd (E.no-delivered i c x u);
-      accepted_readies = λ i c s x u. absurd (E.no-accepted i c s x u);
-      echo_valid = λ i c s x h u. absurd (E.no-echo i c s x u);
+      echo_past = λ i c s x u. absurd (E.no_echo i c s x u);
+      echo_once = λ i c s x y u v. absurd (E.no_echo i c s x u);
+      echo_heard = λ i c j x is g u. absurd (E.no_kept_echo i c j x u);
+      ready_heard = λ i c j x is g u. absurd (E.no_kept_ready i c j x u);
+      ready_supported = λ i c s x u. absurd (E.no_ready i c s x u);
+      delivered_readies = λ i c x u. absurd (E.no_delivered i c x u);
+      accepted_readies = λ i c s x u. absurd (E.no_accepted i c s x u);
+      echo_valid = λ i c s x h u. absurd (E.no_echo i c s x u);
     }
     invariant (L.call {ks} k M r) = next F more ks k M (invariant r)
 
@@ -179,4 +179,4 @@ module _ {K P : Type 0} (W : Views K P) (n t few all : ℕ) (faulty_server fault
     pub validity : {ks : List K} → Run ks → (i c s : ℕ) (x : P) → faulty_client c ≡ false → Accepted ks i c s x → ClientSent ks c s x
     validity r i c s x h u =
         let (j, is, g, f) = quorum_member F (supported r i c s x u) in
-        (invariant r).echo-valid j c s x h (f g)
+        (invariant r).echo_valid j c s x h (f g)

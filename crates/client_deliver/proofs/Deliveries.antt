@@ -64,10 +64,10 @@ admitted_by g me s h f value area result out to v w o e e' q q' r r' =
     record {
       lent = lent_of g area result out to (admitted_of g me last_client a.0).bounded (sym r ∙ r');
       whole = value_whole g s.phase value a.1;
-      frame_is = x.length-is;
-      kind_low = x.kind-low;
-      kind_high = x.kind-high;
-      kind_used = x.kind-used;
+      frame_is = x.length_is;
+      kind_low = x.kind_low;
+      kind_high = x.kind_high;
+      kind_used = x.kind_used;
     }
 
 -- ---- the outcome of a delivery

@@ -114,5 +114,5 @@ pub list_front : (g : Params) (v z a : List ℕ) → Bounded g → list_bytes �
     → take (32 * g.n) a ≡ digests_of digest_of g v
 list_front g v z a B h s =
     let l = length_digests g v in
-    let n : 32 * g.n ≤ length z = omega (arith, B.servers-high) in
+    let n : 32 * g.n ≤ length z = omega (arith, B.servers_high) in
     ap (take (32 * g.n)) s ∙ take_front z (digests_of digest_of g v) (32 * g.n) l n

@@ -111,11 +111,11 @@ set_cases l i v d h j = go (ℕ_discrete j i)
 
 pub row_shaped : (l : List Row) → CV.Shaped l → (j : ℕ) → j ≤ 10 → (i : ℕ) (x : Stamp) → CV.Shaped (set l j (row_with (get_or l j no_row) i x))
 row_shaped l S j hj i x = record {
-  rows_many = length-set l j _ ∙ S.rows-many;
+  rows_many = length-set l j _ ∙ S.rows_many;
   stamps_many = λ m hm. ⊎_elim
-      (λ w. ap (λ r. length r.stamps) w.1 ∙ length-set (get_or l j no_row).stamps i x ∙ S.stamps-many j hj)
-      (λ w. ap (λ r. length r.stamps) w ∙ S.stamps-many m hm)
-      (set_cases l j (row_with (get_or l j no_row) i x) no_row (omega (arith, S.rows-many)) m);
+      (λ w. ap (λ r. length r.stamps) w.1 ∙ length-set (get_or l j no_row).stamps i x ∙ S.stamps_many j hj)
+      (λ w. ap (λ r. length r.stamps) w ∙ S.stamps_many m hm)
+      (set_cases l j (row_with (get_or l j no_row) i x) no_row (omega (arith, S.rows_many)) m);
 }
 
 pub fresh_row_lem : (n m : ℕ) → (get_or (replicate n fresh_row) m no_row).count ≡ 0

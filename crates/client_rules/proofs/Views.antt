@@ -137,11 +137,11 @@ module _ (g : Params) (M : Small g) (s : Client) (S : Shaped s.rows) (a : List �
   area = store_entry a (place_at j i) e
 
   this_row : row_of next j ≡ row_with (row_of s j) i x
-  this_row = get_or-set_same s.rows j (row_with (row_of s j) i x) no_row (omega (arith, S.rows-many))
+  this_row = get_or-set_same s.rows j (row_with (row_of s j) i x) no_row (omega (arith, S.rows_many))
 
   at_new : placed g area j (row_with (row_of s j) i x) i ≡ record { stamp = x; entry = e }
   at_new =
-      let p = get_or-set_same (row_of s j).stamps i x zero_stamp (omega (arith, G.small, S.stamps-many j at.1)) in
+      let p = get_or-set_same (row_of s j).stamps i x zero_stamp (omega (arith, G.small, S.stamps_many j at.1)) in
       let q = entry_same g M a (place_at j i) e Q (omega (arith, G.small)) in
       λ d. record { stamp = p d; entry = q d }
 

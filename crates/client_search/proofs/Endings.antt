@@ -61,7 +61,7 @@ module _ (g : Params) (rows : List Row) (a : List ℕ) (x : Stamp) (p result : �
       let c : count (marked k.on) g.n ≡ count (λ j. has_list (at_stamp (view g rows a j) x) (entry_at g a p).digests) g.n =
       ap (λ (z : Hits). count (marked z.on) g.n) all ∙ holders_count g rows a x p q.searching in
       let l : g.n ≤ count (λ j. has_list (at_stamp (view g rows a j) x) (entry_at g a p).digests) g.n + g.t = leb-true _ _ q.held in
-      omega (arith, c, l, q.searching.bounded.blocks-high)
+      omega (arith, c, l, q.searching.bounded.blocks_high)
 
   within : Within k.at a
   unfolding holders_of

@@ -55,24 +55,24 @@ module _ (g : Params) (rows : List Row) (a : List ℕ) (x : Stamp) (p : ℕ) (q 
   with_list = count (λ j. has_list (at_row j) (entry_at g a p).digests) g.n
 
   agree : (j : ℕ) → 1 ≤ j → j ≤ g.n → entries g (hits_of rows x).on (hits_of rows x).at a j ≡ at_row j
-  agree j low high = hits_entry rows x g a j low (omega (arith, high, q.bounded.servers-high))
+  agree j low high = hits_entry rows x g a j low (omega (arith, high, q.bounded.servers_high))
 
   pub holders_count : count (marked (holders_of g a (hits_of rows x) p).on) g.n ≡ with_list
   unfolding holders_of
-  holders_count = matched_count g (hits_of rows x).on (hits_of rows x).at a (entry_at g a p).digests at_row agree q.bounded.servers-high
+  holders_count = matched_count g (hits_of rows x).on (hits_of rows x).at a (entry_at g a p).digests at_row agree q.bounded.servers_high
 
   -- the value that the k lowest of those servers give, and whether all have its blocks
   pub holders_value : value_from g (holders_of g a (hits_of rows x) p).on (holders_of g a (hits_of rows x) p).at a ≡ lowest_value g at_row (entry_at g a p).digests
   unfolding holders_of
   holders_value =
-      matched_value g (hits_of rows x).on (hits_of rows x).at a (entry_at g a p).digests at_row agree q.bounded.servers-high q.bounded
+      matched_value g (hits_of rows x).on (hits_of rows x).at a (entry_at g a p).digests at_row agree q.bounded.servers_high q.bounded
       (hits_within rows x a q.whole)
 
   pub holders_all : all_of g (holders_of g a (hits_of rows x) p).on (holders_of g a (hits_of rows x) p).at a
       (value_from g (holders_of g a (hits_of rows x) p).on (holders_of g a (hits_of rows x) p).at a) ≡ agreeing g at_row (entry_at g a p).digests
   unfolding holders_of
   holders_all =
-      matched_all g (hits_of rows x).on (hits_of rows x).at a (entry_at g a p).digests at_row agree q.bounded.servers-high q.bounded
+      matched_all g (hits_of rows x).on (hits_of rows x).at a (entry_at g a p).digests at_row agree q.bounded.servers_high q.bounded
       (hits_within rows x a q.whole)
 
   -- at most as many as have the stamp
@@ -82,7 +82,7 @@ module _ (g : Params) (rows : List Row) (a : List ℕ) (x : Stamp) (p : ℕ) (q 
       let on = (hits_of rows x).on in
       let at = (hits_of rows x).at in
       let d = (entry_at g a p).digests in
-      let e : with_list ≡ count (sent_list g on at a d) g.n = sym holders_count ∙ count_flags (sent_list g on at a d) g.n q.bounded.servers-high in
+      let e : with_list ≡ count (sent_list g on at a d) g.n = sym holders_count ∙ count_flags (sent_list g on at a d) g.n q.bounded.servers_high in
       let l = count_mono (sent_list g on at a d) (marked on) g.n (λ j h. sent_flagged g on at a d j) in
       omega (arith, e, l)
 

@@ -100,7 +100,7 @@ module _ (g : Params) (M : Small g) (s : Client) (S : Shaped s.rows) (a : List �
       λ d. record { stamp = get_or (row_of s m).stamps p zero_stamp; entry = q d }
 
   this_row : row_of next j ≡ row_with (row_of s j) i x
-  this_row = get_or-set_same s.rows j (row_with (row_of s j) i x) no_row (omega (arith, S.rows-many, at.1))
+  this_row = get_or-set_same s.rows j (row_with (row_of s j) i x) no_row (omega (arith, S.rows_many, at.1))
 
   in_this : (k : Kept) → Memᴰ k (places_from g a j (row_of s j) 0 (used (row_of s j)))
       → Memᴰ k (places_from g area j (row_with (row_of s j) i x) 0 (used (row_with (row_of s j) i x))) ⊎ Smallest (row_of s j) x k.stamp

@@ -37,15 +37,15 @@ rest g js len room =
 
 many : (g : Params) (js : List ℕ) (len room : ℕ) → Bounded g → 10 < length js → rest g js len room ≡ Refused (fault 9)
 many g js len room b h =
-    let m : g.n < length js = omega (arith, b.servers-high) in
+    let m : g.n < length js = omega (arith, b.servers_high) in
     ap (demand (leb g.k (length js)) (fault 9)) (lacks (length js) g.n (fault 9) _ m) ∙ either _ (fault 9)
 
 -- a bound on the bytes that several blocks have
 most : (g : Params) (m : ℕ) → Bounded g → m ≤ g.n → m * block_length g.size g.k ≤ 2560
 most g m b h =
-    let y = block_small g.size g.k b.blocks-low in
-    let t : m ≤ 10 = omega (arith, b.servers-high) in
-    omega (arith, mul-le-mul_right (block_length g.size g.k) t, y, b.size-high)
+    let y = block_small g.size g.k b.blocks_low in
+    let t : m ≤ 10 = omega (arith, b.servers_high) in
+    omega (arith, mul-le-mul_right (block_length g.size g.k) t, y, b.size_high)
 
 long_or_many : (g : Params) (js : List ℕ) (len : ℕ) (later : Coded) → Bounded g → 2560 < len → (c : Bool) → leb (length js) g.n ≡ c
     → demand c (fault 9) (demand (eqb len (length js * block_length g.size g.k)) (fault 9) later) ≡ Refused (fault 9)

@@ -29,10 +29,10 @@ module _ (g : Params) (M : Small g) (a : List ℕ) (p : ℕ) (e : Entry) (Q : Si
   entry_same h =
       let s = length-sets a (chunk_at p) e.digests in
       let d : part (sets (sets a (chunk_at p) e.digests) (block_place p) e.block) (chunk_at p) (listed g) ≡ e.digests =
-      part_sets_before (sets a (chunk_at p) e.digests) (block_place p) e.block (chunk_at p) (listed g) (omega (arith, M.list-room))
-      ∙ part_same a (chunk_at p) e.digests (listed g) Q.list-is (omega (arith, M.list-room)) in
+      part_sets_before (sets a (chunk_at p) e.digests) (block_place p) e.block (chunk_at p) (listed g) (omega (arith, M.list_room))
+      ∙ part_same a (chunk_at p) e.digests (listed g) Q.list_is (omega (arith, M.list_room)) in
       let b : part (sets (sets a (chunk_at p) e.digests) (block_place p) e.block) (block_place p) (width g) ≡ e.block =
-      part_same (sets a (chunk_at p) e.digests) (block_place p) e.block (width g) Q.block-is (omega (arith, M.block_room, s)) in
+      part_same (sets a (chunk_at p) e.digests) (block_place p) e.block (width g) Q.block_is_lem (omega (arith, M.block_room, s)) in
       λ i. record { digests = d i; block = b i }
 
   -- a part that lies in another chunk
@@ -46,15 +46,15 @@ module _ (g : Params) (M : Small g) (a : List ℕ) (p : ℕ) (e : Entry) (Q : Si
           ∙ part_sets_before a (chunk_at p) e.digests i w (omega arith)
       go (no l) =
           let m : p < q = omega (arith, ne) in
-          part_sets_after (sets a (chunk_at p) e.digests) (block_place p) e.block i w (omega (arith, Q.block-is, M.block_room))
-          ∙ part_sets_after a (chunk_at p) e.digests i w (omega (arith, Q.list-is, M.list-room))
+          part_sets_after (sets a (chunk_at p) e.digests) (block_place p) e.block i w (omega (arith, Q.block_is_lem, M.block_room))
+          ∙ part_sets_after a (chunk_at p) e.digests i w (omega (arith, Q.list_is, M.list_room))
 
   -- the entry of another chunk
   pub entry_other : (q : ℕ) → (q ≡ p → ⊥) → entry_at g (store_entry a p e) q ≡ entry_at g a q
   unfolding entry_at
   entry_other q ne =
       let d : part (store_entry a p e) (chunk_at q) (listed g) ≡ part a (chunk_at q) (listed g) =
-      part_other q (chunk_at q) (listed g) ne (omega arith) (omega (arith, M.list-room)) in
+      part_other q (chunk_at q) (listed g) ne (omega arith) (omega (arith, M.list_room)) in
       let b : part (store_entry a p e) (block_place q) (width g) ≡ part a (block_place q) (width g) =
       part_other q (block_place q) (width g) ne (omega arith) (omega (arith, M.block_room)) in
       λ i. record { digests = d i; block = b i }

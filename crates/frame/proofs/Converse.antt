@@ -129,9 +129,9 @@ pub build_opened : (g : Params) (f : List ℕ) (h : Header) → Bytes f → open
 unfolding build message_in frame_of
 build_opened g f h p q =
     let o = opens_facts g f h q in
-    let s = said g f p h.kind o.kind-low o.kind-high o.kind-used o.length-is in
-    let l : 7 + length (drop body_at f) ≡ be2 f 0 = omega (arith, length-drop body_at f, o.long, o.length-field) in
-    rw (s.kind-is, s.bytes-are, l) (rw (← o.header) (whole f p o.long o.version-is))
+    let s = said g f p h.kind o.kind_low o.kind_high o.kind_used o.length_is in
+    let l : 7 + length (drop body_at f) ≡ be2 f 0 = omega (arith, length-drop body_at f, o.long, o.length_field) in
+    rw (s.kind_is, s.bytes_are, l) (rw (← o.header) (whole f p o.long o.version_is))
 
 -- ---- what is said is within its bounds
 
@@ -178,9 +178,9 @@ unfolding message_in
 formed_opened g f h p q =
     let o = opens_facts g f h q in
     record {
-      client_low = o.client-low;
-      client_high = o.client-high;
-      sequence_low = o.sequence-low;
+      client_low = o.client_low;
+      client_high = o.client_high;
+      sequence_low = o.sequence_low;
       sequence_high = rw (← o.header) (sequence_range f p);
-      body = body_formed g f p h.kind o.kind-low o.kind-high o.kind-used o.length-is o.stamp;
+      body = body_formed g f p h.kind o.kind_low o.kind_high o.kind_used o.length_is o.stamp;
     }

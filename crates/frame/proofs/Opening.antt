@@ -112,14 +112,14 @@ opens_facts g f h e =
     record {
       long = m.0;
       length_field = m.1;
-      version_is = n.version-is;
+      version_is = n.version_is;
       header = o.1;
-      kind_low = n.kind-low;
-      kind_high = n.kind-high;
-      kind_used = n.kind-used;
-      client_low = n.client-low;
-      client_high = n.client-high;
-      sequence_low = n.sequence-low;
+      kind_low = n.kind_low;
+      kind_high = n.kind_high;
+      kind_used = n.kind_used;
+      client_low = n.client_low;
+      client_high = n.client_high;
+      sequence_low = n.sequence_low;
       length_is = body_facts g (get_or f kind_at 0) (length f) c.0 ∙ ap (λ x. body_at + body_length g x) k;
       stamp = λ w. content_facts (get_or f kind_at 0) f c.1 (k ∙ w);
     }
@@ -127,14 +127,14 @@ opens_facts g f h e =
 header_fine : (v : ℕ) (h : Header) → HeaderFine v h → header_test v h ≡ J.Fine
 unfolding header_test pick
 header_fine v h n =
-    let s : h.sequence ≡ 0 → ⊥ = λ q. omega (arith, n.sequence-low, q) in
+    let s : h.sequence ≡ 0 → ⊥ = λ q. omega (arith, n.sequence_low, q) in
     rw (
-      eq-eqb _ _ n.version-is,
-      le-ltb _ _ n.kind-low,
-      le-ltb _ _ n.kind-high,
-      n.kind-used,
-      le-ltb _ _ n.client-low,
-      le-ltb _ _ n.client-high,
+      eq-eqb _ _ n.version_is,
+      le-ltb _ _ n.kind_low,
+      le-ltb _ _ n.kind_high,
+      n.kind_used,
+      le-ltb _ _ n.client_low,
+      le-ltb _ _ n.client_high,
       ne_eqb _ _ s,
     )
 
@@ -156,13 +156,13 @@ unfolding opened frame_test framing_test body_test pick
 opens g f h o =
     let k = kind_is f h o.header in
     let n : HeaderFine (get_or f version_at 0) h = record {
-      version_is = o.version-is;
-      kind_low = o.kind-low;
-      kind_high = o.kind-high;
-      kind_used = o.kind-used;
-      client_low = o.client-low;
-      client_high = o.client-high;
-      sequence_low = o.sequence-low;
+      version_is = o.version_is;
+      kind_low = o.kind_low;
+      kind_high = o.kind_high;
+      kind_used = o.kind_used;
+      client_low = o.client_low;
+      client_high = o.client_high;
+      sequence_low = o.sequence_low;
     } in
     let c : content_test h.kind f ≡ J.Fine = content_fine h.kind f o.stamp in
-    rw (k, o.header, le-ltb _ _ o.long, eq-eqb _ _ o.length-field, header_fine _ _ n, eq-eqb _ _ o.length-is, c)
+    rw (k, o.header, le-ltb _ _ o.long, eq-eqb _ _ o.length_field, header_fine _ _ n, eq-eqb _ _ o.length_is, c)

@@ -58,7 +58,7 @@ module _ (g : Params) (B : Bounded g) where
   frame_says m f =
       let S = small g B in
       let r = body_room g m.body f in
-      omega (arith, length_field (kind_of m.body) m.client m.sequence (body_bytes m.body) (omega (arith, r, S.list-room, S.block_room)))
+      omega (arith, length_field (kind_of m.body) m.client m.sequence (body_bytes m.body) (omega (arith, r, S.list_room, S.block_room)))
 
   pub front_says : (m : Message) → FormedBody g m.body → (rest : List ℕ) → 2 + be2 (build m ++ rest) 0 ≡ length (build m)
   front_says m f rest = ap (λ k. 2 + k) (be2_front (build m) rest (omega (arith, frame_says m f))) ∙ frame_says m f
@@ -70,7 +70,7 @@ pub room_within : (p : Place) (m k size small out to : ℕ) → k ≤ m → smal
 room_within p m k size small out to h s R =
     let d : k * size ≤ m * size = mul-le-mul_right size h in
     let x : k * small ≤ k * size = mul-le-mul_left k s in
-    record { out_room_lem = omega (arith, R.out-room); to_room_lem = omega (arith, R.to_room_lem) }
+    record { out_room_lem = omega (arith, R.out_room_lem); to_room_lem = omega (arith, R.to_room_lem) }
 
 -- of room for N frames k were taken: there is room for m more, which may be smaller
 pub room_left : (p r : Place) (o t o₀ t₀ : List ℕ) (xs : List Sending) (k m N size size' : ℕ)
@@ -85,4 +85,4 @@ room_left p r o t o₀ t₀ xs k m N size size' e f l h s R =
     let d : (k + m) * size ≡ k * size + m * size = add-mul k m size in
     let b : (k + m) * size ≤ N * size = mul-le-mul_right size h in
     let w : m * size' ≤ m * size = mul-le-mul_left m s in
-    record { out_room_lem = omega (arith, R.out-room); to_room_lem = omega (arith, R.to_room_lem) }
+    record { out_room_lem = omega (arith, R.out_room_lem); to_room_lem = omega (arith, R.to_room_lem) }

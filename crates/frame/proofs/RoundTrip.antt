@@ -51,16 +51,16 @@ entry_back : (g : Params) (e : Entry) → Sized g e → (pre : List ℕ) (i : �
 unfolding entry_bytes
 entry_back g e Q pre i h =
     let d : part (pre ++ entry_bytes e) i (listed g) ≡ e.digests =
-    rw (drop_at pre (entry_bytes e) i h) (take_at e.digests e.block (listed g) Q.list-is) in
-    let w : length e.block ≤ width g = omega (arith, Q.block-is) in
+    rw (drop_at pre (entry_bytes e) i h) (take_at e.digests e.block (listed g) Q.list_is) in
+    let w : length e.block ≤ width g = omega (arith, Q.block_is_lem) in
     let b : part (pre ++ entry_bytes e) (i + listed g) (width g) ≡ e.block =
-    rw (← drop-drop (listed g) i (pre ++ entry_bytes e), drop_at pre (entry_bytes e) i h, drop_at e.digests e.block (listed g) Q.list-is)
+    rw (← drop-drop (listed g) i (pre ++ entry_bytes e), drop_at pre (entry_bytes e) i h, drop_at e.digests e.block (listed g) Q.list_is)
     (take_all (width g) e.block w) in
     λ m. record { digests = d m; block = b m }
 
 pub length_entry : (g : Params) (e : Entry) → Sized g e → length (entry_bytes e) ≡ entry_length g
 unfolding entry_bytes
-length_entry g e Q = length-append e.digests e.block ∙ cc (Q.list-is, Q.block-is)
+length_entry g e Q = length-append e.digests e.block ∙ cc (Q.list_is, Q.block_is_lem)
 
 pub length_offer : (g : Params) (o : Offer) → Sized g o.entry → length (offer_bytes o) ≡ 8 + entry_length g
 unfolding offer_bytes
@@ -161,10 +161,10 @@ body_high g M ack f = omega arith
 body_high g M ask_read f = omega arith
 body_high g M read_complete f = omega arith
 body_high g M (stamp_is T) f = omega (arith, length_bytes8 T)
-body_high g M (block_is z o) f = omega (arith, length_offer g o f.0, M.list-room, M.block_room)
+body_high g M (block_is z o) f = omega (arith, length_offer g o f.0, M.list_room, M.block_room)
 body_high g M (report T) f = omega (arith, length_bytes8 T)
 body_high g M (value_is s e) f =
-    omega (arith, length-append (stamp_bytes s) (entry_bytes e), length_stamp s, length_entry g e f.0, M.list-room, M.block_room)
+    omega (arith, length-append (stamp_bytes s) (entry_bytes e), length_stamp s, length_entry g e f.0, M.list_room, M.block_room)
 
 -- what is built opens, and says what was said
 pub opened_build : (g : Params) → Bounded g → (m : Message) → Formed g m → Back g m
@@ -182,13 +182,13 @@ opened_build g B m F =
         long = omega (arith, l);
         length_field = length_field k m.client m.sequence (body_bytes b) h₁;
         version_is = version_back k m.client m.sequence (body_bytes b);
-        header = header_back k m.client m.sequence (body_bytes b) F.sequence-high;
+        header = header_back k m.client m.sequence (body_bytes b) F.sequence_high;
         kind_low = (kind_range b).0;
         kind_high = (kind_range b).1;
         kind_used = (kind_range b).2;
-        client_low = F.client-low;
-        client_high = F.client-high;
-        sequence_low = F.sequence-low;
+        client_low = F.client_low;
+        client_high = F.client_high;
+        sequence_low = F.sequence_low;
         length_is = l ∙ ap (λ x. body_at + x) (length_body g b F.body);
         stamp = stamp_said g m.client m.sequence b F.body;
       });

@@ -17,8 +17,8 @@ pub record Small (g : Params) : Type 0 where
 pub small : (g : Params) → Bounded g → Small g
 unfolding width block_length
 small g B = record {
-  list_room = omega (arith, B.servers-high);
-  block_room = div-le_of_le-mul g.k (omega (arith, B.blocks-low, B.size-high));
+  list_room = omega (arith, B.servers_high);
+  block_room = div-le_of_le-mul g.k (omega (arith, B.blocks_low, B.size_high));
   block_some = go (dec_le 1 ((g.size + (g.k - 1)) / g.k));
 }
   where
@@ -26,6 +26,6 @@ small g B = record {
     go (yes h) = h
     go (no h) = absurd (
         let z : (g.size + (g.k - 1)) / g.k < 1 = omega (arith, h) in
-        let w = (div-lt_iff_lt-mul {x = g.size + (g.k - 1)} {y = 1} B.blocks-low).0 z in
-        omega (arith, B.size_low, B.blocks-low, w)
+        let w = (div-lt_iff_lt-mul {x = g.size + (g.k - 1)} {y = 1} B.blocks_low).0 z in
+        omega (arith, B.size_low, B.blocks_low, w)
         )

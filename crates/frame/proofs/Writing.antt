@@ -102,7 +102,7 @@ one_more class q f j = rw add-one
 pub room_for_one : (p q : Place) (j n size out to out₀ to₀ : ℕ) → j < n → Room p n size out₀ to₀ → q.at ≡ p.at + j * size → q.count ≡ p.count + j
     → out ≡ out₀ → to ≡ to₀ → Room q 1 size out to
 room_for_one p q j n size out to out₀ to₀ h R a c o t = record {
-  out_room_lem = let z = room j n size h in omega (arith, z, R.out-room, a, o);
+  out_room_lem = let z = room j n size h in omega (arith, z, R.out_room_lem, a, o);
   to_room_lem = omega (arith, h, R.to_room_lem, c, t);
 }
 
@@ -125,7 +125,7 @@ wrote_place class q f (suc m) =
     )
 
 pub room_first : (p : Place) (m k size out to : ℕ) → Room p (m + k) size out to → Room p m size out to
-room_first p m k size out to R = let d = add-mul m k size in record { out_room_lem = omega (arith, d, R.out-room); to_room_lem = omega (arith, R.to_room_lem) }
+room_first p m k size out to R = let d = add-mul m k size in record { out_room_lem = omega (arith, d, R.out_room_lem); to_room_lem = omega (arith, R.to_room_lem) }
 
 pub room_left : (class : ℕ) (o t o₀ t₀ f : List ℕ) (r q : Place) (m k size : ℕ) → outbox o t r ≡ wrote_to class (outbox o₀ t₀ q) f m → length f ≡ size
     → Room q (m + k) size (length o₀) (length t₀) → Room r k size (length o) (length t)
@@ -136,7 +136,7 @@ room_left class o t o₀ t₀ f r q m k size e l R =
     let u : length o ≡ length o₀ = ap (λ z. length z.out) e ∙ h.2 in
     let v : length t ≡ length t₀ = ap (λ z. length z.to) e ∙ h.3 in
     let d : (m + k) * size ≡ m * size + k * size = add-mul m k size in
-    record { out_room_lem = omega (arith, a, u, d, R.out-room); to_room_lem = omega (arith, c, v, R.to_room_lem) }
+    record { out_room_lem = omega (arith, a, u, d, R.out_room_lem); to_room_lem = omega (arith, c, v, R.to_room_lem) }
 
 -- ---- entries
 

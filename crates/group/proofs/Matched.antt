@@ -189,7 +189,7 @@ module _ (g : Params) (on : List Bool) (at a d : List ℕ) where
   unfolding value_from lowest_value candidate lowest width
   value_law B W =
       let J = chosen (sent_list g on at a d) 1 g.n in
-      ap (λ l. value_of (take g.k l) g.size (blocks_in g at a (take g.k l))) (flagged B.servers-high)
+      ap (λ l. value_of (take g.k l) g.size (blocks_in g at a (take g.k l))) (flagged B.servers_high)
       ∙ ap (value_of (take g.k J) g.size) (sym (blocks_in_take g at a B W g.k J))
       ∙ sym (ap₂ (λ l w. value_of (take g.k l) g.size (take (g.k * width g) w)) numbered (bytes_pieces 1 g.n))
 

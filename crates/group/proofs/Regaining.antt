@@ -26,7 +26,7 @@ all_blocks L k = mul-div-le (L + (k - 1)) k
 module _ (g : Params) (on : List Bool) (at a : List ℕ) (out : ℕ) (ps ls : List ℕ) (D : Decoding g on at a out ps ls) where
   -- the numbers and their blocks fit the buffers
   pub few : g.k ≤ 8
-  few = omega (arith, D.bounded.servers-high, D.bounded.faults-low, D.bounded.blocks-high)
+  few = omega (arith, D.bounded.servers_high, D.bounded.faults_low, D.bounded.blocks_high)
 
   wide : (b : ℕ) → b ≡ block_length g.size g.k → b ≡ width g
   unfolding width
@@ -35,14 +35,14 @@ module _ (g : Params) (on : List Bool) (at a : List ℕ) (out : ℕ) (ps ls : Li
   pub total : (b : ℕ) → b ≡ block_length g.size g.k → g.k * b ≤ 264
   total b e =
       let h = all_blocks g.size g.k in
-      rw e (omega (arith, few, D.bounded.blocks-low, D.bounded.size-high))
+      rw e (omega (arith, few, D.bounded.blocks_low, D.bounded.size_high))
 
   -- the value has its length
   pub length_value : length (value_from g on at a) ≡ g.size
   unfolding value_from
   length_value =
       let n = length_lowest (marked on) g.k g.n D.enough in
-      let h : 0 < length (lowest (marked on) g.k g.n) = omega (arith, D.bounded.blocks-low) in
+      let h : 0 < length (lowest (marked on) g.k g.n) = omega (arith, D.bounded.blocks_low) in
       length_value_of (lowest (marked on) g.k g.n) (blocks_in g at a (lowest (marked on) g.k g.n)) g.size h
 
   module _ (d l : List ℕ) (chosen : l ≡ sets d 0 (lowest (marked on) g.k g.n)) (eight : length d ≡ 8) where
@@ -62,7 +62,7 @@ module _ (g : Params) (on : List Bool) (at a : List ℕ) (out : ℕ) (ps ls : Li
     pub collecting : (b : ℕ) → b ≡ block_length g.size g.k → Collecting g (take g.k l) at a b 264
     collecting b e = record {
       bounded = D.bounded;
-      numbers = λ i. rw front (omega (arith, lowest_below (marked on) g.k g.n i, D.bounded.servers-high));
+      numbers = λ i. rw front (omega (arith, lowest_below (marked on) g.k g.n i, D.bounded.servers_high));
       within = D.within;
       width_is = wide b e;
       few = rw (← front_length) few;

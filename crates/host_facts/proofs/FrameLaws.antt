@@ -78,11 +78,11 @@ timed_by g f (suc (suc (suc (suc (suc (suc (suc (suc (suc (suc (suc (suc (suc (s
 -- ---- the time that a frame carries
 
 timed_of : (g : Params) (f : List ℕ) (h : Header) → opened g f ≡ O.Frame h → Timed g f h.kind
-timed_of g f h e = let o = opens_facts g f h e in timed_by g f h.kind o.kind-low o.kind-high o.kind-used
+timed_of g f h e = let o = opens_facts g f h e in timed_by g f h.kind o.kind_low o.kind_high o.kind_used
 
 pub time_long : (g : Params) (f : List ℕ) (h : Header) → opened g f ≡ O.Frame h → carries_time h.kind ≡ true → 17 ≤ length f
 time_long g f h e c =
-    let l = (opens_facts g f h e).length-is in
+    let l = (opens_facts g f h e).length_is in
     let b = (timed_of g f h e).long c in
     omega (arith, l, b)
 

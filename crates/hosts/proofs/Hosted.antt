@@ -357,7 +357,7 @@ module _ (Z : Setup) where
           (subst (λ z. ClientKept z ((step Z w k).clients c)) (sym (put_same h.clients c v)) new)
       go (no p) =
           subst (λ z. ClientKept z ((step Z w k).clients d)) (sym (other_put h.clients c v d p))
-          (subst (ClientKept (h.clients d)) (sym ((runs_go_on Z w).clients-stay k d (λ q. p (ap number_in (sym e ∙ q))))) (old d))
+          (subst (ClientKept (h.clients d)) (sym ((runs_go_on Z w).clients_stay k d (λ q. p (ap number_in (sym e ∙ q))))) (old d))
 
   server_next : (h : Hosts) (w : World) (k : Call) (i : ℕ) (v : ServerHost) → caller k ≡ P.Server i
       → (Among g.n i → ServerKept i v ((step Z w k).servers i))
@@ -372,20 +372,20 @@ module _ (Z : Setup) where
           (λ is. subst (λ z. ServerKept i z ((step Z w k).servers i)) (sym (put_same h.servers i v)) (new is)) is
       go (no p) =
           subst (λ z. ServerKept j z ((step Z w k).servers j)) (sym (other_put h.servers i v j p))
-          (subst (ServerKept j (h.servers j)) (sym ((runs_go_on Z w).servers-stay k j (λ q. p (ap number_in (sym e ∙ q))))) (old j is))
+          (subst (ServerKept j (h.servers j)) (sym ((runs_go_on Z w).servers_stay k j (λ q. p (ap number_in (sym e ∙ q))))) (old j is))
 
   -- a client's call leaves the servers as they were, and a server's call the clients
   servers_still : (h : Hosts) (w : World) (k : Call) (c : ℕ) → caller k ≡ P.Client c → ((j : ℕ) → Among g.n j → ServerKept j (h.servers j) (w.servers j))
       → (j : ℕ) → Among g.n j → ServerKept j (h.servers j) ((step Z w k).servers j)
   unfolding RunsGoOn
   servers_still h w k c e old j is =
-      subst (ServerKept j (h.servers j)) (sym ((runs_go_on Z w).servers-stay k j (λ q. impossible (cc (sym e ∙ q))))) (old j is)
+      subst (ServerKept j (h.servers j)) (sym ((runs_go_on Z w).servers_stay k j (λ q. impossible (cc (sym e ∙ q))))) (old j is)
 
   clients_still : (h : Hosts) (w : World) (k : Call) (i : ℕ) → caller k ≡ P.Server i → ((d : ℕ) → ClientKept (h.clients d) (w.clients d))
       → (d : ℕ) → ClientKept (h.clients d) ((step Z w k).clients d)
   unfolding RunsGoOn
   clients_still h w k i e old d =
-      subst (ClientKept (h.clients d)) (sym ((runs_go_on Z w).clients-stay k d (λ q. impossible (cc (sym e ∙ q))))) (old d)
+      subst (ClientKept (h.clients d)) (sym ((runs_go_on Z w).clients_stay k d (λ q. impossible (cc (sym e ∙ q))))) (old d)
 
   -- ---- all calls
 
@@ -402,24 +402,24 @@ module _ (Z : Setup) where
         let b = Z.initial_areas i in
         let fine = fresh_fine Z (assumed Z S (λ m. ap (λ h. length (h m)) e ∙ sha256_size m)) i is in
         let step = ap (λ h. is_turned_down (SD.construction h g i v a b).reply) (sym e) ∙ made_fine H g i v a b fine in
-        let whole = make_whole g i v a b (R.servers i) (L.server-room i) in record {
+        let whole = make_whole g i v a b (R.servers i) (L.server_room i) in record {
           says = record {
             server =
-                made_back g i v a b (R.servers i) (L.server-room i) step
+                made_back g i v a b (R.servers i) (L.server_room i) step
                 ∙ sym (ap (λ h. (SD.construction h g i v a b).server) e ∙ fresh_server_lem g i v a b);
             area = ap (λ m. m.area) whole ∙ ap (λ h. (SD.construction h g i v a b).area) (sym e);
             block = ap (λ m. m.initial) whole ∙ ap (λ h. (SD.construction h g i v a b).initial) (sym e);
           };
-          long = make_long g i v a b (R.servers i) (L.server-room i);
-          bytes = made_bytes g i v a b (R.servers i) (L.server-room i) (L.server-bytes i);
+          long = make_long g i v a b (R.servers i) (L.server_room i);
+          bytes = made_bytes g i v a b (R.servers i) (L.server_room i) (L.server_bytes_lem i);
         }
 
     first_client : (c : ℕ) → ClientKept ((first Z R).clients c) ((start Z).clients c)
     unfolding first start
     first_client c = record {
-      says = record { client = fresh_back (R.clients c) (L.client-room c); rows = refl; value = refl };
-      long = fresh_long (R.clients c) (L.client-room c);
-      bytes = fresh_bytes (R.clients c) (L.client-bytes c);
+      says = record { client = fresh_back (R.clients c) (L.client_room c); rows = refl; value = refl };
+      long = fresh_long (R.clients c) (L.client_room c);
+      bytes = fresh_bytes (R.clients c) (L.client_bytes_lem c);
     }
 
     step_kept : (h : Hosts) (ks : List Call) (k : HostCall) → Admissible Z (call_of k ++ ks) → Kept h (run Z ks)

@@ -145,7 +145,7 @@ module _ (H : List ℕ → List ℕ) (g : Params) (me : ℕ) (s : Server) (t : T
   typed_after f J.Fine (J.Bad r) v i e = t
   typed_after f J.Fine J.Fine v i e =
       let o = opens_facts g f (header_in f) (ap (λ (z : Verdict). opened_by z (header_in f)) e) in
-      typed_judged (and_then v (message_test H g me s from (message_in g (header_in f) f))) v (message_in g (header_in f) f) o.client-high
+      typed_judged (and_then v (message_test H g me s from (message_in g (header_in f) f))) v (message_in g (header_in f) f) o.client_high
       (be4_range f sequence_at i) (body_in_lem g (header_in f).kind f i) refl
 
   -- the delivery of a frame of bytes keeps the record's numbers within their widths

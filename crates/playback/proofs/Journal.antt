@@ -79,8 +79,8 @@ module _ (g : Params) (me : ℕ) (initial l : List ℕ) where
       let B = brings o.state o.area hs (omega (arith, h, n))
       (record_bytes g me x.entry.sender x.entry.frame area initial st x.out x.to h p b.0) k b.1 in
       record {
-        state_is = B.state-is ∙ ap (λ (y : SD.Outcome). sets l 0 (server_bytes (taken digest_of g me initial y.server y.area hs).server)) D;
-        area_is = B.area-is ∙ ap (λ (y : SD.Outcome). (taken digest_of g me initial y.server y.area hs).area) D;
+        state_is = B.state_is ∙ ap (λ (y : SD.Outcome). sets l 0 (server_bytes (taken digest_of g me initial y.server y.area hs).server)) D;
+        area_is = B.area_is ∙ ap (λ (y : SD.Outcome). (taken digest_of g me initial y.server y.area hs).area) D;
       }
 
 module _ (g : Params) (me : ℕ) (v trace area initial state out : List ℕ) (b : Bytes trace) (p : Bytes state) (long : server_size ≤ length state) (x : Summed)
@@ -123,8 +123,8 @@ module _ (g : Params) (me : ℕ) (v trace area initial state out : List ℕ) (b 
         ≡ taken_from digest_of g me (SD.construction digest_of g me v area initial) hs =
         ap (λ (y : SD.Constructed). taken digest_of g me y.initial y.server y.area hs) F in (
           left ∙ ap (λ (y : Server). sets state 0 (server_bytes y)) I.server
-              ∙ sym (B.state-is ∙ ap (λ (y : Taken). sets state 0 (server_bytes y.server)) s),
-          left_area ∙ I.area ∙ sym (B.area-is ∙ ap (λ (y : Taken). y.area) s),
+              ∙ sym (B.state_is ∙ ap (λ (y : Taken). sets state 0 (server_bytes y.server)) s),
+          left_area ∙ I.area ∙ sym (B.area_is ∙ ap (λ (y : Taken). y.area) s),
         )
 
 pub journal_theorem : (g : Params) (me : ℕ) → JournalTheorem g me

@@ -178,14 +178,14 @@ module _ (out to : List ℕ) (from at i left : ℕ) where
         → out₂ ≡ sets out₁ (at + 2) (part out₁ from (2 + x)) → out₃ ≡ sets out₂ at (take (2 * i + 2 - 2 * i) (drop (2 * i) to))
         → (out₃ ≡ sets out at (sent_in left (drop from out) (drop (2 * i) to))) × (end ≡ at + length (sent_in left (drop from out) (drop (2 * i) to)))
     spread_next x m out₁ out₂ out₃ end e n p u q r =
-        let k : m ≡ A.rest = omega (arith, n, A.rest-is) in
+        let k : m ≡ A.rest = omega (arith, n, A.rest_is) in
         let B = behind out to from i A.rest in
         let F = part out from z in
         let P = part to (2 * i) 2 in
         let lp = length_part to (2 * i) 2 A.receiver in
         let lf = length_part out from z A.first.whole in
         let s : sent_in left (drop from out) (drop (2 * i) to) ≡ P ++ (F ++ B) =
-        ap (λ (y : ℕ). sent_in y (drop from out) (drop (2 * i) to)) A.rest-is ∙ first_sent out to from i A.rest in
+        ap (λ (y : ℕ). sent_in y (drop from out) (drop (2 * i) to)) A.rest_is ∙ first_sent out to from i A.rest in
         let p' : out₁ ≡ sets out (at + 2 + z) B =
         p ∙ ap₂ (λ y w. sets out (at + 2 + (2 + y)) (sent_in w (drop (from + (2 + y)) out) (drop (2 * (i + 1)) to))) e k in
         let g : part out₁ from (2 + x) ≡ F =

@@ -35,7 +35,7 @@ areas_test g area initial = pick (ltb area area_bytes) (J.Bad R.Room) (pick (ltb
 
 roomy : (g : Params) (area initial : ℕ) (out to : List ℕ) → Enough g out to → ST.room_test g area initial (length out) (length to) ≡ areas_test g area initial
 unfolding ST.room_test pick
-roomy g area initial out to E = rw (le-ltb _ _ E.out-room, le-ltb _ _ E.to_room_lem)
+roomy g area initial out to E = rw (le-ltb _ _ E.out_room_lem, le-ltb _ _ E.to_room_lem)
 
 pub spare_enough : (g : Params) → Enough g (spare_out g) (spare_to g)
 unfolding spare_out spare_to

@@ -24,7 +24,7 @@ use Rattle.playback.specs.Stages.{sent_in, Lie}
 module _ (g : Params) (B : Bounded g) where
   pub largest_few : largest_frame g ≤ 598
   unfolding largest_frame
-  largest_few = let S = small g B in omega (arith, S.list-room, S.block_room)
+  largest_few = let S = small g B in omega (arith, S.list_room, S.block_room)
 
   -- ---- in a step's areas
 

@@ -34,7 +34,7 @@ module _ (H : List ℕ → List ℕ) (g : Params) (B : Bounded g) (me : ℕ) whe
   unfolding SD.construction SD.construct_by
   sound_fresh v a initial h = record {
     in_bounds = go (SD.construct_test H g me v (length a) (length initial));
-    shape = shape_fresh H g B.servers-high me v a initial h;
+    shape = shape_fresh H g B.servers_high me v a initial h;
   }
     where
       go : (t : Verdict) → InBounds (SD.construct_by H g me t v a initial).server
@@ -55,14 +55,14 @@ module _ (H : List ℕ → List ℕ) (g : Params) (B : Bounded g) (me : ℕ) whe
     pub few : length r.sends ≤ server_frames g
 
   module _ (initial : List ℕ) (I : width g ≤ length initial) (s : Server) (a : List ℕ) (K : Sound s a) (e : TraceEntry) (b : Bytes e.frame) where
-    leaves_by : {r : S.Effect} → Delivered H g B.servers-high me s a initial e.sender e.frame r → Leaves r
+    leaves_by : {r : S.Effect} → Delivered H g B.servers_high me s a initial e.sender e.frame r → Leaves r
     leaves_by (refused q) = subst Leaves (sym q) (record { sound = K; formed = tt; few = omega arith })
     leaves_by (taken m T q) =
         let f : Formed g m = subst (Formed g) T.says (formed_opened g e.frame T.header b T.opens) in
         let G = effect_good H g B me s K.in_bounds a initial K.shape e.sender m f T.passes I in
         subst Leaves (sym q)
         (record {
-          sound = record { in_bounds = G.in_bounds; shape = shape_effect H g B.servers-high me s a initial K.shape e.sender e.frame m T };
+          sound = record { in_bounds = G.in_bounds; shape = shape_effect H g B.servers_high me s a initial K.shape e.sender e.frame m T };
           formed = all_formed g _ G.formed;
           few = server_sends H g me s a initial e.sender m;
         })
@@ -70,5 +70,5 @@ module _ (H : List ℕ → List ℕ) (g : Params) (B : Bounded g) (me : ℕ) whe
     pub steps : Steps initial s a e
     unfolding server_after area_after report_of SD.delivery SD.outcome_of
     steps =
-        let L = leaves_by (delivered H g B.servers-high me s a initial e.sender e.frame (spare_out g) (spare_to g)) in
+        let L = leaves_by (delivered H g B.servers_high me s a initial e.sender e.frame (spare_out g) (spare_to g)) in
         record { sound = L.sound; formed = L.formed; few = L.few }

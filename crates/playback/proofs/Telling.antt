@@ -102,7 +102,7 @@ module _ (g : Params) (B : Bounded g) where
       let more = reports_bytes rs ++ l in
       let e : (n ∷ (bytes2 c ++ addressed xs)) ++ reports_bytes rs ++ l ≡ n ∷ (bytes2 c ++ (addressed xs ++ more)) =
       append_assoc (n ∷ (bytes2 c ++ addressed xs)) (reports_bytes rs) l ∙ ap (λ y. n ∷ y) (append_assoc (bytes2 c) (addressed xs) more) in
-      let k = count_back n c (addressed xs ++ more) (omega (arith, f.1, B.servers-high)) in
+      let k = count_back n c (addressed xs ++ more) (omega (arith, f.1, B.servers_high)) in
       let d = three n c (addressed xs ++ more) in
       let P = posted_back xs f.0 more in
       ap (λ y. record { number = get_or y 0 0; posted = posted_in (be2 y 1) (drop 3 y) } ∷ told_in m (behind_posted (be2 y 1) (drop 3 y))) e

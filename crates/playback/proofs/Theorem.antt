@@ -99,7 +99,7 @@ module _ (H : List ℕ → List ℕ) (g : Params) (me : ℕ) where
       unfolding played_from
       reported b =
           let K = sound_of H g me v (length a) (length initial) _ refl tests.0 in
-          all_reported g bounded H me x.initial (omega (arith, K.initial-whole, same_initial H g me v a initial)) x.server x.area
+          all_reported g bounded H me x.initial (omega (arith, K.initial_whole, same_initial H g me v a initial)) x.server x.area
           (sound_fresh H g bounded me v a initial K.whole) es (frames_of trace b)
 
       count : length all.reports ≡ length es

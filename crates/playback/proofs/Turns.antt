@@ -81,10 +81,10 @@ module _ (H : List ℕ → List ℕ) (g : Params) (me : ℕ) (initial trace : Li
         let p : plays s a at ≡ record { server = s; area = a; reports = [] } = ap (played H g me initial s a) n in
         let q : reports_bytes (plays s a at).reports ≡ [] = ap (λ y. reports_bytes y.reports) p in
         record {
-          server = sym (ap (λ y. y.server) p) ∙ T.server-is;
-          area = sym (ap (λ y. y.area) p) ∙ T.area-is;
-          used_all = omega (arith, T.used-is, ap length q);
-          out_all = sym (ap (sets out used) q) ∙ T.out-is;
+          server = sym (ap (λ y. y.server) p) ∙ T.server_is;
+          area = sym (ap (λ y. y.area) p) ∙ T.area_is;
+          used_all = omega (arith, T.used_is, ap length q);
+          out_all = sym (ap (sets out used) q) ∙ T.out_is;
         }
 
     -- ---- an entry x, whose frame is lent to the step
@@ -111,7 +111,7 @@ module _ (H : List ℕ → List ℕ) (g : Params) (me : ℕ) (initial trace : Li
           Bytes-take (x.end - 5) (drop 5 l) (Bytes-drop 5 l (Bytes-take (length trace - at) (drop at trace) (Bytes-drop at trace T.bytes)))
 
       taken : Steps H g B me initial s a e
-      taken = steps H g B me initial T.initial-room s a T.sound e entry_bytes_lem
+      taken = steps H g B me initial T.initial_room s a T.sound e entry_bytes_lem
 
       report_room : length (report_bytes report) ≤ entry_need g
       report_room = report_few g B report.sends taken.formed taken.few report refl
@@ -132,7 +132,7 @@ module _ (H : List ℕ → List ℕ) (g : Params) (me : ℕ) (initial trace : Li
           ap (λ y. length y * entry_need g) left_is ∙ suc-mul (length (left (at + x.end))) (entry_need g) in (
             record {
               out_room_lem = omega (arith, T.room, l, m, ap length (lent_rest out (used + 3)), length-drop (used + 3) out);
-              to_room_lem = omega (arith, B.servers-high, t);
+              to_room_lem = omega (arith, B.servers_high, t);
             },
             omega (arith, T.room, l),
           )
@@ -163,7 +163,7 @@ module _ (H : List ℕ → List ℕ) (g : Params) (me : ℕ) (initial trace : Li
             let c : sent_in (SD.reply_count v) frames' to' ≡ addressed report.sends =
             ap (λ (k : ℕ). sent_in k frames' to') count
             ∙ ap₂ (sent_in (length report.sends)) frames_are to_are
-            ∙ sent_in_lem g B report.sends taken.formed taken.few frames₀ to₀ E.out-room E.to_room_lem in
+            ∙ sent_in_lem g B report.sends taken.formed taken.few frames₀ to₀ E.out_room_lem E.to_room_lem in
             ap₂ (λ n l. n ∷ l) (ap SD.reply_number reply_is) (ap₂ (λ k l. bytes2 k ++ l) count c)
 
         -- ---- the frames lie in the out area itself, from the place of the report's frames on
@@ -207,14 +207,14 @@ module _ (H : List ℕ → List ℕ) (g : Params) (me : ℕ) (initial trace : Li
               lie = subst (Lie (SD.reply_count v)) (sym there)
                   (subst (λ (k : ℕ). Lie k frames') (sym count)
                   (subst (Lie (length report.sends)) (sym frames_are)
-                  (lie_in g B report.sends taken.formed taken.few frames₀ to₀ E.out-room E.to_room_lem)));
+                  (lie_in g B report.sends taken.formed taken.few frames₀ to₀ E.out_room_lem E.to_room_lem)));
               receivers_in = omega (
                 arith,
                 count,
                 ap length to_are,
-                to_many g B report.sends taken.formed taken.few frames₀ to₀ E.out-room E.to_room_lem,
+                to_many g B report.sends taken.formed taken.few frames₀ to₀ E.out_room_lem E.to_room_lem,
               );
-              few = omega (arith, count, taken.few, B.servers-high);
+              few = omega (arith, count, taken.few, B.servers_high);
               fits = omega (arith, used_room, ap (λ k. length (report_in v k to')) there, ap length report_is, l);
             }
 
@@ -238,18 +238,18 @@ module _ (H : List ℕ → List ℕ) (g : Params) (me : ℕ) (initial trace : Li
             let l' : length out' ≡ length out = ap length o' ∙ length-sets out used (report_bytes report) in
             record {
               bounded = B;
-              initial_room = T.initial-room;
+              initial_room = T.initial_room;
               bytes = T.bytes;
               low = omega (arith, within.1, T.low);
               sound = subst (λ (z : Server). Sound z a') (sym s') (subst (Sound (server_after H g me initial s a e)) (sym b') taken.sound);
-              server_is = ap (λ y. y.server) p ∙ sym (ap (λ y. y.server) w) ∙ T.server-is;
-              area_is = ap (λ y. y.area) p ∙ sym (ap (λ y. y.area) w) ∙ T.area-is;
-              used_is = omega (arith, u', ap length rest, ap length all, length-append (report_bytes report) more, T.used-is);
+              server_is = ap (λ y. y.server) p ∙ sym (ap (λ y. y.server) w) ∙ T.server_is;
+              area_is = ap (λ y. y.area) p ∙ sym (ap (λ y. y.area) w) ∙ T.area_is;
+              used_is = omega (arith, u', ap length rest, ap length all, length-append (report_bytes report) more, T.used_is);
               out_is = ap₂ (λ y z. sets y z (reports_bytes (plays s₁ a' (at + x.end)).reports)) o' u'
                   ∙ ap (sets (sets out used (report_bytes report)) (used + length (report_bytes report))) rest
                   ∙ sym (sets_append out used (report_bytes report) more)
                   ∙ ap (sets out used) (sym all)
-                  ∙ T.out-is;
+                  ∙ T.out_is;
               room = omega (arith, used_room, u', l');
             }
 
@@ -279,7 +279,7 @@ module _ (H : List ℕ → List ℕ) (g : Params) (me : ℕ) (v a initial : List
       (fine_not (ltb (length out) (length (trace_of trace).entries * entry_need g)) Refusals.Room J.Fine w.1).0 in
       record {
         bounded = K.bounded;
-        initial_room = omega (arith, K.initial-whole, ap (λ y. length y.initial) c, same_initial H g me v a initial);
+        initial_room = omega (arith, K.initial_whole, ap (λ y. length y.initial) c, same_initial H g me v a initial);
         bytes = b;
         low = omega arith;
         sound = subst (λ (y : SD.Constructed). Sound y.server y.area) (sym c) F;

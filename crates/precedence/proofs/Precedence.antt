@@ -42,34 +42,34 @@ module _ {K A S : Type 0} (Z : Stamps A S) (W : Views K A S) (n t : ℕ) (faulty
   pub present_mono : (ks₀ ks : List K) → Extends ks₀ ks → Run ks → (j : ℕ) → key (present ks₀ j) ≤ key (present ks j)
   present_mono ks₀ [] x a j = rw x (omega arith)
   present_mono ks₀ (k ∷ ks) (inl e) a j = rw e (omega arith)
-  present_mono ks₀ (k ∷ ks) (inr x) a j = omega (arith, present_mono ks₀ ks x a.1 j, a.0.present-up j)
+  present_mono ks₀ (k ∷ ks) (inr x) a j = omega (arith, present_mono ks₀ ks x a.1 j, a.0.present_up j)
 
   pub accepted_mono : (ks₀ ks : List K) → Extends ks₀ ks → Run ks → (i c q : ℕ) (T : A) → Accepted ks₀ i c q T → Accepted ks i c q T
   accepted_mono ks₀ [] x a i c q T u = rw x at u
   accepted_mono ks₀ (k ∷ ks) (inl e) a i c q T u = rw e at u
-  accepted_mono ks₀ (k ∷ ks) (inr x) a i c q T u = a.0.accepted-stays i c q T (accepted_mono ks₀ ks x a.1 i c q T u)
+  accepted_mono ks₀ (k ∷ ks) (inr x) a i c q T u = a.0.accepted_stays i c q T (accepted_mono ks₀ ks x a.1 i c q T u)
 
   module _ (E : L.Fresh Z W n t faulty_server faulty_client) where
     -- ---- what servers hold and send
 
     written_mono : (ks : List K) (k : K) → Lawful ks k → (j : ℕ) (v : S) → Written ks j v → Written (k ∷ ks) j v
-    written_mono ks k M j v w = (w.0, w.1, w.2, M.accepted-stays j w.0 w.1 w.2 w.3, w.4)
+    written_mono ks k M j v w = (w.0, w.1, w.2, M.accepted_stays j w.0 w.1 w.2 w.3, w.4)
 
     -- a present stamp is the initial one or was accepted
     pub present_of_lem : (ks : List K) → Run ks → (j : ℕ) → (present ks j ≡ initial) ⊎ Written ks j (present ks j)
-    present_of_lem [] a j = inl (E.initial-stamp j)
+    present_of_lem [] a j = inl (E.initial_stamp j)
     present_of_lem (k ∷ ks) a j = ⊎_elim
         (λ e. ⊎_elim (λ u. inl (e ∙ u)) (λ u. inr (rw e (written_mono ks k a.0 j (present ks j) u))) (present_of_lem ks a.1 j))
         (λ w. inr w)
-        (a.0.present-new j)
+        (a.0.present_new j)
 
     -- an ack was sent for a write that the server accepted, and whose stamp it has reached
     pub ack_accepted : (ks : List K) → Run ks → (j c q : ℕ) → SentAck ks j c q → (T : A) × Accepted ks j c q T × (key (stamped T c q) ≤ key (present ks j))
-    ack_accepted [] a j c q u = absurd (E.no-ack j c q u)
+    ack_accepted [] a j c q u = absurd (E.no_ack j c q u)
     ack_accepted (k ∷ ks) a j c q u = ⊎_elim
-        (λ o. let w = ack_accepted ks a.1 j c q o in (w.0, a.0.accepted-stays j c q w.0 w.1, omega (arith, w.2, a.0.present-up j)))
+        (λ o. let w = ack_accepted ks a.1 j c q o in (w.0, a.0.accepted_stays j c q w.0 w.1, omega (arith, w.2, a.0.present_up j)))
         (λ w. w)
-        (a.0.ack-new j c q u)
+        (a.0.ack_new j c q u)
 
     -- a value has the initial or an accepted stamp, which the server has reached
     pub value_written : (ks : List K) → Run ks → (j c q : ℕ) (v : S) → SentValue ks j c q v → (key v ≤ key (present ks j)) × ((v ≡ initial) ⊎ Written ks j v)
@@ -77,27 +77,27 @@ module _ {K A S : Type 0} (Z : Stamps A S) (W : Views K A S) (n t : ℕ) (faulty
     value_written (k ∷ ks) a j c q v u = ⊎_elim
         (λ o.
         let w = value_written ks a.1 j c q v o in
-        (omega (arith, w.0, a.0.present-up j), ⊎_elim (λ z. inl z) (λ z. inr (written_mono ks k a.0 j v z)) w.1))
+        (omega (arith, w.0, a.0.present_up j), ⊎_elim (λ z. inl z) (λ z. inr (written_mono ks k a.0 j v z)) w.1))
         (⊎_elim
         (λ w. (
-          omega (arith, ap key w.1, a.0.present-up j),
+          omega (arith, ap key w.1, a.0.present_up j),
           ⊎_elim (λ z. inl (w.1 ∙ z)) (λ z. inr (rw w.1 (written_mono ks k a.0 j (present ks j) z))) (present_of_lem ks a.1 j),
         ))
         (λ w. (w.below, inr w.written)))
-        (a.0.value-new j c q v u)
+        (a.0.value_new j c q v u)
 
     -- ---- nothing is said of an operation before it begins, so what is said later is not below the present stamps of before
 
     pub asked_begun : (ks : List K) → Run ks → (c q : ℕ) → SentRead ks c q → q ≤ reads ks c
     asked_begun [] a c q u = absurd (E.no_read c q u)
-    asked_begun (k ∷ ks) a c q u = ⊎_elim (λ o. omega (arith, asked_begun ks a.1 c q o, a.0.reads_up c)) (λ w. w) (a.0.read-new c q u)
+    asked_begun (k ∷ ks) a c q u = ⊎_elim (λ o. omega (arith, asked_begun ks a.1 c q o, a.0.reads_up c)) (λ w. w) (a.0.read_new c q u)
 
     pub get_stamp_begun : (ks : List K) → Run ks → (c q : ℕ) → SentGetStamp ks c q → q ≤ writes ks c
-    get_stamp_begun [] a c q u = absurd (E.no-get-stamp c q u)
-    get_stamp_begun (k ∷ ks) a c q u = ⊎_elim (λ o. omega (arith, get_stamp_begun ks a.1 c q o, a.0.writes-up c)) (λ w. w) (a.0.get-stamp-new c q u)
+    get_stamp_begun [] a c q u = absurd (E.no_get_stamp c q u)
+    get_stamp_begun (k ∷ ks) a c q u = ⊎_elim (λ o. omega (arith, get_stamp_begun ks a.1 c q o, a.0.writes_up c)) (λ w. w) (a.0.get_stamp_new c q u)
 
     pub noted_begun : (ks : List K) → Run ks → (j c : ℕ) → faulty_client c ≡ false → listening ks j c ≡ true → newest ks j c ≤ reads ks c
-    noted_begun [] a j c h l = impossible (cc (E.no-listener j c))
+    noted_begun [] a j c h l = impossible (cc (E.no_listener j c))
     noted_begun (k ∷ ks) a j c h l = ⊎_elim
         (λ w. omega (arith, noted_begun ks a.1 j c h w.0, w.1, a.0.reads_up c))
         (λ w. omega (arith, asked_begun ks a.1 c _ (w.0 h), a.0.reads_up c))
@@ -105,7 +105,7 @@ module _ {K A S : Type 0} (Z : Stamps A S) (W : Views K A S) (n t : ℕ) (faulty
 
     noted_above : (ks₀ ks : List K) → Extends ks₀ ks → Run ks → (j c : ℕ) → faulty_client c ≡ false → listening ks j c ≡ true → reads ks₀ c < newest ks j c
         → key (present ks₀ j) ≤ noted ks j c
-    noted_above ks₀ [] x a j c h l b = impossible (cc (E.no-listener j c))
+    noted_above ks₀ [] x a j c h l b = impossible (cc (E.no_listener j c))
     noted_above ks₀ (k ∷ ks) (inl e) a j c h l b = absurd (omega (arith, noted_begun (k ∷ ks) a j c h l, ap (λ z. reads z c) e))
     noted_above ks₀ (k ∷ ks) (inr x) a j c h l b = ⊎_elim
         (λ w. omega (arith, noted_above ks₀ ks x a.1 j c h w.0 (omega (arith, w.1)), w.2))
@@ -119,7 +119,7 @@ module _ {K A S : Type 0} (Z : Stamps A S) (W : Views K A S) (n t : ℕ) (faulty
         (⊎_elim
         (λ w. omega (arith, asked_begun ks a.1 c q (w.0 h), a.0.reads_up c))
         (λ w. omega (arith, noted_begun ks a.1 j c h w.listens, w.current, a.0.reads_up c)))
-        (a.0.value-new j c q v u)
+        (a.0.value_new j c q v u)
 
     value_above : (ks₀ ks : List K) → Extends ks₀ ks → Run ks → (j c q : ℕ) (v : S) → faulty_client c ≡ false → reads ks₀ c < q → SentValue ks j c q v
         → key (present ks₀ j) ≤ key v
@@ -130,71 +130,71 @@ module _ {K A S : Type 0} (Z : Stamps A S) (W : Views K A S) (n t : ℕ) (faulty
         (⊎_elim
         (λ w. omega (arith, present_mono ks₀ ks x a.1 j, ap key w.1))
         (λ w. omega (arith, noted_above ks₀ ks x a.1 j c h w.listens (omega (arith, w.current)), w.above)))
-        (a.0.value-new j c q v u)
+        (a.0.value_new j c q v u)
 
     pub time_begun : (ks : List K) → Run ks → (j c q T : ℕ) → faulty_client c ≡ false → SentStamp ks j c q T → q ≤ writes ks c
-    time_begun [] a j c q T h u = absurd (E.no-stamp j c q T u)
+    time_begun [] a j c q T h u = absurd (E.no_stamp j c q T u)
     time_begun (k ∷ ks) a j c q T h u = ⊎_elim
-        (λ o. omega (arith, time_begun ks a.1 j c q T h o, a.0.writes-up c))
-        (λ w. omega (arith, get_stamp_begun ks a.1 c q (w.0 h), a.0.writes-up c))
-        (a.0.stamp-new j c q T u)
+        (λ o. omega (arith, time_begun ks a.1 j c q T h o, a.0.writes_up c))
+        (λ w. omega (arith, get_stamp_begun ks a.1 c q (w.0 h), a.0.writes_up c))
+        (a.0.stamp_new j c q T u)
 
     time_above : (ks₀ ks : List K) → Extends ks₀ ks → Run ks → (j c q T : ℕ) → faulty_client c ≡ false → writes ks₀ c < q → SentStamp ks j c q T
         → time (present ks₀ j) ≤ T
-    time_above ks₀ [] x a j c q T h l u = absurd (E.no-stamp j c q T u)
+    time_above ks₀ [] x a j c q T h l u = absurd (E.no_stamp j c q T u)
     time_above ks₀ (k ∷ ks) (inl e) a j c q T h l u = absurd (omega (arith, time_begun (k ∷ ks) a j c q T h u, ap (λ z. writes z c) e))
     time_above ks₀ (k ∷ ks) (inr x) a j c q T h l u = ⊎_elim
         (λ o. time_above ks₀ ks x a.1 j c q T h l o)
         (λ w. omega (arith, key_time _ _ (present_mono ks₀ ks x a.1 j), w.1))
-        (a.0.stamp-new j c q T u)
+        (a.0.stamp_new j c q T u)
 
     -- ---- what a client has counted of honest servers was sent to it for the open operation
 
     pub ack_from_lem : (ks : List K) → Run ks → (c j : ℕ) → Among n j → faulty_server j ≡ false → KeptAck ks c j → SentAck ks j c (writes ks c)
-    ack_from_lem [] a c j i g u = absurd (E.no-kept-ack c j u)
+    ack_from_lem [] a c j i g u = absurd (E.no_kept_ack c j u)
     ack_from_lem (k ∷ ks) a c j i g u =
-        let w = a.0.ack-kept c j i g u in
-        rw w.0 (a.0.ack-stays j c (writes ks c) (⊎_elim (ack_from_lem ks a.1 c j i g) (λ z. z) w.1))
+        let w = a.0.ack_kept c j i g u in
+        rw w.0 (a.0.ack_stays j c (writes ks c) (⊎_elim (ack_from_lem ks a.1 c j i g) (λ z. z) w.1))
 
     pub stamp_from_lem : (ks : List K) → Run ks → (c j T : ℕ) → Among n j → faulty_server j ≡ false → KeptStamp ks c j T → SentStamp ks j c (writes ks c) T
-    stamp_from_lem [] a c j T i g u = absurd (E.no-kept-stamp c j T u)
+    stamp_from_lem [] a c j T i g u = absurd (E.no_kept_stamp c j T u)
     stamp_from_lem (k ∷ ks) a c j T i g u =
-        let w = a.0.stamp-kept c j T i g u in
-        rw w.0 (a.0.stamp-stays j c (writes ks c) T (⊎_elim (stamp_from_lem ks a.1 c j T i g) (λ z. z) w.1))
+        let w = a.0.stamp_kept c j T i g u in
+        rw w.0 (a.0.stamp_stays j c (writes ks c) T (⊎_elim (stamp_from_lem ks a.1 c j T i g) (λ z. z) w.1))
 
     pub value_from_lem : (ks : List K) → Run ks → (c j : ℕ) (v : S) → Among n j → faulty_server j ≡ false → KeptValue ks c j v → SentValue ks j c (reads ks c) v
-    value_from_lem [] a c j v i g u = absurd (E.no-kept-value c j v u)
+    value_from_lem [] a c j v i g u = absurd (E.no_kept_value c j v u)
     value_from_lem (k ∷ ks) a c j v i g u =
-        let w = a.0.value-kept c j v i g u in
+        let w = a.0.value_kept c j v i g u in
         rw w.0 (a.0.Value-stays j c (reads ks c) v (⊎_elim (value_from_lem ks a.1 c j v i g) (λ z. z) w.1))
 
     -- ---- what n - t servers, if honest, sent when an operation ended or a time went out
 
     pub write_why : (ks : List K) → Run ks → (c q : ℕ) → WriteEnded ks c q → Quorum (λ j. SentAck ks j c q)
-    write_why [] a c q u = absurd (E.no-write-ended c q u)
-    write_why (k ∷ ks) a c q u = at_least_map (λ j i f g. a.0.ack-stays j c q (f g)) (⊎_elim
+    write_why [] a c q u = absurd (E.no_write_ended c q u)
+    write_why (k ∷ ks) a c q u = at_least_map (λ j i f g. a.0.ack_stays j c q (f g)) (⊎_elim
         (λ o. write_why ks a.1 c q o)
         (λ w. rw w.0 (at_least_map (λ j i f g. ⊎_elim (ack_from_lem ks a.1 c j i g) (λ z. z) (f g)) w.1))
-        (a.0.write-ended-new c q u))
+        (a.0.write_ended_new c q u))
 
     pub read_why : (ks : List K) → Run ks → (c q : ℕ) (v : S) → ReadEnded ks c q v → Quorum (λ j. SentValue ks j c q v)
-    read_why [] a c q v u = absurd (E.no-read-ended c q v u)
+    read_why [] a c q v u = absurd (E.no_read_ended c q v u)
     read_why (k ∷ ks) a c q v u = at_least_map (λ j i f g. a.0.Value-stays j c q v (f g)) (⊎_elim
         (λ o. read_why ks a.1 c q v o)
         (λ w. rw w.0 (at_least_map (λ j i f g. ⊎_elim (value_from_lem ks a.1 c j v i g) (λ z. z) (f g)) w.1))
-        (a.0.read-ended-new c q v u))
+        (a.0.read_ended_new c q v u))
 
     time_why : (ks : List K) → Run ks → (c q T : ℕ) → SentTime ks c q T → Quorum (λ j. (T' : ℕ) × (T' ≤ T) × SentStamp ks j c q T')
-    time_why [] a c q T u = absurd (E.no-time c q T u)
-    time_why (k ∷ ks) a c q T u = at_least_map (λ j i f g. let w = f g in (w.0, w.1, a.0.stamp-stays j c q w.0 w.2)) (⊎_elim
+    time_why [] a c q T u = absurd (E.no_time c q T u)
+    time_why (k ∷ ks) a c q T u = at_least_map (λ j i f g. let w = f g in (w.0, w.1, a.0.stamp_stays j c q w.0 w.2)) (⊎_elim
         (λ o. time_why ks a.1 c q T o)
         (λ w. rw w.0 (at_least_map (λ j i f g. let z = f g in (z.0, z.1, ⊎_elim (stamp_from_lem ks a.1 c j z.0 i g) (λ y. y) z.2)) w.1))
-        (a.0.time-new c q T u))
+        (a.0.time_new c q T u))
 
     pub read_begun_lem : (ks : List K) → Run ks → (c q : ℕ) (v : S) → ReadEnded ks c q v → q ≤ reads ks c
-    read_begun_lem [] a c q v u = absurd (E.no-read-ended c q v u)
+    read_begun_lem [] a c q v u = absurd (E.no_read_ended c q v u)
     read_begun_lem (k ∷ ks) a c q v u =
-        ⊎_elim (λ o. omega (arith, read_begun_lem ks a.1 c q v o, a.0.reads_up c)) (λ w. omega (arith, w.0, a.0.reads_up c)) (a.0.read-ended-new c q v u)
+        ⊎_elim (λ o. omega (arith, read_begun_lem ks a.1 c q v o, a.0.reads_up c)) (λ w. omega (arith, w.0, a.0.reads_up c)) (a.0.read_ended_new c q v u)
 
     module _ (F : Faults n t faulty_server) where
       -- ---- quorums

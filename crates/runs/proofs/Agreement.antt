@@ -76,8 +76,8 @@ module _ (Z : Setup) (G : Assumed Z)
   pub agreement : (ks : List Call) → Admissible Z ks → (i j p q : ℕ) (x y : S.Write) → At (Accepts Z i x) ks p → At (Accepts Z j y) ks q
       → x.client ≡ y.client → x.sequence ≡ y.sequence → (S.stamp_of x ≡ S.stamp_of y) × (x.entry.digests ≡ y.entry.digests)
   agreement ks a i j p q x y u v ec eq =
-      let e = BA.agreement (views Z G M formed) g.n g.t R.few R.all faulty_server faulty_client G.faults (blocks_sane H g).few-many
-      (blocks_sane H g).all-many empty (lawful_run Z G M formed ks a) i j x.client x.sequence (agreed (offer_of x)) (agreed (offer_of y))
+      let e = BA.agreement (views Z G M formed) g.n g.t R.few R.all faulty_server faulty_client G.faults (blocks_sane H g).few_many
+      (blocks_sane H g).all_many empty (lawful_run Z G M formed ks a) i j x.client x.sequence (agreed (offer_of x)) (agreed (offer_of y))
       (x, p, u, refl, refl, refl) (y, q, v, sym ec, sym eq, refl) in
       ((λ d. record { time = (e d).0 + 1; writer = ec d; sequence = eq d }), ap (λ w. w.1) e)
 
@@ -86,5 +86,5 @@ module _ (Z : Setup) (G : Assumed Z)
       → (b : Party) × (o : Offer) × (agreed o ≡ agreed (offer_of x)) × SentMessage Z G M ks (A.Client x.client) b
       (message x.client x.sequence (block_is send o))
   validity ks a i p x h u =
-      BA.validity (views Z G M formed) g.n g.t R.few R.all faulty_server faulty_client G.faults (blocks_sane H g).few-many
-      (blocks_sane H g).all-many empty (lawful_run Z G M formed ks a) i x.client x.sequence (agreed (offer_of x)) h (x, p, u, refl, refl, refl)
+      BA.validity (views Z G M formed) g.n g.t R.few R.all faulty_server faulty_client G.faults (blocks_sane H g).few_many
+      (blocks_sane H g).all_many empty (lawful_run Z G M formed ks a) i x.client x.sequence (agreed (offer_of x)) h (x, p, u, refl, refl, refl)

@@ -207,7 +207,7 @@ module _ (Z : Setup) (G : Assumed Z) where
           let n : length x.sends ≡ answerCount g (gives (CD.progress_by x.event (length x.sends))) =
           sym (count-is H g c x.event (length x.sends) ∙ S.event) in
           subst (λ y. Back y x.sends (sets out 0 (frames x.sends)) (sets to 0 (receivers x.sends))) n
-          (written_back g G.bounded x.sends F (client_frames g) S.few out to r.out-room r.to_room_lem)
+          (written_back g G.bounded x.sends F (client_frames g) S.few out to r.out_room_lem r.to_room_lem)
 
   read_back : (w : World) (c : ℕ) (out to : List ℕ) → Answer w (begin_read c out to)
   unfolding said sends CB.read_beginning CB.begun_of CB.read_begun CB.begin_by

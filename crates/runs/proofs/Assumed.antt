@@ -22,9 +22,9 @@ pub assumed : (Z : Setup) → Sound Z → DigestSize Z.H → Assumed Z
 assumed Z S D = record {
   bounded = S.bounded;
   faults = S.faults;
-  initial_size = S.initial-size;
-  initial_bytes = S.initial-bytes;
+  initial_size = S.initial_size;
+  initial_bytes = S.initial_bytes;
   digest_size = D;
-  state_room = S.state-room;
-  initial_room = S.initial-room;
+  state_room = S.state_room;
+  initial_room = S.initial_room;
 }

@@ -82,7 +82,7 @@ module _ (Z : Setup) (G : Assumed Z) (M : Small Z.g) where
 
   at_server : (ks : List Call) (i : ℕ) (from : Party) (f out to : List ℕ) (h : ServerSide) → h ≡ server_left Z (server_effect Z (run Z ks) i from f out to)
       → {r : S.Effect} → server_effect Z (run Z ks) i from f out to ≡ r
-      → Delivered H g G.bounded.servers-high i (server_at ks i).server (server_at ks i).area (initial_of Z i) from f r
+      → Delivered H g G.bounded.servers_high i (server_at ks i).server (server_at ks i).area (initial_of Z i) from f r
       → (h ≡ server_at ks i) ⊎ ((C : Takes ks (to_server i from f out to) i) × (h ≡ server_left Z (effect_of C)))
   at_server ks i from f out to h e q (refused z) = inl (e ∙ ap (server_left Z) (q ∙ z))
   at_server ks i from f out to h e q (taken m T z) =
@@ -93,7 +93,7 @@ module _ (Z : Setup) (G : Assumed Z) (M : Small Z.g) where
   server_next ks (to_server i from f out to) j = ⊎_elim
       (λ w. subst (λ y. Next ks (to_server i from f out to) y) (sym w.0)
       (at_server ks i from f out to (server_at (to_server i from f out to ∷ ks) i) (ap (put (run Z ks).servers i _) (sym w.0) ∙ w.1) refl
-      (delivered H g G.bounded.servers-high i (server_at ks i).server (server_at ks i).area (initial_of Z i) from f out to)))
+      (delivered H g G.bounded.servers_high i (server_at ks i).server (server_at ks i).area (initial_of Z i) from f out to)))
       (λ w. inl w)
       (put_cases (run Z ks).servers i (server_left Z (server_effect Z (run Z ks) i from f out to)) j)
   server_next ks (to_client c from f lent result out to) j = inl refl
@@ -119,23 +119,23 @@ module _ (Z : Setup) (G : Assumed Z) (M : Small Z.g) where
 
   pub shape : (ks : List Call) (i : ℕ) → ServerShape (server_at ks i).server (server_at ks i).area
   unfolding run start
-  shape [] i = shape_fresh H g G.bounded.servers-high i initial_value (state_areas i) (initial_areas i) (G.state-room i)
+  shape [] i = shape_fresh H g G.bounded.servers_high i initial_value (state_areas i) (initial_areas i) (G.state_room i)
   shape (k ∷ ks) i = go (shape ks i) (server_next ks k i)
     where
       go : ServerShape (server_at ks i).server (server_at ks i).area → Next ks k i → ServerShape (server_at (k ∷ ks) i).server (server_at (k ∷ ks) i).area
       go F (inl e) = subst (λ h. ServerShape h.server h.area) (sym e) F
       go F (inr (C, e)) = subst (λ h. ServerShape h.server h.area) (sym e)
-          (shape_effect H g G.bounded.servers-high i (server_at ks i).server (server_at ks i).area (initial_of Z i) F C.from C.f C.m C.took)
+          (shape_effect H g G.bounded.servers_high i (server_at ks i).server (server_at ks i).area (initial_of Z i) F C.from C.f C.m C.took)
 
   sent_by_lem : (ks : List Call) (i : ℕ) (from : Party) (f out to : List ℕ) (x : Sending) {r : S.Effect} → server_effect Z (run Z ks) i from f out to ≡ r
-      → Delivered H g G.bounded.servers-high i (server_at ks i).server (server_at ks i).area (initial_of Z i) from f r → Memᴰ x r.sends
+      → Delivered H g G.bounded.servers_high i (server_at ks i).server (server_at ks i).area (initial_of Z i) from f r → Memᴰ x r.sends
       → (C : Takes ks (to_server i from f out to) i) × Memᴰ x (effect_of C).sends
   sent_by_lem ks i from f out to x q (refused z) u = absurd (Memᴰ.not-nil (subst (λ y. Memᴰ x y.sends) z u))
   sent_by_lem ks i from f out to x q (taken m T z) u =
       (record { from = from; f = f; out = out; to = to; is = refl; m = m; took = T; moves = q ∙ z }, subst (λ y. Memᴰ x y.sends) z u)
 
   took_by : (ks : List Call) (i : ℕ) (from : Party) (f out to : List ℕ) (x : S.Write) {r : S.Effect} → server_effect Z (run Z ks) i from f out to ≡ r
-      → Delivered H g G.bounded.servers-high i (server_at ks i).server (server_at ks i).area (initial_of Z i) from f r → Memᴰ x r.accepted
+      → Delivered H g G.bounded.servers_high i (server_at ks i).server (server_at ks i).area (initial_of Z i) from f r → Memᴰ x r.accepted
       → (C : Takes ks (to_server i from f out to) i) × Memᴰ x (effect_of C).accepted
   took_by ks i from f out to x q (refused z) u = absurd (Memᴰ.not-nil (subst (λ y. Memᴰ x y.accepted) z u))
   took_by ks i from f out to x q (taken m T z) u =
@@ -145,7 +145,7 @@ module _ (Z : Setup) (G : Assumed Z) (M : Small Z.g) where
   accepts_new ks (to_server i from f out to) j x u =
       subst (λ y. (C : Takes ks (to_server i from f out to) y) × Memᴰ x (effect_of C).accepted) (sym u.0)
       (took_by ks i from f out to x refl
-      (delivered H g G.bounded.servers-high i (server_at ks i).server (server_at ks i).area (initial_of Z i) from f out to) u.1)
+      (delivered H g G.bounded.servers_high i (server_at ks i).server (server_at ks i).area (initial_of Z i) from f out to) u.1)
   accepts_new ks (to_client c from f lent result out to) j x u = absurd u
   accepts_new ks (begin_read c out to) j x u = absurd u
   accepts_new ks (begin_write c v out to) j x u = absurd u
@@ -165,7 +165,7 @@ module _ (Z : Setup) (G : Assumed Z) (M : Small Z.g) where
       let e : i ≡ j = cc u.0 in
       inr (subst (λ y. (C : Takes ks (to_server i from f out to) y) × Memᴰ (sending b m) (effect_of C).sends) e
       (sent_by_lem ks i from f out to (sending b m) refl
-      (delivered H g G.bounded.servers-high i (server_at ks i).server (server_at ks i).area (initial_of Z i) from f out to) u.1))
+      (delivered H g G.bounded.servers_high i (server_at ks i).server (server_at ks i).area (initial_of Z i) from f out to) u.1))
   sent_new ks (to_client c from f lent result out to) j b m (inl u) = impossible (cc u.0)
   sent_new ks (begin_read c out to) j b m (inl u) = impossible (cc u.0)
   sent_new ks (begin_write c v out to) j b m (inl u) = impossible (cc u.0)
@@ -264,7 +264,7 @@ module _ (Z : Setup) (G : Assumed Z) (M : Small Z.g) where
             (λ o. inl (u.0, u.1, u.2, o))
             (λ N.
             let C = N.0 in
-            let w = (F i C).an-echo c u.0 s u.1 N.1 in
+            let w = (F i C).an_echo c u.0 s u.1 N.1 in
             let ic = owner i c C _ _ w.4 in
             inr (record {
               current = w.0;
@@ -284,8 +284,8 @@ module _ (Z : Setup) (G : Assumed Z) (M : Small Z.g) where
             (λ N. ⊎_elim
             (λ o. inr (inr (v.0, v.1, v.2, o)))
             (λ N'.
-            let e1 = ((F i N.0).an-echo c u.0 s u.1 N.1).4 in
-            let e2 = ((F i N'.0).an-echo c v.0 s v.1 N'.1).4 in
+            let e1 = ((F i N.0).an_echo c u.0 s u.1 N.1).4 in
+            let e2 = ((F i N'.0).an_echo c v.0 s v.1 N'.1).4 in
             inl (sym u.2 ∙ ap agreed (block_inj send u.1 v.1 (ap (λ z. z.body) (sym e1 ∙ one_message ks k i N.0 N'.0 ∙ e2))) ∙ v.2))
             (sent_new ks k i v.0 _ v.3))
             (sent_new ks k i u.0 _ u.3);
@@ -293,21 +293,21 @@ module _ (Z : Setup) (G : Assumed Z) (M : Small Z.g) where
             (λ e. (ap (λ h. (slot_of h.server c).sequence) e, inl (u.0, u.1, u.2, ap (λ h. (part_at g h.server h.area c).echoes j) (sym e) ∙ u.3)))
             (λ N.
             let C = N.0 in
-            let w = (F i C).echo-kept c u.0 j u.1 (ap (λ y. y.echoes j) (sym (left_part ks k i C c)) ∙ u.3) in
+            let w = (F i C).echo_kept c u.0 j u.1 (ap (λ y. y.echoes j) (sym (left_part ks k i C c)) ∙ u.3) in
             (left_seq ks k i C c ∙ w.0, ⊎_elim (λ a. inl (u.0, u.1, u.2, a)) (λ a. inr (this i C c j echo u.1 d u.2 ok is a)) w.1))
             (server_next ks k i);
         ready_kept = λ i c j d is ok u. ⊎_elim
             (λ e. (ap (λ h. (slot_of h.server c).sequence) e, inl (u.0, u.1, u.2, ap (λ h. (part_at g h.server h.area c).readies j) (sym e) ∙ u.3)))
             (λ N.
             let C = N.0 in
-            let w = (F i C).ready-kept c u.0 j u.1 (ap (λ y. y.readies j) (sym (left_part ks k i C c)) ∙ u.3) in
+            let w = (F i C).ready_kept c u.0 j u.1 (ap (λ y. y.readies j) (sym (left_part ks k i C c)) ∙ u.3) in
             (left_seq ks k i C c ∙ w.0, ⊎_elim (λ a. inl (u.0, u.1, u.2, a)) (λ a. inr (this i C c j ready u.1 d u.2 ok is a)) w.1))
             (server_next ks k i);
         ready_new = λ i c s d u. ⊎_elim
             (λ o. inl (u.0, u.1, u.2, o))
             (λ N.
             let C = N.0 in
-            let w = (F i C).a-ready c u.0 s u.1 N.1 in
+            let w = (F i C).a_ready c u.0 s u.1 N.1 in
             inr (
               w.1,
               rw (← u.2) (⊎_elim
@@ -319,7 +319,7 @@ module _ (Z : Setup) (G : Assumed Z) (M : Small Z.g) where
             (λ N.
             let T = accepts_new ks k i u.0 N.1 in
             let C = T.0 in
-            let w = (F i C).took-why u.0 T.1 in
+            let w = (F i C).took_why u.0 T.1 in
             inr (rw (← u.3, ← u.4, ← u.5) (
               w.1,
               ⊎_elim
@@ -332,7 +332,7 @@ module _ (Z : Setup) (G : Assumed Z) (M : Small Z.g) where
             (λ e. (ap (λ h. (slot_of h.server c).sequence) e, inl (u.0, u.1, u.2, ap (λ h. (part_at g h.server h.area c).done) (sym e) ∙ u.3)))
             (λ N.
             let C = N.0 in
-            let w = (F i C).done-kept c u.0 u.1 (ap (λ y. y.done) (sym (left_part ks k i C c)) ∙ u.3) in (
+            let w = (F i C).done_kept c u.0 u.1 (ap (λ y. y.done) (sym (left_part ks k i C c)) ∙ u.3) in (
               left_seq ks k i C c ∙ w.0,
               ⊎_elim
                   (λ a. inl (u.0, u.1, u.2, a))

@@ -65,7 +65,7 @@ module _ (Z : Setup) (G : Assumed Z) (M : Small Z.g) where
   -- what a call on client c does
   pub record Acts (ks : List Call) (k : Call) (c : ℕ) : Type 1 where
     pub N : ℕ → Message → Type 0
-    pub facts : ClientFacts H g M G.bounded.servers-high c (home ks c).client (rows ks c) N (home (k ∷ ks) c).client (rows (k ∷ ks) c)
+    pub facts : ClientFacts H g M G.bounded.servers_high c (home ks c).client (rows ks c) N (home (k ∷ ks) c).client (rows (k ∷ ks) c)
         (sends Z (run Z ks) k) (ended ks k)
     pub brought : (j : ℕ) (m : Message) → Among g.n j → faulty_server j ≡ false → N j m → SentMessage Z G M ks (A.Server j) (A.Client c) m
 
@@ -89,7 +89,7 @@ module _ (Z : Setup) (G : Assumed Z) (M : Small Z.g) where
 
   module _ (ks : List Call) (adm : Admissible Z ks) where
     abbrev Of : (c : ℕ) (N : ℕ → Message → Type 0) → C.Effect → Type 0
-    Of c N r = ClientFacts H g M G.bounded.servers-high c (home ks c).client (rows ks c) N r.client (roomy r.area) r.sends r.event
+    Of c N r = ClientFacts H g M G.bounded.servers_high c (home ks c).client (rows ks c) N r.client (roomy r.area) r.sends r.event
 
     record Acts' (c : ℕ) (r : C.Effect) : Type 1 where
       N : ℕ → Message → Type 0
@@ -101,9 +101,9 @@ module _ (Z : Setup) (G : Assumed Z) (M : Small Z.g) where
         → (v : List ℕ) {r : C.Effect} → Delivered H g c (home ks c).client (home ks c).area v from f r → Acts' c r
     unfolding CT.order_test
     by_frame c X from f lent result out to pr v {r} (refused e) = record {
-      N = Nought H g M G.bounded.servers-high c;
-      facts = subst (Of c (Nought H g M G.bounded.servers-high c)) (sym e)
-          (quiet_facts H g M G.bounded.servers-high c (home ks c).client (rows ks c) (Nought H g M G.bounded.servers-high c) X);
+      N = Nought H g M G.bounded.servers_high c;
+      facts = subst (Of c (Nought H g M G.bounded.servers_high c)) (sym e)
+          (quiet_facts H g M G.bounded.servers_high c (home ks c).client (rows ks c) (Nought H g M G.bounded.servers_high c) X);
       brought = λ j m is ok n. absurd n;
     }
     by_frame c X from f lent result out to pr v {r} (taken m T room e) =
@@ -115,16 +115,16 @@ module _ (Z : Setup) (G : Assumed Z) (M : Small Z.g) where
         let er : r ≡ C.effect H g c s a v (A.Server j.0) m = e ∙ (λ i. C.effect H g c s a v (j.1 i) m) in
         let nb : number_in from ≡ j.0 = ap number_in j.1 in
         let b = C.effect H g c s a v (A.Server j.0) m in
-        let N : ℕ → Message → Type 0 = Brought H g M G.bounded.servers-high c j.0 m in
+        let N : ℕ → Message → Type 0 = Brought H g M G.bounded.servers_high c j.0 m in
         let lb : length b.area ≡ length a = shape_length H g c s a v j.0 (shape_of H g c s a v (A.Server j.0) m) in
         record {
           N = N;
           facts =
               subst (Of c N) (sym er)
-              (subst (λ y. ClientFacts H g M G.bounded.servers-high c s y N b.client (roomy b.area) b.sends b.event) (sym (roomy_same a room))
-              (subst (λ y. ClientFacts H g M G.bounded.servers-high c s a N b.client y b.sends b.event)
+              (subst (λ y. ClientFacts H g M G.bounded.servers_high c s y N b.client (roomy b.area) b.sends b.event) (sym (roomy_same a room))
+              (subst (λ y. ClientFacts H g M G.bounded.servers_high c s a N b.client y b.sends b.event)
               (sym (roomy_same b.area (omega (arith, room, lb))))
-              (effect_facts H g M G.bounded.servers-high c s a v (subst (ClientShape s) (roomy_same a room) X) j.0 m.client m.sequence
+              (effect_facts H g M G.bounded.servers_high c s a v (subst (ClientShape s) (roomy_same a room) X) j.0 m.client m.sequence
               m.body j.2 fm.body P.owner
               (subst (λ y. CT.order_test H g c s y m.sequence m.body ≡ J.Fine) nb P.order))));
           brought = λ i m' is ok n.
@@ -139,7 +139,7 @@ module _ (Z : Setup) (G : Assumed Z) (M : Small Z.g) where
     to_acts k c r h e ec ea es ev Q = record {
       N = Q.N;
       facts =
-          subst (λ y. ClientFacts H g M G.bounded.servers-high c (home ks c).client (rows ks c) Q.N y.client (roomy y.area)
+          subst (λ y. ClientFacts H g M G.bounded.servers_high c (home ks c).client (rows ks c) Q.N y.client (roomy y.area)
           (sends Z (run Z ks) k) (ended ks k)) (sym e)
           (rw (ec, ea, es, ev) Q.facts);
       brought = Q.brought;
@@ -159,22 +159,22 @@ module _ (Z : Setup) (G : Assumed Z) (M : Small Z.g) where
         let z : c ≡ d = cc in
         let Y : ClientShape (home ks d).client (rows ks d) = subst (λ y. ClientShape (home ks y).client (rows ks y)) z X in
         subst (λ y. Acts ks (begin_read d out to) y) (sym z) (record {
-          N = Nought H g M G.bounded.servers-high d;
+          N = Nought H g M G.bounded.servers_high d;
           facts = subst
-              (λ y. ClientFacts H g M G.bounded.servers-high d (home ks d).client (rows ks d) (Nought H g M G.bounded.servers-high d) y.client
+              (λ y. ClientFacts H g M G.bounded.servers_high d (home ks d).client (rows ks d) (Nought H g M G.bounded.servers_high d) y.client
               (roomy y.area) (read_effect Z (run Z ks) d out to).sends (read_effect Z (run Z ks) d out to).event)
-              (sym (put_same (run Z ks).clients d _)) (read_facts H g M G.bounded.servers-high d (home ks d).client (rows ks d) Y out to);
+              (sym (put_same (run Z ks).clients d _)) (read_facts H g M G.bounded.servers_high d (home ks d).client (rows ks d) Y out to);
           brought = λ j m is ok n. absurd n;
         })
     on_client (begin_write d v out to) pr c X e =
         let z : c ≡ d = cc in
         let Y : ClientShape (home ks d).client (rows ks d) = subst (λ y. ClientShape (home ks y).client (rows ks y)) z X in
         subst (λ y. Acts ks (begin_write d v out to) y) (sym z) (record {
-          N = Nought H g M G.bounded.servers-high d;
+          N = Nought H g M G.bounded.servers_high d;
           facts = subst
-              (λ y. ClientFacts H g M G.bounded.servers-high d (home ks d).client (rows ks d) (Nought H g M G.bounded.servers-high d) y.client
+              (λ y. ClientFacts H g M G.bounded.servers_high d (home ks d).client (rows ks d) (Nought H g M G.bounded.servers_high d) y.client
               (roomy y.area) (write_effect Z (run Z ks) d v out to).sends (write_effect Z (run Z ks) d v out to).event)
-              (sym (put_same (run Z ks).clients d _)) (write_facts H g M G.bounded.servers-high d (home ks d).client (rows ks d) Y v out to);
+              (sym (put_same (run Z ks).clients d _)) (write_facts H g M G.bounded.servers_high d (home ks d).client (rows ks d) Y v out to);
           brought = λ j m is ok n. absurd n;
         })
 
@@ -183,7 +183,7 @@ module _ (Z : Setup) (G : Assumed Z) (M : Small Z.g) where
   client_shapes [] adm c = client_shape_fresh (roomy (rows_areas c)) (roomy_long (rows_areas c))
   client_shapes (k ∷ ks) adm c = ⊎_elim
       (λ e. subst (λ h. ClientShape h.client (roomy h.area)) (sym e) (client_shapes ks adm.1 c))
-      (λ e. (on_client ks adm.1 k adm.0 c (client_shapes ks adm.1 c) e).facts.client-shape)
+      (λ e. (on_client ks adm.1 k adm.0 c (client_shapes ks adm.1 c) e).facts.client_shape)
       (cli_cases ks k c)
 
   module _ (ks : List Call) (k : Call) (adm : Admissible Z ks) (pr : Proper Z ks k) where
@@ -194,13 +194,13 @@ module _ (Z : Setup) (G : Assumed Z) (M : Small Z.g) where
     reads_up c = ⊎_elim (λ e. let q = ap (λ h. h.client.reads) e in omega (arith, q)) (λ e. (act c e).facts.reads_up) (cli_cases ks k c)
 
     pub writes_up : (c : ℕ) → Vw.writes ks c ≤ Vw.writes (k ∷ ks) c
-    writes_up c = ⊎_elim (λ e. let q = ap (λ h. h.client.writes) e in omega (arith, q)) (λ e. (act c e).facts.writes-up) (cli_cases ks k c)
+    writes_up c = ⊎_elim (λ e. let q = ap (λ h. h.client.writes) e in omega (arith, q)) (λ e. (act c e).facts.writes_up) (cli_cases ks k c)
 
     pub read_new : (c q : ℕ) → Vw.SentRead (k ∷ ks) c q → Vw.SentRead ks c q ⊎ (q ≤ Vw.reads (k ∷ ks) c)
-    read_new c q u = ⊎_elim (λ w. inr ((act c w.0).facts.r-sent u.0 c q w.1)) (λ o. inl (u.0, o)) u.1
+    read_new c q u = ⊎_elim (λ w. inr ((act c w.0).facts.r_sent u.0 c q w.1)) (λ o. inl (u.0, o)) u.1
 
     pub get_stamp_new : (c q : ℕ) → Vw.SentGetStamp (k ∷ ks) c q → Vw.SentGetStamp ks c q ⊎ (q ≤ Vw.writes (k ∷ ks) c)
-    get_stamp_new c q u = ⊎_elim (λ w. inr ((act c w.0).facts.g-sent u.0 c q w.1)) (λ o. inl (u.0, o)) u.1
+    get_stamp_new c q u = ⊎_elim (λ w. inr ((act c w.0).facts.g_sent u.0 c q w.1)) (λ o. inl (u.0, o)) u.1
 
     pub ack_kept : (c j : ℕ) → Among g.n j → faulty_server j ≡ false → Vw.KeptAck (k ∷ ks) c j
         → (Vw.writes (k ∷ ks) c ≡ Vw.writes ks c) × (Vw.KeptAck ks c j ⊎ Vw.SentAck ks j c (Vw.writes ks c))
@@ -208,7 +208,7 @@ module _ (Z : Setup) (G : Assumed Z) (M : Small Z.g) where
         (λ e. (ap (λ h. h.client.writes) e, inl (subst (λ h. (h.client.phase ≡ F.Acking) × (heard_of h.client j ≡ true)) e u)))
         (λ e.
         let Q = act c e in
-        let w = Q.facts.a-kept j is u.0 u.1 in
+        let w = Q.facts.a_kept j is u.0 u.1 in
         (w.0, ⊎_elim (λ y. inl y) (λ y. inr (Q.brought j _ is ok y)) w.1))
         (cli_cases ks k c)
 
@@ -218,14 +218,14 @@ module _ (Z : Setup) (G : Assumed Z) (M : Small Z.g) where
         (λ e. (ap (λ h. h.client.writes) e, inl (subst (λ h. (h.client.phase ≡ F.Asking) × (time_of h.client j ≡ some T)) e u)))
         (λ e.
         let Q = act c e in
-        let w = Q.facts.t-kept j T is u.0 u.1 in
+        let w = Q.facts.t_kept j T is u.0 u.1 in
         (w.0, ⊎_elim (λ y. inl y) (λ y. inr (Q.brought j _ is ok y)) w.1))
         (cli_cases ks k c)
 
     -- what a client knows of a kept value
     value_known : (c : ℕ) (e : caller k ≡ A.Client c) (j : ℕ) (y : Kept) (v : Stamped Z G M) → y.stamp ≡ v.0 → y.entry.digests ≡ v.1 → Among g.n j
         → faulty_server j ≡ false
-        → KnowsV H g M G.bounded.servers-high c (home ks c).client (rows ks c) (act c e).N j y
+        → KnowsV H g M G.bounded.servers_high c (home ks c).client (rows ks c) (act c e).N j y
         → Vw.KeptValue ks c j v ⊎ Vw.SentValue ks j c (Vw.reads ks c) v
     value_known c e j y v es ed is ok (inl w) = inl (w.0, y, es, ed, w.1)
     value_known c e j y v es ed is ok (inr w) =
@@ -245,7 +245,7 @@ module _ (Z : Setup) (G : Assumed Z) (M : Small Z.g) where
               × Memᴰ y (row_view g h.client (roomy h.area) j)) e u),
         ))
         (λ e.
-        let w = (act c e).facts.v-kept j u.1 is u.0 u.4 in
+        let w = (act c e).facts.v_kept j u.1 is u.0 u.4 in
         (w.0, value_known c e j u.1 v u.2 u.3 is ok w.1))
         (cli_cases ks k c)
 
@@ -256,7 +256,7 @@ module _ (Z : Setup) (G : Assumed Z) (M : Small Z.g) where
     time_new c q T u = ⊎_elim
         (λ n.
         let Q = act c n.0 in
-        let w = Q.facts.t-sent u.0 c q u.1 n.1 in
+        let w = Q.facts.t_sent u.0 c q u.1 n.1 in
         inr (w.0, at_least_map (λ j is f ok. (f.0, omega (arith, f.1, u.2), ⊎_elim (λ y. inl y) (λ y. inr (Q.brought j _ is ok y)) f.2)) w.1))
         (λ o. inl (u.0, u.1, u.2, o)) u.3
 
@@ -280,7 +280,7 @@ module _ (Z : Setup) (G : Assumed Z) (M : Small Z.g) where
         (λ n.
         let w = wrote_ev k c q n.1 in
         let Q = act c w.0 in
-        inr (sym w.1, at_least_map (λ j is f ok. ⊎_elim (λ y. inl y) (λ y. inr (Q.brought j _ is ok y)) f) (Q.facts.write-why w.2)))
+        inr (sym w.1, at_least_map (λ j is f ok. ⊎_elim (λ y. inl y) (λ y. inr (Q.brought j _ is ok y)) f) (Q.facts.write_why w.2)))
         (λ o. inl (u.0, o)) u.1
 
     pub read_ended_new : (c q : ℕ) (v : Stamped Z G M) → Vw.ReadEnded (k ∷ ks) c q v
@@ -292,6 +292,6 @@ module _ (Z : Setup) (G : Assumed Z) (M : Small Z.g) where
         let w = read_ev k c q u.0 n.1 in
         inr (
           sym w.1,
-          at_least_map (λ j is f ok. value_known c w.0 j f.0 v (f.1 ∙ u.3) (f.2 ∙ u.4) is ok f.3) ((act c w.0).facts.read-why u.0 w.2),
+          at_least_map (λ j is f ok. value_known c w.0 j f.0 v (f.1 ∙ u.3) (f.2 ∙ u.4) is ok f.3) ((act c w.0).facts.read_why u.0 w.2),
         ))
         (λ o. inl (u.0, u.1, o, u.3, u.4)) u.2

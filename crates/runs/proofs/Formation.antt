@@ -41,8 +41,8 @@ module _ (Z : Setup) (G : Assumed Z) (M : Small Z.g) where
   initial_long i = go (SD.construct_test H g i initial_value (length (state_areas i)) (length (initial_areas i)))
     where
       go : (b : Verdict) → width g ≤ length (SD.construct_by H g i b initial_value (state_areas i) (initial_areas i)).initial
-      go (J.Bad r) = G.initial-room i
-      go J.Fine = rw length-sets (G.initial-room i)
+      go (J.Bad r) = G.initial_room i
+      go J.Fine = rw length-sets (G.initial_room i)
 
   -- a taken message is formed, and so is what follows
   pub heard : {ks : List Call} {k : Call} {j : ℕ} → Proper Z ks k → (C : Takes Z G M ks k j) → Formed g C.m
@@ -72,7 +72,7 @@ module _ (Z : Setup) (G : Assumed Z) (M : Small Z.g) where
   accepted_in_bounds [] a i p x u = absurd u
   accepted_in_bounds (k ∷ ks) a i p x (inl u) =
       let w = accepts_new Z G M ks k i x u.1 in
-      (good_by (in_bounds ks a.1 i) a.0 w.0).write-in-bounds x w.1
+      (good_by (in_bounds ks a.1 i) a.0 w.0).write_in_bounds x w.1
   accepted_in_bounds (k ∷ ks) a i p x (inr u) = accepted_in_bounds ks a.1 i p x u
 
   -- the numbers of honest clients' writes can be said in a frame
@@ -90,18 +90,18 @@ module _ (Z : Setup) (G : Assumed Z) (M : Small Z.g) where
   numbered (to_client d from f lent result out to ∷ ks) adm c = by_put (run Z ks).clients d _ c (numbered ks adm.1 c)
       (λ N. numbered_delivered H g d _ _ _ from f result out to N)
   numbered (begin_read d out to ∷ ks) adm c = by_put (run Z ks).clients d _ c (numbered ks adm.1 c)
-      (λ N. numbered_read H g d G.digest-size adm.0.0 _ out to N)
+      (λ N. numbered_read H g d G.digest_size adm.0.0 _ out to N)
   numbered (begin_write d v out to ∷ ks) adm c = by_put (run Z ks).clients d _ c (numbered ks adm.1 c)
-      (λ N. numbered_write H g d G.digest-size adm.0.0.0 _ v out to N)
+      (λ N. numbered_write H g d G.digest_size adm.0.0.0 _ v out to N)
 
   by_client : (ks : List Call) → Admissible Z ks → (k : Call) → Proper Z ks k → (c : ℕ) → Among 8 c → (b : Party) (m : Message) → caller k ≡ A.Client c
       → Memᴰ (sending b m) (sends Z (run Z ks) k) → Formed g m
   unfolding sends
   by_client ks adm (to_server i from f out to) p c is b m e u = impossible (cc)
   by_client ks adm (to_client d from f lent result out to) p c is b m e u =
-      delivered_formed H g d G.digest-size p.0.0 _ _ _ (numbered ks adm d) from f result out to p.1 (sending b m) u
-  by_client ks adm (begin_read d out to) p c is b m e u = read_formed H g d G.digest-size p.0 _ out to (sending b m) u
-  by_client ks adm (begin_write d v out to) p c is b m e u = write_formed H g d G.digest-size p.0.0 _ v out to (sending b m) u
+      delivered_formed H g d G.digest_size p.0.0 _ _ _ (numbered ks adm d) from f result out to p.1 (sending b m) u
+  by_client ks adm (begin_read d out to) p c is b m e u = read_formed H g d G.digest_size p.0 _ out to (sending b m) u
+  by_client ks adm (begin_write d v out to) p c is b m e u = write_formed H g d G.digest_size p.0.0 _ v out to (sending b m) u
 
   pub formed : (ks : List Call) → Admissible Z ks → (a b : Party) (m : Message) → Honest Z a → SentMessage Z G M ks a b m → Formed g m
   formed [] adm a b m h u = absurd u

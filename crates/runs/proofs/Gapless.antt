@@ -74,7 +74,7 @@ module _ (Z : Setup) (G : Assumed Z) (M : Small Z.g) where
 
   module _ (ks : List Call) (k : Call) (adm : Admissible Z ks) (pr : Proper Z ks k) (I : Vouched ks) where
     pub facts : (j : ℕ) (C : Takes Z G M ks k j) → VouchFacts g (server_at Z G M ks j).server C.from C.m (effect_of Z G M C)
-    facts j C = vouch_facts H g G.bounded.servers-high j (server_at Z G M ks j).server (server_at Z G M ks j).area (initial_of Z j) (shape Z G M ks j)
+    facts j C = vouch_facts H g G.bounded.servers_high j (server_at Z G M ks j).server (server_at Z G M ks j).area (initial_of Z j) (shape Z G M ks j)
         C.from C.m C.took.passes
 
     -- an honest server's report that is kept afterwards is reached
@@ -86,13 +86,13 @@ module _ (Z : Setup) (G : Assumed Z) (M : Small Z.g) where
         let T = report_of (effect_of Z G M C).server j in
         I.sent j (A.Server i) d q T
         (subst (λ a. SentMessage Z G M ks a (A.Server i) (message d q (report T))) ef (subst (SentMessage Z G M ks C.from (A.Server i)) em u)))
-        ((facts i C).report-kept j)
+        ((facts i C).report_kept j)
 
     -- so are the times of accepted writes, and the time afterwards
     grounds : (i : ℕ) (C : Takes Z G M ks k i) → Reached (k ∷ ks) (effect_of Z G M C).server.stamp.time
         × ((w : S.Write) → Memᴰ w (effect_of Z G M C).accepted → Reached (k ∷ ks) (w.time + 1))
     grounds i C =
-        let (after, all) = vouch_grounds H g G.bounded.servers-high i (server_at Z G M ks i).server (server_at Z G M ks i).area (initial_of Z i)
+        let (after, all) = vouch_grounds H g G.bounded.servers_high i (server_at Z G M ks i).server (server_at Z G M ks i).area (initial_of Z i)
         (shape Z G M ks i) C.from C.m
         (Reached (k ∷ ks)) (low (k ∷ ks)) (later k ks _ (I.own i))
         (λ T s.

@@ -66,8 +66,8 @@ same_rows : (g : Params) (Q : ℕ → Entry → Type 0) (s s' : Client) (a : Lis
 unfolding row_view
 same_rows g Q s s' a e X = record {
   shaped = record {
-    rows_many = ap length e ∙ X.shaped.rows-many;
-    stamps_many = λ j h. ap (λ l. length (get_or l j no_row).stamps) e ∙ X.shaped.stamps-many j h;
+    rows_many = ap length e ∙ X.shaped.rows_many;
+    stamps_many = λ j h. ap (λ l. length (get_or l j no_row).stamps) e ∙ X.shaped.stamps_many j h;
   };
   each = λ j i k u. X.each j i k (subst (λ l. Memᴰ k (places_from g a j (get_or l j no_row) 0 (used (get_or l j no_row)))) e u);
 }
@@ -133,7 +133,7 @@ module _ (H : List ℕ → List ℕ) (g : Params) (me : ℕ) where
         go (taken m e h) =
             let T = took H g me s a v from f result out to m e in
             let z : SizedIn g m.body = subst (λ y. SizedIn g y.body) T.says (message_sized g f T.header T.opens) in
-            shape_holds s a v (took_room H g me s a v from f result out to m e).rows-room (number_in from) z
+            shape_holds s a v (took_room H g me s a v from f result out to m e).rows_room (number_in from) z
             (λ x y b. let w = value_fits s from m T.passes x y b in
             (w.0, new (number_in from) T.header x y T.opens (ap (λ z. z.body) T.says ∙ b) w.1)) h X
 
@@ -177,7 +177,7 @@ module _ (Z : Setup) (G : Assumed Z) where
   homes_next ks (to_client d from f lent result out to) X c =
       home_put (Came (to_client d from f lent result out to ∷ ks)) (run Z ks).clients d
       (client_done Z (client_effect Z (run Z ks) d from f lent result out to) ((run Z ks).clients d).value) X
-      (delivered_holds H g d (small Z G) G.bounded.servers-high (Came (to_client d from f lent result out to ∷ ks))
+      (delivered_holds H g d (small Z G) G.bounded.servers_high (Came (to_client d from f lent result out to ∷ ks))
       ((run Z ks).clients d).client ((run Z ks).clients d).area (lent_to Z (run Z ks) d lent) from f result out to
       (λ j h x e o b t. (t, length ks, inl (refl, (h, o, in_value _ x e b)))) (X d)) c
   homes_next ks (begin_read d out to) X c =

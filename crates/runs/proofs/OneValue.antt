@@ -79,7 +79,7 @@ module _ (Z : Setup) (G : Assumed Z) (ks : List Call) where
         let c = carried p.number h.entry i h.is in
         record {
           digest = ap H h.block ∙ e ∙ ap (λ z. part z (32 * p.number - 32) 32) (h.list ∙ sym same-list)
-              ∙ digest_of_lem H g G.digest-size v p.number i.0 i.1;
+              ∙ digest_of_lem H g G.digest_size v p.number i.0 i.1;
           one = rw h.block (in_frame c.0 c.1);
           other = S.from p.number i;
         }
@@ -93,12 +93,12 @@ module _ (Z : Setup) (G : Assumed Z) (ks : List Call) where
     unfolding decoded
     decodes e =
         let js = numbers held in
-        let w = joined_blocks H g G.digest-size v held e in
+        let w = joined_blocks H g G.digest_size v held e in
         is_given g.k g.size js (joined_bytes held) v
         (record {
-          one = G.bounded.blocks-low;
+          one = G.bounded.blocks_low;
           enough = enough;
-          numbers = numbers_bytes_lem js (all_numbers (λ z. z < 256) held (λ p m. omega (arith, (in_range_lem p m).1, G.bounded.servers-high)));
+          numbers = numbers_bytes_lem js (all_numbers (λ z. z < 256) held (λ p m. omega (arith, (in_range_lem p m).1, G.bounded.servers_high)));
           different = pieces_apart f d 1 g.n;
           whole = ap length w ∙ length_blocks_of g.k v js ∙ ap (λ n. length js * block_length n g.k) S.size;
         })

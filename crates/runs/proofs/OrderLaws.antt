@@ -42,11 +42,11 @@ silent = of_copies (λ r. r.listening) fresh_reader no_reader false refl refl
 pub params_fine : (g : Params) → Bounded g → (me most : ℕ) → Among most me → params_test g me most ≡ J.Fine
 unfolding params_test own_test code_test pick
 params_fine g B me most is = rw (
-  ← parties_yes g.n g.t B.servers-low B.servers-high B.faults-low (omega (arith, B.faults-high)),
+  ← parties_yes g.n g.t B.servers_low B.servers_high B.faults_low (omega (arith, B.faults_high)),
   le-ltb me 1 is.0,
   le-ltb most me is.1,
-  ← threshold_yes g.n g.t g.k B.blocks-low (omega (arith, B.blocks-high)),
-  ← length_yes g.size B.size_low B.size-high,
+  ← threshold_yes g.n g.t g.k B.blocks_low (omega (arith, B.blocks_high)),
+  ← length_yes g.size B.size_low B.size_high,
 )
 
 -- the constructor's tests pass
@@ -55,9 +55,9 @@ pub fresh_fine : (Z : Setup) → Assumed Z → (j : ℕ) → Among Z.g.n j
 unfolding SD.construct_test pick
 fresh_fine Z G j is = rw (
   params_fine Z.g G.bounded j Z.g.n is,
-  eq-eqb (length Z.initial_value) Z.g.size G.initial-size,
-  le-ltb (length (Z.state_areas j)) area_bytes (G.state-room j),
-  le-ltb (length (Z.initial_areas j)) _ (G.initial-room j),
+  eq-eqb (length Z.initial_value) Z.g.size G.initial_size,
+  le-ltb (length (Z.state_areas j)) area_bytes (G.state_room j),
+  le-ltb (length (Z.initial_areas j)) _ (G.initial_room j),
 )
 
 module _ (Z : Setup) (G : Assumed Z) (M : Small Z.g) where
@@ -84,8 +84,8 @@ module _ (Z : Setup) (G : Assumed Z) (M : Small Z.g) where
       go (J.Bad r) e = impossible (cc)
       go J.Fine e = λ i. (
         zero_stamp,
-        take_front (state_areas j) (digests_of H g initial_value) (listed g) (digests_size H g j G.digest-size initial_value)
-            (omega (arith, G.state-room j, M.list-room)) i,
+        take_front (state_areas j) (digests_of H g initial_value) (listed g) (digests_size H g j G.digest_size initial_value)
+            (omega (arith, G.state_room j, M.list_room)) i,
       )
 
   pub fresh : PL.Fresh (stamps Z G M) (views Z G M) g.n g.t faulty_server faulty_client

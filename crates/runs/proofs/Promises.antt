@@ -107,7 +107,7 @@ module _ (H : List ℕ → List ℕ) (g : Params) (me : ℕ) (s : Server) (a ini
     acked = λ y u. Memᴰ.append_right p.sends (A.acked y u);
     acked_only = λ b d q u. ⊎_elim
         (λ v. absurd (counted_cast H g me s a initial j c k _ v))
-        (λ v. A.acked-only b d q v)
+        (λ v. A.acked_only b d q v)
         (Memᴰ.append_cases p.sends u);
   }
   shape_acks (hears T f) = freed_acks f

@@ -141,7 +141,7 @@ module _ (Z : Setup) (ks : List Call) (K : Known Z ks) where
 
   no_twin : (x y : Item) → Why x → Why y → Before x y → SameOperation x.op y.op → ⊥
   no_twin x y (by_read c q e f u) (by_read d r e' f' v) b s =
-      let h : e ≡ e' = K.read-once d r e e' f f' (stops Z ks d r e f (rw (s.client, s.sequence) at u)) (stops Z ks d r e' f' v) in
+      let h : e ≡ e' = K.read_once d r e e' f f' (stops Z ks d r e f (rw (s.client, s.sequence) at u)) (stops Z ks d r e' f' v) in
       let w = reads_at c q d r e e' f f' u v h in
       go h (ap (λ z. z.stamp) w.2) b
     where
@@ -160,7 +160,7 @@ module _ (Z : Setup) (ks : List Call) (K : Known Z ks) where
       go h (inr (a, inr (p, p', z))) = impossible (cc p)
 
   ends_at : (x : Item) → Why x → x.op.reading ≡ true → (p : ℕ) → Ends Z ks x.op p → p ≡ x.end
-  ends_at x (by_read c q e f u) r p (inl (z, y, v)) = K.read-once c q p e y f (stops Z ks c q p y v) (stops Z ks c q e f u)
+  ends_at x (by_read c q e f u) r p (inl (z, y, v)) = K.read_once c q p e y f (stops Z ks c q p y v) (stops Z ks c q e f u)
   ends_at x (by_read c q e f u) r p (inr (z, v)) = impossible (cc z)
   ends_at x (by_accept i e k u) r p h = impossible (cc r)
 
@@ -189,16 +189,16 @@ module _ (Z : Setup) (ks : List Call) (K : Known Z ks) where
   in_time_of x y (by_read c q e f u) (by_read d r e' f' v) p p' s t l =
       let (f'', w) = end_read (read_item Z c q f.stamp e).op refl p s in
       let w' = begin_read_lem (read_item Z d r f'.stamp e').op refl p' t in
-      let h : p ≡ e = K.read-once c q p e f'' f (stops Z ks c q p f'' w) (stops Z ks c q e f u) in
+      let h : p ≡ e = K.read_once c q p e f'' f (stops Z ks c q p f'' w) (stops Z ks c q e f u) in
       let k : e < p' = omega (arith, h, l) in
-      let m : e < e' = omega (arith, k, K.read-after d r p' e' f' w' (stops Z ks d r e' f' v)) in
+      let m : e < e' = omega (arith, k, K.read_after d r p' e' f' w' (stops Z ks d r e' f' v)) in
       ⊎_elim (λ s. inr (s, inr (refl, refl, m))) (λ s. inl s)
-      (at_most_of _ _ (K.read-read c q e f d r p' e' f' (stops Z ks c q e f u) w' k (stops Z ks d r e' f' v)))
+      (at_most_of _ _ (K.read_read c q e f d r p' e' f' (stops Z ks c q e f u) w' k (stops Z ks d r e' f' v)))
   in_time_of x y (by_read c q e f u) (by_accept j e' k v) p p' s t l =
       let (f'', w) = end_read (read_item Z c q f.stamp e).op refl p s in
       let (val, w') = begin_write_lem (write_item Z k).op refl p' t in
-      let h : p ≡ e = K.read-once c q p e f'' f (stops Z ks c q p f'' w) (stops Z ks c q e f u) in
-      inl (less_of _ _ (K.read-write c q e f k.client k.sequence p' j e' val k (stops Z ks c q e f u) w' (omega (arith, h, l)) v refl refl))
+      let h : p ≡ e = K.read_once c q p e f'' f (stops Z ks c q p f'' w) (stops Z ks c q e f u) in
+      inl (less_of _ _ (K.read_write c q e f k.client k.sequence p' j e' val k (stops Z ks c q e f u) w' (omega (arith, h, l)) v refl refl))
   in_time_of x y (by_accept i e k u) (by_read d r e' f' v) p p' s t l =
       ⊎_elim (λ s. inr (s, inl (refl, refl))) (λ s. inl s)
       (at_most_of _ _
@@ -207,7 +207,7 @@ module _ (Z : Setup) (ks : List Call) (K : Known Z ks) where
   in_time_of x y (by_accept i e k u) (by_accept j e' k' v) p p' s t l =
       let (val, w') = begin_write_lem (write_item Z k').op refl p' t in
       inl (less_of _ _
-      (K.write-write k.client k.sequence p i e k k'.client k'.sequence p' j e' val k'
+      (K.write_write k.client k.sequence p i e k k'.client k'.sequence p' j e' val k'
       (end_write (write_item Z k).op refl p s) u refl refl w' l v refl refl))
 
   -- ---- the row
@@ -246,7 +246,7 @@ module _ (Z : Setup) (ks : List Call) (K : Known Z ks) where
       let (i, p, y, v, s, g) = z in
       let (w, m, a) = made.whole (write_item Z y) ((items Z ks).accepts i p y v) in
       inr (w, m, sym (ap (λ o. o.reading) (one_op (write_item Z y) w (by_accept i p y v) (why w m) a)), sym a.0 ∙ s))
-      (K.read-from c q e f (stops Z ks c q e f u))
+      (K.read_from c q e f (stops Z ks c q e f u))
   from_writes x (by_accept i e k u) r = impossible (cc r)
 
   bears : BearsLast zero_stamp (ops line)
@@ -304,8 +304,8 @@ module _ (Z : Setup) (ks : List Call) (K : Known Z ks) where
       h.0 ra ∙ sym ((bears_through s ys (b ∷ zs) n (bears_next s a (ys ++ (b ∷ zs)) ra h)).0 rb)
 
   begun : (x : Item) → Why x → Z.faulty_client x.op.client ≡ false → (p : ℕ) × Begins Z ks x.op p
-  begun x (by_read c q e f u) h = let w = K.read-begun c q e f (stops Z ks c q e f u) in (w.0, inl (refl, w.1))
-  begun x (by_accept i e k u) h = let w = K.write-begun i e k u h in (w.0, inr (refl, w.1, w.2))
+  begun x (by_read c q e f u) h = let w = K.read_begun_lem c q e f (stops Z ks c q e f u) in (w.0, inl (refl, w.1))
+  begun x (by_accept i e k u) h = let w = K.write_begun_lem i e k u h in (w.0, inr (refl, w.1, w.2))
 
   -- All of demand 3 but the values.
   pub one_row : Values Z ks ⊎ Collision Z ks → Demand3 Z ks
@@ -320,7 +320,7 @@ module _ (Z : Setup) (ks : List Call) (K : Known Z ks) where
     between = λ xs ys zs a b e ra rb. (no_write xs ys zs a b e ra, same_stamp_lem xs ys zs a b e ra rb);
     in_time = in_time;
     ended = λ c q p u.
-        let (i, p', x, w, ec, eq) = K.wrote-accepted c q p u in
+        let (i, p', x, w, ec, eq) = K.wrote_accepted c q p u in
         ((write_item Z x).op, listed (write_item Z x) ((items Z ks).accepts i p' x w), refl, ec, eq);
     one_stamp = λ i j p q x y u w ec eq. (K.agree i j p q x y u w ec eq).0;
     values = v;

@@ -99,7 +99,7 @@ module _ (Z : Setup) (G : Assumed Z) (M : Small Z.g) where
     ack_new j c q u = ⊎_elim
         (λ o. inl o)
         (λ N.
-        let w = (SF j N.0).ack-accepted (A.Client c) c q N.1 in
+        let w = (SF j N.0).ack_accepted (A.Client c) c q N.1 in
         let e = key_of w.0.time c q w.0 refl w.2 w.3 in
         let n = key_next j N.0 in
         inr ((w.0.time, w.0.entry.digests), accepted j N.0 w.0 w.1 c q w.2 w.3, omega (arith, e, n, w.4)))
@@ -205,7 +205,7 @@ module _ (Z : Setup) (G : Assumed Z) (M : Small Z.g) where
           accepted j C w.0 w.1 w.0.client w.0.sequence refl refl,
           stamp_at_lem (k ∷ ks) j is ∙ stamp_path _ _ w.0 (a ∙ w.2) (b ∙ w.3),
         ))
-        (SF j C).present-new)
+        (SF j C).present_new)
         (server_next Z G M ks k j))
         (λ f. inl (f (k ∷ ks) ∙ sym (f ks)))
         (outside j)

@@ -99,7 +99,7 @@ module _ (Z : Setup) (G : Assumed Z) (ks : List Call) (K : Known Z ks) (L : Know
   Source = One.Source Z G ks
 
   initial : Source initial_value
-  initial = record { size = G.initial-size; bytes = G.initial-bytes; from = λ j i. of_initial j i refl }
+  initial = record { size = G.initial_size; bytes = G.initial_bytes; from = λ j i. of_initial j i refl }
 
   -- ---- one read
 
@@ -107,7 +107,7 @@ module _ (Z : Setup) (G : Assumed Z) (ks : List Call) (K : Known Z ks) (L : Know
   gives x R v S e = ⊎_elim
       (λ d. inl (R.bytes ∙ d))
       (λ c. inr c)
-      (One.one_value Z G ks R.at x.digests (omega (arith, R.many, G.bounded.blocks-high)) R.fit R.carried v S e)
+      (One.one_value Z G ks R.at x.digests (omega (arith, R.many, G.bounded.blocks_high)) R.fit R.carried v S e)
 
   -- ---- sources of what reads and writes have
 
@@ -116,18 +116,18 @@ module _ (Z : Setup) (G : Assumed Z) (ks : List Call) (K : Known Z ks) (L : Know
       (λ z. (initial_value, initial, sym z.1))
       (λ z.
       let (i, p', y, w, s, d) = z in
-      let (v, e, t, a, size, bytes) = L.accepted-from i p' y w in
+      let (v, e, t, a, size, bytes) = L.accepted_from i p' y w in
       (v, record { size = size; bytes = bytes; from = λ j is. of_decoded e j v t is refl }, a ∙ d))
-      (K.read-from c q p x u)
+      (K.read_from c q p x u)
 
   written : (d r p : ℕ) (v : List ℕ) → At (OpensWrite Z d r v) ks p → Source v
   written d r p v u =
-      let (size, bytes) = L.written-sized d r p v u in
+      let (size, bytes) = L.written_sized d r p v u in
       record { size = size; bytes = bytes; from = λ j is. of_written p d r j v u is refl }
 
   value_is_lem : (c q p : ℕ) (x : Found) → At (StopsRead Z c q x) ks p → (v : List ℕ) → Source v → digests_of H g v ≡ x.digests
       → (x.bytes ≡ some v) ⊎ Collision Z ks
-  value_is_lem c q p x u v S e = gives x (L.read-rows c q p x u) v S e
+  value_is_lem c q p x u v S e = gives x (L.read_rows c q p x u) v S e
 
   -- ---- digest lists
 
@@ -135,7 +135,7 @@ module _ (Z : Setup) (G : Assumed Z) (ks : List Call) (K : Known Z ks) (L : Know
   not_zero y e = omega (arith, ap (λ z. z.time) e)
 
   one_list : (c q p d r p' : ℕ) (x y : Found) → At (StopsRead Z c q x) ks p → At (StopsRead Z d r y) ks p' → x.stamp ≡ y.stamp → x.digests ≡ y.digests
-  one_list c q p d r p' x y u w e = go (K.read-from c q p x u) (K.read-from d r p' y w)
+  one_list c q p d r p' x y u w e = go (K.read_from c q p x u) (K.read_from d r p' y w)
     where
       go : ((x.stamp ≡ zero_stamp) × (x.digests ≡ digests_of H g initial_value))
           ⊎ ((i p' : ℕ) × (z : Write) × At (Accepts Z i z) ks p' × (stamp_of z ≡ x.stamp) × (z.entry.digests ≡ x.digests))
@@ -150,7 +150,7 @@ module _ (Z : Setup) (G : Assumed Z) (ks : List Call) (K : Known Z ks) (L : Know
           sym a ∙ (K.agree i j f f' z z' h h' (ap (λ o. o.writer) k) (ap (λ o. o.sequence) k)).1 ∙ b
 
   zero_list : (c q p : ℕ) (x : Found) → At (StopsRead Z c q x) ks p → x.stamp ≡ zero_stamp → digests_of H g initial_value ≡ x.digests
-  zero_list c q p x u e = ⊎_elim (λ z. sym z.1) (λ z. absurd (not_zero z.2 (z.4 ∙ e))) (K.read-from c q p x u)
+  zero_list c q p x u e = ⊎_elim (λ z. sym z.1) (λ z. absurd (not_zero z.2 (z.4 ∙ e))) (K.read_from c q p x u)
 
   zero_sequence : (s : Stamp) → s ≡ zero_stamp → s.sequence ≡ 0
   zero_sequence s e = ap (λ z. z.sequence) e
@@ -162,7 +162,7 @@ module _ (Z : Setup) (G : Assumed Z) (ks : List Call) (K : Known Z ks) (L : Know
       (λ z.
       let (i, e, y, h, s, a) = z in
       L.written_from i e y d r p' v h w (ap (λ o. o.writer) s ∙ ew) (ap (λ o. o.sequence) s ∙ es) ∙ a)
-      (K.read-from c q p x u)
+      (K.read_from c q p x u)
 
   -- ---- all reads
 

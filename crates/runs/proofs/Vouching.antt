@@ -50,7 +50,7 @@ module _ (Z : Setup) (G : Assumed Z) (M : Small Z.g) where
   pub time_up : (ks : List Call) (k : Call) → Admissible Z ks → Proper Z ks k → (j : ℕ) → time ks j ≤ time (k ∷ ks) j
   time_up ks k adm pr j = ⊎_elim
       (λ e. let z = ap (λ h. h.server.stamp.time) e in omega (arith, z))
-      (λ N. let z = left_time ks k j N.0 in omega (arith, z, (facts Z G M ks k adm pr (vouched Z G M ks adm) j N.0).time-up))
+      (λ N. let z = left_time ks k j N.0 in omega (arith, z, (facts Z G M ks k adm pr (vouched Z G M ks adm) j N.0).time_up))
       (server_next Z G M ks k j)
 
   pub accepted_up : (ks : List Call) → Admissible Z ks → (j p : ℕ) (x : S.Write) → At (Accepts Z j x) ks p → x.time + 1 ≤ time ks j
@@ -59,7 +59,7 @@ module _ (Z : Setup) (G : Assumed Z) (M : Small Z.g) where
   accepted_up (k ∷ ks) adm j p x (inl u) =
       let (C, m) = accepts_new Z G M ks k j x u.1 in
       let z = left_time ks k j C in
-      omega (arith, z, (facts Z G M ks k adm.1 adm.0 (vouched Z G M ks adm.1) j C).accepted-up x m)
+      omega (arith, z, (facts Z G M ks k adm.1 adm.0 (vouched Z G M ks adm.1) j C).accepted_up x m)
 
   -- it was reported to every client
   abbrev pub Told : List Call → ℕ → ℕ → Type 0
@@ -102,7 +102,7 @@ module _ (Z : Setup) (G : Assumed Z) (M : Small Z.g) where
           ⊎_elim
           (λ (p, e). let l = I.replied c j T h p e in omega (arith, l, up j))
           (λ n. let l = I.answered j (A.Client c) c _ T (Q.brought j _ h.0 h.1 n) in omega (arith, l, up j))
-          (Q.facts.t-kept j T h.0 p e).1)
+          (Q.facts.t_kept j T h.0 p e).1)
           (cli_cases Z G M ks k c);
       told = λ j. ⊎_elim
           (λ e. subst (λ T. (T ≡ 0) ⊎ Told (k ∷ ks) j T) (sym (ap (λ h. h.server.stamp.time) e)) (stay j))
@@ -147,7 +147,7 @@ module _ (Z : Setup) (G : Assumed Z) (M : Small Z.g) where
   module _ (ks : List Call) (k : Call) (adm : Admissible Z ks) (pr : Proper Z ks k) (I : Heard ks) where
     -- what is known of an honest server's report is reached
     known : (c : ℕ) (e : caller k ≡ A.Client c) (j T : ℕ) → Honest Z (A.Server j)
-        → KnowsR H g M G.bounded.servers-high c (home Z G M ks c).client (rows Z G M ks c) (act Z G M ks k adm pr c e).N j T → Reached Z G M ks T
+        → KnowsR H g M G.bounded.servers_high c (home Z G M ks c).client (rows Z G M ks c) (act Z G M ks k adm pr c e).N j T → Reached Z G M ks T
     known c e j T h (inl z) = subst (Reached Z G M ks) z (I.kept c j h)
     known c e j T h (inr (inl (d, q, n))) = (vouched Z G M ks adm).sent j (A.Client c) d q T ((act Z G M ks k adm pr c e).brought j _ h.0 h.1 n)
     known c e j T h (inr (inr n)) =
@@ -156,7 +156,7 @@ module _ (Z : Setup) (G : Assumed Z) (M : Small Z.g) where
 
     offers : (c : ℕ) (e : caller k ≡ A.Client c) (U : ℕ)
         → (U ≡ 0) ⊎ AtLeast g.n (g.t + 1) (λ j. (T : ℕ) × (U ≤ T)
-        × KnowsR H g M G.bounded.servers-high c (home Z G M ks c).client (rows Z G M ks c) (act Z G M ks k adm pr c e).N j T) → Reached Z G M ks U
+        × KnowsR H g M G.bounded.servers_high c (home Z G M ks c).client (rows Z G M ks c) (act Z G M ks k adm pr c e).N j T) → Reached Z G M ks U
     offers c e U (inl z) = none Z G M ks U z
     offers c e U (inr s) =
         let h = honest_member G.faults (at_least_fewer (omega arith) s) in
@@ -166,10 +166,10 @@ module _ (Z : Setup) (G : Assumed Z) (M : Small Z.g) where
     heard_next = record {
       kept = λ c j h. later Z G M k ks _ (⊎_elim
           (λ z. subst (λ y. Reached Z G M ks (report_of y.client j)) (sym z) (I.kept c j h))
-          (λ z. known c z j _ h ((act Z G M ks k adm pr c z).facts.report-kept j h.0))
+          (λ z. known c z j _ h ((act Z G M ks k adm pr c z).facts.report_kept j h.0))
           (cli_cases Z G M ks k c));
       offered = λ c b d q o u. ⊎_elim
-          (λ (z, v). later Z G M k ks o.time (offers c z o.time ((act Z G M ks k adm pr c z).facts.t-vouched b d q o v)))
+          (λ (z, v). later Z G M k ks o.time (offers c z o.time ((act Z G M ks k adm pr c z).facts.t_vouched b d q o v)))
           (λ v. later Z G M k ks o.time (I.offered c b d q o v))
           u;
     }

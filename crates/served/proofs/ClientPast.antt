@@ -167,10 +167,10 @@ module _ (Z : Setup) (G : Assumed Z) where
 
     module _ (t : TakesFrame Z ks k c) where
       low : t.j ≤ 10
-      low = omega (arith, t.server.1, G.bounded.servers-high)
+      low = omega (arith, t.server.1, G.bounded.servers_high)
 
       four : length (row_of s t.j).stamps ≡ 4
-      four = shaped.within.rows.stamps-many t.j low
+      four = shaped.within.rows.stamps_many t.j low
 
       kept_rows : {x : Stamp} {e : Entry} {s' : Client} {a' : List ℕ} → Keeps H g c s a t.v t.j x e s' a'
           → (i : ℕ) → Among g.n i → (y : Stamp) → RowPast (row_of s i) y → RowPast (row_of s' i) y
@@ -178,7 +178,7 @@ module _ (Z : Setup) (G : Assumed Z) where
       kept_rows {x} (keeps m z) i is y p = ⊎_elim
           (λ (e, q). subst (λ r. RowPast r y) (sym q) (past_stays (row_of s t.j) four y x m z (subst (λ i. RowPast (row_of s i) y) e p)))
           (λ q. subst (λ r. RowPast r y) (sym q) p)
-          (set_cases s.rows t.j (row_with (row_of s t.j) m x) no_row (omega (arith, low, shaped.within.rows.rows-many)) i)
+          (set_cases s.rows t.j (row_with (row_of s t.j) m x) no_row (omega (arith, low, shaped.within.rows.rows_many)) i)
 
       kept_else : {x : Stamp} {e : Entry} {s' : Client} {a' : List ℕ} → Keeps H g c s a t.v t.j x e s' a'
           → (s'.writes ≡ s.writes) × (s'.reads ≡ s.reads) × (s'.phase ≡ s.phase) × (s'.heard ≡ s.heard) × (s'.reports ≡ s.reports)
@@ -329,7 +329,7 @@ module _ (Z : Setup) (G : Assumed Z) where
           go none z = settled s a refl (past_dropped (row_of s t.j) (four t) x n z) (search g (row_view g s a))
           go (some i) z = settled (with_row s t.j (row_with (row_of s t.j) i x)) (store_entry a (place_at t.j i) y) refl
               (subst (λ r. RowPast r x)
-              (sym (get_or-set_same s.rows t.j (row_with (row_of s t.j) i x) no_row (omega (arith, low t, shaped.within.rows.rows-many))))
+              (sym (get_or-set_same s.rows t.j (row_with (row_of s t.j) i x) no_row (omega (arith, low t, shaped.within.rows.rows_many))))
               (past_kept (row_of s t.j) (four t) x i z)) (search g _)
 
       report_taken : (T : ℕ) → AnswerPast (C.on_report H g c s a t.v t.j T).client t.j t.m.sequence (report T)

@@ -233,7 +233,7 @@ module _ (Z : Setup) (G : Assumed Z) where
 
     stale_here : SentBy Z G ks (A.Server j) (A.Client c) m → ordered ≡ J.Bad X.Stale → Past ks
     stale_here u o = stale_past Z G c s j m.sequence m.body
-        (begun_by ks adm j c W.fair-client m.client m.sequence m.body W.right u) o
+        (begun_by ks adm j c W.fair_client m.client m.sequence m.body W.right u) o
 
     onward : (k : Call) → Past ks → Past (k ∷ ks)
     onward k p = past_onward (client_onward Z G ks k adm c) j m.sequence W.server m.body p

@@ -59,7 +59,7 @@ none_quorate g L = go (leb g.n (count (λ j. get_or (replicate 11 false) j false
     go : (b : Bool) → leb g.n (count (λ j. get_or (replicate 11 false) j false) g.n + g.t) ≡ b → b ≡ false
     go true e =
         let l = leb-true g.n (count (λ j. get_or (replicate 11 false) j false) g.n + g.t) e in
-        absurd (omega (arith, l, no_flags 11 g.n, L.faults-high, L.faults-low))
+        absurd (omega (arith, l, no_flags 11 g.n, L.faults_high, L.faults_low))
     go false e = refl
 
 none_gathered : (g : Params) → Bounded g → (s : Client) → s.heard ≡ replicate 11 false → C.gathered g s ≡ false
@@ -73,7 +73,7 @@ none_gathered g L s e = go (leb g.n (count (C.counted g s) g.n + g.t)) refl
     go : (b : Bool) → leb g.n (count (C.counted g s) g.n + g.t) ≡ b → b ≡ false
     go true h =
         let l = leb-true g.n (count (C.counted g s) g.n + g.t) h in
-        absurd (omega (arith, l, few, no_flags 11 g.n, L.faults-high, L.faults-low))
+        absurd (omega (arith, l, few, no_flags 11 g.n, L.faults_high, L.faults_low))
     go false h = refl
 
 rows_none : (f : ℕ → List Kept) → ((j : ℕ) → f j ≡ []) → (j m : ℕ) → rows_from f j m ≡ []

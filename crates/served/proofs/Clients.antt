@@ -116,7 +116,7 @@ module _ (Z : Setup) where
   unfolding CD.delivered CD.effect_by
   takes_of ks c from f lent result out to m e = taken_frame ks c from f lent result out to m
       (took H g c (home ks c).client (home ks c).area (lent_to Z (run Z ks) c lent) from f result out to m e)
-      (took_room H g c (home ks c).client (home ks c).area (lent_to Z (run Z ks) c lent) from f result out to m e).rows-room
+      (took_room H g c (home ks c).client (home ks c).area (lent_to Z (run Z ks) c lent) from f result out to m e).rows_room
       (ap (λ j. CD.effect_by H g c j (home ks c).client (home ks c).area (lent_to Z (run Z ks) c lent) from) e)
 
   by_frame : (ks : List Call) (c : ℕ) (from : Party) (f lent result out to : List ℕ) {r : C.Effect} → frame_effect ks c from f lent result out to ≡ r

@@ -47,8 +47,8 @@ module _ (Z : Setup) (G : Assumed Z) where
   later : (ks : List Call) (k : Call) (j c : ℕ) (h : ServerSide) → Keeps ks j c h → Keeps (k ∷ ks) j c h
   later ks k j c h T = record {
     complete = T.complete;
-    echo_fits = λ i o e. let (f, p, u) = T.echo-fits i o e in (f, p, inr u);
-    ready_fits = λ i o e. let (f, p, u) = T.ready-fits i o e in (f, p, inr u);
+    echo_fits = λ i o e. let (f, p, u) = T.echo_fits i o e in (f, p, inr u);
+    ready_fits = λ i o e. let (f, p, u) = T.ready_fits i o e in (f, p, inr u);
   }
 
   module _ (ks : List Call) (k : Call) (j : ℕ) (C : Takes Z G M ks k j) where
@@ -81,13 +81,13 @@ module _ (Z : Setup) (G : Assumed Z) where
           (D.done_why H g G.bounded j h.server h.area (initial_of Z j) (shape Z G M ks j) C.from C.m
           C.took.client C.took.sized C.took.passes c is o e);
       echo_fits = λ i o e. ⊎_elim
-          (λ b. let (f, p, u) = T.echo-fits i o b in (f, p, inr u))
+          (λ b. let (f, p, u) = T.echo_fits i o b in (f, p, inr u))
           (λ w. new_fits c i echo o refl w)
-          (facts.echo-kept c is i o e).1;
+          (facts.echo_kept c is i o e).1;
       ready_fits = λ i o e. ⊎_elim
-          (λ b. let (f, p, u) = T.ready-fits i o b in (f, p, inr u))
+          (λ b. let (f, p, u) = T.ready_fits i o b in (f, p, inr u))
           (λ w. new_fits c i ready o refl w)
-          (facts.ready-kept c is i o e).1;
+          (facts.ready_kept c is i o e).1;
     }
 
   -- ---- in every run
@@ -111,7 +111,7 @@ module _ (Z : Setup) (G : Assumed Z) where
   pub accepts_coded : (ks : List Call) (k : Call) (j : ℕ) (C : Takes Z G M ks k j) (x : S.Write) → Memᴰ x (effect_of Z G M C).accepted
       → Encodes H g j x.entry
   accepts_coded ks k j C x u =
-      let is : Among 8 x.client = ((facts ks k j C).took-why x u).0 in
+      let is : Among 8 x.client = ((facts ks k j C).took_why x u).0 in
       ⊎_elim
       (λ b. (server_keeps ks j x.client is).complete _ b)
       (λ w. w)

@@ -338,7 +338,7 @@ module _ (Z : Setup) (G : Assumed Z) where
             let d : and_then (room out to) ordered ≡ J.Fine = ap (λ r. and_then r ordered) (e ∙ z) ∙ o in
             taken_past ks (to_server j a (build m) out to) j (takes out to (judge_is out to ∙ ap (λ v. judged_by v m) d)) m.client m.sequence m.body refl
         go r (inl z) e (inr (inl (o, p))) =
-            past_later ks (to_server j a (build m) out to) j a m.client m.sequence (W.said.client-low, W.said.client-high) m.body p
+            past_later ks (to_server j a (build m) out to) j a m.client m.sequence (W.said.client_low, W.said.client_high) m.body p
         go r (inl z) e (inr (inr (o, p))) = absurd ((final (J.Bad X.Ahead) (ap (λ r. and_then r ordered) (e ∙ z) ∙ o)).1 refl)
 
     -- with room it gives no step now: it is past, or ahead
@@ -372,7 +372,7 @@ module _ (Z : Setup) (G : Assumed Z) where
       → ServerPast ks j a m.client m.sequence m.body
   past_at a j is m W [] p u = absurd u
   past_at a j is m W (k ∷ ks) p (inr u) =
-      past_later ks k j a m.client m.sequence (W.said.client-low, W.said.client-high) m.body (past_at a j is m W ks p u)
+      past_later ks k j a m.client m.sequence (W.said.client_low, W.said.client_high) m.body (past_at a j is m W ks p u)
   past_at a j is m W (to_server i from f out to ∷ ks) p (inl u) =
       let (ei, ea, ef, F) = u.1 in
       let ij : j ≡ i = cc ei in

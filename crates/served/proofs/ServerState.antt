@@ -145,7 +145,7 @@ module _ (Z : Setup) (G : Assumed Z) where
                 λ i is. sent_now _ _
                     (subst (λ c. Memᴰ (sending (A.Server i) (message c (seq ks j c) (block_is ready y))) (effect_of Z G M C).sends) ec (f i is)),
               ))
-              E.ready-out;
+              E.ready_out;
         }
 
     step : (c : ℕ) → Among 8 c → ServerStands ks j c → ServerStands (k ∷ ks) j c

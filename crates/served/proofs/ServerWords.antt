@@ -55,7 +55,7 @@ module _ (Z : Setup) (G : Assumed Z) where
   -- it fits at the server's place
   pub entry_fits : (v : List ℕ) (j : ℕ) → Among g.n j → fits H (entry_of H g v j) j ≡ true
   unfolding fits entry_of
-  entry_fits v j is = ap (same (H (block_at H g v j))) (digest_of_lem H g G.digest-size v j is.0 is.1) ∙ same_refl (H (block_at H g v j))
+  entry_fits v j is = ap (same (H (block_at H g v j))) (digest_of_lem H g G.digest_size v j is.0 is.1) ∙ same_refl (H (block_at H g v j))
 
   pub encoded_fits : (j : ℕ) (e : Entry) → Among g.n j → Encodes H g j e → fits H e j ≡ true
   encoded_fits j e is (v, q) = subst (λ e. fits H e j ≡ true) (sym q) (entry_fits v j is)
@@ -96,13 +96,13 @@ module _ (Z : Setup) (G : Assumed Z) where
       go : (b : Verdict) → b ≡ J.Fine
           → take (width g) (SD.construct_by H g j b initial_value (state_areas j) (initial_areas j)).initial ≡ block_at H g initial_value j
       go (J.Bad r) e = impossible (cc e)
-      go J.Fine e = take_front (initial_areas j) (block_at H g initial_value j) (width g) (block_width g initial_value j G.initial-size) (G.initial-room j)
+      go J.Fine e = take_front (initial_areas j) (block_at H g initial_value j) (width g) (block_width g initial_value j G.initial_size) (G.initial_room j)
 
   start_coded : (j : ℕ) → Among g.n j → Encodes H g j (present_of j (server_at Z G M [] j))
   unfolding present_entry entry_of pick
   start_coded j is =
       let h = server_at Z G M [] j in
-      let e = sym (SL.stamp_at_lem Z G M [] j is) ∙ (OL.fresh Z G M).initial-stamp j in
+      let e = sym (SL.stamp_at_lem Z G M [] j is) ∙ (OL.fresh Z G M).initial_stamp j in
       let t : h.server.stamp.time ≡ 0 = ap (λ v. v.0.time) e in
       let b : (present_of j h).block ≡ take (width g) (initial_of Z j) =
       ap (λ y. y.block) (shown h.server.stamp h.area (initial_of Z j))
@@ -160,7 +160,7 @@ module _ (Z : Setup) (G : Assumed Z) where
     goes_fitting b c q (report T) u = tt
     goes_fitting b c q (block_is send o) u = absurd (goes_right b (message c q (block_is send o)) u)
     goes_fitting b c q (block_is echo o) u =
-        taken_fits H g j h.server C.from C.m C.took.passes c (seq Z G ks j c) send o ((facts Z G ks k j C).an-echo c b q o u).4
+        taken_fits H g j h.server C.from C.m C.took.passes c (seq Z G ks j c) send o ((facts Z G ks k j C).an_echo c b q o u).4
     goes_fitting b c q (block_is ready o) u =
         let (v, m, e, l, y) = ready_coded H g G.bounded j h.server h.area (initial_of Z j) C.from C.m b c q o u in
         encoded_fits j o.entry is (v, e)

@@ -106,13 +106,13 @@ module _ (Z : Setup) (G : Assumed Z) where
   thresholds = record {
     some = omega arith;
     reach = omega arith;
-    room = omega (arith, G.bounded.blocks-high, G.bounded.faults-high);
+    room = omega (arith, G.bounded.blocks_high, G.bounded.faults_high);
   }
 
   module _ (ks : List Call) (adm : Admissible Z ks) where
     pub invariant : BA.Invariant W g.n g.t R.few R.all faulty_server faulty_client ks
     invariant = BA.invariant W g.n g.t R.few R.all faulty_server faulty_client G.faults
-        (blocks_sane H g).few-many (blocks_sane H g).all-many (empty Z G (formed Z G M)) (lawful_run Z G M (formed Z G M) ks adm)
+        (blocks_sane H g).few_many (blocks_sane H g).all_many (empty Z G (formed Z G M)) (lawful_run Z G M (formed Z G M) ks adm)
 
     -- ---- values of the run
 
@@ -132,7 +132,7 @@ module _ (Z : Setup) (G : Assumed Z) where
         (at_least_map (λ i is (p, e, u). ap (λ y. is_like R g.n g.t y o) u ∙ alike_of H g p o e) s)
 
     to_all_lem : (j c s : ℕ) (z : Stage) → ToAllSent Z G ks j c s z → (y : Agreed) × Said z ks j c s y
-    to_all_lem j c s z (o, f) = (agreed o, (A.Server 1, o, refl, f 1 (omega arith, omega (arith, G.bounded.servers-low))))
+    to_all_lem j c s z (o, f) = (agreed o, (A.Server 1, o, refl, f 1 (omega arith, omega (arith, G.bounded.servers_low))))
 
     ready_out : (j c : ℕ) → Among 8 c → (o : Offer) → Backed Z G ks (agreed o) → enough R g.n g.t (part Z G ks j c) o ≡ true
         → ((y : Agreed) × Said ready ks j c (seq Z G ks j c) y) ⊎ Collision Z ks
@@ -140,7 +140,7 @@ module _ (Z : Setup) (G : Assumed Z) where
     ready_out j c is o b e = ⊎_elim
         (λ s.
         let T = server_stands Z G ks j c is in
-        inl (to_all_lem j c (seq Z G ks j c) ready (T.readied (go (part Z G ks j c).ready s (T.still.nothing-due o)))))
+        inl (to_all_lem j c (seq Z G ks j c) ready (T.readied (go (part Z G ks j c).ready s (T.still.nothing_due o)))))
         (λ z. inr z)
         (true_group Z G ks j c is o b e)
       where
@@ -175,7 +175,7 @@ module _ (Z : Setup) (G : Assumed Z) where
         → AtLeast g.n R.few (λ i. Among 8 c × (o : Offer) × (agreed o ≡ x) × ((part Z G ks j c).readies i ≡ some o))
         → ((y : Agreed) × Said ready ks j c (seq Z G ks j c) y) ⊎ Collision Z ks
     ready_of_readies j c x h b s =
-        let (i, is, f, (ic, o, e, u)) = honest_member G.faults (at_least_fewer (blocks_sane H g).few-many s) in
+        let (i, is, f, (ic, o, e, u)) = honest_member G.faults (at_least_fewer (blocks_sane H g).few_many s) in
         ready_out j c ic o (subst (Backed Z G ks) (sym e) b) (enough_readies j c o (alike (part Z G ks j c).readies c R.few x o e s))
 
     not_done : (j c : ℕ) (x : Agreed) → SF.Correct protocol j → Backed Z G ks x → x.0 < last_time → x.0 ≤ time Z G M ks j
@@ -183,12 +183,12 @@ module _ (Z : Setup) (G : Assumed Z) where
     unfolding full S.vouched
     not_done j c x h b l v s = ⊎_elim
         (λ y. absurd (go (part Z G ks j c).done refl
-        (still.full-done o (and_true _ _ (le-leb R.all _ many) y))))
+        (still.full_done o (and_true _ _ (le-leb R.all _ many) y))))
         (λ z. z)
         (true_group Z G ks j c ic o (subst (Backed Z G ks) (sym e) b) (enough_readies j c o (omega (arith, many))))
       where
         one : HonestWith g.n faulty_server (λ i. Among 8 c × (o : Offer) × (agreed o ≡ x) × ((part Z G ks j c).readies i ≡ some o))
-        one = honest_member G.faults (at_least_fewer (blocks_sane H g).all-many s)
+        one = honest_member G.faults (at_least_fewer (blocks_sane H g).all_many s)
 
         ic : Among 8 c
         ic = one.3.0
@@ -208,22 +208,22 @@ module _ (Z : Setup) (G : Assumed Z) where
         -- an honest server's ready is of this sequence, so a stamp holds it
         small_sequence : seq Z G ks j c ≤ last_sequence
         small_sequence =
-            let (b, o', q, u) = invariant.ready-heard j c one.0 x one.1 one.2 one.3 in
+            let (b, o', q, u) = invariant.ready_heard j c one.0 x one.1 one.2 one.3 in
             let f = formed Z G M ks adm (A.Server one.0) b _ (one.1, one.2) u in
-            let l = f.sequence-high in
+            let l = f.sequence_high in
             omega (arith, l)
 
         -- all readies of it make y supported
         supported : (y : Agreed) → BA.Readies W g.n g.t R.few R.all faulty_server faulty_client ks c (seq Z G ks j c) y
             → BA.Support W g.n g.t R.few R.all faulty_server faulty_client ks c (seq Z G ks j c) y
-        supported = BA.readies_supported W g.n g.t R.few R.all faulty_server faulty_client G.faults invariant (blocks_sane H g).all-many
+        supported = BA.readies_supported W g.n g.t R.few R.all faulty_server faulty_client G.faults invariant (blocks_sane H g).all_many
             c (seq Z G ks j c)
 
         -- what is complete there is x
         same : (y : Offer) → (part Z G ks j c).done ≡ some y → agreed y ≡ x
         same y d = BA.supports_agree W g.n g.t R.few R.all faulty_server faulty_client G.faults invariant c (seq Z G ks j c) (agreed y) x
-            (supported (agreed y) (invariant.delivered-readies j c (agreed y) (ic, y, refl, d)))
-            (supported x (at_least_map (λ i is k f. invariant.ready-heard j c i x is f k) s))
+            (supported (agreed y) (invariant.delivered_readies j c (agreed y) (ic, y, refl, d)))
+            (supported x (at_least_map (λ i is k f. invariant.ready_heard j c i x is f k) s))
 
         go : (d : Option Offer) → (part Z G ks j c).done ≡ d → undone d ≡ false → ⊥
         go none d u = impossible (cc u)
@@ -306,7 +306,7 @@ module _ (Z : Setup) (G : Assumed Z) where
       arrived a j c s z o h u e =
           let ha = sender_honest ks adm a (A.Server j) _ u in
           let f = formed Z G M ks adm a (A.Server j) _ ha u in (
-            (f.client-low, f.client-high),
+            (f.client_low, f.client_high),
             ⊎_elim
                 (⊎_elim (λ l. absurd (omega (arith, l, e))) (λ w. w.1))
                 (λ l. absurd (omega (arith, l, e)))
@@ -385,7 +385,7 @@ module _ (Z : Setup) (G : Assumed Z) where
               → SF.Freed protocol ks rank (λ j x. x.0 ≤ time Z G M ks j) (length ks * 18446744073709551616 + last_time) (T, digests_of H g (home Z ks c).value)
           go (no n) = inl (λ j hj. omega (arith, n))
           go (yes l) =
-              let (j, y, q, v, e) = (VH.heard Z G M ks adm).offered c _ _ _ _ (f 1 (omega arith, omega (arith, G.bounded.servers-low))) T l (omega arith) in
+              let (j, y, q, v, e) = (VH.heard Z G M ks adm).offered c _ _ _ _ (f 1 (omega arith, omega (arith, G.bounded.servers_low))) T l (omega arith) in
               let h = at_low (Accepts Z j y) ks q v in
               freed_by_lem _ (T, digests_of H g (home Z ks c).value) j y q v e (omega (arith, h, (closed Z G ks j q y v).below))
 
@@ -398,9 +398,9 @@ module _ (Z : Setup) (G : Assumed Z) where
           let (low, q, T, l, f) = subst (Doing Z G ks c (home Z ks c)) e st.doing in
           let (p, o) = st.opened low in
           SW.written protocol ended c (home Z ks c).client.writes (T, digests_of H g (home Z ks c).value) hc.0 hc.1 low
-          (A.Server 1, _, refl, f 1 (omega arith, omega (arith, G.bounded.servers-low)))
+          (A.Server 1, _, refl, f 1 (omega arith, omega (arith, G.bounded.servers_low)))
           ((home Z ks c).value, written_source c (home Z ks c).client.writes p (home Z ks c).value o, refl)
           l (length ks * 18446744073709551616 + last_time) (offer_freed c T f)
-          (λ r s l. let (i, p, x, u, ec, es) = (known Z G ks adm).wrote-accepted c r _ (st.ended r l (omega (arith, s))).1 in
+          (λ r s l. let (i, p, x, u, ec, es) = (known Z G ks adm).wrote_accepted c r _ (st.ended r l (omega (arith, s))).1 in
           (i, accepts_honest ks adm i p x u, agreed (offer_of x), (x, p, u, ec, es, refl)))
           j h

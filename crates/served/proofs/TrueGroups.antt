@@ -97,11 +97,11 @@ module _ (Z : Setup) (G : Assumed Z) (ks : List Call) where
       by f = lowest_value g (at_time f o.time) o.entry.digests
 
       echoes : g.n ≤ votes R g.n g.t w.echoes o + g.t → FrameGood w.echoes o ⊎ Collision Z ks
-      echoes l = group w.echoes (server_keeps Z G ks j c is).echo-fits o (omega (arith, l, G.bounded.blocks-high)) b
+      echoes l = group w.echoes (server_keeps Z G ks j c is).echo_fits o (omega (arith, l, G.bounded.blocks_high)) b
 
       go : (t : Bool) → leb (quota g) (votes R g.n g.t w.readies o) ≡ t
           → Good o.entry.digests (pick t (agrees w.readies) (agrees w.echoes)) (pick t (by w.readies) (by w.echoes)) ⊎ Collision Z ks
-      go true q = group w.readies (server_keeps Z G ks j c is).ready-fits o
+      go true q = group w.readies (server_keeps Z G ks j c is).ready_fits o
           (omega (arith, leb-true (quota g) (votes R g.n g.t w.readies o) q, quota_blocks g)) b
       go false q = ⊎_elim
           (λ l. echoes (leb-true g.n _ l))

@@ -88,7 +88,7 @@ module _ (Z : Setup) (G : Assumed Z) (ks : List Call) (adm : Admissible Z ks) (N
     backed_by : (j : ℕ) → Honest Z (A.Server j) → ((h : ℕ) → Honest Z (A.Server h) → reply_of s j ≤ report_of s h) → C.counted g s j ≡ true
     backed_by j hj f = counted_of g s j (stamp_heard e j hj)
         (servers_back g (report_of s) (reply_of s j)
-        (at_least_fewer (omega (arith, G.bounded.faults-high)) (honest_servers G.faults (λ h is ok. f h (is, ok)))))
+        (at_least_fewer (omega (arith, G.bounded.faults_high)) (honest_servers G.faults (λ h is ok. f h (is, ok)))))
 
     counts : (j : ℕ) → Honest Z (A.Server j) → (C.counted g s j ≡ true) ⊎ X
     counts j hj = ⊎_elim

@@ -313,11 +313,11 @@ false_server_lem = refl
 
 writes : At (OpensWrite Z 1 1 value) calls 0
 unfolding asking opening echoing waiting accepted told finished calls Z Toy.setup Toy.start_write
-writes = at_drop (OpensWrite Z 1 1 value) 57 calls 0 (inl (refl, opens_write_by Z exact [] 1 1 value _ _ computed.write-opens.0 computed.write-opens.1))
+writes = at_drop (OpensWrite Z 1 1 value) 57 calls 0 (inl (refl, opens_write_by Z exact [] 1 1 value _ _ computed.write_opens.0 computed.write_opens.1))
 
 reads : At (OpensRead Z 2 1) calls 7
 unfolding asking opening echoing waiting accepted told finished calls Z Toy.setup Toy.start_read
-reads = at_drop (OpensRead Z 2 1) 50 calls 7 (inl (refl, opens_read_by Z exact asking 2 1 _ _ computed.read-opens.0 computed.read-opens.1))
+reads = at_drop (OpensRead Z 2 1) 50 calls 7 (inl (refl, opens_read_by Z exact asking 2 1 _ _ computed.read_opens.0 computed.read_opens.1))
 
 room : At (Refuses Z 10) calls 15
 unfolding asking opening echoing waiting accepted told finished calls
@@ -331,7 +331,7 @@ ends = at_drop (EndsWrite Z 1 1) 23 calls 34 (inl (refl, ends_by Z exact accepte
 completes : At (CompletesRead Z 2 1 found) calls 39
 unfolding asking opening echoing waiting accepted told finished calls value_from Toy.hand_client found
 completes = at_drop (CompletesRead Z 2 1 found) 18 calls 39
-    (inl (refl, (stops_by Z exact told (value_from 3) 2 1 found refl computed.completed-is.0 computed.completed-is.1, (value, refl))))
+    (inl (refl, (stops_by Z exact told (value_from 3) 2 1 found refl computed.completed_is.0 computed.completed_is.1, (value, refl))))
 
 -- ---- up to the second ack
 
@@ -359,7 +359,7 @@ unfolding block Toy.hand_server Z Toy.setup
 unfinished = unfinished_by Z exact waiting (P.Server 1) 3 (build (saying ready 1))
     (Toy.zeros (out_room g (server_frames g))) (Toy.zeros (to_room (server_frames g)))
     (honest_is Z exact (P.Server 1) honest_one) (honest_is Z exact (P.Server 3) honest_three) ready_sent
-    (never_handed Z exact waiting (P.Server 1) (P.Server 3) (build (saying ready 1)) delivering.not-handed)
+    (never_handed Z exact waiting (P.Server 1) (P.Server 3) (build (saying ready 1)) delivering.not_handed)
     (long (out_room g (server_frames g))) (long (to_room (server_frames g))) computed.would.1
 
 pub shown : Shown
@@ -369,7 +369,7 @@ shown = record {
   finished = finished_by Z exact calls answered_idle.0;
   delivered = delivered_by Z exact calls answered_idle.0;
   false_server_lem = false_server_lem;
-  silent = never_speaks Z exact calls (P.Server 4) delivering.nothing-from;
+  silent = never_speaks Z exact calls (P.Server 4) delivering.nothing_from;
   writes = writes;
   reads = reads;
   room = room;
@@ -379,7 +379,7 @@ shown = record {
   admissible_before = admissible_before;
   open_before = ap (λ s. s.phase) ((depicts Z exact waiting).clients 1).client ∙ computed.would.2;
   ready_sent = ready_sent;
-  ready_missing = never_handed Z exact waiting (P.Server 1) (P.Server 3) (build (saying ready 1)) delivering.not-handed;
+  ready_missing = never_handed Z exact waiting (P.Server 1) (P.Server 3) (build (saying ready 1)) delivering.not_handed;
   unfinished = unfinished;
 }
 

@@ -49,7 +49,7 @@ pub present_size : (g : Params) (a d b : List ℕ) → Bounded g → chunk_bytes
 unfolding largest_frame entry_at
 present_size g a d b B h e f =
     let M = small g B in
-    let u : length d ≡ listed g = ap length e ∙ length_part a 0 (listed g) (omega (arith, M.list-room)) in
+    let u : length d ≡ listed g = ap length e ∙ length_part a 0 (listed g) (omega (arith, M.list_room)) in
     omega arith
 
 -- the value that was sent is the present one

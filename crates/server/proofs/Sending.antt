@@ -64,7 +64,7 @@ pub value_size : (g : Params) (a : List ℕ) (f : ℕ) (d b : List ℕ) → Boun
 unfolding largest_frame entry_at
 value_size g a f d b B h i j =
     let M = small g B in
-    let u : length d ≡ listed g = ap length i ∙ length_part a (chunk_at f) (listed g) (omega (arith, M.list-room)) in
+    let u : length d ≡ listed g = ap length i ∙ length_part a (chunk_at f) (listed g) (omega (arith, M.list_room)) in
     let v : length b ≡ width g = ap length j ∙ length_part a (block_place f) (width g) (omega (arith, M.block_room)) in
     omega arith
 

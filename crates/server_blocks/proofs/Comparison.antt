@@ -64,11 +64,11 @@ module _ (g : Params) (v : Voters) (c : ℕ) (a : List ℕ) (R : Regaining g v c
       → Right (pick b (record { on = v.readies; at = places_from (readies_from c) }) (record { on = v.echoes; at = places_from (echoes_from c) }))
   unfolding pick
   chosen_right true e = record {
-    within = within_places (readies_from c) a (omega (arith, R.stored.client-low, R.stored.client-high, R.stored.whole));
+    within = within_places (readies_from c) a (omega (arith, R.stored.client_low, R.stored.client_high, R.stored.whole));
     enough = many_readies (leb-true (quota g) v.readied e);
   }
   chosen_right false e = record {
-    within = within_places (echoes_from c) a (omega (arith, R.stored.client-low, R.stored.client-high, R.stored.whole));
+    within = within_places (echoes_from c) a (omega (arith, R.stored.client_low, R.stored.client_high, R.stored.whole));
     enough = R.enough (leb-false (quota g) v.readied e);
   }
 
@@ -83,7 +83,7 @@ module _ (g : Params) (v : Voters) (c : ℕ) (a : List ℕ) (R : Regaining g v c
       let x = group_of g v c in
       let n = length_lowest (marked x.on) g.k g.n right.enough in
       length_value_of (lowest (marked x.on) g.k g.n) (blocks_in g x.at a (lowest (marked x.on) g.k g.n)) g.size
-      (omega (arith, n, R.stored.bounded.blocks-low))
+      (omega (arith, n, R.stored.bounded.blocks_low))
 
   module _ (x : Group) (x-is : x ≡ group_of g v c) (ps ls : List ℕ) (T : Tables ps ls) where
     pub decoding : (out : ℕ) → out ≡ g.size → Decoding g x.on x.at a out ps ls
@@ -108,10 +108,10 @@ module _ (g : Params) (v : Voters) (c : ℕ) (a : List ℕ) (R : Regaining g v c
       pub encode_own : (o : ℕ) → 256 ≤ o → (0 < g.k) × (g.k ≤ 8) × (length l ≤ 256) × (0 + block_length (length l) g.k ≤ o) × Tables ps ls
       encode_own o h =
           let n = value_length in
-          let m : length l ≤ 256 = omega (arith, n, R.stored.bounded.size-high) in
-          let s = short_block (length l) g.k R.stored.bounded.blocks-low m in (
-            R.stored.bounded.blocks-low,
-            omega (arith, R.stored.bounded.servers-high, R.stored.bounded.faults-low, R.stored.bounded.blocks-high),
+          let m : length l ≤ 256 = omega (arith, n, R.stored.bounded.size_high) in
+          let s = short_block (length l) g.k R.stored.bounded.blocks_low m in (
+            R.stored.bounded.blocks_low,
+            omega (arith, R.stored.bounded.servers_high, R.stored.bounded.faults_low, R.stored.bounded.blocks_high),
             m,
             omega (arith, s, h),
             T,

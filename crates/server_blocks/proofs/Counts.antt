@@ -39,7 +39,7 @@ use Rattle.server_blocks.specs.Group.{group_of, group_value, group_equal, Stored
 -- q is at most n
 pub quota_small : (g : Params) → Bounded g → quota g ≤ 10
 unfolding quota
-quota_small g B = omega (arith, B.servers-high, B.faults-high, B.faults-low, B.blocks-high)
+quota_small g B = omega (arith, B.servers_high, B.faults_high, B.faults_low, B.blocks_high)
 
 -- ---- entries
 
@@ -49,7 +49,7 @@ module _ (g : Params) (B : Bounded g) (a d : List ℕ) (T : ℕ) where
       → entries g (timed on ts T) (places_from p) a j ≡ entry_by (kept (get_or on j false) (offer (get_or ts j 0) (entry_at g a (p + j)))) T
   unfolding marked
   timed_agree on ts p j h =
-      let m : j ≤ 10 = omega (arith, h, B.servers-high) in
+      let m : j ≤ 10 = omega (arith, h, B.servers_high) in
       entry_law g (timed on ts T) (places_from p) a d j (p + j) (place_law p j m)
       ∙ ap (λ (b : Bool). kept b (entry_at g a (p + j))) (marked_timed on ts T j m)
       ∙ sym (by_flag (get_or on j false) (get_or ts j 0) T (entry_at g a (p + j)))
@@ -97,13 +97,13 @@ module _ (H : List ℕ → List ℕ) (g : Params) (a d b : List ℕ) (T c : ℕ)
   unfolding voters_of
   echo_number =
       matched_count g (timed x.blocks.echoes x.blocks.echoed T) (places_from (echoes_from c)) a d (echoes g B a d T c x) (echo_agree g B a d T c x)
-      B.servers-high
+      B.servers_high
 
   ready_number : w.readied ≡ count (λ j. has_list (readies g B a d T c x j) d) g.n
   unfolding voters_of
   ready_number =
       matched_count g (timed x.blocks.readies x.blocks.readied T) (places_from (readies_from c)) a d (readies g B a d T c x) (ready_agree g B a d T c x)
-      B.servers-high
+      B.servers_high
 
   echo_votes : votes (block_rules H g) g.n g.t (block_view g a c x).echoes o ≡ w.echoed
   echo_votes = votes_are H g (block_view g a c x).echoes o ∙ sym echo_number
@@ -119,17 +119,17 @@ module _ (H : List ℕ → List ℕ) (g : Params) (a d b : List ℕ) (T c : ℕ)
       let rs = readies g B a d T c x in
       let re = timed x.blocks.readies x.blocks.readied T in
       let ec = timed x.blocks.echoes x.blocks.echoed T in
-      let u = within_places (readies_from c) a (omega (arith, S.client-low, S.client-high, S.whole)) in
-      let v = within_places (echoes_from c) a (omega (arith, S.client-low, S.client-high, S.whole)) in
+      let u = within_places (readies_from c) a (omega (arith, S.client_low, S.client_high, S.whole)) in
+      let v = within_places (echoes_from c) a (omega (arith, S.client_low, S.client_high, S.whole)) in
       subst (λ (m : ℕ). Taken g a d (group_of g w c) (pick (leb (quota g) m) rs es)) ready_number
       (picked g a d _ _ rs es
       (record {
-        value = matched_value g re (places_from (readies_from c)) a d rs (ready_agree g B a d T c x) B.servers-high B u;
-        all = matched_all g re (places_from (readies_from c)) a d rs (ready_agree g B a d T c x) B.servers-high B u;
+        value = matched_value g re (places_from (readies_from c)) a d rs (ready_agree g B a d T c x) B.servers_high B u;
+        all = matched_all g re (places_from (readies_from c)) a d rs (ready_agree g B a d T c x) B.servers_high B u;
       })
       (record {
-        value = matched_value g ec (places_from (echoes_from c)) a d es (echo_agree g B a d T c x) B.servers-high B v;
-        all = matched_all g ec (places_from (echoes_from c)) a d es (echo_agree g B a d T c x) B.servers-high B v;
+        value = matched_value g ec (places_from (echoes_from c)) a d es (echo_agree g B a d T c x) B.servers_high B v;
+        all = matched_all g ec (places_from (echoes_from c)) a d es (echo_agree g B a d T c x) B.servers_high B v;
       })
       (leb (quota g) w.readied))
 
@@ -183,10 +183,10 @@ unfolding voters_of
 voters_few g a c b T d v B e =
     let n = ap (λ (w : Voters). w.echoed) e in
     let l = count_le (marked (voters_of g a c b T d).echoes) g.n in
-    omega (arith, n, l, B.servers-high)
+    omega (arith, n, l, B.servers_high)
 
 pub stored : (g : Params) (c a : ℕ) (p : Place) (m out to : ℕ) → Lent g c a p m out to → Stored g c a
-stored g c a p m out to L = record { bounded = L.bounded; client_low = L.client-low; client_high = L.client-high; whole = L.whole }
+stored g c a p m out to L = record { bounded = L.bounded; client_low = L.client_low; client_high = L.client_high; whole = L.whole }
 
 pub regaining : (g : Params) (a d : List ℕ) (T c : ℕ) (b : BlockPart) (v : Voters) → Stored g c (length a) → v ≡ voters_of g a c b T d
     → (went complete : Bool) → matters_by g went complete v.echoed v.readied ≡ true → Regaining g v c (length a)
@@ -198,7 +198,7 @@ regaining g a d T c b v S e went complete h =
       number = ap (λ (w : Voters). w.readied) e ∙ ap (λ (w : Voters). count (marked w.readies) g.n) (sym e);
       enough = λ z.
           let k = enough_echoes g went complete v.echoed v.readied z h in
-          omega (arith, k, n, S.bounded.blocks-high);
+          omega (arith, k, n, S.bounded.blocks_high);
     }
 
 -- ---- the tests of the code

@@ -38,10 +38,10 @@ timed_flagged g on ts T at a d j h e =
 in_group_le : (g : Params) (on : List Bool) (ts : List ℕ) (T : ℕ) (at a d : List ℕ) → Bounded g
     → count (marked (flags (sent_list g (timed on ts T) at a d) g.n)) g.n ≤ count (marked on) g.n
 in_group_le g on ts T at a d B =
-    let e = count_flags (sent_list g (timed on ts T) at a d) g.n B.servers-high in
+    let e = count_flags (sent_list g (timed on ts T) at a d) g.n B.servers_high in
     let l =
     count_mono (sent_list g (timed on ts T) at a d) (marked on) g.n
-    (λ j h. timed_flagged g on ts T at a d j (omega (arith, h.1, B.servers-high))) in
+    (λ j h. timed_flagged g on ts T at a d j (omega (arith, h.1, B.servers_high))) in
     omega (arith, e, l)
 
 -- ---- fewer echoes and readies: nothing more depends on them

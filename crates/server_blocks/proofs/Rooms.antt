@@ -25,14 +25,14 @@ pub offer_room : (g : Params) (p : Place) (d b out to : ℕ) → Carried g d b �
     → Room p g.n (offer_at + (d + b)) out to
 unfolding largest_frame
 offer_room g p d b out to C R =
-    let h : offer_at + (d + b) ≤ largest_frame g = omega (arith, C.list-is, C.block-is) in
+    let h : offer_at + (d + b) ≤ largest_frame g = omega (arith, C.list_is, C.block_is_lem) in
     room_within p (server_frames g) g.n (largest_frame g) (offer_at + (d + b)) out to (omega arith) h R
 
 -- an entry fits into its chunk
 pub entry_fits : (g : Params) (d b : ℕ) → Bounded g → Carried g d b → (d ≤ list_bytes) × (b ≤ 256)
 entry_fits g d b B C =
     let M = small g B in
-    (omega (arith, C.list-is, M.list-room), omega (arith, C.block-is, M.block_room))
+    (omega (arith, C.list_is, M.list_room), omega (arith, C.block_is_lem, M.block_room))
 
 -- storing an entry changes no length
 pub whole_after : (a a' : List ℕ) (p : ℕ) (e : Entry) → a' ≡ store_entry a p e → area_bytes ≤ length a → area_bytes ≤ length a'
@@ -55,7 +55,7 @@ module _ (g : Params) (o₀ t₀ : List ℕ) (R : Room first_place (server_frame
       omega (
         arith,
         length_frame (kind_of (block_is z (offer T (entry d b)))) c q (offer_bytes (offer T (entry d b))),
-        length_offer g (offer T (entry d b)) (record { list_is = C.list-is; block_is_lem = C.block-is }),
+        length_offer g (offer T (entry d b)) (record { list_is = C.list_is; block_is_lem = C.block_is_lem }),
       )
 
   pub room_behind : (r : Bool) → outbox o t p ≡ sent (outbox o₀ t₀ first_place) (pick r (to_all g (λ j. m)) [])

@@ -209,7 +209,7 @@ module _ (n m : ℕ) (k : n ≡ suc m) (g : Params) (l a : List ℕ) (p : Place)
       whole = R.whole;
       room = room_within p (n * (g.n + 17)) (g.n + 17) (largest_frame g) (largest_frame g) _ _ (omega (arith, all)) (omega arith) R.room;
     },
-    R.record-whole,
+    R.record_whole,
     here.2,
   )
 
@@ -219,7 +219,7 @@ module _ (n m : ℕ) (k : n ≡ suc m) (g : Params) (l a : List ℕ) (p : Place)
   rounds_left l' a' o t r h b =
       let d : length l' ≡ length l = ap (λ (y : Settled). length y.state) h ∙ opened_length (server_in l).stamp _ l in
       let w = R.whole in
-      let v = R.record-whole in
+      let v = R.record_whole in
       record {
         bounded = R.bounded;
         record_whole = omega (arith, d, v);

@@ -170,7 +170,7 @@ module _ (H : List ℕ → List ℕ) (k : Call) (s : Server) (a initial f out to
       eleven : 9 ≤ n → (n ≡ 9 → ⊥) → Dec (n ≡ 11) → Refuses
       eleven u v (yes e) = is_value e
       eleven u v (no e) =
-          absurd (omega (arith, h, above n 13 (above n 12 (above n 11 (above n 10 (above n 9 u v) n₁₀) e) n₁₂) A.no-report))
+          absurd (omega (arith, h, above n 13 (above n 12 (above n 11 (above n 10 (above n 9 u v) n₁₀) e) n₁₂) A.no_report))
 
       nine : 9 ≤ n → Dec (n ≡ 9) → Refuses
       nine u (yes e) = is_ack e
@@ -178,7 +178,7 @@ module _ (H : List ℕ → List ℕ) (k : Call) (s : Server) (a initial f out to
 
       two : Dec (n ≡ 2) → Refuses
       two (yes e) = is_stamp e
-      two (no e) = nine (past_retired n r (above n 5 (above n 4 (above n 3 (above n 2 (above n 1 l n₁) e) n₃) A.no-echo) A.no-ready)) (ℕ_discrete n 9)
+      two (no e) = nine (past_retired n r (above n 5 (above n 4 (above n 3 (above n 2 (above n 1 l n₁) e) n₃) A.no_echo) A.no_ready)) (ℕ_discrete n 9)
 
 -- ---- frames after which nothing can be accepted
 
@@ -288,7 +288,7 @@ pub accepts_none : (H : List ℕ → List ℕ) (k : Call) (s : Server) (a initia
     → (effect H k.params k.me s a initial k.from (message_in k.params k.header f)).accepted ≡ []
 unfolding effect message_in
 accepts_none H k s a initial f l h r A =
-    none_accepted H k.params k.me s a initial _ _ _ _ (quiet_body k.header.kind k.params f l h r A.no-echo A.no-ready A.no-report)
+    none_accepted H k.params k.me s a initial _ _ _ _ (quiet_body k.header.kind k.params f l h r A.no_echo A.no_ready A.no_report)
 
 -- and it changes one client's parts alone
 pub changes_one : (H : List ℕ → List ℕ) (k : Call) (s : Server) (a initial f : List ℕ) → 1 ≤ k.header.kind → k.header.kind ≤ 13
@@ -296,7 +296,7 @@ pub changes_one : (H : List ℕ → List ℕ) (k : Call) (s : Server) (a initial
     → Only k.header.client s (effect H k.params k.me s a initial k.from (message_in k.params k.header f)).server
 unfolding effect message_in
 changes_one H k s a initial f l h r A =
-    one_client H k.params k.me s a initial _ _ _ _ (quiet_body k.header.kind k.params f l h r A.no-echo A.no-ready A.no-report)
+    one_client H k.params k.me s a initial _ _ _ _ (quiet_body k.header.kind k.params f l h r A.no_echo A.no_ready A.no_report)
 
 -- ---- a report
 
@@ -307,4 +307,4 @@ report_frame g kind l e h = h ∙ ap (λ (n : ℕ). body_at + body_length g n) e
 
 -- the number of its sender
 pub report_place : (g : Params) (from : Party) (b : Bool) (i : ℕ) → Bounded g → b ≡ from_server g from → b ≡ true → i ≡ number_in from → i ≤ 10
-report_place g from b i B e h k = let n = server_number g from (sym e ∙ h) in omega (arith, n.1, B.servers-high, k)
+report_place g from b i B e h k = let n = server_number g from (sym e ∙ h) in omega (arith, n.1, B.servers_high, k)

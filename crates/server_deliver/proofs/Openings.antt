@@ -144,15 +144,15 @@ handed k f state area initial out to q e p =
     let A = L.params in
     let S = L.rooms in (
       record {
-        lent = record { bounded = A.bounded; client_low = F.client-low; client_high = F.client-high; whole = S.whole; room = S.room };
-        own_low = A.own-low;
-        own_high = A.own-high;
-        kind_low = F.kind-low;
-        kind_high = F.kind-high;
-        kind_used = F.kind-used;
-        frame_is = F.length-is;
+        lent = record { bounded = A.bounded; client_low = F.client_low; client_high = F.client_high; whole = S.whole; room = S.room };
+        own_low = A.own_low;
+        own_high = A.own_high;
+        kind_low = F.kind_low;
+        kind_high = F.kind_high;
+        kind_used = F.kind_used;
+        frame_is = F.length_is;
       },
-      S.initial-whole,
+      S.initial_whole,
       L.whole,
     )
 

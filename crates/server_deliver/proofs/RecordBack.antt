@@ -200,7 +200,7 @@ module _ (g : Params) (me : ℕ) (from : Party) (f area initial state out to : L
 
       O : Opens g f (header_in f)
       unfolding opened
-      O = opens_facts g f (header_in f) (ap (λ (z : Verdict). opened_by z (header_in f)) A.open-facts)
+      O = opens_facts g f (header_in f) (ap (λ (z : Verdict). opened_by z (header_in f)) A.open_facts)
 
       -- a report comes from a server
       sender : (header_in f).kind ≡ 13 → number_in from ≤ 10
@@ -209,14 +209,14 @@ module _ (g : Params) (me : ℕ) (from : Party) (f area initial state out to : L
           let b = (admitted_of g me g.n A.bounds).bounded in
           let r : sender_right g from (header_in f).client (body_in g (header_in f).kind f) ≡ true = (fine_is _ R.Sender _ A.test).0 in
           let n = server_number g from (ap (λ (k : ℕ). sender_right g from (header_in f).client (body_in g k f)) (sym K) ∙ r) in
-          omega (arith, n.1, b.servers-high)
+          omega (arith, n.1, b.servers_high)
 
       same : handed.server ≡ step.server
       unfolding delivery outcome_of
-      same = ap (λ (x : Effect). x.server) A.does-is
+      same = ap (λ (x : Effect). x.server) A.does_is
 
       sets_same : written ≡ effect_sets step (header_in f) from state
-      sets_same = ap (λ (x : Effect). effect_sets x (header_in f) from state) A.does-is
+      sets_same = ap (λ (x : Effect). effect_sets x (header_in f) from state) A.does_is
 
       typed_step : TypedServer step.server
       typed_step = subst TypedServer same typed_left
@@ -224,18 +224,18 @@ module _ (g : Params) (me : ℕ) (from : Party) (f area initial state out to : L
       back : server_in written ≡ handed.server
       back =
           ap server_in sets_same
-          ∙ written_back digest_of call f area initial state out to long p q O.client-high O.kind-low O.kind-high O.kind-used sender typed_step
+          ∙ written_back digest_of call f area initial state out to long p q O.client_high O.kind_low O.kind_high O.kind_used sender typed_step
           ∙ sym same
 
       stored : (l : List ℕ) → state ≡ sets l 0 (server_bytes (server_in state)) → written ≡ sets l 0 (server_bytes handed.server)
       stored l h =
           sets_same
-          ∙ written_stored digest_of call f area initial state out to long p q O.client-high O.kind-low O.kind-high O.kind-used sender typed_step l h
+          ∙ written_stored digest_of call f area initial state out to long p q O.client_high O.kind_low O.kind_high O.kind_used sender typed_step l h
           ∙ ap (λ (x : Server). sets l 0 (server_bytes x)) (sym same)
 
       are_bytes : Bytes written
       unfolding delivery outcome_of
-      are_bytes = written_bytes does (header_in f) from state p typed_left O.client-high
+      are_bytes = written_bytes does (header_in f) from state p typed_left O.client_high
 
     -- the bytes say the server that the delivery leaves, whether it was turned down or not
     pub record_back : server_in left ≡ handed.server
@@ -267,7 +267,7 @@ module _ (g : Params) (me : ℕ) (from : Party) (f area initial state out to : L
       let U = untouched digest_of g me (server_in state) area initial from f out to e in
       let w = effect_sets (delivered digest_of g me (server_in state) area initial from f out to) (header_in f) from state in
       let q : pick (is_turned_down D.reply) state w ≡ state = ap (λ (b : Bool). pick b state w) e in
-      λ i. byte_outcome D.reply (U.area-is i) (q i) (U.out-is i) (U.to_is i)
+      λ i. byte_outcome D.reply (U.area_is i) (q i) (U.out_is i) (U.to_is i)
 
   pub kept_all : is_turned_down whole.reply ≡ true → whole ≡ byte_outcome whole.reply area state out to
   unfolding byte_delivery

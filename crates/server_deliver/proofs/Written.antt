@@ -191,7 +191,7 @@ module _ (H : List ℕ → List ℕ) (k : Call) (f a initial st out to : List �
         slots = set s.slots c (slot_of x c);
         readers = set s.readers c (reader_of x c);
         reports = s.reports;
-      } ≡ x = λ i. record { stamp = x.stamp; slots = sym O.slots-are i; readers = sym O.readers-are i; reports = sym O.reports-are i } in
+      } ≡ x = λ i. record { stamp = x.stamp; slots = sym O.slots_are i; readers = sym O.readers_are i; reports = sym O.reports_are i } in
       record {
         first = x;
         area = a;
@@ -199,8 +199,8 @@ module _ (H : List ℕ → List ℕ) (k : Call) (f a initial st out to : List �
         rest = S.send_only x a [];
         freed = nothing;
         server_is = refl;
-        nine = ap length O.slots-are ∙ length-set s.slots c (slot_of x c) ∙ nine_slots st;
-        sets_are = quiet_sets H k f a initial st out to long B few N A.no-report ∙ opened_none x.stamp _;
+        nine = ap length O.slots_are ∙ length-set s.slots c (slot_of x c) ∙ nine_slots st;
+        sets_are = quiet_sets H k f a initial st out to long B few N A.no_report ∙ opened_none x.stamp _;
         whole = length_scope st c x.stamp (slot_of x c) (reader_of x c);
         stored = λ l q.
             ap (λ (m : List ℕ). scope_sets m c x.stamp (slot_of x c) (reader_of x c)) q

@@ -78,16 +78,16 @@ module _ (H : List ℕ → List ℕ) (g : Params) (me c : ℕ) where
         let w = block_view g a c x in
         SV.marks_view g (small g L) a room c x X is (due (R H g me) g.n g.t w o) (full (R H g me) g.n g.t w o)
         ((R H g me).own me w.echoes w.readies o)
-        (λ z. coded H g L.blocks-low me w o Q z)
+        (λ z. coded H g L.blocks_low me w o Q z)
 
     voted_others : (d : ℕ) → Among 8 d → (d ≡ c → ⊥) → (y : Slot) → Shaped y → block_view g (S.voted_block H g me a c x o).area d y ≡ block_view g a d y
     unfolding S.voted_block
     voted_others d isd ne y Y = SV.client_if g (small g L) a room d y Y isd _ c (complete_at c) _
-        (λ z. coded H g L.blocks-low me (block_view g a c x) o Q (and_right (not x.blocks.complete) _ z)) is (λ z. ne (sym z)) (omega arith) (omega arith)
+        (λ z. coded H g L.blocks_low me (block_view g a c x) o Q (and_right (not x.blocks.complete) _ z)) is (λ z. ne (sym z)) (omega arith) (omega arith)
 
     voted_present : entry_at g (S.voted_block H g me a c x o).area present_at ≡ entry_at g a present_at
     unfolding S.voted_block
-    voted_present = go _ (λ z. coded H g L.blocks-low me (block_view g a c x) o Q (and_right (not x.blocks.complete) _ z))
+    voted_present = go _ (λ z. coded H g L.blocks_low me (block_view g a c x) o Q (and_right (not x.blocks.complete) _ z))
       where
         go : (b : Bool) {y : Entry} → (b ≡ true → Sized g y) → entry_at g (store_if b a (complete_at c) y) present_at ≡ entry_at g a present_at
         go true {y} S = entry_other g (small g L) a (complete_at c) y (S refl) present_at (λ z. omega arith)
@@ -96,7 +96,7 @@ module _ (H : List ℕ → List ℕ) (g : Params) (me c : ℕ) where
     voted_has : (y : Offer) → (block_view g (S.voted_block H g me a c x o).area c (S.voted_block H g me a c x o).slot).done ≡ some y
         → ((block_view g a c x).done ≡ some y) ⊎ Has H g (S.voted_block H g me a c x o).decodes y.entry.digests
     unfolding S.voted_block
-    voted_has y u = settled_has H g L.blocks-low me (block_view g a c x) o y (sym (ap (λ w. w.done) voted_view) ∙ u)
+    voted_has y u = settled_has H g L.blocks_low me (block_view g a c x) o y (sym (ap (λ w. w.done) voted_view) ∙ u)
 
 -- ---- a counted frame
 
@@ -111,7 +111,7 @@ module _ (H : List ℕ → List ℕ) (g : Params) (L : Bounded g) (me : ℕ) (s 
       let (h, m) = said g _ c x.sequence _ y u in (
         _,
         m ∙ ap (λ q. message c q (block_is ready ((R H g me).own me (block_view g a c x).echoes (block_view g a c x).readies o))) q,
-        (due_sized H g L.blocks-low (omega (arith, L.blocks-high)) me (block_view g a c x) o F.0 h, F.1),
+        (due_sized H g L.blocks_low (omega (arith, L.blocks_high)) me (block_view g a c x) o F.0 h, F.1),
       )
 
   -- what it says can be said in a frame

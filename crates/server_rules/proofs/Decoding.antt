@@ -105,7 +105,7 @@ module _ (H : List ℕ → List ℕ) (g : Params) (kk : 1 ≤ g.k) where
 
   sized_own : (me : ℕ) (w : Part Offer) (o : Offer) → Sized g o.entry → length (regained_of g w.echoes w.readies o) ≡ g.size
       → Sized g ((block_rules H g).own me w.echoes w.readies o).entry
-  sized_own me w o Q s = record { list_is = Q.list-is; block_is_lem = block_width g (regained_of g w.echoes w.readies o) me s }
+  sized_own me w o Q s = record { list_is = Q.list_is; block_is_lem = block_width g (regained_of g w.echoes w.readies o) me s }
 
   -- an offer that completes the part, and one that is due
   pub coded : (me : ℕ) (w : Part Offer) (o : Offer) → Sized g o.entry → full (block_rules H g) g.n g.t w o ≡ true

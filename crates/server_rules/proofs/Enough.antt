@@ -49,7 +49,7 @@ module _ (H : List ℕ → List ℕ) (g : Params) where
   -- q + t is not more than the honest servers are
   all_reached : Bounded g → (block_rules H g).all + g.t ≤ g.n
   unfolding quota
-  all_reached L = omega (arith, L.faults-high, L.blocks-high)
+  all_reached L = omega (arith, L.faults_high, L.blocks_high)
 
   -- of the readies that complete a write, those on which a ready is sent are of honest servers
   pub few_honest : (block_rules H g).few + g.t ≤ (block_rules H g).all

@@ -48,7 +48,7 @@ done_sized g M a R c is x y q =
     let o = offer x.blocks.time (entry_at g a (complete_at c)) in
     let e : o ≡ y = (kept_some x.blocks.complete o y q).1 in
     rw (← e) (record {
-      list_is = length-take-le (listed g) (drop (chunk_at (complete_at c)) a) (rw length-drop (omega (arith, M.list-room)));
+      list_is = length-take-le (listed g) (drop (chunk_at (complete_at c)) a) (rw length-drop (omega (arith, M.list_room)));
       block_is_lem = length-take-le (width g) (drop (chunk_at (complete_at c) + list_bytes) a) (rw length-drop (omega (arith, M.block_room)));
     })
 

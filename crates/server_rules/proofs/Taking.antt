@@ -64,7 +64,7 @@ body_sized g f k l =
 
 pub message_sized : (g : Params) (f : List ℕ) (h : Header) → opened g f ≡ O.Frame h → SizedIn g (message_in g h f).body
 unfolding message_in
-message_sized g f h p = body_sized g f h.kind (opens_facts g f h p).length-is
+message_sized g f h p = body_sized g f h.kind (opens_facts g f h p).length_is
 
 -- ---- a frame that a server takes
 
@@ -92,8 +92,8 @@ module _ (H : List ℕ → List ℕ) (g : Params) (me : ℕ) where
             header = h;
             opens = p;
             says = is;
-            client = subst (λ x. Among 8 x.client) is (w.client-low, w.client-high);
-            sized = subst (λ x. SizedIn g x.body) is (body_sized g f h.kind w.length-is);
+            client = subst (λ x. Among 8 x.client) is (w.client_low, w.client_high);
+            sized = subst (λ x. SizedIn g x.body) is (body_sized g f h.kind w.length_is);
             passes = subst (λ x. ST.message_test H g me s from x ≡ J.Fine) is (fine_both room _ e).1;
           }
 

@@ -150,8 +150,8 @@ module _ (e r : ℕ) (N : Counts e r) where
       send_in = λ c j s x h _ _ _. impossible (cc h);
       echo_in = λ i j c s x _ h u q. kept e i j c s x h u q;
       ready_in = λ i j c s x _ h u q. kept r i j c s x h u q;
-      ready_of_echoes = λ j c x h _ w. inl (ready_out e 3 j c x (omega arith) N.echo-due h w);
-      ready_of_readies = λ j c x h _ w. inl (ready_out r 2 j c x (omega arith) N.ready-due h w);
+      ready_of_echoes = λ j c x h _ w. inl (ready_out e 3 j c x (omega arith) N.echo_due h w);
+      ready_of_readies = λ j c x h _ w. inl (ready_out r 2 j c x (omega arith) N.ready_due h w);
       not_done = λ j c x _ _ _ _ w. omega (arith, kept_count r (suc r) j c x w, N.short);
       sent_once = λ c s x y _ u v. omega (arith, u, v);
       ready_backed = λ i c s x _ u. tt;

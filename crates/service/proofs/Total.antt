@@ -51,7 +51,7 @@ module _ {K P : Type 0} (Q : Protocol K P) {ks : List K} {C : Type 0} (E : S.End
   agree = B.supports_agree Q.views n t few all faulty_server faulty_client E.faults I
 
   pub one_ready : (i j c s : ℕ) (x y : P) → SentReady ks i c s x → SentReady ks j c s y → x ≡ y
-  one_ready i j c s x y u v = agree c s x y (I.ready-supported i c s x u) (I.ready-supported j c s y v)
+  one_ready i j c s x y u v = agree c s x y (I.ready_supported i c s x u) (I.ready_supported j c s y v)
 
   pub one_accepted : (i j c s : ℕ) (x y : P) → Accepted ks i c s x → Accepted ks j c s y → x ≡ y
   one_accepted = B.accepted_agree Q.views n t few all faulty_server faulty_client E.faults I most
@@ -59,19 +59,19 @@ module _ {K P : Type 0} (Q : Protocol K P) {ks : List K} {C : Type 0} (E : S.End
   -- what one honest server accepted, another that has passed it accepted
   passed_accepted : (i j c s : ℕ) (x : P) → Honest i → Honest j → Accepted ks i c s x → s < sequence ks j c → Accepted ks j c s x
   passed_accepted i j c s x hi hj u l =
-      let (y, v) = R.passed j c s hj (R.of-client i c s x hi u) (R.from_one i c s x hi u) l in
+      let (y, v) = R.passed j c s hj (R.of_client i c s x hi u) (R.from_one i c s x hi u) l in
       rw (one_accepted i j c s x y u v) v
 
   -- what an honest server sent for a sequence that an honest server has open is kept there
   pub kept_echo : (i j c : ℕ) (x : P) → Honest i → Honest j → SentEcho ks i c (sequence ks j c) x → KeptEcho ks j c i x
   kept_echo i j c x hi hj u =
-      let (y, k) = R.echo-in i j c (sequence ks j c) x hi hj u refl in
-      rw (I.echo-once i c (sequence ks j c) x y u (I.echo-heard j c i y hi.0 hi.1 k)) k
+      let (y, k) = R.echo_in i j c (sequence ks j c) x hi hj u refl in
+      rw (I.echo_once i c (sequence ks j c) x y u (I.echo_heard j c i y hi.0 hi.1 k)) k
 
   kept_ready : (i j c : ℕ) (x : P) → Honest i → Honest j → SentReady ks i c (sequence ks j c) x → KeptReady ks j c i x
   kept_ready i j c x hi hj u =
-      let (y, k) = R.ready-in i j c (sequence ks j c) x hi hj u refl in
-      rw (one_ready i i c (sequence ks j c) x y u (I.ready-heard j c i y hi.0 hi.1 k)) k
+      let (y, k) = R.ready_in i j c (sequence ks j c) x hi hj u refl in
+      rw (one_ready i i c (sequence ks j c) x y u (I.ready_heard j c i y hi.0 hi.1 k)) k
 
   -- ---- a write to which every honest server has come, with a ready wherever it is open
 
@@ -81,7 +81,7 @@ module _ {K P : Type 0} (Q : Protocol K P) {ks : List K} {C : Type 0} (E : S.End
     ready_at_lem j h = go (dec_lt s (sequence ks j c))
       where
         of_this : (y : P) → SentReady ks j c s y → SentReady ks j c s x
-        of_this y v = rw (agree c s x y sup (I.ready-supported j c s y v)) v
+        of_this y v = rw (agree c s x y sup (I.ready_supported j c s y v)) v
 
         go : Dec (s < sequence ks j c) → SentReady ks j c s x ⊎ C
         go (yes l) =
@@ -133,26 +133,26 @@ module _ {K P : Type 0} (Q : Protocol K P) {ks : List K} {C : Type 0} (E : S.End
 
   module _ (i c s : ℕ) (x : P) (h : Honest i) (u : Accepted ks i c s x) where
     readies : B.Readies Q.views n t few all faulty_server faulty_client ks c s x
-    readies = I.accepted-readies i c s x u
+    readies = I.accepted_readies i c s x u
 
     backed : Backed x
-    backed = let (k, is, g, f) = honest_member E.faults (at_least_fewer most readies) in R.ready-backed k c s x (is, g) (f g)
+    backed = let (k, is, g, f) = honest_member E.faults (at_least_fewer most readies) in R.ready_backed k c s x (is, g) (f g)
 
     due_by_readies : (k : ℕ) → Honest k → s ≡ sequence ks k c → ((y : P) × SentReady ks k c (sequence ks k c) y) ⊎ C
     due_by_readies k hk e =
         let honest : AtLeast n few (λ m. (faulty_server m ≡ false) × SentReady ks m c s x) =
         honest_part E.faults (omega (arith, E.thresholds.reach)) readies in
-        R.ready-of-readies k c x hk backed (at_least_map (λ m is z. kept_ready m k c x (is, z.0) hk (rw (sym e) z.1)) honest)
+        R.ready_of_readies k c x hk backed (at_least_map (λ m is z. kept_ready m k c x (is, z.0) hk (rw (sym e) z.1)) honest)
 
     spread_step : Spread (rank i c s x u) → Each (λ j. (s < sequence ks j c) ⊎ C)
-    spread_step ih j hj = go (come_after c s (R.of-client i c s x h u) (before_spread i c s x h u ih)) (free_by_lem (rank i c s x u) x ih (R.freed i c s x h u))
+    spread_step ih j hj = go (come_after c s (R.of_client i c s x h u) (before_spread i c s x h u ih)) (free_by_lem (rank i c s x u) x ih (R.freed i c s x h u))
       where
         go : Each (λ k. s ≤ sequence ks k c) ⊎ C → Each (λ k. Free k x) ⊎ C → (s < sequence ks j c) ⊎ C
         go (inr z) f = inr z
         go (inl m) (inr z) = inr z
-        go (inl m) (inl f) = all_accept c s x (R.of-client i c s x h u) (R.from_one i c s x h u) m backed
+        go (inl m) (inl f) = all_accept c s x (R.of_client i c s x h u) (R.from_one i c s x h u) m backed
             (B.accepted_supported Q.views n t few all faulty_server faulty_client E.faults I most i c s x u)
-            due_by_readies (R.accepted-below i c s x h u) f j hj
+            due_by_readies (R.accepted_below i c s x h u) f j hj
 
   spread_to : (r : ℕ) → Spread r
   spread_to zero i c s x h u l = absurd (omega arith)

@@ -28,11 +28,11 @@ module _ {K P : Type 0} (Q : Protocol K P) {ks : List K} {C : Type 0} (E : S.End
     module _ (e : Each (λ j. s ≡ sequence ks j c)) where
       echoed : (i : ℕ) → Honest i → SentEcho ks i c s x
       echoed i h =
-          let (y, v) = E.final.send-in c i s x hc h u (e i h) in
-          rw (E.final.sent-once c s x y hc u (E.invariant.echo-valid i c s y hc v)) v
+          let (y, v) = E.final.send_in c i s x hc h u (e i h) in
+          rw (E.final.sent_once c s x y hc u (E.invariant.echo_valid i c s y hc v)) v
 
       due_by_echoes : (j : ℕ) → Honest j → s ≡ sequence ks j c → ((y : P) × SentReady ks j c (sequence ks j c) y) ⊎ C
-      due_by_echoes j h d = E.final.ready-of-echoes j c x h b (T.by_honest Q E (λ i hi. T.kept_echo Q E i j c x hi h (rw (sym d) (echoed i hi))))
+      due_by_echoes j h d = E.final.ready_of_echoes j c x h b (T.by_honest Q E (λ i hi. T.kept_echo Q E i j c x hi h (rw (sym d) (echoed i hi))))
 
       where_open : Each (λ j. Free j x) → Each (λ j. (s < sequence ks j c) ⊎ C)
       where_open f = T.all_accept Q E c s x ic low (λ j h. omega (arith, e j h)) b (T.by_honest Q E (λ i h _. echoed i h)) due_by_echoes l f

@@ -138,23 +138,23 @@ module _ (H : List ℕ → List ℕ) (g : Params) where
     facts_of w Said r T F = record {
       an_echo = λ c b q p u.
           let (i, e, h) = T.says b c q echo p u in
-          let f = (F c i).an-echo p h in
+          let f = (F c i).an_echo p h in
           (e, f.0, ⊎_elim (λ t. inl (t.0, ap (λ v. v.sent) (t.1 i) ∙ f.1)) (λ t. inr (omega (arith, t.0))) (T.this c), f.2.0, f.2.1);
-      a_ready = λ c b q p u. let (i, e, h) = T.says b c q ready p u in (i, e, (F c i).a-ready p h);
+      a_ready = λ c b q p u. let (i, e, h) = T.says b c q ready p u in (i, e, (F c i).a_ready p h);
       echo_kept = λ c i j p u. ⊎_elim
-          (λ t. (t.0, (F c i).echo-kept j p (sym (ap (λ v. v.echoes j) (t.1 i)) ∙ u)))
+          (λ t. (t.0, (F c i).echo_kept j p (sym (ap (λ v. v.echoes j) (t.1 i)) ∙ u)))
           (λ t. impossible (cc (ap (λ v. v.echoes j) t.1, u)))
           (T.this c);
       ready_kept = λ c i j p u. ⊎_elim
-          (λ t. (t.0, (F c i).ready-kept j p (sym (ap (λ v. v.readies j) (t.1 i)) ∙ u)))
+          (λ t. (t.0, (F c i).ready_kept j p (sym (ap (λ v. v.readies j) (t.1 i)) ∙ u)))
           (λ t. impossible (cc (ap (λ v. v.readies j) t.1, u)))
           (T.this c);
       onward = λ c. ⊎_elim (λ t. inl (t.0, λ i u. ap (λ v. v.sent) (t.1 i) ∙ (F c i).onward u)) (λ t. inr (omega (arith, t.0))) (T.this c);
       done_kept = λ c i p u. ⊎_elim
-          (λ t. (t.0, (F c i).done-why p (sym (ap (λ v. v.done) (t.1 i)) ∙ u)))
+          (λ t. (t.0, (F c i).done_why p (sym (ap (λ v. v.done) (t.1 i)) ∙ u)))
           (λ t. impossible (cc (ap (λ v. v.done) t.1, u)))
           (T.this c);
-      took_why = λ k u. let (i, e, d) = T.took k u in (i, e, (F k.client i).done-why (offer_of k) d);
+      took_why = λ k u. let (i, e, d) = T.took k u in (i, e, (F k.client i).done_why (offer_of k) d);
     }
 
     -- a call that leaves all slots and the area, and says nothing of a write
@@ -230,7 +230,7 @@ module _ (H : List ℕ → List ℕ) (g : Params) where
       w = part_of g s c p
 
       at : Among 10 j
-      at = counted_from g from c is L.servers-high k right
+      at = counted_from g from c is L.servers_high k right
 
       shape : ServerShape s₁ p.area
       shape = counted_shape H g me s a initial F j at.0 c is.1 k

@@ -136,7 +136,7 @@ module _ (H : List ℕ → List ℕ) (g : Params) (me : ℕ) where
     where
       go : (j : Judged) → CT.judge H g me s a v from f result out to ≡ j → Delivered s a v from f (CD.effect_by H g me j s a v from)
       go (bad r) e = refused refl
-      go (good m) e = taken m (took s a v from f result out to m e) (took_room s a v from f result out to m e).rows-room refl
+      go (good m) e = taken m (took s a v from f result out to m e) (took_room s a v from f result out to m e).rows_room refl
 
   -- what a passed test says
   pub record Passed (s : Client) (from : Party) (m : Message) : Type 0 where
@@ -246,7 +246,7 @@ module _ (H : List ℕ → List ℕ) (g : Params) (me : ℕ) where
         let w = and_split (CS.reading s.phase) _ (awaited_true H g me _ (fine_both _ _ o).0) in
         let h : q ≡ s.reads = eqb-true q s.reads (and_split (eqb q s.reads) _ w.1).0 in
         let n = keeps_reads s a v j k in
-        formed_all g _ (λ i. said s'.reads (omega (arith, h, n, f.sequence-low)) (omega (arith, h, n, f.sequence-high)) read_complete tt)
+        formed_all g _ (λ i. said s'.reads (omega (arith, h, n, f.sequence_low)) (omega (arith, h, n, f.sequence_high)) read_complete tt)
 
     pub delivered_formed : (s : Client) (a v : List ℕ) → Numbered s → (from : Party) (f result out to : List ℕ) → Bytes f
         → AllFormed g (CD.delivered H g me s a v from f result out to).sends

@@ -51,7 +51,7 @@ module _ (H : List ℕ → List ℕ) (g : Params) (L : Bounded g) (me : ℕ) (s 
       go : Dec (d ≡ c) → ((block_view g a d (slot_of s d)).done ≡ some y) ⊎ Has H g p.decodes y.entry.digests
       go (no ne) = inl (sym (ap (λ v. v.done) (T.there d i ne)) ∙ u)
       go (yes z) = subst (λ d. ((block_view g a d (slot_of s d)).done ≡ some y) ⊎ Has H g p.decodes y.entry.digests) (sym z)
-          (counted_has H g L me s a initial F.room (number_in from) (counted_from g from c is L.servers-high k h) c is
+          (counted_has H g L me s a initial F.room (number_in from) (counted_from g from c is L.servers_high k h) c is
           (slot_within shapes F.within c is.1) k Q y
           (sym (ap (λ v. v.done) T.here) ∙ subst (λ d. (part_of g s c p d).done ≡ some y) z u))
 

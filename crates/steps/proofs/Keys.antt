@@ -26,16 +26,16 @@ key_time a b h = go (dec_le a.time b.time)
 pub older_key : (a b : Stamp) → StampInBounds a → StampInBounds b → older a b ≡ true → key a < key b
 unfolding older
 older_key a b P Q e = ⊎_elim
-    (λ l. omega (arith, ltb-true a.time b.time l, P.writer-high, P.sequence-high, Q.writer-high, Q.sequence-high))
+    (λ l. omega (arith, ltb-true a.time b.time l, P.writer_high, P.sequence_high, Q.writer_high, Q.sequence_high))
     (λ r.
     let w = and_split (eqb a.time b.time) _ r in
     let t = eqb-true a.time b.time w.0 in
     ⊎_elim
-    (λ l. omega (arith, t, ltb-true a.writer b.writer l, P.writer-high, P.sequence-high, Q.writer-high, Q.sequence-high))
+    (λ l. omega (arith, t, ltb-true a.writer b.writer l, P.writer_high, P.sequence_high, Q.writer_high, Q.sequence_high))
     (λ r.
     let y = and_split (eqb a.writer b.writer) _ r in
     let n = eqb-true a.writer b.writer y.0 in
-    omega (arith, t, n, ltb-true a.sequence b.sequence y.1, P.writer-high, P.sequence-high, Q.writer-high, Q.sequence-high))
+    omega (arith, t, n, ltb-true a.sequence b.sequence y.1, P.writer_high, P.sequence_high, Q.writer_high, Q.sequence_high))
     (or_split (ltb a.writer b.writer) (eqb a.writer b.writer && ltb a.sequence b.sequence) w.1))
     (or_split (ltb a.time b.time)
     (eqb a.time b.time && (ltb a.writer b.writer || (eqb a.writer b.writer && ltb a.sequence b.sequence))) e)
@@ -51,17 +51,17 @@ not_older a b P Q e =
         → key b ≤ key a
     by_writer t l true z e =
         let n = eqb-true a.writer b.writer z in
-        omega (arith, t, n, ltb-false a.sequence b.sequence e, P.writer-high, P.sequence-high, Q.writer-high, Q.sequence-high)
+        omega (arith, t, n, ltb-false a.sequence b.sequence e, P.writer_high, P.sequence_high, Q.writer_high, Q.sequence_high)
     by_writer t l false z e =
         let n = eqb-false a.writer b.writer z in
-        omega (arith, t, l, n, P.writer-high, P.sequence-high, Q.writer-high, Q.sequence-high)
+        omega (arith, t, l, n, P.writer_high, P.sequence_high, Q.writer_high, Q.sequence_high)
 
     by_time : b.time ≤ a.time → (z : Bool) → eqb a.time b.time ≡ z
         → (z && (ltb a.writer b.writer || (eqb a.writer b.writer && ltb a.sequence b.sequence))) ≡ false → key b ≤ key a
     by_time t true z e =
         let w = or_false (ltb a.writer b.writer) _ e in
         by_writer (eqb-true a.time b.time z) (ltb-false a.writer b.writer w.0) (eqb a.writer b.writer) refl w.1
-    by_time t false z e = let n = eqb-false a.time b.time z in omega (arith, t, n, P.writer-high, P.sequence-high, Q.writer-high, Q.sequence-high)
+    by_time t false z e = let n = eqb-false a.time b.time z in omega (arith, t, n, P.writer_high, P.sequence_high, Q.writer_high, Q.sequence_high)
 
 -- the other way
 pub key_older : (a b : Stamp) → StampInBounds a → StampInBounds b → key a < key b → older a b ≡ true

@@ -68,7 +68,7 @@ pub record WriteInBounds (g : Params) (k : S.Write) : Type 0 where
 
 pub write_stamp_in_bounds : (g : Params) (k : S.Write) → WriteInBounds g k → StampInBounds (S.stamp_of k)
 write_stamp_in_bounds g k Q = record {
-  time_high = omega (arith, Q.time-high);
+  time_high = omega (arith, Q.time_high);
   writer_high = Q.client.1;
   sequence_high = Q.high;
   agree = agree_some k.time k.client k.sequence Q.client.0 Q.low;
@@ -106,15 +106,15 @@ pub record Good (g : Params) (r : S.Effect) : Type 0 where
 
 with_body : (g : Params) (c q : ℕ) (b b' : Body) → Formed g (message c q b) → FormedBody g b' → Formed g (message c q b')
 with_body g c q b b' F h = record {
-  client_low = F.client-low;
-  client_high = F.client-high;
-  sequence_low = F.sequence-low;
-  sequence_high = F.sequence-high;
+  client_low = F.client_low;
+  client_high = F.client_high;
+  sequence_low = F.sequence_low;
+  sequence_high = F.sequence_high;
   body = h;
 }
 
 value_formed : (g : Params) (x : Stamp) (e : Entry) → StampInBounds x → Sized g e → FormedBody g (value_is x e)
-value_formed g x e R Q = (Q, R.time-high, R.writer-high, R.sequence-high, R.agree)
+value_formed g x e R Q = (Q, R.time_high, R.writer_high, R.sequence_high, R.agree)
 
 take_sized : (w i : ℕ) (a : List ℕ) → i + w ≤ length a → length (take w (drop i a)) ≡ w
 take_sized w i a h = length-take-le w (drop i a) (rw length-drop (omega arith))
@@ -123,7 +123,7 @@ present_sized : (g : Params) → Small g → (x : Stamp) (a initial : List ℕ) 
     → Sized g (present_entry g x a initial)
 unfolding present_entry present_block pick
 present_sized g M x a initial R I = record {
-  list_is = take_sized (listed g) 0 a (omega (arith, M.list-room));
+  list_is = take_sized (listed g) 0 a (omega (arith, M.list_room));
   block_is_lem = go (eqb x.time 0);
 }
   where
@@ -182,7 +182,7 @@ module _ (H : List ℕ → List ℕ) (g : Params) (L : Bounded g) (me : ℕ) (s 
               client_high = W.client.1;
               sequence_low = W.low;
               sequence_high = W.high;
-              body = omega (arith, W.time-high);
+              body = omega (arith, W.time_high);
             })
 
   -- ---- a step
@@ -197,7 +197,7 @@ module _ (H : List ℕ → List ℕ) (g : Params) (L : Bounded g) (me : ℕ) (s 
 
   pub shaped_between : (c : ℕ) → Among 8 c → {b : Body} → ST.sender_right g from c b ≡ true → {p : S.Counting} → Counted H g me s a initial j c b p
       → ServerShape (with_slot s c p.slot) p.area
-  shaped_between c is h k = counted_shape H g me s a initial F j (counted_from g from c is L.servers-high k h).0 c is.1 k
+  shaped_between c is h k = counted_shape H g me s a initial F j (counted_from g from c is L.servers_high k h).0 c is.1 k
 
   step_writes : {c q : ℕ} {b : Body} {r : S.Effect} → Shape H g me s a initial j c q b r → Among 8 c → ST.sender_right g from c b ≡ true
       → (w : S.Write) → Memᴰ w r.accepted → WriteInBounds g w
@@ -211,7 +211,7 @@ module _ (H : List ℕ → List ℕ) (g : Params) (L : Bounded g) (me : ℕ) (s 
   step_formed : width g ≤ length initial → {c q : ℕ} {b : Body} {r : S.Effect} → Shape H g me s a initial j c q b r → Formed g (message c q b)
       → ST.sender_right g from c b ≡ true → ST.order_test H g me s j c q b ≡ J.Fine → AllFormed g r.sends
   step_formed I (idle b) f h o y u = absurd (Memᴰ.not-nil u)
-  step_formed I {c} {q} answers f h o y u = one_formed g _ (with_body g c q get_stamp (stamp_is s.stamp.time) f B.stamp.time-high) y u
+  step_formed I {c} {q} answers f h o y u = one_formed g _ (with_body g c q get_stamp (stamp_is s.stamp.time) f B.stamp.time_high) y u
   step_formed I {c} {q} notes f h o y u = one_formed g _
       (with_body g c q ask_read (value_is s.stamp (present_entry g s.stamp a initial)) f
       (value_formed g s.stamp _ B.stamp (present_sized g (small g L) s.stamp a initial F.room I))) y u
@@ -220,7 +220,7 @@ module _ (H : List ℕ → List ℕ) (g : Params) (L : Bounded g) (me : ℕ) (s 
       (λ v.
       let (b', e, t) = counted_word H g L me s a initial j c k f.body y v in
       subst (Formed g) (sym (e ∙ ap (λ n. message c n b') (sym (counted_open k q o)))) (with_body g c q b b' f t))
-      (λ v. freed_formed x (shaped_between c (f.client-low, f.client-high) h k) (counted_in_bounds c f.client-high k) y v)
+      (λ v. freed_formed x (shaped_between c (f.client_low, f.client_high) h k) (counted_in_bounds c f.client_high k) y v)
       (Memᴰ.append_cases p.sends u)
   step_formed I (hears T x) f h o y u = freed_formed x (report_shape s a F j T) (report_in_bounds T) y u
 
@@ -228,10 +228,10 @@ module _ (H : List ℕ → List ℕ) (g : Params) (L : Bounded g) (me : ℕ) (s 
   module _ (m : Message) (f : Formed g m) (e : ST.message_test H g me s from m ≡ J.Fine) where
     pub effect_in_bounds : InBounds (S.effect H g me s a initial from m).server
     effect_in_bounds =
-        step_within ranges H g me s a initial j m.client m.sequence B f.client-high (shape_of H g me s a initial from m) (record {
+        step_within ranges H g me s a initial j m.client m.sequence B f.client_high (shape_of H g me s a initial from m) (record {
           empty = record { flags = tt; time = tt };
           counts = λ k. (λ l u. tt, no_time k);
-          noted = λ u. record { noted = u; listening = λ l. (f.sequence-low, f.sequence-high) };
+          noted = λ u. record { noted = u; listening = λ l. (f.sequence_low, f.sequence_high) };
           ended = λ u. record { noted = u.noted; listening = λ l. impossible (cc l) };
           reported = λ T e. tt;
           leaves = λ w i q l t. (
@@ -249,4 +249,4 @@ module _ (H : List ℕ → List ℕ) (g : Params) (L : Bounded g) (me : ℕ) (s 
     effect_good I =
         let (h, o) = test_split H g me s from m e in
         let x = shape_of H g me s a initial from m in
-        record { in_bounds = effect_in_bounds; formed = step_formed I x f h o; write_in_bounds = step_writes x (f.client-low, f.client-high) h }
+        record { in_bounds = effect_in_bounds; formed = step_formed I x f h o; write_in_bounds = step_writes x (f.client_low, f.client_high) h }

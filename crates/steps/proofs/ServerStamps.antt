@@ -165,7 +165,7 @@ module _ (H : List ℕ → List ℕ) (g : Params) where
         → Counted H g me s a initial (number_in from) c b p → held p.area ≡ held a
     unfolding entry_at
     held_same b at Q h k = ap (λ e. e.digests) (counted_present H g L me s a initial F.room (number_in from)
-        (counted_from g from c at L.servers-high k h) c at (slot_within shapes F.within c at.1) k Q)
+        (counted_from g from c at L.servers_high k h) c at (slot_within shapes F.within c at.1) k Q)
 
     -- ---- a step
 
@@ -203,7 +203,7 @@ module _ (H : List ℕ → List ℕ) (g : Params) where
       noting = λ d l. ⊎_elim
           (λ (ed, w). let (ef, em) = renamed ed (ap (λ y. y.sequence) w) ask_read (is_owner from c h) in inr (ef, em, ap (λ y. y.noted) w))
           (λ w. inl w)
-          (reader_cases f.client-high (record { sequence = q; listening = true; noted = s.stamp }) d);
+          (reader_cases f.client_high (record { sequence = q; listening = true; noted = s.stamp }) d);
       present_new = inl (refl, refl);
     }
     step_facts ends f Q h o B' = record {
@@ -214,11 +214,11 @@ module _ (H : List ℕ → List ℕ) (g : Params) where
       noting = λ d l. ⊎_elim
           (λ (ed, w). impossible (cc (ap (λ y. y.listening) w, l)))
           (λ w. inl w)
-          (reader_cases f.client-high (record { sequence = q; listening = false; noted = (reader_of s c).noted }) d);
+          (reader_cases f.client_high (record { sequence = q; listening = false; noted = (reader_of s c).noted }) d);
       present_new = inl (refl, refl);
     }
     step_facts (settles b p k x) f Q h o B' =
-        let at : Among 8 c = (f.client-low, f.client-high) in
+        let at : Among 8 c = (f.client_low, f.client_high) in
         settled b (shaped_between H g L me s B a initial F from c at h k) (counted_in_bounds H g L me s B a initial F from c at.1 k) refl refl
         (held_same b at Q h k) p.sends (counted_cast H g me s a initial (number_in from) c k) x B' p.decodes
     step_facts (hears T {r} x) f Q h o B' =

@@ -174,7 +174,7 @@ module _ (H : List ℕ → List ℕ) (g : Params) (L : Bounded g) (me : ℕ) (s 
     number : Among 10 j
     number =
         let h = subst (λ m. ST.sender_right g from m.client m.body ≡ true) x (test_split H g me s from m pass).0 in
-        counted_from g from d id L.servers-high {H = H} {me = me} {s = s} {a = a} {initial = initial} (block k o) h
+        counted_from g from d id L.servers_high {H = H} {me = me} {s = s} {a = a} {initial = initial} (block k o) h
 
     counted_says : (counted R g.n g.t me (before d) j k o).ready ≡ true → ((before d).ready ≡ true) ⊎ ((y : Offer) × ToAll d ready y)
     counted_says e = ⊎_elim
@@ -232,7 +232,7 @@ module _ (H : List ℕ → List ℕ) (g : Params) (L : Bounded g) (me : ℕ) (s 
     pub entry : ((before w.client).done ≡ some (offer_of w)) ⊎ Encodes H g me w.entry
 
   pub accepted_client : (w : S.Write) → Memᴰ w r.accepted → Among 8 w.client
-  accepted_client w u = ((cast_facts H g L me s a initial F from m is Q pass).took-why w u).0
+  accepted_client w u = ((cast_facts H g L me s a initial F from m is Q pass).took_why w u).0
 
   -- of a client at most one is accepted
   accepted_one : (w x : S.Write) → Memᴰ w r.accepted → Memᴰ x r.accepted → w.client ≡ x.client → w ≡ x
@@ -245,7 +245,7 @@ module _ (H : List ℕ → List ℕ) (g : Params) (L : Bounded g) (me : ℕ) (s 
       go notes h u v e = absurd (Memᴰ.not-nil u)
       go ends h u v e = absurd (Memᴰ.not-nil u)
       go (settles b p k f) h u v e =
-          let X = counted_shape H g me s a initial F j (counted_from g from m.client is L.servers-high k h).0 m.client is.1 k in
+          let X = counted_shape H g me s a initial F j (counted_from g from m.client is L.servers_high k h).0 m.client is.1 k in
           freed_one (small g L) f X.within X.room w x u v e
       go (hears T f) h u v e = let X = report_shape s a F j T in freed_one (small g L) f X.within X.room w x u v e
 
@@ -269,7 +269,7 @@ module _ (H : List ℕ → List ℕ) (g : Params) (L : Bounded g) (me : ℕ) (s 
             sequence = ap (λ w. w.sequence) (sym e) ∙ O.sequence;
             next = O.next;
             below = subst (λ w. w.time < last_time) e O.below;
-            ready_out = counted_says w.client id k o x ((counted_calm H g me (before w.client) j k o y C).done-ready (offer_of w) t');
+            ready_out = counted_says w.client id k o x ((counted_calm H g me (before w.client) j k o y C).done_ready (offer_of w) t');
             acked = accepted_acked H g me s a initial from m w u;
             entry = counted_done H g me (before w.client) j k o (offer_of w) t';
           }
@@ -281,7 +281,7 @@ module _ (H : List ℕ → List ℕ) (g : Params) (L : Bounded g) (me : ℕ) (s 
             sequence = ap (λ w. w.sequence) (sym e) ∙ O.sequence;
             next = O.next;
             below = subst (λ w. w.time < last_time) e O.below;
-            ready_out = inl (C.done-ready (offer_of w) t');
+            ready_out = inl (C.done_ready (offer_of w) t');
             acked = accepted_acked H g me s a initial from m w u;
             entry = inl t';
           }

@@ -64,7 +64,7 @@ module _ (H : List ℕ → List ℕ) (g : Params) (me : ℕ) (s : Server) (from 
         go notes Q h = inl (refl, refl)
         go ends Q h = inl (refl, refl)
         go (settles b p k f) Q h =
-            let at = counted_from g from m.client is L.servers-high k h in
+            let at = counted_from g from m.client is L.servers_high k h in
             let l = counted_length H g me s a initial (number_in from) m.client k in
             let q = counted_present H g L me s a initial F.room (number_in from) at m.client is (slot_within shapes F.within m.client is.1) k Q in
             ⊎_elim (λ (e, h). inl (e, h ∙ q)) (λ w. inr w) (freed_present (small g L) f (omega (arith, l, F.room)))

@@ -76,7 +76,7 @@ module _ (H : List ℕ → List ℕ) (g : Params) where
       let few = quota_faults g in
       let zeros = no_votes g.n in
       let n : leb g.n (count (λ j. false) g.n + g.t) ≡ false =
-      leb_short g.n (count (λ j. false) g.n + g.t) (omega (arith, zeros, L.faults-high)) in
+      leb_short g.n (count (λ j. false) g.n + g.t) (omega (arith, zeros, L.faults_high)) in
       let q : leb (quota g) (count (λ j. false) g.n) ≡ false = leb_short (quota g) (count (λ j. false) g.n) (omega (arith, zeros, few)) in
       let a : leb (quota g + g.t) (count (λ j. false) g.n) ≡ false = leb_short (quota g + g.t) (count (λ j. false) g.n) (omega (arith, zeros, few)) in
       record {
@@ -127,18 +127,18 @@ module _ (H : List ℕ → List ℕ) (g : Params) where
       where
         readied : (y : Offer) (d : Option Offer) (b : Bool) → w.done ≡ d → full R g.n g.t w o ≡ b
             → first_of d (kept b (R.own me w.echoes w.readies o)) ≡ some y → (settled R g.n g.t me w o).ready ≡ true
-        readied y (some z) b p q e = or_left w.ready _ (ready ∙ C.done-ready z (sym done ∙ p))
+        readied y (some z) b p q e = or_left w.ready _ (ready ∙ C.done_ready z (sym done ∙ p))
         readied y none true p q e = full_ready q
         readied y none false p q e = impossible (cc e)
 
         not_again : (x : Offer) (b : Bool) → R.alike o x ≡ b → (not (w.ready || due R g.n g.t w o) && rest x) ≡ false
         not_again x true e = not_due_again w.ready _ (rest x) (sym (O.alike_due H g x o (same_of x e) w) ∙ due_is x)
-        not_again x false e = still_not_due w.ready _ (rest x) (sym (due_is x) ∙ O.agrees_due H g x w v ready (E x e) (Q x e) ∙ C.nothing-due x)
+        not_again x false e = still_not_due w.ready _ (rest x) (sym (due_is x) ∙ O.agrees_due H g x w v ready (E x e) (Q x e) ∙ C.nothing_due x)
 
         complete : (x : Offer) (b : Bool) → R.alike o x ≡ b → full R g.n g.t w x ≡ true → undone (settled R g.n g.t me w o).done ≡ false
         complete x true e f = first_full w.done (full R g.n g.t w o) _ (sym (O.alike_full H g x o (same_of x e) w) ∙ f)
         complete x false e f =
-            first_done w.done _ (ap undone done ∙ C.full-done x (sym (O.agrees_full H g x w v ready (E x e) (Q x e)) ∙ f))
+            first_done w.done _ (ap undone done ∙ C.full_done x (sym (O.agrees_full H g x w v ready (E x e) (Q x e)) ∙ f))
 
   -- a place that was empty
   fresh_place : (f : ℕ → Option Offer) (j : ℕ) (o x : Offer) → f j ≡ none → R.alike o x ≡ false → (i : ℕ) → Agrees H g x (put f j (some o) i) (f i)
@@ -155,7 +155,7 @@ module _ (H : List ℕ → List ℕ) (g : Params) where
 
   with_sent_calm : (v : Part Offer) → Calm v → Calm (with_sent v)
   unfolding due enough full
-  with_sent_calm v C = record { nothing_due = C.nothing-due; full_done = C.full-done; done_ready = C.done-ready }
+  with_sent_calm v C = record { nothing_due = C.nothing_due; full_done = C.full_done; done_ready = C.done_ready }
 
   pub counted_calm : (me : ℕ) (v : Part Offer) (j : ℕ) (z : Stage) (o : Offer) → Uncounted v j z → Calm v → Calm (counted R g.n g.t me v j z o)
   counted_calm me v j send o u C = with_sent_calm v C

@@ -96,7 +96,7 @@ module _ (H : List ℕ → List ℕ) (g : Params) (L : Bounded g) (me : ℕ) (s 
       → ServerShape (with_slot s c (S.on_block H g me a c (slot_of s c) (number_in from) z o).slot) (S.on_block H g me a c (slot_of s c) (number_in from) z o).area
   counted_then c is z o h =
       let k : Counted H g me s a initial (number_in from) c (block_is z o) (S.on_block H g me a c (slot_of s c) (number_in from) z o) = block z o in
-      counted_shape H g me s a initial F (number_in from) (counted_from g from c is L.servers-high k h).0 c is.1 k
+      counted_shape H g me s a initial F (number_in from) (counted_from g from c is L.servers_high k h).0 c is.1 k
 
   ripeless_of : (c q : ℕ) (b : Body) → Among 8 c → ST.sender_right g from c b ≡ true → Ripeless g s a
       → Ripeless g (S.on_body H g me s a initial (number_in from) c q b).server (S.on_body H g me s a initial (number_in from) c q b).area

@@ -144,7 +144,7 @@ module _ (H : List ℕ → List ℕ) (g : Params) (me : ℕ) (s : Server) (a : L
       k = block z o
 
       at : Among 10 j
-      at = counted_from g from c is L.servers-high k right
+      at = counted_from g from c is L.servers_high k right
 
       its_own : q ≡ (slot_of s c).sequence
       its_own = counted_open k q t

@@ -82,7 +82,7 @@ module _ (H : List ℕ → List ℕ) (g : Params) where
       (go (leb (quota g) (votes R g.n g.t w.readies o)) refl)
     where
       by : (f : ℕ → Option Offer) → g.k ≤ votes R g.n g.t f o → length (lowest_value g (at_time f o.time) o.entry.digests) ≡ g.size
-      by f l = lowest_size H g L.blocks-low (at_time f o.time) o.entry.digests (omega (arith, l, votes_are H g f o))
+      by f l = lowest_size H g L.blocks_low (at_time f o.time) o.entry.digests (omega (arith, l, votes_are H g f o))
 
       go : (b : Bool) → leb (quota g) (votes R g.n g.t w.readies o) ≡ b
           → length (pick b (lowest_value g (at_time w.readies o.time) o.entry.digests)
@@ -90,7 +90,7 @@ module _ (H : List ℕ → List ℕ) (g : Params) where
           ≡ g.size
       go true e = by w.readies (omega (arith, leb-true (quota g) (votes R g.n g.t w.readies o) e, quota_blocks g))
       go false e = ⊎_elim
-          (λ l. by w.echoes (omega (arith, l, L.blocks-high)))
+          (λ l. by w.echoes (omega (arith, l, L.blocks_high)))
           (λ l. absurd (omega (arith, l, leb-false (quota g) (votes R g.n g.t w.readies o) e)))
           (due_votes R g.n g.t w o h)
 

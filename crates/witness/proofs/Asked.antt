@@ -178,5 +178,5 @@ module _ (H : List ℕ → List ℕ) (g : Params) (B : Bounded g) (M : Small g) 
       go (good m) e =
           let T = took H g me s a v from f result out to m e in
           let w = is_server g from (passed H g me s from m T.passes).server in
-          body_seen s a h X v (number_in from) (rw w.1 w.2.0) (rw w.1 (let h : w.0 ≤ 10 = omega (arith, w.2.1, B.servers-high) in h)) m.body
+          body_seen s a h X v (number_in from) (rw w.1 w.2.0) (rw w.1 (let h : w.0 ≤ 10 = omega (arith, w.2.1, B.servers_high) in h)) m.body
           (subst (λ y. SizedIn g y.body) T.says (message_sized g f T.header T.opens))

@@ -159,9 +159,9 @@ pair = record {
   left = other;
   right = initial;
   differ = differ;
-  alike = computed.one-digest;
+  alike = computed.one_digest;
   left_from = in_frame 3 given;
-  right_from = of_initial 2 (omega arith, omega arith) computed.initial-block;
+  right_from = of_initial 2 (omega arith, omega arith) computed.initial_block;
 }
 
 pub shown : Shown

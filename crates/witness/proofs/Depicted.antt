@@ -110,8 +110,8 @@ module _ (Z : Setup) (G : Exact Z) where
   initial_is i = go (SD.construct_test H g i initial_value (length (state_areas i)) (length (initial_areas i)))
     where
       go : (b : Verdict) → length (SD.construct_by H g i b initial_value (state_areas i) (initial_areas i)).initial ≡ width g
-      go (J.Bad r) = G.initial-long i
-      go J.Fine = rw length-sets (G.initial-long i)
+      go (J.Bad r) = G.initial_long i
+      go J.Fine = rw length-sets (G.initial_long i)
 
   fresh_like : (i : ℕ) → ServerLike ((start Z).servers i) ((image Z []).servers i)
   unfolding start image SD.construction SD.construct_by
@@ -123,8 +123,8 @@ module _ (Z : Setup) (G : Exact Z) where
             area = (SD.construct_by H g i b initial_value (state_areas i) (initial_areas i)).area;
           })
           (record { server = fresh_server; entries = entry_at g (SD.construct_by H g i b initial_value (state_areas i) (initial_areas i)).area })
-      go (J.Bad r) = record { server = refl; area = record { long = G.state-long i; at = λ p. refl } }
-      go J.Fine = record { server = refl; area = record { long = rw length-sets (G.state-long i); at = λ p. refl } }
+      go (J.Bad r) = record { server = refl; area = record { long = G.state_long i; at = λ p. refl } }
+      go J.Fine = record { server = refl; area = record { long = rw length-sets (G.state_long i); at = λ p. refl } }
 
   -- a delivery in the run, and in the pass
   server_at_lem : (w : World) (v : Image) → Depicts w v → (i : ℕ) (from : Party) (f out to : List ℕ)

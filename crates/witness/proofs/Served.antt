@@ -252,7 +252,7 @@ module _ (H : List ℕ → List ℕ) (g : Params) (B : Bounded g) (M : Small g) 
       (settle_seen s c is (S.voted_block H g me a c x o) _
       (stored_if g M area_bytes a f X (complete_at c) (omega (arith, is.0, is.1)) _
       (not x.blocks.complete && full (block_rules H g) g.n g.t (block_view g a c x) o)
-      (λ h. coded H g B.blocks-low me (block_view g a c x) o Q (and_split (not x.blocks.complete) _ h).1)) z)
+      (λ h. coded H g B.blocks_low me (block_view g a c x) o Q (and_split (not x.blocks.complete) _ h).1)) z)
 
   block_seen : (s : Server) (a : List ℕ) (f : ℕ → Entry) → Shows g area_bytes a f → (c : ℕ) → Among 8 c → (j : ℕ) (z : Stage) (o : Offer) → Sized g o.entry
       → (from : Party) → SenderIs g from c z → j ≡ number_in from
@@ -260,10 +260,10 @@ module _ (H : List ℕ → List ℕ) (g : Params) (B : Bounded g) (M : Small g) 
   unfolding S.on_block block_by
   block_seen s a f X c is j send o Q from h n = settle_seen s c is (S.on_block H g me a c (slot_of s c) j send o) f X send
   block_seen s a f X c is j echo o Q from h n =
-      voted_seen s _ _ (stored g M area_bytes a f X (echo_at c j) (omega (arith, is.0, is.1, n, h.1.1, B.servers-high)) o.entry Q) c is echo
+      voted_seen s _ _ (stored g M area_bytes a f X (echo_at c j) (omega (arith, is.0, is.1, n, h.1.1, B.servers_high)) o.entry Q) c is echo
       (with_blocks (slot_of s c) (block_echo (slot_of s c).blocks j o.time)) o Q
   block_seen s a f X c is j ready o Q from h n =
-      voted_seen s _ _ (stored g M area_bytes a f X (ready_at c j) (omega (arith, is.0, is.1, n, h.1.1, B.servers-high)) o.entry Q) c is ready
+      voted_seen s _ _ (stored g M area_bytes a f X (ready_at c j) (omega (arith, is.0, is.1, n, h.1.1, B.servers_high)) o.entry Q) c is ready
       (with_blocks (slot_of s c) (block_ready (slot_of s c).blocks j o.time)) o Q
 
   present_seen : (s : Server) (a : List ℕ) (f : ℕ → Entry) → Shows g area_bytes a f → (initial : List ℕ)

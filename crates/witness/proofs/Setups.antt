@@ -48,8 +48,8 @@ sound H g v i faulty B F size bytes =
       faults = F;
       initial_size = size;
       initial_bytes = bytes;
-      state_room = λ j. omega (arith, X.state-long j);
-      initial_room = λ j. omega (arith, X.initial-long j);
+      state_room = λ j. omega (arith, X.state_long j);
+      initial_room = λ j. omega (arith, X.initial_long j);
     }
 
 pub toy_size : DigestSize toy

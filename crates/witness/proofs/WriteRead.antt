@@ -133,7 +133,7 @@ admissible = admissible_by Z exact calls computed.proper
 -- client 1, which is honest, begins its write 1 of the value
 writes : At (OpensWrite Z 1 1 value) calls 0
 unfolding asking spread accepting reading calls Z Toy.setup Toy.start_write
-writes = at_drop (OpensWrite Z 1 1 value) 25 calls 0 (inl (refl, opens_write_by Z exact [] 1 1 value _ _ computed.write-opens.0 computed.write-opens.1))
+writes = at_drop (OpensWrite Z 1 1 value) 25 calls 0 (inl (refl, opens_write_by Z exact [] 1 1 value _ _ computed.write_opens.0 computed.write_opens.1))
 
 -- server 2, which is honest, accepts client 1's write 1
 accepts : At (Accepts Z 2 (write_at 2)) calls 13
@@ -144,24 +144,24 @@ accepts = at_drop (Accepts Z 2 (write_at 2)) 12 calls 13
 -- the write ends
 ends : At (EndsWrite Z 1 1) calls 19
 unfolding asking spread accepting reading calls ack_from Toy.hand_client
-ends = at_drop (EndsWrite Z 1 1) 6 calls 19 (inl (refl, ends_by Z exact accepting (ack_from 4) 1 1 refl computed.write-number computed.ended))
+ends = at_drop (EndsWrite Z 1 1) 6 calls 19 (inl (refl, ends_by Z exact accepting (ack_from 4) 1 1 refl computed.write_number computed.ended))
 
 -- then client 2's read 1 begins
 opens : At (OpensRead Z 2 1) calls 20
 unfolding asking spread accepting reading calls Z Toy.setup Toy.start_read
 opens = at_drop (OpensRead Z 2 1) 5 calls 20
-    (inl (refl, opens_read_by Z exact (ack_from 4 ∷ accepting) 2 1 _ _ computed.read-opens.0 computed.read-opens.1))
+    (inl (refl, opens_read_by Z exact (ack_from 4 ∷ accepting) 2 1 _ _ computed.read_opens.0 computed.read_opens.1))
 
 -- and it returns what was written, with the write's stamp
 completes : At (CompletesRead Z 2 1 found) calls 25
 unfolding asking spread accepting reading calls value_from Toy.hand_client found
-completes = inl (refl, (stops_by Z exact reading (value_from 4) 2 1 found refl computed.read_number computed.completed-is, (value, refl)))
+completes = inl (refl, (stops_by Z exact reading (value_from 4) 2 1 found refl computed.read_number computed.completed_is, (value, refl)))
 
 -- ---- the row
 
 in_order_lem : (D : Demand3 Z calls) → Stands D.row write read
 unfolding write read write_at found stamp
-in_order_lem D = D.in-time write read 19 20
+in_order_lem D = D.in_time write read 19 20
     (D.all write (inr (refl, (2, write_at 2, 13, accepts, refl, refl, refl))))
     (D.all read (inl (refl, (found, 25, completes, refl))))
     (inr (refl, ends)) (inl (refl, opens)) (omega arith)

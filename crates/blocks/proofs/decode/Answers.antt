@@ -15,18 +15,18 @@ returns-in_default c = decode_refused _ _ _ _ _ _ c.decode_test-tested.ensures c
 pub slice_bounds-value-end : goal.slice_bounds-value-end
 slice_bounds-value-end c =
     let f = decodes _ _ _ _ (sym c.decode_test-tested.ensures ∙ c.in-Done.is) in
-    f.within.size-high
+    f.within.size_high
 
 pub slice_bounds-decode_all-end : goal.slice_bounds-decode_all-end
 slice_bounds-decode_all-end c =
     let f = decodes _ _ _ _ (sym c.decode_test-tested.ensures ∙ c.in-Done.is) in
-    sym (length-take-le _ (zeros 256) f.within.size-high)
+    sym (length-take-le _ (zeros 256) f.within.size_high)
 
 pub decode_all-requires : goal.decode_all-requires
 decode_all-requires c =
     let f = decodes _ _ _ _ (sym c.decode_test-tested.ensures ∙ c.in-Done.is) in
     let g = f.within in
-    let z = length-take-le _ (zeros 256) g.size-high in (
+    let z = length-take-le _ (zeros 256) g.size_high in (
       omega arith,
       omega arith,
       f.enough,
@@ -39,7 +39,7 @@ decode_all-requires c =
 pub returns-then-not-decode_all : goal.returns-then-not-decode_all
 returns-then-not-decode_all c =
     let f = decodes _ _ _ _ (sym c.decode_test-tested.ensures ∙ c.in-Done.is) in
-    disagreed _ _ _ _ _ _ _ c.decode_test-tested.ensures c.in-Done.is (length-take-le _ (zeros 256) f.within.size-high)
+    disagreed _ _ _ _ _ _ _ c.decode_test-tested.ensures c.in-Done.is (length-take-le _ (zeros 256) f.within.size_high)
     c.decode_all.ensures.0 c.if-not-decode_all.true-raw
 
 pub slice_bounds-value-end-2 : goal.slice_bounds-value-end-2
@@ -53,21 +53,21 @@ pub slice_bounds-put-end : goal.slice_bounds-put-end
 slice_bounds-put-end c =
     let f = decodes _ _ _ _ (sym c.decode_test-tested.ensures ∙ c.in-Done.is) in
     let d = c.decode_all in
-    let z = length-take-le _ (zeros 256) f.within.size-high in
-    sym (ap length (front_back (zeros 256) d.new.1.1.1.0 _ f.within.size-high d.auto.1.1.1.0) ∙ d.auto.1.1.1.0 ∙ z)
+    let z = length-take-le _ (zeros 256) f.within.size_high in
+    sym (ap length (front_back (zeros 256) d.new.1.1.1.0 _ f.within.size_high d.auto.1.1.1.0) ∙ d.auto.1.1.1.0 ∙ z)
 
 pub put-requires : goal.put-requires
 put-requires c =
     let f = decodes _ _ _ _ (sym c.decode_test-tested.ensures ∙ c.in-Done.is) in
     let d = c.decode_all in
-    let z = length-take-le _ (zeros 256) f.within.size-high in
-    let n = ap length (front_back (zeros 256) d.new.1.1.1.0 _ f.within.size-high d.auto.1.1.1.0) ∙ d.auto.1.1.1.0 ∙ z in
+    let z = length-take-le _ (zeros 256) f.within.size_high in
+    let n = ap length (front_back (zeros 256) d.new.1.1.1.0 _ f.within.size_high d.auto.1.1.1.0) ∙ d.auto.1.1.1.0 ∙ z in
     omega arith
 
 pub returns : goal.returns
 returns c =
     let f = decodes _ _ _ _ (sym c.decode_test-tested.ensures ∙ c.in-Done.is) in
     let d = c.decode_all in
-    agreed _ _ _ _ _ _ _ c.decode_test-tested.ensures c.in-Done.is (length-take-le _ (zeros 256) f.within.size-high)
+    agreed _ _ _ _ _ _ _ c.decode_test-tested.ensures c.in-Done.is (length-take-le _ (zeros 256) f.within.size_high)
     d.ensures.0 _ _ c.if-not-decode_all.false c.put.ensures
-    (front_back (zeros 256) d.new.1.1.1.0 _ f.within.size-high d.auto.1.1.1.0 ∙ d.ensures.1)
+    (front_back (zeros 256) d.new.1.1.1.0 _ f.within.size_high d.auto.1.1.1.0 ∙ d.ensures.1)

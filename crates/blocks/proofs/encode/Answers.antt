@@ -13,7 +13,7 @@ pub encode_blocks-requires : goal.encode_blocks-requires
 encode_blocks-requires c =
     let f = encodes _ _ _ (sym c.encode_test-tested.ensures ∙ c.in-Done.is) in
     let g = f.within in
-    (g.blocks-low, omega arith, g.servers-high, omega arith, f.fits, record { powers = c.powers-ps.ensures; logs = c.logs-ls.ensures })
+    (g.blocks_low, omega arith, g.servers_high, omega arith, f.fits, record { powers = c.powers-ps.ensures; logs = c.logs-ls.ensures })
 
 pub returns : goal.returns
 unfolding encoding

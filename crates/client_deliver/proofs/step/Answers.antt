@@ -39,4 +39,4 @@ pub returns : goal.returns
 returns c =
     let a = c.args in
     let A = c.requires in
-    of_others a.k.params a.k.me a.s a.area.now a.value.now a.k.from a.f.now a.result.now _ _ a.k.header c.if-h-eq2.false c.if-h-eq9.false c.if-h-eq11.false c.if-h-eq13.false A.kind-low A.kind-high A.kind-used
+    of_others a.k.params a.k.me a.s a.area.now a.value.now a.k.from a.f.now a.result.now _ _ a.k.header c.if-h-eq2.false c.if-h-eq9.false c.if-h-eq11.false c.if-h-eq13.false A.kind_low A.kind_high A.kind_used

@@ -13,7 +13,7 @@ returns-in-Bad c =
 pub overflow_cast-me : goal.overflow_cast-me
 overflow_cast-me c =
     let A = (fine_fresh _ _ _ _ _ c.fresh_test-fits.ensures c.in_default.is).0 in
-    record { fits = omega (arith, A.own-high, A.bounded.servers-high) }
+    record { fits = omega (arith, A.own_high, A.bounded.servers_high) }
 
 pub returns-in-Bad-test : goal.returns-in-Bad-test
 returns-in-Bad-test c =

@@ -11,7 +11,7 @@ tell-told-requires c =
     let a = c.args in
     let P = c.requires.0 in
     tell_room a.p a.g.n _ _ _ _
-    (value_size a.g a.area.now (21 * a.c - 20) _ _ P.bounded (omega (arith, P.client-low, P.client-high, P.whole)) c.digests_at-digests.ensures c.block_at-block.ensures)
+    (value_size a.g a.area.now (21 * a.c - 20) _ _ P.bounded (omega (arith, P.client_low, P.client_high, P.whole)) c.digests_at-digests.ensures c.block_at-block.ensures)
     P.room
 
 pub send_ack-acked-requires : goal.send_ack-acked-requires
@@ -19,7 +19,7 @@ send_ack-acked-requires c =
     let a = c.args in
     let P = c.requires.0 in
     ack_room _ a.g.n _ _ (told_room _ _ _ _ a.p _ _ _ _ _ a.g.n _
-    (value_size a.g a.area.now (21 * a.c - 20) _ _ P.bounded (omega (arith, P.client-low, P.client-high, P.whole)) c.digests_at-digests.ensures c.block_at-block.ensures)
+    (value_size a.g a.area.now (21 * a.c - 20) _ _ P.bounded (omega (arith, P.client_low, P.client_high, P.whole)) c.digests_at-digests.ensures c.block_at-block.ensures)
     c.tell-told.ensures
     P.room)
 
@@ -29,7 +29,7 @@ report_if-place-requires c =
     let P = c.requires.0 in (
       P.bounded,
       report_room _ _ _ _ _ _ _ _ a.g.n c.send_ack-acked.ensures (told_room _ _ _ _ a.p _ _ _ _ _ a.g.n _
-          (value_size a.g a.area.now (21 * a.c - 20) _ _ P.bounded (omega (arith, P.client-low, P.client-high, P.whole)) c.digests_at-digests.ensures c.block_at-block.ensures)
+          (value_size a.g a.area.now (21 * a.c - 20) _ _ P.bounded (omega (arith, P.client_low, P.client_high, P.whole)) c.digests_at-digests.ensures c.block_at-block.ensures)
           c.tell-told.ensures
           P.room),
     )
@@ -37,7 +37,7 @@ report_if-place-requires c =
 pub replace-requires : goal.replace-requires
 replace-requires c =
     let P = c.requires.0 in
-    (P.bounded, omega (arith, P.client-low, P.client-high), omega (arith, P.client-high, P.whole))
+    (P.bounded, omega (arith, P.client_low, P.client_high), omega (arith, P.client_high, P.whole))
 
 pub opens_next-scope-requires : goal.opens_next-scope-requires
 opens_next-scope-requires c = c.requires.2

@@ -8,13 +8,13 @@ use native.Mathlib.Omega.{arith}
 use Rattle.server_blocks.proofs.voted_block.Goals as goal
 
 pub tally-e-requires : goal.tally-e-requires
-tally-e-requires c = c.requires.0.bounded.servers-high
+tally-e-requires c = c.requires.0.bounded.servers_high
 
 pub tally-r-requires : goal.tally-r-requires
-tally-r-requires c = c.requires.0.bounded.servers-high
+tally-r-requires c = c.requires.0.bounded.servers_high
 
 pub matters-requires : goal.matters-requires
-matters-requires c = let B = c.requires.0.bounded in (B, omega (arith, c.tally-e.ensures.1, B.servers-high))
+matters-requires c = let B = c.requires.0.bounded in (B, omega (arith, c.tally-e.ensures.1, B.servers_high))
 
 pub returns-then-matters : goal.returns-then-matters
 returns-then-matters c = c.voted_group.ensures

@@ -6,7 +6,7 @@ use Rattle.server_deliver.proofs.deliver.Goals as goal
 
 -- src/lib.rt:87:21
 pub overflow_cast-k : goal.overflow_cast-k
-overflow_cast-k c = let a = c.args in let P = handed (record { params = a.g; me = a.me; from = a.from; header = _ }) a.f.now _ _ _ _ _ _ c.admit-opened.ensures c.in-Frame.is in record { fits = omega (arith, P.0.own-high, P.0.lent.bounded.servers-high) }
+overflow_cast-k c = let a = c.args in let P = handed (record { params = a.g; me = a.me; from = a.from; header = _ }) a.f.now _ _ _ _ _ _ c.admit-opened.ensures c.in-Frame.is in record { fits = omega (arith, P.0.own_high, P.0.lent.bounded.servers_high) }
 
 -- src/lib.rt:91:13
 pub step-requires : goal.step-requires

@@ -194,7 +194,7 @@ module _ {M : Type 1} {𝓤 : Ura M} (𝓛 : Logic 𝓤) (at_mem : Memory → SP
       ∷ (Tokens ⊛ ‵ (Ends x₁ x₂ x₃ x₄ y)) ∷ []) ∵
       suffices ! _ (ends_at 𝓛 deliver.ended left (deliver.clauses 𝓛 at_mem run) ((κs, qs, tt, args, vals), tt) w r.answer
       (r.client ▸ tt ▸ tt ▸ tt ▸ tt ▸ tt ▸ y.area ▸ y.result ▸ y.out ▸ y.to ▸ tt)
-      (tt ▸ tt ▸ tt ▸ tt ▸ tt ▸ tt ▸ told.area-long ▸ told.result-long ▸ told.out-long ▸ told.to-long ▸ tt)) $
+      (tt ▸ tt ▸ tt ▸ tt ▸ tt ▸ tt ▸ told.area_long ▸ told.result_long ▸ told.out_long ▸ told.to_long ▸ tt)) $
       says ! told.said $ move ! (4 ∷ []) $ split ! $ move ! (4 ∷ 0 ∷ []) $ join ! $ frame ! $
       -- [the last bytes; the record's last value; its borrow; the answer]
       nothing ! $ fjoin ! $ nothing ! $ fjoin ! $ nothing ! $ fjoin ! $ nothing ! $ fjoin ! $ nothing ! $ fjoin ! $ move ! (1 ∷ 2 ∷ []) $

@@ -218,7 +218,7 @@ module _ {M : Type 1} {𝓤 : Ura M} (𝓛 : Logic 𝓤) (at_mem : Memory → SP
       suffices ! _ (ends_at 𝓛 lend.ended left (lend.clauses 𝓛 at_mem run) ((κs, qs, tt, args, vals), tt) (answered_val (answered c r))
       (answered c r)
       (tt ▸ tt ▸ tt ▸ tt ▸ tt ▸ tt ▸ y.area ▸ y.result ▸ y.out ▸ y.to ▸ tt)
-      (tt ▸ tt ▸ tt ▸ tt ▸ tt ▸ tt ▸ told.area-long ▸ told.result-long ▸ told.out-long ▸ told.to-long ▸ tt)) $
+      (tt ▸ tt ▸ tt ▸ tt ▸ tt ▸ tt ▸ told.area_long ▸ told.result_long ▸ told.out_long ▸ told.to_long ▸ tt)) $
       says ! told.said $ move ! (2 ∷ []) $ frame ! $ move ! (1 ∷ []) $
       nothing ! $ fjoin ! $ nothing ! $ fjoin ! $ nothing ! $ fjoin ! $ nothing ! $ fjoin ! $ nothing ! $ fjoin ! $ nothing ! $ fjoin ! $ done !
 

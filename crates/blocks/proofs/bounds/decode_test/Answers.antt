@@ -24,12 +24,12 @@ returns-then-n-m c =
 pub block_length-requires : goal.block_length-requires
 block_length-requires c =
     let g = bounds c.args.g (sym c.params_test-tested.ensures ∙ c.in-Done.is) in
-    (g.blocks-low, omega arith, g.size-high)
+    (g.blocks_low, omega arith, g.size_high)
 
 pub overflow_mul-m : goal.overflow_mul-m
 overflow_mul-m c =
     let g = bounds c.args.g (sym c.params_test-tested.ensures ∙ c.in-Done.is) in
-    let s = block_small c.args.g.size c.args.g.k g.blocks-low in
+    let s = block_small c.args.g.size c.args.g.k g.blocks_low in
     record { fits = omega (arith, product_small (length c.args.numbers.now) c.block_length.result (omega arith) (omega arith)) }
 
 pub returns-then-len-m : goal.returns-then-len-m

@@ -19,13 +19,13 @@ returns-then-len-size c = sym (then_done _ _ _ c.params_test-tested.ensures c.in
 pub block_length-requires : goal.block_length-requires
 block_length-requires c =
     let g = bounds c.args.g (sym c.params_test-tested.ensures ∙ c.in-Done.is) in
-    (g.blocks-low, omega arith, g.size-high)
+    (g.blocks_low, omega arith, g.size_high)
 
 pub overflow_mul-n : goal.overflow_mul-n
 overflow_mul-n c =
     let g = bounds c.args.g (sym c.params_test-tested.ensures ∙ c.in-Done.is) in
-    let s = block_small c.args.g.size c.args.g.k g.blocks-low in
-    record { fits = omega (arith, product_small c.args.g.n c.block_length.result g.servers-high (omega arith)) }
+    let s = block_small c.args.g.size c.args.g.k g.blocks_low in
+    record { fits = omega (arith, product_small c.args.g.n c.block_length.result g.servers_high (omega arith)) }
 
 pub returns-then-room-n : goal.returns-then-room-n
 unfolding encode_test

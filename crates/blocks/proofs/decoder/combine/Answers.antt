@@ -46,13 +46,12 @@ loop-i-smaller c = omega arith
 
 pub loop-i-preserved : goal.loop-i-preserved
 loop-i-preserved c =
-    let t : tie.At-loop invariant-loop decreases-loop = c in
-    let i : ℕ = t.loop.i in
+    let i : ℕ = c.loop-i.i in
     let y = c.type_inv.w (i * c.args.b + c.args.r) in (
       omega arith,
-      c.add_scaled.auto.0 ∙ t.loop.invariant.1,
-      combine_turn c.args.js.now c.args.table.now c.args.w.now t.loop.p _ c.args.b c.args.r i c.requires.5 c.loop-i-test.true (omega (arith, y))
-          t.loop.invariant.2 c.add_scaled.ensures,
+      c.add_scaled.auto.0 ∙ c.loop-i.invariant.1,
+      combine_turn c.args.js.now c.args.table.now c.args.w.now c.loop-i.p _ c.args.b c.args.r i c.requires.5 c.loop-i-test.true (omega (arith, y))
+          c.loop-i.invariant.2 c.add_scaled.ensures,
     )
 
 pub shape_of-p : goal.shape_of-p

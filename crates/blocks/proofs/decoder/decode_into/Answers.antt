@@ -26,12 +26,11 @@ loop-r-init c =
 
 pub put_stripe-requires : goal.put_stripe-requires
 put_stripe-requires c =
-    let t : tie.At-loop invariant-loop decreases-loop = c in
     let k : ℕ = length c.args.js.now in
     let L : ℕ = length c.args.value.now in
-    let s = starts L k t.loop.r c.requires.0 (omega arith) in
+    let s = starts L k c.loop-r.r c.requires.0 (omega arith) in
     let small = block_small L k c.requires.0 in
-    (c.requires.1, omega arith, c.loop-r-test.true, c.requires.3 ∙ ap (λ (x : ℕ). k * x) (sym t.loop.invariant.0), omega arith, omega arith, c.put_basis.ensures, c.requires.4)
+    (c.requires.1, omega arith, c.loop-r-test.true, c.requires.3 ∙ ap (λ (x : ℕ). k * x) (sym c.loop-r.invariant.0), omega arith, omega arith, c.put_basis.ensures, c.requires.4)
 
 pub loop-r-smaller : goal.loop-r-smaller
 loop-r-smaller c = omega arith
@@ -39,19 +38,18 @@ loop-r-smaller c = omega arith
 pub loop-r-preserved : goal.loop-r-preserved
 unfolding stripes
 loop-r-preserved c =
-    let t : tie.At-loop invariant-loop decreases-loop = c in
     let p = c.put_stripe in
     let js : List ℕ = c.args.js.now in
     let w : List ℕ = c.args.w.now in
     let k : ℕ = length js in
     let L : ℕ = length c.args.value.now in
-    let r : ℕ = t.loop.r in
+    let r : ℕ = c.loop-r.r in
     let s = starts L k r c.requires.0 (omega arith) in (
-      t.loop.invariant.0,
+      c.loop-r.invariant.0,
       omega arith,
-      p.auto.1.1.1.1.1.0 ∙ t.loop.invariant.2,
-      p.ensures ∙ ap₂ (λ (n b : ℕ). sets t.loop.value (r * k) (take (n - r * k) (through js (row k b w r)))) t.loop.invariant.2 t.loop.invariant.0
-          ∙ stripe_turn (stripes js L w) k L r c.args.value.now t.loop.value (through_row_length js w (block_length L k)) (omega arith) t.loop.invariant.3,
+      p.auto.1.1.1.1.1.0 ∙ c.loop-r.invariant.2,
+      p.ensures ∙ ap₂ (λ (n b : ℕ). sets c.loop-r.value (r * k) (take (n - r * k) (through js (row k b w r)))) c.loop-r.invariant.2 c.loop-r.invariant.0
+          ∙ stripe_turn (stripes js L w) k L r c.args.value.now c.loop-r.value (through_row_length js w (block_length L k)) (omega arith) c.loop-r.invariant.3,
     )
 
 pub shape_of-value : goal.shape_of-value

@@ -11,22 +11,19 @@ loop-i-init c = (omega arith, refl, rows_start _ _)
 
 pub put_unit-requires : goal.put_unit-requires
 put_unit-requires c =
-    let t : tie.At-loop invariant-loop decreases-loop = c in
-    (c.requires.0, c.loop-i-test.true, row_room t.loop.i (length c.args.js.now) (length t.loop.table) c.loop-i-test.true (omega arith), c.requires.2)
+    (c.requires.0, c.loop-i-test.true, row_room c.loop-i.i (length c.args.js.now) (length c.loop-i.table) c.loop-i-test.true (omega arith), c.requires.2)
 
 pub loop-i-smaller : goal.loop-i-smaller
 loop-i-smaller c = omega arith
 
 pub loop-i-preserved : goal.loop-i-preserved
 loop-i-preserved c =
-    let t : tie.At-loop invariant-loop decreases-loop = c in
-    let h = row_room t.loop.i (length c.args.js.now) (length t.loop.table) c.loop-i-test.true (omega arith) in
-    (omega arith, c.put_unit.auto.1.1.0 ∙ t.loop.invariant.1, rows_turn c.args.js.now t.loop.table _ t.loop.i h t.loop.invariant.2 c.put_unit.ensures)
+    let h = row_room c.loop-i.i (length c.args.js.now) (length c.loop-i.table) c.loop-i-test.true (omega arith) in
+    (omega arith, c.put_unit.auto.1.1.0 ∙ c.loop-i.invariant.1, rows_turn c.args.js.now c.loop-i.table _ c.loop-i.i h c.loop-i.invariant.2 c.put_unit.ensures)
 
 pub shape_of-table : goal.shape_of-table
 shape_of-table c = c.loop-i.invariant.1
 
 pub returns : goal.returns
 returns c =
-    let t : tie.At-loop invariant-loop decreases-loop = c in
-    record { room = omega arith; rows = λ j h. t.loop.invariant.2 j (omega arith) }
+    record { room = omega arith; rows = λ j h. c.loop-i.invariant.2 j (omega arith) }

@@ -15,35 +15,30 @@ loop-i-init c = (c.block_length-b.ensures, omega arith, sym (zero-mul _), refl)
 
 pub block_stands-requires : goal.block_stands-requires
 block_stands-requires c =
-    let t : tie.At-loop invariant-loop decreases-loop = c in
-    (c.requires.0, c.requires.1, c.requires.2, place_in c.args.js.now c.args.w.now t.loop.i t.loop.at _ c.loop-i-test.true t.loop.invariant.2 c.requires.4, c.requires.5)
+    (c.requires.0, c.requires.1, c.requires.2, place_in c.args.js.now c.args.w.now c.loop-i.i c.loop-i.at _ c.loop-i-test.true c.loop-i.invariant.2 c.requires.4, c.requires.5)
 
 pub returns-then-not-block_stands : goal.returns-then-not-block_stands
 returns-then-not-block_stands c =
-    let t : tie.At-loop invariant-loop decreases-loop = c in
-    sym (t.loop.invariant.3 ∙ stand_out _ _ _ _ _ _ c.loop-i-test.true t.loop.invariant.2 c.requires.4 _ c.block_stands.ensures c.if-not-block_stands.true-raw)
+    sym (c.loop-i.invariant.3 ∙ stand_out _ _ _ _ _ _ c.loop-i-test.true c.loop-i.invariant.2 c.requires.4 _ c.block_stands.ensures c.if-not-block_stands.true-raw)
 
 pub overflow_add-at : goal.overflow_add-at
 overflow_add-at c =
-    let t : tie.At-loop invariant-loop decreases-loop = c in
     let b : ℕ = block_length (length c.args.v.now) c.args.k in
-    let f = place_in c.args.js.now c.args.w.now t.loop.i t.loop.at b c.loop-i-test.true t.loop.invariant.2 c.requires.4 in
+    let f = place_in c.args.js.now c.args.w.now c.loop-i.i c.loop-i.at b c.loop-i-test.true c.loop-i.invariant.2 c.requires.4 in
     let s = block_small (length c.args.v.now) c.args.k c.requires.0 in
-    record { fits = omega (arith, f, t.loop.invariant.0, product_small (length c.args.js.now) b c.requires.3 (omega arith)) }
+    record { fits = omega (arith, f, c.loop-i.invariant.0, product_small (length c.args.js.now) b c.requires.3 (omega arith)) }
 
 pub loop-i-preserved : goal.loop-i-preserved
 loop-i-preserved c =
-    let t : tie.At-loop invariant-loop decreases-loop = c in
     (
-      t.loop.invariant.0,
+      c.loop-i.invariant.0,
       omega arith,
-      ap (λ x. t.loop.at + x) t.loop.invariant.0 ∙ next_place _ _ _ t.loop.invariant.2,
-      t.loop.invariant.3
-          ∙ stand_turn _ _ _ _ _ _ c.loop-i-test.true t.loop.invariant.2 c.requires.4 _ c.block_stands.ensures c.if-not-block_stands.false
-          ∙ ap (λ x. same (blocks_of c.args.k c.args.v.now (drop (t.loop.i + 1) c.args.js.now)) (drop (t.loop.at + x) c.args.w.now)) (sym t.loop.invariant.0),
+      ap (λ x. c.loop-i.at + x) c.loop-i.invariant.0 ∙ next_place _ _ _ c.loop-i.invariant.2,
+      c.loop-i.invariant.3
+          ∙ stand_turn _ _ _ _ _ _ c.loop-i-test.true c.loop-i.invariant.2 c.requires.4 _ c.block_stands.ensures c.if-not-block_stands.false
+          ∙ ap (λ x. same (blocks_of c.args.k c.args.v.now (drop (c.loop-i.i + 1) c.args.js.now)) (drop (c.loop-i.at + x) c.args.w.now)) (sym c.loop-i.invariant.0),
     )
 
 pub returns : goal.returns
 returns c =
-    let t : tie.At-loop invariant-loop decreases-loop = c in
-    sym (t.loop.invariant.3 ∙ stand_end _ _ _ _ _ _ _ c.loop-i-test.false t.loop.invariant.1 t.loop.invariant.2 c.requires.4)
+    sym (c.loop-i.invariant.3 ∙ stand_end _ _ _ _ _ _ _ c.loop-i-test.false c.loop-i.invariant.1 c.loop-i.invariant.2 c.requires.4)

@@ -19,8 +19,7 @@ bounds-out-at c = omega arith
 
 pub loop-r-preserved : goal.loop-r-preserved
 loop-r-preserved c =
-    let t : tie.At-loop invariant-loop decreases-loop = c in
-    (t.loop.invariant.0, omega arith, simp length-set t.loop.invariant.2, table_turn _ _ _ _ _ _ t.loop.invariant.3 c.stripe_value.ensures)
+    (c.loop-r.invariant.0, omega arith, simp length-set c.loop-r.invariant.2, table_turn _ _ _ _ _ _ c.loop-r.invariant.3 c.stripe_value.ensures)
 
 pub returns : goal.returns
 unfolding block_of

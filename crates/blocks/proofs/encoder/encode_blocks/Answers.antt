@@ -18,27 +18,24 @@ loop-i-init c = (c.block_length-b.ensures, search rules, sym (zero-mul _), refl,
 
 pub encode_block-requires : goal.encode_block-requires
 encode_block-requires c =
-    let t : tie.At-loop invariant-loop decreases-loop = c in
-    let f = place_fits _ _ _ _ _ t.loop.invariant.2 c.loop-i-test.true c.requires.4 in
+    let f = place_fits _ _ _ _ _ c.loop-i.invariant.2 c.loop-i-test.true c.requires.4 in
     (c.requires.0, c.requires.1, c.requires.3, omega arith, c.requires.5)
 
 pub overflow_add-at : goal.overflow_add-at
 overflow_add-at c =
-    let t : tie.At-loop invariant-loop decreases-loop = c in
-    let f = place_fits _ _ _ _ _ t.loop.invariant.2 c.loop-i-test.true c.requires.4 in
+    let f = place_fits _ _ _ _ _ c.loop-i.invariant.2 c.loop-i-test.true c.requires.4 in
     record { fits = omega arith }
 
 pub loop-i-preserved : goal.loop-i-preserved
 loop-i-preserved c =
-    let t : tie.At-loop invariant-loop decreases-loop = c in
     let p = c.encode_block in
     let B = block_length (length c.args.v.now) c.args.k in (
-      t.loop.invariant.0,
+      c.loop-i.invariant.0,
       omega arith,
-      ap (λ x. t.loop.at + x) t.loop.invariant.0 ∙ next_place _ _ _ t.loop.invariant.2,
-      p.auto.1.1.1.0 ∙ t.loop.invariant.3,
-      p.ensures ∙ ap (λ x. sets t.loop.out x (block_of c.args.k c.args.v.now (t.loop.i + 1))) t.loop.invariant.2
-          ∙ joined_turn (block_of c.args.k c.args.v.now) B t.loop.i c.args.out.now t.loop.out (length_block_of c.args.k c.args.v.now) t.loop.invariant.4,
+      ap (λ x. c.loop-i.at + x) c.loop-i.invariant.0 ∙ next_place _ _ _ c.loop-i.invariant.2,
+      p.auto.1.1.1.0 ∙ c.loop-i.invariant.3,
+      p.ensures ∙ ap (λ x. sets c.loop-i.out x (block_of c.args.k c.args.v.now (c.loop-i.i + 1))) c.loop-i.invariant.2
+          ∙ joined_turn (block_of c.args.k c.args.v.now) B c.loop-i.i c.args.out.now c.loop-i.out (length_block_of c.args.k c.args.v.now) c.loop-i.invariant.4,
     )
 
 pub shape_of-out : goal.shape_of-out

@@ -12,8 +12,7 @@ loop-i-init c = (search rules, refl, sym (mixed_start _ _))
 
 pub loop-i-preserved : goal.loop-i-preserved
 loop-i-preserved c =
-    let t : tie.At-loop invariant-loop decreases-loop = c in
-    (search rules, simp length-set t.loop.invariant.1, sum_turn _ _ _ _ _ _ t.before.before.before.requires.0 (omega arith) t.loop.invariant.2 c.mul.ensures)
+    (search rules, simp length-set c.loop-i.invariant.1, sum_turn _ _ _ _ _ _ c.requires.0 (omega arith) c.loop-i.invariant.2 c.mul.ensures)
 
 pub returns : goal.returns
 returns c = c.loop-i.invariant.2 ∙ mixed_end _ _ _ (sum_length _ _ _ c.requires.0) (omega arith)

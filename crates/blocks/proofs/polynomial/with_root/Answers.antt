@@ -12,12 +12,10 @@ loop-i-init c = (search rules, refl, sym (mixed_end _ _ _ (sym (rooted_length c.
 
 pub loop-i-preserved : goal.loop-i-preserved
 loop-i-preserved c =
-    let t : tie.At-loop invariant-loop decreases-loop = c in
-    (search rules, simp length-set t.loop.invariant.1, root_turn _ _ _ _ _ (omega arith) t.loop.invariant.0 t.loop.invariant.2 c.mul.ensures)
+    (search rules, simp length-set c.loop-i.invariant.1, root_turn _ _ _ _ _ (omega arith) c.loop-i.invariant.0 c.loop-i.invariant.2 c.mul.ensures)
 
 pub returns : goal.returns
 unfolding rooted
 returns c =
-    let t : tie.At-loop invariant-loop decreases-loop = c in
-    let z : t.loop.i ≡ 0 = omega arith in
-    root_last _ _ _ _ t.before.before.requires.0 (t.loop.invariant.2 ∙ ap (λ (n : ℕ). mixed t.before.before.args.m.now (rooted t.before.before.args.x t.before.before.args.m.now) (n + 1)) z) c.mul-2.ensures
+    let z : c.loop-i.i ≡ 0 = omega arith in
+    root_last _ _ _ _ c.requires.0 (c.loop-i.invariant.2 ∙ ap (λ (n : ℕ). mixed c.args.m.now (rooted c.args.x c.args.m.now) (n + 1)) z) c.mul-2.ensures

@@ -10,16 +10,16 @@ use Rattle.client_deliver.proofs.dispersal.disperse.Goals as goal
 pub digests-requires : goal.digests-requires
 digests-requires c =
     let B = c.requires.0 in (
-      record { bounded = B; short = omega (arith, c.requires.1, B.size-high); tables = record { powers = c.powers-ps.ensures; logs = c.logs-ls.ensures } },
-      omega (arith, B.servers-high),
+      record { bounded = B; short = omega (arith, c.requires.1, B.size_high); tables = record { powers = c.powers-ps.ensures; logs = c.logs-ls.ensures } },
+      omega (arith, B.servers_high),
     )
 
 pub slice_bounds-list-end : goal.slice_bounds-list-end
-slice_bounds-list-end c = omega (arith, c.requires.0.servers-high, c.digests.auto.1.1.0)
+slice_bounds-list-end c = omega (arith, c.requires.0.servers_high, c.digests.auto.1.1.0)
 
 pub slice_bounds-own_blocks-end : goal.slice_bounds-own_blocks-end
 slice_bounds-own_blocks-end c =
-    let n : 32 * c.args.d.params.n ≤ length c.digests.new.1.1.0 = omega (arith, c.requires.0.servers-high, c.digests.auto.1.1.0) in
+    let n : 32 * c.args.d.params.n ≤ length c.digests.new.1.1.0 = omega (arith, c.requires.0.servers_high, c.digests.auto.1.1.0) in
     sym (length-take-le _ _ n)
 
 pub own_blocks-requires : goal.own_blocks-requires

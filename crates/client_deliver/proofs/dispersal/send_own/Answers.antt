@@ -17,7 +17,7 @@ encode_block-requires c =
     let D = c.requires.0 in
     let B = D.bounded in
     let M = small c.args.d.params B in
-    (B.blocks-low, omega (arith, B.blocks-high, B.faults-low, B.servers-high), omega (arith, D.whole, B.size-high), rw D.whole (omega (arith, M.block_room)), D.tables)
+    (B.blocks_low, omega (arith, B.blocks_high, B.faults_low, B.servers_high), omega (arith, D.whole, B.size_high), rw D.whole (omega (arith, M.block_room)), D.tables)
 
 pub slice_bounds-block-end : goal.slice_bounds-block-end
 slice_bounds-block-end c = omega (arith, c.width-b.ensures.2, c.encode_block.auto.1.1.1.0)
@@ -33,7 +33,7 @@ send_block-requires c =
     let D = c.requires.0 in
     let b = own_block a.d.params a.value.now D.whole _ _ a.j _ D.bounded c.width-b.ensures.0 (omega arith) c.encode_block.ensures in
     let e : 17 + entry_length a.d.params ≡ 17 + (length a.list.now + length (take c.width-b.result c.encode_block.new.1.1.1.0)) =
-    omega (arith, ap length D.list-is, length_digests a.d.params a.value.now, ap length b, length_own_block a.d.params a.value.now D.whole a.j) in
+    omega (arith, ap length D.list_is, length_digests a.d.params a.value.now, ap length b, length_own_block a.d.params a.value.now D.whole a.j) in
     room_of _ _ _ _ _ _ e c.requires.1
 
 pub returns : goal.returns
@@ -41,4 +41,4 @@ returns c =
     let a = c.args in
     let D = c.requires.0 in
     let b = own_block a.d.params a.value.now D.whole _ _ a.j _ D.bounded c.width-b.ensures.0 (omega arith) c.encode_block.ensures in
-    own_sent a.d.params a.value.now D.whole _ _ _ _ _ _ D.list-is b c.send_block.ensures
+    own_sent a.d.params a.value.now D.whole _ _ _ _ _ _ D.list_is b c.send_block.ensures

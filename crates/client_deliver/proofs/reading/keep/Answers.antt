@@ -11,12 +11,12 @@ returns-in_default c =
 pub overflow_add-j : goal.overflow_add-j
 overflow_add-j c =
     let i = place_small _ _ _ _ c.place_for-spot.ensures c.in-At.is in
-    record { fits = omega (arith, c.requires.0.bounded.servers-high) }
+    record { fits = omega (arith, c.requires.0.bounded.servers_high) }
 
 pub keep_entry-requires : goal.keep_entry-requires
 keep_entry-requires c =
     let i = place_small _ _ _ _ c.place_for-spot.ensures c.in-At.is in
-    (c.requires.0.bounded, omega (arith, c.requires.0.bounded.servers-high, c.requires.0.whole), c.requires.3)
+    (c.requires.0.bounded, omega (arith, c.requires.0.bounded.servers_high, c.requires.0.whole), c.requires.3)
 
 pub row_with-kept-requires : goal.row_with-kept-requires
 row_with-kept-requires c = place_small _ _ _ _ c.place_for-spot.ensures c.in-At.is

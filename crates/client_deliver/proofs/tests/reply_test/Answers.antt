@@ -11,7 +11,7 @@ pub bounds-heard-j : goal.bounds-heard-j
 bounds-heard-j c =
     let a = c.args in
     let n = sender_facts a.g a.from a.h.client a.me _ _ c.sender_right.ensures c.if-not-sender_right.false c.number_in-j.ensures in
-    omega (arith, n.1, c.requires.servers-high)
+    omega (arith, n.1, c.requires.servers_high)
 
 pub returns : goal.returns
 returns c =

@@ -11,7 +11,7 @@ pub bounds-reports-j : goal.bounds-reports-j
 bounds-reports-j c =
     let a = c.args in
     let n = report_place a.g a.from _ _ c.from_server.ensures c.if-not-from_server.false c.number_in-j.ensures in
-    omega (arith, n.1, c.requires.servers-high)
+    omega (arith, n.1, c.requires.servers_high)
 
 pub returns-then-time-reports : goal.returns-then-time-reports
 returns-then-time-reports c =

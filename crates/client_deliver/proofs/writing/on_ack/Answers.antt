@@ -17,7 +17,7 @@ pub bounds-heard-j : goal.bounds-heard-j
 bounds-heard-j c =
     let a = c.args in
     let n = fine_sender a.k.params a.k.from a.k.header.client a.k.me _ _ _ c.reply_test-v.ensures c.in_default.is c.number_in-j.ensures in
-    omega (arith, n.1, c.requires.servers-high)
+    omega (arith, n.1, c.requires.servers_high)
 
 pub returns-then-not-is_quorate : goal.returns-then-not-is_quorate
 unfolding message_test order_test answers owner_right

@@ -18,7 +18,7 @@ pub with_report-client-requires : goal.with_report-client-requires
 with_report-client-requires c =
     let a = c.args in
     let n = report_sender a.k.params a.k.from _ _ _ c.report_test-v.ensures c.in_default.is c.number_in-j.ensures in
-    omega (arith, n.1, c.requires.0.bounded.servers-high)
+    omega (arith, n.1, c.requires.0.bounded.servers_high)
 
 pub returns-then-not-is_asking : goal.returns-then-not-is_asking
 unfolding message_test order_test answers owner_right

@@ -20,19 +20,19 @@ pub bounds-heard-j : goal.bounds-heard-j
 bounds-heard-j c =
     let a = c.args in
     let n = fine_sender a.k.params a.k.from a.k.header.client a.k.me _ _ _ c.reply_test-v.ensures c.in_default.is c.number_in-j.ensures in
-    omega (arith, n.1, c.requires.0.bounded.servers-high)
+    omega (arith, n.1, c.requires.0.bounded.servers_high)
 
 pub bounds-times-j : goal.bounds-times-j
 bounds-times-j c =
     let a = c.args in
     let n = fine_sender a.k.params a.k.from a.k.header.client a.k.me _ _ _ c.reply_test-v.ensures c.in_default.is c.number_in-j.ensures in
-    omega (arith, n.1, c.requires.0.bounded.servers-high)
+    omega (arith, n.1, c.requires.0.bounded.servers_high)
 
 pub with_report-reported-requires : goal.with_report-reported-requires
 with_report-reported-requires c =
     let a = c.args in
     let n = fine_sender a.k.params a.k.from a.k.header.client a.k.me _ _ _ c.reply_test-v.ensures c.in_default.is c.number_in-j.ensures in
-    omega (arith, n.1, c.requires.0.bounded.servers-high)
+    omega (arith, n.1, c.requires.0.bounded.servers_high)
 
 pub gather-requires : goal.gather-requires
 gather-requires c =

@@ -6,4 +6,4 @@ use Rattle.frame.proofs.bounds.largest_frame.Goals as goal
 
 pub returns : goal.returns
 unfolding largest_frame
-returns c = (ap (λ x. 22 + (32 * c.args.g.n + x)) c.width.ensures.0, omega (arith, c.width.ensures.2, c.requires.servers-high))
+returns c = (ap (λ x. 22 + (32 * c.args.g.n + x)) c.width.ensures.0, omega (arith, c.width.ensures.2, c.requires.servers_high))

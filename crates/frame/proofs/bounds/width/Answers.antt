@@ -6,4 +6,4 @@ use Rattle.frame.proofs.bounds.width.Goals as goal
 
 pub returns : goal.returns
 unfolding width block_length
-returns c = let M = small c.args.g c.requires in (refl, M.block-some, M.block_room)
+returns c = let M = small c.args.g c.requires in (refl, M.block_some, M.block_room)

@@ -15,7 +15,7 @@ deposit_all-requires c =
     let h : length t.result ≡ 8 = ap length t.ensures ∙ length_bytes8 _ in
     let m = length a.digests.now + length a.block.now in
     let e : 17 + m ≡ 9 + (length t.result + m) = omega (arith, h) in
-    (p.0.servers-high, room_of _ _ _ _ _ _ e p.1)
+    (p.0.servers_high, room_of _ _ _ _ _ _ e p.1)
 
 pub returns : goal.returns
 returns c =

@@ -27,10 +27,10 @@ loop-j-preserved c =
     let l = length_written a.kind a.client a.sequence a.lead.now a.digests.now a.block.now in (
       omega arith,
       e ∙ ap (λ z. wrote z c.party_in.result f) i.1 ∙ ap (λ z. wrote (wrote_to a.class (outbox a.out.now a.to.now a.p) f l₀.j) z f) p ∙ one_more a.class _ f l₀.j,
-      place_after _ _ _ l₀.j _ _ w.at-is l i.2,
-      omega (arith, w.count-is, i.3),
-      w.out-long ∙ i.4,
-      w.to-long ∙ i.5,
+      place_after _ _ _ l₀.j _ _ w.at_is l i.2,
+      omega (arith, w.count_is, i.3),
+      w.out_long ∙ i.4,
+      w.to_long ∙ i.5,
     )
 
 pub shape_of-out : goal.shape_of-out

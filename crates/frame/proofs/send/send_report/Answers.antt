@@ -11,7 +11,7 @@ deposit_all-q-requires c =
     let t = c.time_bytes-t in
     let h : length t.result ≡ 8 = ap length t.ensures ∙ length_bytes8 _ in
     let e : 17 ≡ 9 + (length t.result + (0 + 0)) = omega (arith, h) in
-    (c.requires.0.servers-high, room_of _ _ _ _ _ _ e (room_first _ c.args.g.n 8 _ _ _ c.requires.1))
+    (c.requires.0.servers_high, room_of _ _ _ _ _ _ e (room_first _ c.args.g.n 8 _ _ _ c.requires.1))
 
 pub deposit_all-requires : goal.deposit_all-requires
 deposit_all-requires c =

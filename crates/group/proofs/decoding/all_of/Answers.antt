@@ -19,7 +19,7 @@ pub is_block-requires : goal.is_block-requires
 is_block-requires c =
     let p = c.requires in
     let h = p.0.bounded in
-    (h.blocks-low, omega (arith, h.servers-high, h.faults-low, h.blocks-high), omega (arith, p.0.whole, h.size-high), own_long _ _ _ h p.1 c.args.value.now _ (c.loop-j.j + 1) p.0.whole c.block_at-own.ensures, p.0.tables)
+    (h.blocks_low, omega (arith, h.servers_high, h.faults_low, h.blocks_high), omega (arith, p.0.whole, h.size_high), own_long _ _ _ h p.1 c.args.value.now _ (c.loop-j.j + 1) p.0.whole c.block_at-own.ensures, p.0.tables)
 
 pub returns-then-not-is_block : goal.returns-then-not-is_block
 returns-then-not-is_block c =

@@ -34,8 +34,8 @@ pub decode_into-requires : goal.decode_into-requires
 decode_into-requires c =
     let e = front_length _ _ _ _ _ _ _ c.requires _ _ c.choose.ensures refl in
     let f = few _ _ _ _ _ _ _ c.requires in
-    let k = c.requires.bounded.blocks-low in
-    (omega (arith, e, k), omega (arith, e, f), omega (arith, c.requires.whole, c.requires.bounded.size-high), back_is _ _ _ _ _ _ _ c.requires _ _ c.choose.ensures refl _ _ _ c.block_length-b.ensures c.collect.ensures refl, c.requires.tables)
+    let k = c.requires.bounded.blocks_low in
+    (omega (arith, e, k), omega (arith, e, f), omega (arith, c.requires.whole, c.requires.bounded.size_high), back_is _ _ _ _ _ _ _ c.requires _ _ c.choose.ensures refl _ _ _ c.block_length-b.ensures c.collect.ensures refl, c.requires.tables)
 
 pub returns : goal.returns
 returns c = regained _ _ _ _ _ _ _ c.requires _ _ c.choose.ensures refl _ _ _ c.block_length-b.ensures c.collect.ensures refl _ c.decode_into.ensures

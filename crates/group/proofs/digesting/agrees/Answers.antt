@@ -19,7 +19,7 @@ pub agrees_at-requires : goal.agrees_at-requires
 agrees_at-requires c =
     let p = c.requires in
     let h = p.0.bounded in
-    (h.blocks-low, omega (arith, h.servers-high, h.faults-low, h.blocks-high), omega (arith, p.0.whole, h.size-high), omega arith, omega (arith, p.2), p.0.tables)
+    (h.blocks_low, omega (arith, h.servers_high, h.faults_low, h.blocks_high), omega (arith, p.0.whole, h.size_high), omega arith, omega (arith, p.2), p.0.tables)
 
 pub returns-then-not-agrees_at : goal.returns-then-not-agrees_at
 returns-then-not-agrees_at c =

@@ -57,7 +57,7 @@ returns-in_default c =
     (fresh_outcome a.g a.me a.value.now a.area.now a.initial.now a.state.now P.1 t _ _ _ _ k.ensures) a.trace.now
     a.state.now _ (as_many _ _)
     (fresh_stored a.g a.me a.value.now a.area.now a.initial.now a.state.now P.1 t _ _ _ _ k.ensures)
-    a.out.now (server_in l.state) _ _ _ _ l.invariant.6 E.server E.area E.used_all E.out-all
+    a.out.now (server_in l.state) _ _ _ _ l.invariant.6 E.server E.area E.used_all E.out_all
 
 pub overflow_add-from : goal.overflow_add-from
 overflow_add-from c =
@@ -104,7 +104,7 @@ put_report-used-requires c =
     let b = entry_bytes_lem _ _ _ _ _ _ _ _ l.area l.out l.at l.used l.invariant.0 _ c.read_entry-reading.ensures _ c.in-Entry.is in
     let q = step_outcome _ _ _ _ _ _ l.state _ _ l.invariant.7 l.invariant.5 b _ _ _ _ _ d.ensures in
     let A = turn_asks _ _ _ _ _ _ _ _ l.area l.out l.at l.used l.invariant.0 _ c.read_entry-reading.ensures _ c.in-Entry.is _ _ _ _ _ _ S.0 S.1 q in
-    (A.head-room, A.lie, A.receivers-in, A.few, A.fits)
+    (A.head_room, A.lie, A.receivers_in, A.few, A.fits)
 
 pub overflow_add-at : goal.overflow_add-at
 overflow_add-at c =

@@ -166,8 +166,8 @@ spread-spread-requires t c κs =
     let P = c.before.before.before.before.before.before.requires.1 in
     let A = spread_asks a.out.now a.to.now a.from a.at a.i a.left P.0 P.1 P.2 P.3 P.4 c.before.before.before.if1.false in
     let x = c.before.read2.ensures in
-    let m : a.left - 1 ≡ A.rest = omega (arith, A.rest-is) in (
-      omega (arith, c.before.before.before.before.before.before.requires.0, A.rest-is),
+    let m : a.left - 1 ≡ A.rest = omega (arith, A.rest_is) in (
+      omega (arith, c.before.before.before.before.before.before.requires.0, A.rest_is),
       (
         omega (arith, P.0),
         omega (arith, x, A.first.whole),

@@ -13,7 +13,7 @@ pub store_initial-requires : goal.store_initial-requires
 store_initial-requires c =
     let a = c.args in
     let S = sound_of digest_of a.g a.me a.value.now (length a.area.now) (length a.initial.now) _ c.construct_test-v.ensures c.in_default.is in
-    (S.bounded, S.value-is, S.whole, S.initial-whole)
+    (S.bounded, S.value_is_lem, S.whole, S.initial_whole)
 
 pub returns : goal.returns
 returns c =

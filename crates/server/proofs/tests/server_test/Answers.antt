@@ -14,7 +14,7 @@ bounds-on-j c =
     let a = c.args in
     let e = sym c.from_server.ensures ∙ not-false _ c.if-not-from_server.false in
     let h = server_number a.g a.from e in
-    omega (arith, h.1, c.number_in-j.ensures, c.requires.servers-high)
+    omega (arith, h.1, c.number_in-j.ensures, c.requires.servers_high)
 
 pub returns : goal.returns
 unfolding pick

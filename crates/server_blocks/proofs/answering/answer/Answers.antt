@@ -11,7 +11,7 @@ pub complete_if-requires : goal.complete_if-requires
 complete_if-requires c =
     let P = c.requires in
     let F = entry_fits _ _ _ P.0.bounded P.1 in
-    (P.0.client-low, P.0.client-high, P.0.whole, F.0, F.1)
+    (P.0.client_low, P.0.client_high, P.0.whole, F.0, F.1)
 
 pub returns : goal.returns
 returns c =

@@ -8,24 +8,24 @@ use native.Mathlib.Omega.{arith}
 use Rattle.server_blocks.proofs.comparing.own_block.Goals as goal
 
 pub slice_bounds-regain-end : goal.slice_bounds-regain-end
-slice_bounds-regain-end c = sym (length-take-le _ (zeros 256) c.requires.0.stored.bounded.size-high)
+slice_bounds-regain-end c = sym (length-take-le _ (zeros 256) c.requires.0.stored.bounded.size_high)
 
 pub regain-requires : goal.regain-requires
 regain-requires c =
     let P = c.requires in
     decoding _ _ _ _ P.0 _ c.chosen_group-c.ensures _ _ (record { powers = c.powers-ps.ensures; logs = c.logs-ls.ensures }) _
-    (length-take-le _ (zeros 256) P.0.stored.bounded.size-high)
+    (length-take-le _ (zeros 256) P.0.stored.bounded.size_high)
 
 pub slice_bounds-value-end-2 : goal.slice_bounds-value-end-2
 slice_bounds-value-end-2 c =
-    let h = c.requires.0.stored.bounded.size-high in
+    let h = c.requires.0.stored.bounded.size_high in
     let d = c.regain in
     omega (arith, length_front (zeros 256) d.new.1.1.1.1.0 c.args.k.params.size d.auto.1.1.1.1.0, h)
 
 pub slice_bounds-encode_block-end : goal.slice_bounds-encode_block-end
 slice_bounds-encode_block-end c =
     let P = c.requires in
-    let h = P.0.stored.bounded.size-high in
+    let h = P.0.stored.bounded.size_high in
     let d = c.regain in
     let x = c.chosen_group-c.ensures in
     let f = front_back (zeros 256) d.new.1.1.1.1.0 _ h d.auto.1.1.1.1.0 ∙ d.ensures in
@@ -34,7 +34,7 @@ slice_bounds-encode_block-end c =
 pub encode_block-requires : goal.encode_block-requires
 encode_block-requires c =
     let P = c.requires in
-    let h = P.0.stored.bounded.size-high in
+    let h = P.0.stored.bounded.size_high in
     let d = c.regain in
     let x = c.chosen_group-c.ensures in
     let f = front_back (zeros 256) d.new.1.1.1.1.0 _ h d.auto.1.1.1.1.0 ∙ d.ensures in
@@ -42,14 +42,14 @@ encode_block-requires c =
 
 pub slice_bounds-value-end-3 : goal.slice_bounds-value-end-3
 slice_bounds-value-end-3 c =
-    let h = c.requires.0.stored.bounded.size-high in
+    let h = c.requires.0.stored.bounded.size_high in
     let d = c.regain in
     omega (arith, length_front (zeros 256) d.new.1.1.1.1.0 c.args.k.params.size d.auto.1.1.1.1.0, h)
 
 pub slice_bounds-agrees-end : goal.slice_bounds-agrees-end
 slice_bounds-agrees-end c =
     let P = c.requires in
-    let h = P.0.stored.bounded.size-high in
+    let h = P.0.stored.bounded.size_high in
     let d = c.regain in
     let x = c.chosen_group-c.ensures in
     let f = front_back (zeros 256) d.new.1.1.1.1.0 _ h d.auto.1.1.1.1.0 ∙ d.ensures in
@@ -58,7 +58,7 @@ slice_bounds-agrees-end c =
 pub agrees-requires : goal.agrees-requires
 agrees-requires c =
     let P = c.requires in
-    let h = P.0.stored.bounded.size-high in
+    let h = P.0.stored.bounded.size_high in
     let d = c.regain in
     let x = c.chosen_group-c.ensures in
     let f = front_back (zeros 256) d.new.1.1.1.1.0 _ h d.auto.1.1.1.1.0 ∙ d.ensures in
@@ -67,7 +67,7 @@ agrees-requires c =
 pub returns : goal.returns
 returns c =
     let P = c.requires in
-    let h = P.0.stored.bounded.size-high in
+    let h = P.0.stored.bounded.size_high in
     let d = c.regain in
     let x = c.chosen_group-c.ensures in
     let f = front_back (zeros 256) d.new.1.1.1.1.0 _ h d.auto.1.1.1.1.0 ∙ d.ensures in

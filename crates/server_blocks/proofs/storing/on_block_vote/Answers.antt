@@ -22,7 +22,7 @@ returns-in-Bad c =
     }
 
 pub votes_from-first-requires : goal.votes_from-first-requires
-votes_from-first-requires c = let P = c.requires.0 in (P.client-low, P.client-high)
+votes_from-first-requires c = let P = c.requires.0 in (P.client_low, P.client_high)
 
 pub put_entry-requires : goal.put_entry-requires
 put_entry-requires c =
@@ -30,22 +30,22 @@ put_entry-requires c =
     let P = c.requires.0 in
     let F = entry_fits _ _ _ P.bounded c.requires.1 in
     let W = vote_open a.k a.x _ (entry a.list.now a.block.now) c.vote_test-v.ensures c.in_default.is in
-    (omega (arith, P.whole, P.bounded.servers-high, W.high, c.number_in-j.ensures, c.votes_from-first.ensures.1), F.0, F.1)
+    (omega (arith, P.whole, P.bounded.servers_high, W.high, c.number_in-j.ensures, c.votes_from-first.ensures.1), F.0, F.1)
 
 pub count_vote-y-requires : goal.count_vote-y-requires
 count_vote-y-requires c =
     let a = c.args in
     let W = vote_open a.k a.x _ (entry a.list.now a.block.now) c.vote_test-v.ensures c.in_default.is in
-    omega (arith, W.high, c.number_in-j.ensures, c.requires.0.bounded.servers-high)
+    omega (arith, W.high, c.number_in-j.ensures, c.requires.0.bounded.servers_high)
 
 pub voted_block-m-requires : goal.voted_block-m-requires
 voted_block-m-requires c =
     let a = c.args in
     let P = c.requires.0 in
     let W = vote_open a.k a.x _ (entry a.list.now a.block.now) c.vote_test-v.ensures c.in_default.is in (
-      record { bounded = P.bounded; client_low = P.client-low; client_high = P.client-high; whole = whole_after _ _ _ _ c.put_entry.ensures P.whole; room = P.room },
+      record { bounded = P.bounded; client_low = P.client_low; client_high = P.client_high; whole = whole_after _ _ _ _ c.put_entry.ensures P.whole; room = P.room },
       ap (λ (y : Slot). y.sequence) c.count_vote-y.ensures ∙ W.at_open,
-      c.requires.1.list-is,
+      c.requires.1.list_is,
     )
 
 pub returns : goal.returns

@@ -12,7 +12,7 @@ pub fit_test-requires : goal.fit_test-requires
 fit_test-requires c =
     let P = c.requires in
     let M = small c.args.k.params P.0.bounded in
-    (P.0.own-low, omega (arith, P.0.own-high, P.1.list-is), omega (arith, M.block_room, P.1.block-is))
+    (P.0.own_low, omega (arith, P.0.own_high, P.1.list_is), omega (arith, M.block_room, P.1.block_is_lem))
 
 pub returns : goal.returns
 returns c = let a = c.args in send_fine a.k a.x _ (entry a.list.now a.block.now) c.owner_test-v.ensures _ c.in_default.is c.fit_test.ensures

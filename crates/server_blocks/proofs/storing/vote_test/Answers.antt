@@ -17,7 +17,7 @@ fit_test-requires c =
     let W = voted k.params k.from c.args.x k.header.sequence _ _ c.server_test-v.ensures c.in_default.is in
     let P = c.requires in
     let M = small k.params P.0 in
-    (omega (arith, W.low, c.number_in-j.ensures), omega (arith, W.high, c.number_in-j.ensures, P.1.list-is), omega (arith, M.block_room, P.1.block-is))
+    (omega (arith, W.low, c.number_in-j.ensures), omega (arith, W.high, c.number_in-j.ensures, P.1.list_is), omega (arith, M.block_room, P.1.block_is_lem))
 
 pub returns : goal.returns
 returns c =

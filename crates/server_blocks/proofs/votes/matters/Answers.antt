@@ -4,7 +4,7 @@ use native.Mathlib.Omega.{arith}
 use Rattle.server_blocks.proofs.votes.matters.Goals as goal
 
 pub overflow_add-all : goal.overflow_add-all
-overflow_add-all c = let h = quota_small _ c.requires.0 in omega (arith, h, c.quota.ensures, c.requires.0.faults-high, c.requires.0.servers-high)
+overflow_add-all c = let h = quota_small _ c.requires.0 in omega (arith, h, c.quota.ensures, c.requires.0.faults_high, c.requires.0.servers_high)
 
 pub returns : goal.returns
 returns c =

@@ -11,7 +11,7 @@ returns-in-Bad c =
 pub overflow_cast-me : goal.overflow_cast-me
 overflow_cast-me c =
     let A = (fine_fresh _ _ _ _ _ c.fresh_test-test.ensures c.in_default.is).0 in
-    record { fits = omega (arith, A.own-high, A.bounded.servers-high) }
+    record { fits = omega (arith, A.own_high, A.bounded.servers_high) }
 
 pub keep_fresh-requires : goal.keep_fresh-requires
 keep_fresh-requires c = (fine_fresh _ _ _ _ _ c.fresh_test-test.ensures c.in_default.is).1

@@ -24,7 +24,7 @@ returns-then-h-eq12 c = let a = c.args in λ rs w K. is_read_complete digest_of 
 
 -- src/kinds.rt:132:9
 pub step_of_send-requires : goal.step_of_send-requires
-step_of_send-requires c = let P = c.requires.0 in (record { bounded = P.lent.bounded; room = P.lent.room; own_low = P.own-low; own_high = P.own-high; frame_is = P.frame_is }, c.if-h-eq3.true)
+step_of_send-requires c = let P = c.requires.0 in (record { bounded = P.lent.bounded; room = P.lent.room; own_low = P.own_low; own_high = P.own_high; frame_is = P.frame_is }, c.if-h-eq3.true)
 
 -- src/kinds.rt:132:9
 pub returns-then-h-eq3 : goal.returns-then-h-eq3
@@ -32,4 +32,4 @@ returns-then-h-eq3 c = let a = c.args in λ rs. c.step_of_send.ensures rs a.area
 
 -- src/kinds.rt:105:1
 pub returns : goal.returns
-returns c = let a = c.args in let P = c.requires.0 in λ rs w K. to_client_lem digest_of a.k w a.area.now a.initial.now a.f.now _ _ a.s K.scope P.kind-low P.kind-high P.kind-used c.if-h-eq1.false c.if-h-eq10.false c.if-h-eq12.false c.if-h-eq3.false c.requires.2
+returns c = let a = c.args in let P = c.requires.0 in λ rs w K. to_client_lem digest_of a.k w a.area.now a.initial.now a.f.now _ _ a.s K.scope P.kind_low P.kind_high P.kind_used c.if-h-eq1.false c.if-h-eq10.false c.if-h-eq12.false c.if-h-eq3.false c.requires.2

@@ -35,7 +35,7 @@ on_block_send-n-requires c =
     let a = c.args in
     let P = c.requires.0 in
     let l = offer_frame a.k.params a.k.header.kind (length a.f.now) (omega (arith, c.requires.1)) (omega (arith, c.requires.1)) P.frame_is in
-    (record { bounded = P.bounded; own_low = P.own-low; own_high = P.own-high }, P.room, carried_in a.k.params a.f.now _ c.width.ensures.0 l)
+    (record { bounded = P.bounded; own_low = P.own_low; own_high = P.own_high }, P.room, carried_in a.k.params a.f.now _ c.width.ensures.0 l)
 
 pub returns : goal.returns
 returns c =

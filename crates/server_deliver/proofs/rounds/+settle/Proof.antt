@@ -44,7 +44,7 @@ settle-lowest-requires : (t : ℕ) → settle-lts.Need-lowest-requires (
   settle-below t,
   settle.Post,
 ) (settle-at t) settle.Post
-settle-lowest-requires t c κs = let P = c.before.before.before.before.before.before.requires.1 in (P.bounded, P.record-whole)
+settle-lowest-requires t c κs = let P = c.before.before.before.before.before.before.requires.1 in (P.bounded, P.record_whole)
 
 -- src/rounds.rt:101:9
 settle-same-length : (t : ℕ) → settle-lts.Need-same-length (
@@ -154,7 +154,7 @@ settle-returns-3 : (t : ℕ) → settle-lts.Need-returns-3 (
   settle-below t,
   settle.Post,
 ) (settle-at t) settle.Post
-settle-returns-3 t c = let a = c.before.before.before.before.before.before.before.before.before.before.before.before.before.before.before.before.before.before.before.before.before.before.before.before.before.before.before.before.before.before.before.before.before.before.args in let h = c.before.before.before.before.before.before.before.before.before.before.before.before.before.before.before.before.before.before.before.before.before.before.before.before.before.before.before.before.before.if1.false in c.before.before.before.before.before.before.before.before.settle.ensures ∙ one_found a.g a.state.now a.area.now _ a.rounds (a.rounds - 1) _ _ _ _ (omega (arith, h)) c.before.before.before.before.before.before.before.before.before.before.before.before.before.before.before.before.before.before.before.before.before.before.before.before.before.before.before.before.before.before.before.before.before.before.requires.1.record-whole (bytes_of a.state.now (λ i. let f = c.before.before.before.before.before.before.before.before.before.before.before.before.before.before.before.before.before.before.before.before.before.before.before.before.before.before.before.before.before.before.before.before.before.slice-known.given i in omega arith)) c.before.before.before.before.before.before.before.before.before.before.before.before.before.before.before.before.before.before.before.before.before.before.before.before.before.before.before.lowest.ensures c.before.before.before.before.before.before.before.before.before.before.before.before.before.before.before.before.before.before.before.before.before.before.before.before.before.before.if2.false c.before.before.before.before.before.before.before.before.before.before.before.before.before.before.before.before.before.before.before.before.before.accept-at.ensures
+settle-returns-3 t c = let a = c.before.before.before.before.before.before.before.before.before.before.before.before.before.before.before.before.before.before.before.before.before.before.before.before.before.before.before.before.before.before.before.before.before.before.args in let h = c.before.before.before.before.before.before.before.before.before.before.before.before.before.before.before.before.before.before.before.before.before.before.before.before.before.before.before.before.before.if1.false in c.before.before.before.before.before.before.before.before.settle.ensures ∙ one_found a.g a.state.now a.area.now _ a.rounds (a.rounds - 1) _ _ _ _ (omega (arith, h)) c.before.before.before.before.before.before.before.before.before.before.before.before.before.before.before.before.before.before.before.before.before.before.before.before.before.before.before.before.before.before.before.before.before.before.requires.1.record_whole (bytes_of a.state.now (λ i. let f = c.before.before.before.before.before.before.before.before.before.before.before.before.before.before.before.before.before.before.before.before.before.before.before.before.before.before.before.before.before.before.before.before.before.slice-known.given i in omega arith)) c.before.before.before.before.before.before.before.before.before.before.before.before.before.before.before.before.before.before.before.before.before.before.before.before.before.before.before.lowest.ensures c.before.before.before.before.before.before.before.before.before.before.before.before.before.before.before.before.before.before.before.before.before.before.before.before.before.before.if2.false c.before.before.before.before.before.before.before.before.before.before.before.before.before.before.before.before.before.before.before.before.before.accept-at.ensures
 
 pub +settle-spec : {M : Type 1} → statement M
 +settle-spec = close μ-settle λ t. settle-lts.spec (

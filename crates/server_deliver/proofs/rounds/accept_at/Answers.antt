@@ -13,9 +13,9 @@ accept-m-requires c = let P = c.requires in let a = c.args in let w = may_within
 
 -- src/rounds.rt:78:5
 pub put_opened-requires : goal.put_opened-requires
-put_opened-requires c = let P = c.requires in (P.1, P.0.client-high)
+put_opened-requires c = let P = c.requires in (P.1, P.0.client_high)
 
 -- src/rounds.rt:58:1
 pub returns : goal.returns
 unfolding server_in server_at
-returns c = let P = c.requires in let a = c.args in accepted_here a.g a.state.now _ a.area.now _ a.c _ _ _ _ P.0.client-high c.scope_at-s.ensures (c.accept-m.ensures (server_in a.state.now) (record { many = nine_slots _; scope = c.scope_at-s.ensures; readers = c.readers_at-readers.ensures })) c.put_opened.ensures (nine_slots _)
+returns c = let P = c.requires in let a = c.args in accepted_here a.g a.state.now _ a.area.now _ a.c _ _ _ _ P.0.client_high c.scope_at-s.ensures (c.accept-m.ensures (server_in a.state.now) (record { many = nine_slots _; scope = c.scope_at-s.ensures; readers = c.readers_at-readers.ensures })) c.put_opened.ensures (nine_slots _)

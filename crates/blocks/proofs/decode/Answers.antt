@@ -47,21 +47,21 @@ slice_bounds-value-end-2 c =
     let f = decodes _ _ _ _ (sym c.decode_test-tested.ensures ∙ c.in-Done.is) in
     let g = f.within in
     let d = c.decode_all in
-    omega (arith, length_front (zeros 256) d.new.1.1.1.0 c.args.g.size d.auto.1.1.1.0)
+    omega (arith, length_front (zeros 256) d.new.value c.args.g.size d.auto.value)
 
 pub slice_bounds-put-end : goal.slice_bounds-put-end
 slice_bounds-put-end c =
     let f = decodes _ _ _ _ (sym c.decode_test-tested.ensures ∙ c.in-Done.is) in
     let d = c.decode_all in
     let z = length-take-le _ (zeros 256) f.within.size_high in
-    sym (ap length (front_back (zeros 256) d.new.1.1.1.0 _ f.within.size_high d.auto.1.1.1.0) ∙ d.auto.1.1.1.0 ∙ z)
+    sym (ap length (front_back (zeros 256) d.new.value _ f.within.size_high d.auto.value) ∙ d.auto.value ∙ z)
 
 pub put-requires : goal.put-requires
 put-requires c =
     let f = decodes _ _ _ _ (sym c.decode_test-tested.ensures ∙ c.in-Done.is) in
     let d = c.decode_all in
     let z = length-take-le _ (zeros 256) f.within.size_high in
-    let n = ap length (front_back (zeros 256) d.new.1.1.1.0 _ f.within.size_high d.auto.1.1.1.0) ∙ d.auto.1.1.1.0 ∙ z in
+    let n = ap length (front_back (zeros 256) d.new.value _ f.within.size_high d.auto.value) ∙ d.auto.value ∙ z in
     omega arith
 
 pub returns : goal.returns
@@ -69,5 +69,5 @@ returns c =
     let f = decodes _ _ _ _ (sym c.decode_test-tested.ensures ∙ c.in-Done.is) in
     let d = c.decode_all in
     agreed _ _ _ _ _ _ _ c.decode_test-tested.ensures c.in-Done.is (length-take-le _ (zeros 256) f.within.size_high)
-    d.ensures.0 _ _ c.if-not-decode_all.false c.put.ensures
-    (front_back (zeros 256) d.new.1.1.1.0 _ f.within.size_high d.auto.1.1.1.0 ∙ d.ensures.1)
+    d.ensures.0 _ _ c.if-not-decode_all.false-raw c.put.ensures
+    (front_back (zeros 256) d.new.value _ f.within.size_high d.auto.value ∙ d.ensures.1)

@@ -43,10 +43,10 @@ pub opens_next-scope-requires : goal.opens_next-scope-requires
 opens_next-scope-requires c = c.requires.2
 
 pub shape_of-out : goal.shape_of-out
-shape_of-out c = c.report_if-place.auto.1.0 ∙ c.send_ack-acked.auto.0 ∙ c.tell-told.auto.1.1.1.1.0
+shape_of-out c = c.report_if-place.auto.out ∙ c.send_ack-acked.auto.out ∙ c.tell-told.auto.out
 
 pub shape_of-to : goal.shape_of-to
-shape_of-to c = c.report_if-place.auto.1.1.0 ∙ c.send_ack-acked.auto.1.0 ∙ c.tell-told.auto.1.1.1.1.1.0
+shape_of-to c = c.report_if-place.auto.to ∙ c.send_ack-acked.auto.to ∙ c.tell-told.auto.to
 
 pub returns : goal.returns
 returns c =

@@ -13,4 +13,4 @@ returns-then-not-is_older c =
 pub returns : goal.returns
 returns c =
     let a = c.args in
-    told_due a.r a.c a.x _ _ _ _ (not-false _ c.if-not-r.false) c.is_older.ensures (not-false _ c.if-not-is_older.false) c.send_value.ensures
+    told_due a.r a.c a.x _ _ _ _ (not-false _ c.if-not-r.false) c.is_older.ensures (not-false _ c.if-not-is_older.false-raw) c.send_value.ensures

@@ -54,7 +54,7 @@ returns-then-room-size c =
     let m : ℕ = length c.args.numbers.now in
     let same = ap (λ (x : ℕ). m * x) c.block_length.ensures in
     sym (then_done _ _ _ c.params_test-tested.ensures c.in-Done.is ∙ suffices _ _ _ _ c.if-m-k.false
-    ∙ suffices _ _ _ _ c.if-n-m.false ∙ equals _ _ _ _ (c.if-len-m.false ∙ same) ∙ passes _ _ _ _ c.numbers_fit.ensures c.if-not-numbers_fit.false
+    ∙ suffices _ _ _ _ c.if-n-m.false ∙ equals _ _ _ _ (c.if-len-m.false ∙ same) ∙ passes _ _ _ _ c.numbers_fit.ensures c.if-not-numbers_fit.false-raw
     ∙ lacks _ _ _ _ c.if-room-size.true)
 
 pub returns : goal.returns
@@ -63,5 +63,5 @@ returns c =
     let m : ℕ = length c.args.numbers.now in
     let same = ap (λ (x : ℕ). m * x) c.block_length.ensures in
     sym (then_done _ _ _ c.params_test-tested.ensures c.in-Done.is ∙ suffices _ _ _ _ c.if-m-k.false
-    ∙ suffices _ _ _ _ c.if-n-m.false ∙ equals _ _ _ _ (c.if-len-m.false ∙ same) ∙ passes _ _ _ _ c.numbers_fit.ensures c.if-not-numbers_fit.false
+    ∙ suffices _ _ _ _ c.if-n-m.false ∙ equals _ _ _ _ (c.if-len-m.false ∙ same) ∙ passes _ _ _ _ c.numbers_fit.ensures c.if-not-numbers_fit.false-raw
     ∙ suffices _ _ _ _ c.if-room-size.false)

@@ -13,12 +13,12 @@ returns-then-not-number_fits c = sym (c.loop-i.invariant ∙ numbers_out _ _ _ _
 pub returns-then-not-absent_from : goal.returns-then-not-absent_from
 returns-then-not-absent_from c =
     sym (c.loop-i.invariant
-    ∙ numbers_twice _ _ _ _ _ _ c.loop-i-test.true refl c.number_fits.ensures c.if-not-number_fits.false c.absent_from.ensures c.if-not-absent_from.true-raw)
+    ∙ numbers_twice _ _ _ _ _ _ c.loop-i-test.true refl c.number_fits.ensures c.if-not-number_fits.false-raw c.absent_from.ensures c.if-not-absent_from.true-raw)
 
 pub loop-i-preserved : goal.loop-i-preserved
 loop-i-preserved c =
     c.loop-i.invariant
-    ∙ numbers_turn _ _ _ _ _ _ c.loop-i-test.true refl c.number_fits.ensures c.if-not-number_fits.false c.absent_from.ensures c.if-not-absent_from.false
+    ∙ numbers_turn _ _ _ _ _ _ c.loop-i-test.true refl c.number_fits.ensures c.if-not-number_fits.false-raw c.absent_from.ensures c.if-not-absent_from.false-raw
 
 pub returns : goal.returns
 returns c = sym (c.loop-i.invariant ∙ numbers_end _ _ _ c.loop-i-test.false)

@@ -11,19 +11,19 @@ returns-then-not-parties_fit c = sym (refuses _ _ _ _ c.parties_fit.ensures c.if
 pub returns-then-not-threshold_fits : goal.returns-then-not-threshold_fits
 unfolding params_test
 returns-then-not-threshold_fits c =
-    sym (passes _ _ _ _ c.parties_fit.ensures c.if-not-parties_fit.false
+    sym (passes _ _ _ _ c.parties_fit.ensures c.if-not-parties_fit.false-raw
     ∙ refuses _ _ _ _ c.threshold_fits.ensures c.if-not-threshold_fits.true-raw)
 
 pub returns-then-not-length_fits : goal.returns-then-not-length_fits
 unfolding params_test
 returns-then-not-length_fits c =
-    sym (passes _ _ _ _ c.parties_fit.ensures c.if-not-parties_fit.false
-    ∙ passes _ _ _ _ c.threshold_fits.ensures c.if-not-threshold_fits.false
+    sym (passes _ _ _ _ c.parties_fit.ensures c.if-not-parties_fit.false-raw
+    ∙ passes _ _ _ _ c.threshold_fits.ensures c.if-not-threshold_fits.false-raw
     ∙ refuses _ _ _ _ c.length_fits.ensures c.if-not-length_fits.true-raw)
 
 pub returns : goal.returns
 unfolding params_test
 returns c =
-    sym (passes _ _ _ _ c.parties_fit.ensures c.if-not-parties_fit.false
-    ∙ passes _ _ _ _ c.threshold_fits.ensures c.if-not-threshold_fits.false
-    ∙ passes _ _ _ _ c.length_fits.ensures c.if-not-length_fits.false)
+    sym (passes _ _ _ _ c.parties_fit.ensures c.if-not-parties_fit.false-raw
+    ∙ passes _ _ _ _ c.threshold_fits.ensures c.if-not-threshold_fits.false-raw
+    ∙ passes _ _ _ _ c.length_fits.ensures c.if-not-length_fits.false-raw)

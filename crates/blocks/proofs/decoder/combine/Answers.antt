@@ -49,7 +49,7 @@ loop-i-preserved c =
     let i : ℕ = c.loop-i.i in
     let y = c.type_inv.w (i * c.args.b + c.args.r) in (
       omega arith,
-      c.add_scaled.auto.0 ∙ c.loop-i.invariant.1,
+      c.add_scaled.auto.p ∙ c.loop-i.invariant.1,
       combine_turn c.args.js.now c.args.table.now c.args.w.now c.loop-i.p _ c.args.b c.args.r i c.requires.5 c.loop-i-test.true (omega (arith, y))
           c.loop-i.invariant.2 c.add_scaled.ensures,
     )

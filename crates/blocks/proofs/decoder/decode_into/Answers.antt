@@ -47,7 +47,7 @@ loop-r-preserved c =
     let s = starts L k r c.requires.0 (omega arith) in (
       c.loop-r.invariant.0,
       omega arith,
-      p.auto.1.1.1.1.1.0 ∙ c.loop-r.invariant.2,
+      p.auto.value ∙ c.loop-r.invariant.2,
       p.ensures ∙ ap₂ (λ (n b : ℕ). sets c.loop-r.value (r * k) (take (n - r * k) (through js (row k b w r)))) c.loop-r.invariant.2 c.loop-r.invariant.0
           ∙ stripe_turn (stripes js L w) k L r c.args.value.now c.loop-r.value (through_row_length js w (block_length L k)) (omega arith) c.loop-r.invariant.3,
     )

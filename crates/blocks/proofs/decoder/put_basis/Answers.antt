@@ -19,7 +19,7 @@ loop-i-smaller c = omega arith
 pub loop-i-preserved : goal.loop-i-preserved
 loop-i-preserved c =
     let h = row_room c.loop-i.i (length c.args.js.now) (length c.loop-i.table) c.loop-i-test.true (omega arith) in
-    (omega arith, c.put_unit.auto.1.1.0 ∙ c.loop-i.invariant.1, rows_turn c.args.js.now c.loop-i.table _ c.loop-i.i h c.loop-i.invariant.2 c.put_unit.ensures)
+    (omega arith, c.put_unit.auto.table ∙ c.loop-i.invariant.1, rows_turn c.args.js.now c.loop-i.table _ c.loop-i.i h c.loop-i.invariant.2 c.put_unit.ensures)
 
 pub shape_of-table : goal.shape_of-table
 shape_of-table c = c.loop-i.invariant.1

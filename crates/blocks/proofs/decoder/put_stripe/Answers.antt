@@ -18,17 +18,17 @@ combine-requires c =
 pub slice_bounds-p-end-2 : goal.slice_bounds-p-end-2
 slice_bounds-p-end-2 c =
     let g = c.combine in
-    omega (arith, length_front (zeros 8) g.last.1.1.1.1.1.0 (length c.args.js.now) g.kept.1.1.1.1.1.0, c.smaller-n.ensures)
+    omega (arith, length_front (zeros 8) g.new.p (length c.args.js.now) g.auto.p, c.smaller-n.ensures)
 
 pub slice_bounds-put-end : goal.slice_bounds-put-end
 slice_bounds-put-end c =
     let g = c.combine in
-    sym (part_length (zeros 8) g.last.1.1.1.1.1.0 (length c.args.js.now) _ _ c.requires.0 g.kept.1.1.1.1.1.0 c.smaller-n.ensures)
+    sym (part_length (zeros 8) g.new.p (length c.args.js.now) _ _ c.requires.0 g.auto.p c.smaller-n.ensures)
 
 pub put-requires : goal.put-requires
 put-requires c =
     let g = c.combine in
-    omega (arith, part_length (zeros 8) g.last.1.1.1.1.1.0 (length c.args.js.now) _ _ c.requires.0 g.kept.1.1.1.1.1.0 c.smaller-n.ensures, c.smaller-n.ensures)
+    omega (arith, part_length (zeros 8) g.new.p (length c.args.js.now) _ _ c.requires.0 g.auto.p c.smaller-n.ensures, c.smaller-n.ensures)
 
 pub returns : goal.returns
 returns c =
@@ -37,4 +37,4 @@ returns c =
     let left : ℕ = length c.args.value.now - c.args.r * k in
     c.put.ensures
     ∙ ap (sets c.args.value.now (c.args.r * k))
-    (part_read (zeros 8) g.last.1.1.1.1.1.0 k left _ c.requires.0 g.kept.1.1.1.1.1.0 c.smaller-n.ensures ∙ ap (take left) g.ensures)
+    (part_read (zeros 8) g.new.p k left _ c.requires.0 g.auto.p c.smaller-n.ensures ∙ ap (take left) g.ensures)

@@ -32,19 +32,19 @@ interpolate-requires c =
 pub slice_bounds-p-end-2 : goal.slice_bounds-p-end-2
 slice_bounds-p-end-2 c =
     let g = c.interpolate in
-    omega (arith, length_front (zeros 8) g.new.1.1.0 (length c.args.js.now) g.auto.1.1.0)
+    omega (arith, length_front (zeros 8) g.new.p (length c.args.js.now) g.auto.p)
 
 pub slice_bounds-put-end : goal.slice_bounds-put-end
 slice_bounds-put-end c =
     let g = c.interpolate in
-    sym (ap length (front_back (zeros 8) g.new.1.1.0 (length c.args.js.now) c.requires.0 g.auto.1.1.0)
-    ∙ g.auto.1.1.0 ∙ length-take-le (length c.args.js.now) (zeros 8) c.requires.0)
+    sym (ap length (front_back (zeros 8) g.new.p (length c.args.js.now) c.requires.0 g.auto.p)
+    ∙ g.auto.p ∙ length-take-le (length c.args.js.now) (zeros 8) c.requires.0)
 
 pub put-requires : goal.put-requires
 put-requires c =
     let g = c.interpolate in
-    let n = ap length (front_back (zeros 8) g.new.1.1.0 (length c.args.js.now) c.requires.0 g.auto.1.1.0)
-    ∙ g.auto.1.1.0 ∙ length-take-le (length c.args.js.now) (zeros 8) c.requires.0 in
+    let n = ap length (front_back (zeros 8) g.new.p (length c.args.js.now) c.requires.0 g.auto.p)
+    ∙ g.auto.p ∙ length-take-le (length c.args.js.now) (zeros 8) c.requires.0 in
     omega arith
 
 pub returns : goal.returns
@@ -54,5 +54,5 @@ returns c =
     let k : ℕ = length c.args.js.now in
     c.put.ensures
     ∙ ap (sets c.args.table.now (c.args.i * k))
-    (front_back (zeros 8) g.new.1.1.0 k c.requires.0 g.auto.1.1.0 ∙ g.ensures.0
+    (front_back (zeros 8) g.new.p k c.requires.0 g.auto.p ∙ g.ensures.0
     ∙ ap (through c.args.js.now) (unit_front k 8 c.args.i c.requires.0))

@@ -35,7 +35,7 @@ loop-i-preserved c =
       omega arith,
       ap (λ x. c.loop-i.at + x) c.loop-i.invariant.0 ∙ next_place _ _ _ c.loop-i.invariant.2,
       c.loop-i.invariant.3
-          ∙ stand_turn _ _ _ _ _ _ c.loop-i-test.true c.loop-i.invariant.2 c.requires.4 _ c.block_stands.ensures c.if-not-block_stands.false
+          ∙ stand_turn _ _ _ _ _ _ c.loop-i-test.true c.loop-i.invariant.2 c.requires.4 _ c.block_stands.ensures c.if-not-block_stands.false-raw
           ∙ ap (λ x. same (blocks_of c.args.k c.args.v.now (drop (c.loop-i.i + 1) c.args.js.now)) (drop (c.loop-i.at + x) c.args.w.now)) (sym c.loop-i.invariant.0),
     )
 

@@ -33,7 +33,7 @@ loop-i-preserved c =
       c.loop-i.invariant.0,
       omega arith,
       ap (λ x. c.loop-i.at + x) c.loop-i.invariant.0 ∙ next_place _ _ _ c.loop-i.invariant.2,
-      p.auto.1.1.1.0 ∙ c.loop-i.invariant.3,
+      p.auto.out ∙ c.loop-i.invariant.3,
       p.ensures ∙ ap (λ x. sets c.loop-i.out x (block_of c.args.k c.args.v.now (c.loop-i.i + 1))) c.loop-i.invariant.2
           ∙ joined_turn (block_of c.args.k c.args.v.now) B c.loop-i.i c.args.out.now c.loop-i.out (length_block_of c.args.k c.args.v.now) c.loop-i.invariant.4,
     )

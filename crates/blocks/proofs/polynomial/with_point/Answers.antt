@@ -16,10 +16,10 @@ pub with_root-requires : goal.with_root-requires
 with_root-requires c = (simp length-set (omega arith), search rules)
 
 pub shape_of-p : goal.shape_of-p
-shape_of-p c = c.newton_step.auto.0 ∙ simp length-set
+shape_of-p c = c.newton_step.auto.p ∙ simp length-set
 
 pub shape_of-m : goal.shape_of-m
-shape_of-m c = c.with_root.auto.0 ∙ simp length-set
+shape_of-m c = c.with_root.auto.m ∙ simp length-set
 
 pub returns : goal.returns
 returns c =

@@ -6,4 +6,4 @@ pub returns-then-not-heard : goal.returns-then-not-heard
 returns-then-not-heard c = not_heard c.args.heard _ c.if-not-heard.true-raw
 
 pub returns : goal.returns
-returns c = was_heard c.args.heard _ _ c.if-not-heard.false c.is_backed.ensures
+returns c = was_heard c.args.heard _ _ c.if-not-heard.false-raw c.is_backed.ensures

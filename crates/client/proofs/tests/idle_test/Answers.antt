@@ -5,7 +5,7 @@ pub returns-then-not-is_idle : goal.returns-then-not-is_idle
 returns-then-not-is_idle c = stop_unless _ _ _ c.is_idle.ensures _ c.if-not-is_idle.true-raw
 
 pub returns-then-last-ge-LAST_SEQUENCE : goal.returns-then-last-ge-LAST_SEQUENCE
-returns-then-last-ge-LAST_SEQUENCE c = go_if _ _ _ c.is_idle.ensures _ _ c.if-not-is_idle.false (stop_from _ _ _ c.if-last-ge-LAST_SEQUENCE.true)
+returns-then-last-ge-LAST_SEQUENCE c = go_if _ _ _ c.is_idle.ensures _ _ c.if-not-is_idle.false-raw (stop_from _ _ _ c.if-last-ge-LAST_SEQUENCE.true)
 
 pub returns : goal.returns
-returns c = go_if _ _ _ c.is_idle.ensures _ _ c.if-not-is_idle.false (pass_below _ _ _ c.if-last-ge-LAST_SEQUENCE.false)
+returns c = go_if _ _ _ c.is_idle.ensures _ _ c.if-not-is_idle.false-raw (pass_below _ _ _ c.if-last-ge-LAST_SEQUENCE.false)

@@ -8,8 +8,8 @@ returns-then-not-is_writing c = pass_unless _ _ _ c.is_writing.ensures _ c.if-no
 
 pub returns-then-len-g : goal.returns-then-len-g
 unfolding value_test
-returns-then-len-g c = stop_differs _ _ _ c.is_writing.ensures _ _ c.if-not-is_writing.false c.if-len-g.true
+returns-then-len-g c = stop_differs _ _ _ c.is_writing.ensures _ _ c.if-not-is_writing.false-raw c.if-len-g.true
 
 pub returns : goal.returns
 unfolding value_test
-returns c = pass_same _ _ _ c.is_writing.ensures _ _ c.if-not-is_writing.false c.if-len-g.false
+returns c = pass_same _ _ _ c.is_writing.ensures _ _ c.if-not-is_writing.false-raw c.if-len-g.false

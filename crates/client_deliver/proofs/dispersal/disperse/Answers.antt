@@ -15,11 +15,11 @@ digests-requires c =
     )
 
 pub slice_bounds-list-end : goal.slice_bounds-list-end
-slice_bounds-list-end c = omega (arith, c.requires.0.servers_high, c.digests.auto.1.1.0)
+slice_bounds-list-end c = omega (arith, c.requires.0.servers_high, c.digests.auto.out)
 
 pub slice_bounds-own_blocks-end : goal.slice_bounds-own_blocks-end
 slice_bounds-own_blocks-end c =
-    let n : 32 * c.args.d.params.n ≤ length c.digests.new.1.1.0 = omega (arith, c.requires.0.servers_high, c.digests.auto.1.1.0) in
+    let n : 32 * c.args.d.params.n ≤ length c.digests.new.out = omega (arith, c.requires.0.servers_high, c.digests.auto.out) in
     sym (length-take-le _ _ n)
 
 pub own_blocks-requires : goal.own_blocks-requires

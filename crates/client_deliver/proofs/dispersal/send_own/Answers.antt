@@ -20,11 +20,11 @@ encode_block-requires c =
     (B.blocks_low, omega (arith, B.blocks_high, B.faults_low, B.servers_high), omega (arith, D.whole, B.size_high), rw D.whole (omega (arith, M.block_room)), D.tables)
 
 pub slice_bounds-block-end : goal.slice_bounds-block-end
-slice_bounds-block-end c = omega (arith, c.width-b.ensures.2, c.encode_block.auto.1.1.1.0)
+slice_bounds-block-end c = omega (arith, c.width-b.ensures.2, c.encode_block.auto.out)
 
 pub slice_bounds-send_block-end : goal.slice_bounds-send_block-end
 slice_bounds-send_block-end c =
-    let n : c.width-b.result ≤ length c.encode_block.new.1.1.1.0 = omega (arith, c.width-b.ensures.2, c.encode_block.auto.1.1.1.0) in
+    let n : c.width-b.result ≤ length c.encode_block.new.out = omega (arith, c.width-b.ensures.2, c.encode_block.auto.out) in
     sym (length-take-le _ _ n)
 
 pub send_block-requires : goal.send_block-requires
@@ -32,7 +32,7 @@ send_block-requires c =
     let a = c.args in
     let D = c.requires.0 in
     let b = own_block a.d.params a.value.now D.whole _ _ a.j _ D.bounded c.width-b.ensures.0 (omega arith) c.encode_block.ensures in
-    let e : 17 + entry_length a.d.params ≡ 17 + (length a.list.now + length (take c.width-b.result c.encode_block.new.1.1.1.0)) =
+    let e : 17 + entry_length a.d.params ≡ 17 + (length a.list.now + length (take c.width-b.result c.encode_block.new.out)) =
     omega (arith, ap length D.list_is, length_digests a.d.params a.value.now, ap length b, length_own_block a.d.params a.value.now D.whole a.j) in
     room_of _ _ _ _ _ _ e c.requires.1
 

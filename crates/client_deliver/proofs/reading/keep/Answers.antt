@@ -24,7 +24,7 @@ row_with-kept-requires c = place_small _ _ _ _ c.place_for-spot.ensures c.in-At.
 pub settle-requires-2 : goal.settle-requires-2
 settle-requires-2 c =
     let L = c.requires.0 in
-    record { bounded = L.bounded; whole = omega (arith, L.whole, c.keep_entry.auto.0); value_room = L.value_room; room = L.room }
+    record { bounded = L.bounded; whole = omega (arith, L.whole, c.keep_entry.auto.area); value_room = L.value_room; room = L.room }
 
 pub returns : goal.returns
 returns c =

@@ -13,12 +13,12 @@ returns-then-not-sender_right c = stop_not _ _ _ _ c.sender_right.ensures c.if-n
 pub kept_test-requires : goal.kept_test-requires
 kept_test-requires c =
     let a = c.args in
-    let n = sender_facts a.g a.from a.h.client a.me _ _ c.sender_right.ensures c.if-not-sender_right.false c.number_in-j.ensures in
+    let n = sender_facts a.g a.from a.h.client a.me _ _ c.sender_right.ensures c.if-not-sender_right.false-raw c.number_in-j.ensures in
     (c.requires.0, n.0, n.1, c.requires.1)
 
 pub returns : goal.returns
 returns c =
     let a = c.args in
-    go_on _ _ _ _ _ c.sender_right.ensures c.if-not-sender_right.false
+    go_on _ _ _ _ _ c.sender_right.ensures c.if-not-sender_right.false-raw
     (c.kept_test.ensures
     ∙ ap (λ j. kept_test digest_of a.s j a.h.sequence a.x (entry_in a.g a.f.now value_at)) c.number_in-j.ensures)

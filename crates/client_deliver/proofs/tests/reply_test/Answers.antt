@@ -10,11 +10,11 @@ returns-then-not-sender_right c = stop_not _ _ _ _ c.sender_right.ensures c.if-n
 pub bounds-heard-j : goal.bounds-heard-j
 bounds-heard-j c =
     let a = c.args in
-    let n = sender_facts a.g a.from a.h.client a.me _ _ c.sender_right.ensures c.if-not-sender_right.false c.number_in-j.ensures in
+    let n = sender_facts a.g a.from a.h.client a.me _ _ c.sender_right.ensures c.if-not-sender_right.false-raw c.number_in-j.ensures in
     omega (arith, n.1, c.requires.servers_high)
 
 pub returns : goal.returns
 returns c =
     let a = c.args in
-    go_on _ _ _ _ _ c.sender_right.ensures c.if-not-sender_right.false
+    go_on _ _ _ _ _ c.sender_right.ensures c.if-not-sender_right.false-raw
     (awaited_at _ a.fit a.h.sequence a.last _ _ a.t7 c.awaited_test.ensures c.number_in-j.ensures)

@@ -10,15 +10,15 @@ returns-then-not-from_server c = stop_not _ _ _ _ c.from_server.ensures c.if-not
 pub bounds-reports-j : goal.bounds-reports-j
 bounds-reports-j c =
     let a = c.args in
-    let n = report_place a.g a.from _ _ c.from_server.ensures c.if-not-from_server.false c.number_in-j.ensures in
+    let n = report_place a.g a.from _ _ c.from_server.ensures c.if-not-from_server.false-raw c.number_in-j.ensures in
     omega (arith, n.1, c.requires.servers_high)
 
 pub returns-then-time-reports : goal.returns-then-time-reports
 returns-then-time-reports c =
     let a = c.args in
-    go_on _ _ _ _ _ c.from_server.ensures c.if-not-from_server.false (report_old a.t4 _ _ a.time c.number_in-j.ensures c.if-time-reports.true)
+    go_on _ _ _ _ _ c.from_server.ensures c.if-not-from_server.false-raw (report_old a.t4 _ _ a.time c.number_in-j.ensures c.if-time-reports.true)
 
 pub returns : goal.returns
 returns c =
     let a = c.args in
-    go_on _ _ _ _ _ c.from_server.ensures c.if-not-from_server.false (report_new a.t4 _ _ a.time c.number_in-j.ensures c.if-time-reports.false)
+    go_on _ _ _ _ _ c.from_server.ensures c.if-not-from_server.false-raw (report_new a.t4 _ _ a.time c.number_in-j.ensures c.if-time-reports.false)

@@ -6,4 +6,4 @@ pub returns-then-not-from_server : goal.returns-then-not-from_server
 returns-then-not-from_server c = not_sender _ _ _ c.from_server.ensures c.if-not-from_server.true-raw
 
 pub returns : goal.returns
-returns c = same_client _ _ _ c.from_server.ensures c.if-not-from_server.false
+returns c = same_client _ _ _ c.from_server.ensures c.if-not-from_server.false-raw

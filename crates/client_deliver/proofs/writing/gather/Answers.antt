@@ -10,4 +10,4 @@ returns-then-not-is_gathered c =
 pub returns : goal.returns
 returns c =
     let a = c.args in
-    λ z l. gather_goes a.g a.me a.s a.value.now z l _ _ _ c.is_gathered.ensures _ c.if-not-is_gathered.false (c.send_largest.ensures z l)
+    λ z l. gather_goes a.g a.me a.s a.value.now z l _ _ _ c.is_gathered.ensures _ c.if-not-is_gathered.false-raw (c.send_largest.ensures z l)

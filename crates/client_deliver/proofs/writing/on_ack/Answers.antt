@@ -31,4 +31,4 @@ unfolding message_test order_test answers owner_right
 returns c =
     let a = c.args in
     λ z l o t. step_is _ _ a.s z _ l o t (verdict-in _ _ _ _ (acking a.s.phase) _ c.reply_test-v.ensures c.is_acking.ensures) _ c.in_default.is
-    (ack_ends a.k.params a.k.me a.s z l o t _ _ _ _ c.number_in-j.ensures c.is_quorate.ensures c.in_phase-client-2.ensures c.if-not-is_quorate.false)
+    (ack_ends a.k.params a.k.me a.s z l o t _ _ _ _ c.number_in-j.ensures c.is_quorate.ensures c.in_phase-client-2.ensures c.if-not-is_quorate.false-raw)

@@ -31,7 +31,7 @@ pub gather-requires : goal.gather-requires
 gather-requires c =
     let a = c.args in
     let p = c.requires.0 in
-    let t = sym c.is_asking.ensures ∙ not-false _ c.if-not-is_asking.false in
+    let t = sym c.is_asking.ensures ∙ not-false _ c.if-not-is_asking.false-raw in
     (p.bounded, p.whole (asking_writes a.s.phase t), p.room)
 
 pub returns : goal.returns
@@ -39,4 +39,4 @@ unfolding message_test order_test answers owner_right
 returns c =
     let a = c.args in
     λ z l. step_is _ _ a.s z _ l _ _ (report_in_lem _ _ _ _ _ _ c.report_test-v.ensures c.read8-time.ensures) _ c.in_default.is
-    (report_gathers a.k.params a.k.me a.s a.value.now z l _ _ _ _ _ _ _ a.s c.number_in-j.ensures c.read8-time.ensures c.with_report-client.ensures _ c.is_asking.ensures _ c.if-not-is_asking.false (c.gather.ensures z l))
+    (report_gathers a.k.params a.k.me a.s a.value.now z l _ _ _ _ _ _ _ a.s c.number_in-j.ensures c.read8-time.ensures c.with_report-client.ensures _ c.is_asking.ensures _ c.if-not-is_asking.false-raw (c.gather.ensures z l))

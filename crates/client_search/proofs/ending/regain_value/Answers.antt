@@ -28,52 +28,52 @@ pub slice_bounds-value-end-2 : goal.slice_bounds-value-end-2
 slice_bounds-value-end-2 c =
     let P = c.requires in
     let d = c.regain in
-    omega (arith, length_front (zeros 256) d.new.1.1.1.1.0 c.args.g.size d.auto.1.1.1.1.0, P.searching.bounded.size_high)
+    omega (arith, length_front (zeros 256) d.new.value c.args.g.size d.auto.value, P.searching.bounded.size_high)
 
 pub slice_bounds-all_of-end : goal.slice_bounds-all_of-end
 slice_bounds-all_of-end c =
     let P = c.requires in
     let d = c.regain in
-    let f = front_back (zeros 256) d.new.1.1.1.1.0 _ P.searching.bounded.size_high d.auto.1.1.1.1.0 ∙ d.ensures in
+    let f = front_back (zeros 256) d.new.value _ P.searching.bounded.size_high d.auto.value ∙ d.ensures in
     sym (value_length _ _ _ _ _ _ P _ _ c.hits-h.ensures c.holders-k.ensures _ f _ _ c.powers-ps.ensures c.logs-ls.ensures)
 
 pub all_of-requires : goal.all_of-requires
 all_of-requires c =
     let P = c.requires in
     let d = c.regain in
-    let f = front_back (zeros 256) d.new.1.1.1.1.0 _ P.searching.bounded.size_high d.auto.1.1.1.1.0 ∙ d.ensures in
+    let f = front_back (zeros 256) d.new.value _ P.searching.bounded.size_high d.auto.value ∙ d.ensures in
     valued _ _ _ _ _ _ P _ _ c.hits-h.ensures c.holders-k.ensures _ f _ _ c.powers-ps.ensures c.logs-ls.ensures
 
 pub returns-then-not-all_of : goal.returns-then-not-all_of
 returns-then-not-all_of c =
     let P = c.requires in
     let d = c.regain in
-    let f = front_back (zeros 256) d.new.1.1.1.1.0 _ P.searching.bounded.size_high d.auto.1.1.1.1.0 ∙ d.ensures in
+    let f = front_back (zeros 256) d.new.value _ P.searching.bounded.size_high d.auto.value ∙ d.ensures in
     disagreed _ _ _ _ _ _ P _ _ c.hits-h.ensures c.holders-k.ensures _ f _ _ c.powers-ps.ensures c.logs-ls.ensures _ c.all_of.ensures _ c.if-not-all_of.true-raw
 
 pub slice_bounds-value-end-3 : goal.slice_bounds-value-end-3
 slice_bounds-value-end-3 c =
     let P = c.requires in
     let d = c.regain in
-    omega (arith, length_front (zeros 256) d.new.1.1.1.1.0 c.args.g.size d.auto.1.1.1.1.0, P.searching.bounded.size_high)
+    omega (arith, length_front (zeros 256) d.new.value c.args.g.size d.auto.value, P.searching.bounded.size_high)
 
 pub slice_bounds-put-end : goal.slice_bounds-put-end
 slice_bounds-put-end c =
     let P = c.requires in
     let d = c.regain in
-    let f = front_back (zeros 256) d.new.1.1.1.1.0 _ P.searching.bounded.size_high d.auto.1.1.1.1.0 ∙ d.ensures in
+    let f = front_back (zeros 256) d.new.value _ P.searching.bounded.size_high d.auto.value ∙ d.ensures in
     sym (value_length _ _ _ _ _ _ P _ _ c.hits-h.ensures c.holders-k.ensures _ f _ _ c.powers-ps.ensures c.logs-ls.ensures)
 
 pub put-requires : goal.put-requires
 put-requires c =
     let P = c.requires in
     let d = c.regain in
-    let f = front_back (zeros 256) d.new.1.1.1.1.0 _ P.searching.bounded.size_high d.auto.1.1.1.1.0 ∙ d.ensures in
+    let f = front_back (zeros 256) d.new.value _ P.searching.bounded.size_high d.auto.value ∙ d.ensures in
     omega (arith, value_length _ _ _ _ _ _ P _ _ c.hits-h.ensures c.holders-k.ensures _ f _ _ c.powers-ps.ensures c.logs-ls.ensures, P.value_room)
 
 pub returns : goal.returns
 returns c =
     let P = c.requires in
     let d = c.regain in
-    let f = front_back (zeros 256) d.new.1.1.1.1.0 _ P.searching.bounded.size_high d.auto.1.1.1.1.0 ∙ d.ensures in
-    unanimous _ _ _ _ _ _ P _ _ c.hits-h.ensures c.holders-k.ensures _ f _ _ c.powers-ps.ensures c.logs-ls.ensures _ c.all_of.ensures _ _ c.if-not-all_of.false c.put.ensures
+    let f = front_back (zeros 256) d.new.value _ P.searching.bounded.size_high d.auto.value ∙ d.ensures in
+    unanimous _ _ _ _ _ _ P _ _ c.hits-h.ensures c.holders-k.ensures _ f _ _ c.powers-ps.ensures c.logs-ls.ensures _ c.all_of.ensures _ _ c.if-not-all_of.false-raw c.put.ensures

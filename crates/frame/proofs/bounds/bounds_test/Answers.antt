@@ -8,4 +8,4 @@ returns-then-not-parties_fit c = stop_not _ _ _ _ c.parties_fit.ensures c.if-not
 
 pub returns : goal.returns
 unfolding bounds_test
-returns c = go_on _ _ _ _ _ c.parties_fit.ensures c.if-not-parties_fit.false c.code_test.ensures
+returns c = go_on _ _ _ _ _ c.parties_fit.ensures c.if-not-parties_fit.false-raw c.code_test.ensures

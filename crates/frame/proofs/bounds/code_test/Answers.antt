@@ -9,8 +9,8 @@ returns-then-not-threshold_fits c = stop_not _ _ _ _ c.threshold_fits.ensures c.
 
 pub returns-then-not-length_fits : goal.returns-then-not-length_fits
 unfolding code_test
-returns-then-not-length_fits c = go_on _ _ _ _ _ c.threshold_fits.ensures c.if-not-threshold_fits.false (stop_not _ _ _ _ c.length_fits.ensures c.if-not-length_fits.true-raw)
+returns-then-not-length_fits c = go_on _ _ _ _ _ c.threshold_fits.ensures c.if-not-threshold_fits.false-raw (stop_not _ _ _ _ c.length_fits.ensures c.if-not-length_fits.true-raw)
 
 pub returns : goal.returns
 unfolding code_test
-returns c = go_on _ _ _ _ _ c.threshold_fits.ensures c.if-not-threshold_fits.false (go_on _ _ _ _ _ c.length_fits.ensures c.if-not-length_fits.false refl)
+returns c = go_on _ _ _ _ _ c.threshold_fits.ensures c.if-not-threshold_fits.false-raw (go_on _ _ _ _ _ c.length_fits.ensures c.if-not-length_fits.false-raw refl)

@@ -8,8 +8,8 @@ returns-then-not-parties_fit c = stop_not _ _ _ _ c.parties_fit.ensures c.if-not
 
 pub returns-in-Bad : goal.returns-in-Bad
 unfolding params_test
-returns-in-Bad c = go_on _ _ _ _ _ c.parties_fit.ensures c.if-not-parties_fit.false (stop_first _ _ _ _ c.own_test-own.ensures c.in-Bad.is)
+returns-in-Bad c = go_on _ _ _ _ _ c.parties_fit.ensures c.if-not-parties_fit.false-raw (stop_first _ _ _ _ c.own_test-own.ensures c.in-Bad.is)
 
 pub returns : goal.returns
 unfolding params_test
-returns c = go_on _ _ _ _ _ c.parties_fit.ensures c.if-not-parties_fit.false (go_second _ _ _ _ c.own_test-own.ensures c.in_default.is c.code_test.ensures)
+returns c = go_on _ _ _ _ _ c.parties_fit.ensures c.if-not-parties_fit.false-raw (go_second _ _ _ _ c.own_test-own.ensures c.in_default.is c.code_test.ensures)

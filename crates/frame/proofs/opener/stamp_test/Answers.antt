@@ -13,8 +13,8 @@ returns-then-not-parts_agree c = rw (← c.parts_agree.ensures, not-true c.parts
 
 pub returns-then-s-gt-LAST_CLIENT : goal.returns-then-s-gt-LAST_CLIENT
 unfolding stamp_test pick
-returns-then-s-gt-LAST_CLIENT c = rw (← c.parts_agree.ensures, not-false c.parts_agree.result c.if-not-parts_agree.false, lt-ltb _ _ c.if-s-gt-LAST_CLIENT.true)
+returns-then-s-gt-LAST_CLIENT c = rw (← c.parts_agree.ensures, not-false c.parts_agree.result c.if-not-parts_agree.false-raw, lt-ltb _ _ c.if-s-gt-LAST_CLIENT.true)
 
 pub returns : goal.returns
 unfolding stamp_test pick
-returns c = rw (← c.parts_agree.ensures, not-false c.parts_agree.result c.if-not-parts_agree.false, le-ltb _ _ c.if-s-gt-LAST_CLIENT.false)
+returns c = rw (← c.parts_agree.ensures, not-false c.parts_agree.result c.if-not-parts_agree.false-raw, le-ltb _ _ c.if-s-gt-LAST_CLIENT.false)

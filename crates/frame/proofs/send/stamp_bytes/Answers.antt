@@ -7,7 +7,7 @@ use native.Mathlib.Omega.{arith}
 use Rattle.frame.proofs.send.stamp_bytes.Goals as goal
 
 pub write4-requires : goal.write4-requires
-write4-requires c = let h : length c.write8.new.0 ≡ 13 = ap length c.write8.ensures ∙ simp length-sets in omega (arith, h, length-set c.write8.new.0 8 c.args.s.writer)
+write4-requires c = let h : length c.write8.new.area ≡ 13 = ap length c.write8.ensures ∙ simp length-sets in omega (arith, h, length-set c.write8.new.area 8 c.args.s.writer)
 
 pub returns : goal.returns
 unfolding stamp_bytes bytes8 bytes4 bytes2

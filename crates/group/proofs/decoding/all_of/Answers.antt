@@ -33,7 +33,7 @@ loop-j-smaller c = omega arith
 pub loop-j-preserved : goal.loop-j-preserved
 loop-j-preserved c =
     let p = c.requires in (
-      left_turn _ _ _ p.0.bounded p.1 _ _ p.0.whole _ _ c.loop-j-test.true (in_order_lem _ _ _ p.0.bounded p.1 _ _ p.0.whole _ (c.loop-j.j + 1) _ c.block_at-own.ensures c.is_block.ensures) c.if-not-is_block.false
+      left_turn _ _ _ p.0.bounded p.1 _ _ p.0.whole _ _ c.loop-j-test.true (in_order_lem _ _ _ p.0.bounded p.1 _ _ p.0.whole _ (c.loop-j.j + 1) _ c.block_at-own.ensures c.is_block.ensures) c.if-not-is_block.false-raw
           c.loop-j.invariant.0,
       omega arith,
     )

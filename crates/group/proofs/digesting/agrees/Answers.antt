@@ -34,7 +34,7 @@ pub loop-j-preserved : goal.loop-j-preserved
 loop-j-preserved c =
     let p = c.requires in (
       compare_turn _ _ _ p.0.bounded p.1 _ _ p.0.whole _ p.2 _ _ c.loop-j-test.true
-          (step_is _ _ _ p.0.bounded p.1 _ _ p.0.whole _ p.2 c.loop-j.j _ _ c.block_at-own.ensures c.agrees_at.ensures) c.if-not-agrees_at.false c.loop-j.invariant.0,
+          (step_is _ _ _ p.0.bounded p.1 _ _ p.0.whole _ p.2 c.loop-j.j _ _ c.block_at-own.ensures c.agrees_at.ensures) c.if-not-agrees_at.false-raw c.loop-j.invariant.0,
       omega arith,
     )
 

@@ -33,7 +33,7 @@ returns-then-not-block_fits c =
 pub returns-then-not-mark : goal.returns-then-not-mark
 returns-then-not-mark c =
     let f = buffer_front _ _ _ _ _ _ c.requires.0 c.requires.2 c.block_length-b.ensures refl c.encode_block.ensures in
-    fit_unflagged c.args.mark c.args.own.now _ _ c.args.list.now c.args.j _ f c.block_fits.ensures c.if-not-block_fits.false c.if-not-mark.true-raw
+    fit_unflagged c.args.mark c.args.own.now _ _ c.args.list.now c.args.j _ f c.block_fits.ensures c.if-not-block_fits.false-raw c.if-not-mark.true-raw
 
 pub slice_bounds-block-end-2 : goal.slice_bounds-block-end-2
 slice_bounds-block-end-2 c = buffer_room _ _ _ _ _ _ c.requires.0 c.requires.2 c.block_length-b.ensures refl c.encode_block.ensures
@@ -44,4 +44,4 @@ slice_bounds-equal-end c = buffer_length _ _ _ _ _ _ c.requires.0 c.requires.2 c
 pub returns : goal.returns
 returns c =
     let f = buffer_front _ _ _ _ _ _ c.requires.0 c.requires.2 c.block_length-b.ensures refl c.encode_block.ensures in
-    fit_flagged c.args.mark c.args.own.now _ _ c.args.list.now c.args.j _ f c.block_fits.ensures _ c.if-not-block_fits.false c.if-not-mark.false c.equal.ensures
+    fit_flagged c.args.mark c.args.own.now _ _ c.args.list.now c.args.j _ f c.block_fits.ensures _ c.if-not-block_fits.false-raw c.if-not-mark.false-raw c.equal.ensures

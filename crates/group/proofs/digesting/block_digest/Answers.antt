@@ -15,12 +15,12 @@ encode_block-requires c =
 pub slice_bounds-block-end : goal.slice_bounds-block-end
 slice_bounds-block-end c =
     let h = short_block _ _ c.requires.0 c.requires.2 in
-    omega (arith, h, c.block_length-b.ensures, c.encode_block.auto.1.1.1.0)
+    omega (arith, h, c.block_length-b.ensures, c.encode_block.auto.out)
 
 pub slice_bounds-digest-end : goal.slice_bounds-digest-end
 slice_bounds-digest-end c =
     let h = short_block _ _ c.requires.0 c.requires.2 in
-    let n : c.block_length-b.result ≤ length c.encode_block.new.1.1.1.0 = omega (arith, h, c.block_length-b.ensures, c.encode_block.auto.1.1.1.0) in
+    let n : c.block_length-b.result ≤ length c.encode_block.new.out = omega (arith, h, c.block_length-b.ensures, c.encode_block.auto.out) in
     sym (length-take-le _ _ n)
 
 pub digest-requires : goal.digest-requires

@@ -6,4 +6,4 @@ pub returns-then-not-block_fits : goal.returns-then-not-block_fits
 returns-then-not-block_fits c = fit_bad _ _ _ _ c.block_fits.ensures c.if-not-block_fits.true-raw
 
 pub returns : goal.returns
-returns c = fit_fine _ _ _ _ c.block_fits.ensures c.if-not-block_fits.false
+returns c = fit_fine _ _ _ _ c.block_fits.ensures c.if-not-block_fits.false-raw

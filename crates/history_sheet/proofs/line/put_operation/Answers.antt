@@ -5,7 +5,7 @@ use Rattle.history_sheet.proofs.Lines.{operation_put}
 use Rattle.history_sheet.proofs.line.put_operation.Goals as goal
 
 pub shape_of-out : goal.shape_of-out
-shape_of-out c = simp length-set (c.fill.auto.0 ∙ c.put_stamp.auto.0 ∙ c.put_interval.auto.0)
+shape_of-out c = simp length-set (c.fill.auto.area ∙ c.put_stamp.auto.out ∙ c.put_interval.auto.out)
 
 pub returns : goal.returns
 returns c =

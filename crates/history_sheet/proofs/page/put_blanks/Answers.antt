@@ -15,7 +15,7 @@ pub loop-j-preserved : goal.loop-j-preserved
 loop-j-preserved c =
     let l = c.loop-j in
     let a = c.args in
-    (search rules, c.put_blank.auto.0 ∙ l.invariant.1, turn (λ i. ended (filled [])) 73 0 l.j a.out.now l.out _ a.at (λ k p q. length_blank) l.invariant.2 c.put_blank.ensures)
+    (search rules, c.put_blank.auto.out ∙ l.invariant.1, turn (λ i. ended (filled [])) 73 0 l.j a.out.now l.out _ a.at (λ k p q. length_blank) l.invariant.2 c.put_blank.ensures)
 
 pub shape_of-out : goal.shape_of-out
 shape_of-out c = c.loop-j.invariant.1

@@ -59,7 +59,7 @@ loop-j-preserved c =
     let a = c.args in
     let N = c.requires.1 in (
       search rules,
-      c.put_operation.auto.0 ∙ l.invariant.1,
+      c.put_operation.auto.out ∙ l.invariant.1,
       turn (λ i. ended (operation_line (i + 1) (named a.t3 a.t4 i))) 73 a.first l.j a.out.now l.out _ a.at (λ k p q. named_line a.t3 a.t4 _ N k (omega arith)) l.invariant.2 c.put_operation.ensures,
     )
 

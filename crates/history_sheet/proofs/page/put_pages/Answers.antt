@@ -21,7 +21,7 @@ loop-p-preserved c =
     let row = named_all a.rows a.lines a.m in
     let two = c.requires.2 in (
       search rules,
-      c.put_page.auto.0 ∙ l.invariant.1,
+      c.put_page.auto.out ∙ l.invariant.1,
       turn_front (page_of row) page_size l.p a.out.now l.out _ (λ k x. length_page row (named_fits a.rows a.lines a.m c.requires.1) k (omega arith)) l.invariant.2 c.put_page.ensures,
     )
 

@@ -21,7 +21,7 @@ pub returns-then-not-carries_time : goal.returns-then-not-carries_time
 returns-then-not-carries_time c = time_none _ _ _ _ c.bounds_test-bounds.ensures c.in_default.is _ c.open_frame-opened.ensures _ c.in-Frame.is c.if-time-lt-TIME_BYTES.false (sym c.carries_time.ensures ∙ not-true _ c.if-not-carries_time.true-raw)
 
 pub read8-t-requires : goal.read8-t-requires
-read8-t-requires c = time_long _ _ _ (sym c.open_frame-opened.ensures ∙ c.in-Frame.is) (sym c.carries_time.ensures ∙ not-false _ c.if-not-carries_time.false)
+read8-t-requires c = time_long _ _ _ (sym c.open_frame-opened.ensures ∙ c.in-Frame.is) (sym c.carries_time.ensures ∙ not-false _ c.if-not-carries_time.false-raw)
 
 pub returns : goal.returns
-returns c = time_done _ _ _ _ c.bounds_test-bounds.ensures c.in_default.is _ c.open_frame-opened.ensures _ c.in-Frame.is _ _ c.if-time-lt-TIME_BYTES.false (sym c.carries_time.ensures ∙ not-false _ c.if-not-carries_time.false) c.read8-t.ensures c.write8.ensures
+returns c = time_done _ _ _ _ c.bounds_test-bounds.ensures c.in_default.is _ c.open_frame-opened.ensures _ c.in-Frame.is _ _ c.if-time-lt-TIME_BYTES.false (sym c.carries_time.ensures ∙ not-false _ c.if-not-carries_time.false-raw) c.read8-t.ensures c.write8.ensures

@@ -25,9 +25,9 @@ loop-found-init c =
       refl,
       refl,
       refl,
-      bytes_of k.new.1.1.1.1.1.0 (λ i. let f = z.given i in omega arith),
+      bytes_of k.new.state (λ i. let f = z.given i in omega arith),
       fresh_again a.g a.me a.value.now a.area.now a.initial.now a.state.now P.1 (constructs digest_of _ _ _ a.trace.now _ _ _ P.0) _ _ _ _ k.ensures,
-      omega (arith, P.1, k.auto.1.1.1.1.1.0),
+      omega (arith, P.1, k.auto.state),
     )
 
 pub slice_bounds-rest-count : goal.slice_bounds-rest-count
@@ -37,10 +37,10 @@ pub slice_bounds-rest-start : goal.slice_bounds-rest-start
 slice_bounds-rest-start c = let t = c.loop-found.invariant.0 in omega (arith, t.low)
 
 pub shape_of-area-in_default : goal.shape_of-area-in_default
-shape_of-area-in_default c = c.loop-found.invariant.2 ∙ c.fresh.auto.1.1.1.0
+shape_of-area-in_default c = c.loop-found.invariant.2 ∙ c.fresh.auto.area
 
 pub shape_of-state-in_default : goal.shape_of-state-in_default
-shape_of-state-in_default c = c.loop-found.invariant.3 ∙ c.fresh.auto.1.1.1.1.1.0
+shape_of-state-in_default c = c.loop-found.invariant.3 ∙ c.fresh.auto.state
 
 pub shape_of-out-in_default : goal.shape_of-out-in_default
 shape_of-out-in_default c = c.loop-found.invariant.4
@@ -129,11 +129,11 @@ loop-found-preserved c =
     let q = step_outcome _ _ _ _ _ _ l.state _ _ l.invariant.7 l.invariant.5 b _ _ _ _ _ d.ensures in (
       turn_next _ _ _ _ _ _ _ _ l.area l.out l.at l.used l.invariant.0 _ c.read_entry-reading.ensures _ c.in-Entry.is _ _ _ _ _ _ S.0 S.1 q
           _ _ p.ensures.0 p.ensures.1,
-      d.auto.1.1.1.1.1.1.1.1.0 ∙ l.invariant.1,
-      d.auto.1.1.1.1.0 ∙ l.invariant.2,
-      d.auto.1.1.1.1.1.1.0 ∙ l.invariant.3,
-      p.auto.1.1.0 ∙ same_len_mid (l.used + 3) (length l.out - (l.used + 3)) l.out d.new.1.1.1.1.1.1.1.0 d.auto.1.1.1.1.1.1.1.0 ∙ l.invariant.4,
-      bytes_of d.new.1.1.1.1.1.1.0 (λ i. let f = z.given i in omega arith),
+      d.auto.to ∙ l.invariant.1,
+      d.auto.area ∙ l.invariant.2,
+      d.auto.state ∙ l.invariant.3,
+      p.auto.out ∙ same_len_mid (l.used + 3) (length l.out - (l.used + 3)) l.out d.new.out d.auto.out ∙ l.invariant.4,
+      bytes_of d.new.state (λ i. let f = z.given i in omega arith),
       step_stored _ _ _ _ _ _ l.state _ _ l.invariant.7 l.invariant.5 b _ _ _ _ _ d.ensures _ l.invariant.6,
-      omega (arith, l.invariant.7, d.auto.1.1.1.1.1.1.0),
+      omega (arith, l.invariant.7, d.auto.state),
     )

@@ -14,13 +14,13 @@ spread-end-requires c =
     sent_asks (reply_response a.a) a.out.now a.to.now a.at _ c.reply_count-m.ensures P.0 P.1 P.2 P.4
 
 pub bounds-out-at : goal.bounds-out-at
-bounds-out-at c = omega (arith, c.spread-end.auto.0, c.requires.0)
+bounds-out-at c = omega (arith, c.spread-end.auto.out, c.requires.0)
 
 pub write2-requires : goal.write2-requires
-write2-requires c = rw length-set (omega (arith, c.spread-end.auto.0, c.requires.0))
+write2-requires c = rw length-set (omega (arith, c.spread-end.auto.out, c.requires.0))
 
 pub shape_of-out : goal.shape_of-out
-shape_of-out c = c.write2.auto.0 ∙ length-set {A = ℕ} c.spread-end.new.0 _ _ ∙ c.spread-end.auto.0
+shape_of-out c = c.write2.auto.area ∙ length-set {A = ℕ} c.spread-end.new.out _ _ ∙ c.spread-end.auto.out
 
 pub returns : goal.returns
 returns c =

@@ -57,8 +57,8 @@ loop-found-preserved c =
     let l = c.loop-found in
     let d = c.deliver in (
       going_next _ _ _ _ _ _ l.at l.invariant.0 _ c.read_entry-reading.ensures _ c.in-Entry.is _ _ _ _ _ d.ensures,
-      d.auto.1.1.1.1.0 ∙ l.invariant.1,
-      d.auto.1.1.1.1.1.1.0 ∙ l.invariant.2,
-      d.auto.1.1.1.1.1.1.1.0 ∙ l.invariant.3,
-      d.auto.1.1.1.1.1.1.1.1.0 ∙ l.invariant.4,
+      d.auto.area ∙ l.invariant.1,
+      d.auto.state ∙ l.invariant.2,
+      d.auto.out ∙ l.invariant.3,
+      d.auto.to ∙ l.invariant.4,
     )

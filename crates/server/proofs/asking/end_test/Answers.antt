@@ -10,4 +10,4 @@ returns-then-not-from_owner c = rw (sym c.from_owner.ensures ∙ not-true _ c.if
 
 pub returns : goal.returns
 unfolding pick
-returns c = rw (sym c.from_owner.ensures ∙ not-false _ c.if-not-from_owner.false) c.done_test.ensures
+returns c = rw (sym c.from_owner.ensures ∙ not-false _ c.if-not-from_owner.false-raw) c.done_test.ensures

@@ -31,5 +31,5 @@ unfolding message_test sender_right order_test
 returns c =
     let a = c.args in
     λ w e z. step_is J.Fine _ w z z _ _ _ _ _ a.h.client a.s c.send_stamp-place.result _
-    (go_on _ _ R.Sender J.Fine J.Fine c.from_owner.ensures c.if-not-from_owner.false refl) refl
+    (go_on _ _ R.Sender J.Fine J.Fine c.from_owner.ensures c.if-not-from_owner.false-raw refl) refl
     (only-sent w _ z _ _ _ (as_it_was w a.h.client a.s e) (c.send_stamp-place.ensures ∙ ap (λ (u : Scope). sent (outbox a.out.now a.to.now first_place) (sending (P.Client a.h.client) (message a.h.client a.h.sequence (stamp_is u.stamp.time)) ∷ [])) e)) c.taken.ensures.0 c.taken.ensures.1

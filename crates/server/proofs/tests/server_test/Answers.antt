@@ -12,12 +12,12 @@ returns-then-not-from_server c = rw (sym c.from_server.ensures ∙ not-true _ c.
 pub bounds-on-j : goal.bounds-on-j
 bounds-on-j c =
     let a = c.args in
-    let e = sym c.from_server.ensures ∙ not-false _ c.if-not-from_server.false in
+    let e = sym c.from_server.ensures ∙ not-false _ c.if-not-from_server.false-raw in
     let h = server_number a.g a.from e in
     omega (arith, h.1, c.number_in-j.ensures, c.requires.servers_high)
 
 pub returns : goal.returns
 unfolding pick
 returns c =
-    let e = sym c.from_server.ensures ∙ not-false _ c.if-not-from_server.false in
+    let e = sym c.from_server.ensures ∙ not-false _ c.if-not-from_server.false-raw in
     rw (e, ← c.number_in-j.ensures) c.open_test.ensures

@@ -20,7 +20,7 @@ pub slice_bounds-value-end-2 : goal.slice_bounds-value-end-2
 slice_bounds-value-end-2 c =
     let h = c.requires.0.stored.bounded.size_high in
     let d = c.regain in
-    omega (arith, length_front (zeros 256) d.new.1.1.1.1.0 c.args.k.params.size d.auto.1.1.1.1.0, h)
+    omega (arith, length_front (zeros 256) d.new.value c.args.k.params.size d.auto.value, h)
 
 pub slice_bounds-encode_block-end : goal.slice_bounds-encode_block-end
 slice_bounds-encode_block-end c =
@@ -28,7 +28,7 @@ slice_bounds-encode_block-end c =
     let h = P.0.stored.bounded.size_high in
     let d = c.regain in
     let x = c.chosen_group-c.ensures in
-    let f = front_back (zeros 256) d.new.1.1.1.1.0 _ h d.auto.1.1.1.1.0 ∙ d.ensures in
+    let f = front_back (zeros 256) d.new.value _ h d.auto.value ∙ d.ensures in
     sym (value_length _ _ _ _ P.0 _ x _ _ (record { powers = c.powers-ps.ensures; logs = c.logs-ls.ensures }) _ f)
 
 pub encode_block-requires : goal.encode_block-requires
@@ -37,14 +37,14 @@ encode_block-requires c =
     let h = P.0.stored.bounded.size_high in
     let d = c.regain in
     let x = c.chosen_group-c.ensures in
-    let f = front_back (zeros 256) d.new.1.1.1.1.0 _ h d.auto.1.1.1.1.0 ∙ d.ensures in
+    let f = front_back (zeros 256) d.new.value _ h d.auto.value ∙ d.ensures in
     encode_own _ _ _ _ P.0 _ x _ _ (record { powers = c.powers-ps.ensures; logs = c.logs-ls.ensures }) _ f _ P.2
 
 pub slice_bounds-value-end-3 : goal.slice_bounds-value-end-3
 slice_bounds-value-end-3 c =
     let h = c.requires.0.stored.bounded.size_high in
     let d = c.regain in
-    omega (arith, length_front (zeros 256) d.new.1.1.1.1.0 c.args.k.params.size d.auto.1.1.1.1.0, h)
+    omega (arith, length_front (zeros 256) d.new.value c.args.k.params.size d.auto.value, h)
 
 pub slice_bounds-agrees-end : goal.slice_bounds-agrees-end
 slice_bounds-agrees-end c =
@@ -52,7 +52,7 @@ slice_bounds-agrees-end c =
     let h = P.0.stored.bounded.size_high in
     let d = c.regain in
     let x = c.chosen_group-c.ensures in
-    let f = front_back (zeros 256) d.new.1.1.1.1.0 _ h d.auto.1.1.1.1.0 ∙ d.ensures in
+    let f = front_back (zeros 256) d.new.value _ h d.auto.value ∙ d.ensures in
     sym (value_length _ _ _ _ P.0 _ x _ _ (record { powers = c.powers-ps.ensures; logs = c.logs-ls.ensures }) _ f)
 
 pub agrees-requires : goal.agrees-requires
@@ -61,7 +61,7 @@ agrees-requires c =
     let h = P.0.stored.bounded.size_high in
     let d = c.regain in
     let x = c.chosen_group-c.ensures in
-    let f = front_back (zeros 256) d.new.1.1.1.1.0 _ h d.auto.1.1.1.1.0 ∙ d.ensures in
+    let f = front_back (zeros 256) d.new.value _ h d.auto.value ∙ d.ensures in
     encode_all _ _ _ _ P.0 _ x _ _ (record { powers = c.powers-ps.ensures; logs = c.logs-ls.ensures }) _ f _ P.1
 
 pub returns : goal.returns
@@ -70,5 +70,5 @@ returns c =
     let h = P.0.stored.bounded.size_high in
     let d = c.regain in
     let x = c.chosen_group-c.ensures in
-    let f = front_back (zeros 256) d.new.1.1.1.1.0 _ h d.auto.1.1.1.1.0 ∙ d.ensures in
+    let f = front_back (zeros 256) d.new.value _ h d.auto.value ∙ d.ensures in
     own_block _ _ _ _ P.0 _ x _ _ (record { powers = c.powers-ps.ensures; logs = c.logs-ls.ensures }) _ f digest_of _ _ _ _ _ c.agrees.ensures c.encode_block.ensures

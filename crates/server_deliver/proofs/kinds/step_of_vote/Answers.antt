@@ -29,23 +29,23 @@ put_scope-requires c = let P = c.requires in (P.1, P.0.lent.client_high)
 
 -- src/kinds.rt:205:9
 pub settle-last-requires : goal.settle-last-requires
-settle-last-requires c = let a = c.args in let P = c.requires in first_rounds (freed_frames a.k.params) a.k.params _ _ _ _ _ (omega arith) P.0.lent.bounded (omega (arith, P.1, c.put_scope.auto.1.1.0)) (omega (arith, P.0.lent.whole, c.count_vote-n.auto.1.1.1.0)) c.count_vote-n.ensures.room
+settle-last-requires c = let a = c.args in let P = c.requires in first_rounds (freed_frames a.k.params) a.k.params _ _ _ _ _ (omega arith) P.0.lent.bounded (omega (arith, P.1, c.put_scope.auto.out)) (omega (arith, P.0.lent.whole, c.count_vote-n.auto.area)) c.count_vote-n.ensures.room
 
 -- src/kinds.rt:179:1
 pub shape_of-area : goal.shape_of-area
-shape_of-area c = c.settle-last.auto.1.1.1.0 ∙ c.count_vote-n.auto.1.1.1.0
+shape_of-area c = c.settle-last.auto.area ∙ c.count_vote-n.auto.area
 
 -- src/kinds.rt:179:1
 pub shape_of-state : goal.shape_of-state
-shape_of-state c = c.settle-last.auto.1.1.0 ∙ c.put_scope.auto.1.1.0
+shape_of-state c = c.settle-last.auto.state ∙ c.put_scope.auto.out
 
 -- src/kinds.rt:179:1
 pub shape_of-out : goal.shape_of-out
-shape_of-out c = c.settle-last.auto.1.1.1.1.0 ∙ c.count_vote-n.auto.1.1.1.1.0
+shape_of-out c = c.settle-last.auto.out ∙ c.count_vote-n.auto.out
 
 -- src/kinds.rt:179:1
 pub shape_of-to : goal.shape_of-to
-shape_of-to c = c.settle-last.auto.1.1.1.1.1.0 ∙ c.count_vote-n.auto.1.1.1.1.1.0
+shape_of-to c = c.settle-last.auto.to ∙ c.count_vote-n.auto.to
 
 -- src/kinds.rt:179:1
 pub returns : goal.returns

@@ -9,4 +9,4 @@ returns-then-not-complete_at c = let a = c.args in may_not a.g _ a.c (sym c.comp
 
 -- src/rounds.rt:28:1
 pub returns : goal.returns
-returns c = let a = c.args in may_is a.g _ a.c _ _ _ _ _ (sym c.complete_at.ensures ∙ not-false _ c.if-not-complete_at.false) c.time_at-time.ensures c.sequence_at-sequence.ensures c.own_time-own.ensures c.reports_at-reports.ensures c.is_ripe.ensures
+returns c = let a = c.args in may_is a.g _ a.c _ _ _ _ _ (sym c.complete_at.ensures ∙ not-false _ c.if-not-complete_at.false-raw) c.time_at-time.ensures c.sequence_at-sequence.ensures c.own_time-own.ensures c.reports_at-reports.ensures c.is_ripe.ensures

@@ -1,5 +1,6 @@
 use Prim.Native.Nat.{◌+◌}
 use mathlib.Core.Path.{◌≡◌, ap, ◌∙◌}
+use mathlib.Core.List.{[]}
 use lib.ListN.{length}
 use Rattle.area.proofs.Numbers.{length_bytes8}
 use Rattle.frame.proofs.Writing.{report_frame, length_written, room_first, room_left, room_of, sent_report}

@@ -11,7 +11,7 @@ use Rattle.frame.specs.Messages.{message, sending, stamp_is}
 use Rattle.frame.specs.Outbox.{outbox, sent, first_place}
 use Rattle.server_rules.specs.declared.Scope.{Scope}
 use Rattle.server.proofs.Scopes.{as_it_was}
-use mathlib.Core.List.{◌∷◌}
+use mathlib.Core.List.{◌∷◌, []}
 use mathlib.Core.Path.{refl, ap, ◌∙◌}
 use native.Mathlib.Omega.{arith}
 use Rattle.server.proofs.asking.on_get_stamp.Goals as goal

@@ -12,7 +12,7 @@ use Rattle.frame.specs.declared.Verdict.TheVariants as J
 use Rattle.frame.specs.Messages.{message, sending, value_is}
 use Rattle.frame.specs.Outbox.{outbox, sent, first_place}
 use mathlib.Core.Bool.{true}
-use mathlib.Core.List.{◌∷◌}
+use mathlib.Core.List.{◌∷◌, []}
 use mathlib.Core.Path.{ap, ◌∙◌}
 use Rattle.server.proofs.asking.on_read.Goals as goal
 

@@ -166,7 +166,7 @@ module _ {K A S : Type 0} (Z : Stamps A S) (W : Views K A S) (n t : ℕ) (faulty
     value_from_lem [] a c j v i g u = absurd (E.no_kept_value c j v u)
     value_from_lem (k ∷ ks) a c j v i g u =
         let w = a.0.value_kept c j v i g u in
-        rw w.0 (a.0.Value-stays j c (reads ks c) v (⊎_elim (value_from_lem ks a.1 c j v i g) (λ z. z) w.1))
+        rw w.0 (a.0.value_stays j c (reads ks c) v (⊎_elim (value_from_lem ks a.1 c j v i g) (λ z. z) w.1))
 
     -- ---- what n - t servers, if honest, sent when an operation ended or a time went out
 
@@ -179,7 +179,7 @@ module _ {K A S : Type 0} (Z : Stamps A S) (W : Views K A S) (n t : ℕ) (faulty
 
     pub read_why : (ks : List K) → Run ks → (c q : ℕ) (v : S) → ReadEnded ks c q v → Quorum (λ j. SentValue ks j c q v)
     read_why [] a c q v u = absurd (E.no_read_ended c q v u)
-    read_why (k ∷ ks) a c q v u = at_least_map (λ j i f g. a.0.Value-stays j c q v (f g)) (⊎_elim
+    read_why (k ∷ ks) a c q v u = at_least_map (λ j i f g. a.0.value_stays j c q v (f g)) (⊎_elim
         (λ o. read_why ks a.1 c q v o)
         (λ w. rw w.0 (at_least_map (λ j i f g. ⊎_elim (value_from_lem ks a.1 c j v i g) (λ z. z) (f g)) w.1))
         (a.0.read_ended_new c q v u))

@@ -8,7 +8,7 @@ use Rattle.area.specs.Area.{pick}
 use Rattle.blocks.specs.declared.Params.{Params}
 use Rattle.frame.specs.declared.Party.{Party}
 use Rattle.frame.specs.declared.Party.TheVariants as P
-use Rattle.frame.specs.Messages.{Body, block_is, message, Sending, sending, to_from, to_all, number_in}
+use Rattle.frame.specs.Messages.{get_stamp, ack, ask_read, read_complete, stamp_is, value_is, report, Body, block_is, message, Sending, sending, to_from, to_all, number_in}
 use Rattle.server_rules.specs.declared.Server.{Server}
 use Rattle.server_rules.specs.State.{slot_of}
 use Rattle.server_rules.specs.Steps as S
@@ -29,7 +29,14 @@ abbrev Plain : Body → Type 0
 Plain b = (n j : ℕ) → place_in n (P.Server j) b ≡ j
 
 cast_plain : (b : Body) → IsCast b → Plain b
+cast_plain get_stamp h n j = elim h [ ]
+cast_plain ack h n j = elim h [ ]
+cast_plain ask_read h n j = elim h [ ]
+cast_plain read_complete h n j = elim h [ ]
+cast_plain (stamp_is x) h n j = elim h [ ]
 cast_plain (block_is z o) h n j = refl
+cast_plain (value_is x e) h n j = elim h [ ]
+cast_plain (report t) h n j = elim h [ ]
 
 -- what goes to servers j to j + m - 1
 to_rising : (n : ℕ) (c q : ℕ) (b : Body) → Plain b → (j m k : ℕ) → k ≤ j → Rising n k (to_from (λ i. message c q b) j m)

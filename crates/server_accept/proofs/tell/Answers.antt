@@ -20,7 +20,7 @@ loop-c-preserved c =
     let a = c.args in
     let h = c.loop-c-test.true in
     let f = c.tell_one-q.ensures in (
-      tell_turn a.t1 a.x (entry a.digests.now a.block.now) c.loop-c.c _ _ _ _ h refl f c.loop-c.invariant.0,
+      tell_turn a.readers a.x (entry a.digests.now a.block.now) c.loop-c.c _ _ _ _ h refl f c.loop-c.invariant.0,
       omega arith,
       omega arith,
       room_told _ a.x (entry a.digests.now a.block.now) c.loop-c.c c.loop-c.q _ _ _ _ _ h f c.loop-c.invariant.3,
@@ -32,4 +32,4 @@ pub returns : goal.returns
 returns c =
     let a = c.args in
     let e : c.loop-c.c ≡ 9 = omega arith in
-    tell_end a.t1 a.x (entry a.digests.now a.block.now) c.loop-c.c _ _ e c.loop-c.invariant.0
+    tell_end a.readers a.x (entry a.digests.now a.block.now) c.loop-c.c _ _ e c.loop-c.invariant.0

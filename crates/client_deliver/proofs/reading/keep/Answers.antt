@@ -6,7 +6,7 @@ use Rattle.client_deliver.proofs.reading.keep.Goals as goal
 pub returns-in_default : goal.returns-in_default
 returns-in_default c =
     let a = c.args in
-    not_kept a.k.params a.k.me a.t1 a.area.now _ _ _ a.j a.x _ _ c.place_for-spot.ensures _ c.in_default.is c.settle.ensures
+    not_kept a.k.params a.k.me a.s a.area.now _ _ _ a.j a.x _ _ c.place_for-spot.ensures _ c.in_default.is c.settle.ensures
 
 pub overflow_add-j : goal.overflow_add-j
 overflow_add-j c =
@@ -29,4 +29,4 @@ settle-requires-2 c =
 pub returns : goal.returns
 returns c =
     let a = c.args in
-    value_kept a.k.params a.k.me a.t1 a.area.now _ _ _ a.j a.x _ _ c.place_for-spot.ensures _ _ _ _ _ c.in-At.is c.row_with-kept.ensures c.with_row-client.ensures c.keep_entry.ensures c.settle-2.ensures
+    value_kept a.k.params a.k.me a.s a.area.now _ _ _ a.j a.x _ _ c.place_for-spot.ensures _ _ _ _ _ c.in-At.is c.row_with-kept.ensures c.with_row-client.ensures c.keep_entry.ensures c.settle-2.ensures

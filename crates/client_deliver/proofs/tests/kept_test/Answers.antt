@@ -6,9 +6,9 @@ use Rattle.client_deliver.proofs.tests.kept_test.Goals as goal
 pub returns-in-Bad : goal.returns-in-Bad
 returns-in-Bad c =
     let a = c.args in
-    stop_first _ _ _ _ (awaited_new _ _ _ a.q a.t1.reads _ _ _ _ a.x c.awaited_test-order.ensures c.is_reading.ensures c.has_stamp-again.ensures c.used_places.ensures.0) c.in-Bad.is
+    stop_first _ _ _ _ (awaited_new _ _ _ a.q a.s.reads _ _ _ _ a.x c.awaited_test-order.ensures c.is_reading.ensures c.has_stamp-again.ensures c.used_places.ensures.0) c.in-Bad.is
 
 pub returns : goal.returns
 returns c =
     let a = c.args in
-    go_second _ _ _ _ (awaited_new _ _ _ a.q a.t1.reads _ _ _ _ a.x c.awaited_test-order.ensures c.is_reading.ensures c.has_stamp-again.ensures c.used_places.ensures.0) c.in_default.is c.entry_fit.ensures
+    go_second _ _ _ _ (awaited_new _ _ _ a.q a.s.reads _ _ _ _ a.x c.awaited_test-order.ensures c.is_reading.ensures c.has_stamp-again.ensures c.used_places.ensures.0) c.in_default.is c.entry_fit.ensures

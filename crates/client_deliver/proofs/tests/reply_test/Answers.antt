@@ -17,4 +17,4 @@ pub returns : goal.returns
 returns c =
     let a = c.args in
     go_on _ _ _ _ _ c.sender_right.ensures c.if-not-sender_right.false-raw
-    (awaited_at _ a.fit a.h.sequence a.last _ _ a.t7 c.awaited_test.ensures c.number_in-j.ensures)
+    (awaited_at _ a.fit a.h.sequence a.last _ _ a.heard c.awaited_test.ensures c.number_in-j.ensures)

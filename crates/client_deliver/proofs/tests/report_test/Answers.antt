@@ -16,9 +16,9 @@ bounds-reports-j c =
 pub returns-then-time-reports : goal.returns-then-time-reports
 returns-then-time-reports c =
     let a = c.args in
-    go_on _ _ _ _ _ c.from_server.ensures c.if-not-from_server.false-raw (report_old a.t4 _ _ a.time c.number_in-j.ensures c.if-time-reports.true)
+    go_on _ _ _ _ _ c.from_server.ensures c.if-not-from_server.false-raw (report_old a.reports _ _ a.time c.number_in-j.ensures c.if-time-reports.true)
 
 pub returns : goal.returns
 returns c =
     let a = c.args in
-    go_on _ _ _ _ _ c.from_server.ensures c.if-not-from_server.false-raw (report_new a.t4 _ _ a.time c.number_in-j.ensures c.if-time-reports.false)
+    go_on _ _ _ _ _ c.from_server.ensures c.if-not-from_server.false-raw (report_new a.reports _ _ a.time c.number_in-j.ensures c.if-time-reports.false)

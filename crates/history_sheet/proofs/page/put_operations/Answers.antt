@@ -60,7 +60,7 @@ loop-j-preserved c =
     let N = c.requires.1 in (
       search rules,
       c.put_operation.auto.out ∙ l.invariant.1,
-      turn (λ i. ended (operation_line (i + 1) (named a.t3 a.t4 i))) 73 a.first l.j a.out.now l.out _ a.at (λ k p q. named_line a.t3 a.t4 _ N k (omega arith)) l.invariant.2 c.put_operation.ensures,
+      turn (λ i. ended (operation_line (i + 1) (named a.rows a.lines i))) 73 a.first l.j a.out.now l.out _ a.at (λ k p q. named_line a.rows a.lines _ N k (omega arith)) l.invariant.2 c.put_operation.ensures,
     )
 
 pub shape_of-out : goal.shape_of-out
@@ -70,4 +70,4 @@ pub returns : goal.returns
 returns c =
     let l = c.loop-j in
     let a = c.args in
-    all_lines (λ i. ended (operation_line (i + 1) (named a.t3 a.t4 i))) a.first l.j a.count _ _ a.at l.invariant.2 (omega arith)
+    all_lines (λ i. ended (operation_line (i + 1) (named a.rows a.lines i))) a.first l.j a.count _ _ a.at l.invariant.2 (omega arith)

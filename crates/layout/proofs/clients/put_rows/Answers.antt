@@ -27,7 +27,7 @@ loop-j-preserved c =
     let l = c.loop-j in
     let a = c.args in
     let h : a.at + l.j * 60 ≡ a.at + l.j * 60 = refl in
-    let p = put_turn (λ (k : ℕ). kept_bytes (get_or a.t1 k no_row)) 60 a.out.now l.out _ a.at l.j _ (λ k. length_kept (get_or a.t1 k no_row)) h l.invariant.0 c.put_row.ensures in
+    let p = put_turn (λ (k : ℕ). kept_bytes (get_or a.x k no_row)) 60 a.out.now l.out _ a.at l.j _ (λ k. length_kept (get_or a.x k no_row)) h l.invariant.0 c.put_row.ensures in
     (p, omega arith, search rules)
 
 pub returns : goal.returns
@@ -36,4 +36,4 @@ returns c =
     let l = c.loop-j in
     let a = c.args in
     let e : l.j ≡ 11 = omega arith in
-    put_end (λ (k : ℕ). kept_bytes (get_or a.t1 k no_row)) a.out.now l.out a.at l.j 11 e l.invariant.0
+    put_end (λ (k : ℕ). kept_bytes (get_or a.x k no_row)) a.out.now l.out a.at l.j 11 e l.invariant.0

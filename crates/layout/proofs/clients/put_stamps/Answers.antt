@@ -28,7 +28,7 @@ loop-j-preserved c =
     let l = c.loop-j in
     let a = c.args in
     let h : a.at + l.j * 13 ≡ a.at + l.j * 13 = refl in
-    let p = put_turn (λ (k : ℕ). stamp_bytes (get_or a.t1 k zero_stamp)) 13 a.out.now l.out _ a.at l.j _ (λ k. length_stamp (get_or a.t1 k zero_stamp)) h l.invariant.0 c.put_stamp.ensures in
+    let p = put_turn (λ (k : ℕ). stamp_bytes (get_or a.x k zero_stamp)) 13 a.out.now l.out _ a.at l.j _ (λ k. length_stamp (get_or a.x k zero_stamp)) h l.invariant.0 c.put_stamp.ensures in
     (p, omega arith, search rules)
 
 pub returns : goal.returns
@@ -37,4 +37,4 @@ returns c =
     let l = c.loop-j in
     let a = c.args in
     let e : l.j ≡ 4 = omega arith in
-    put_end (λ (k : ℕ). stamp_bytes (get_or a.t1 k zero_stamp)) a.out.now l.out a.at l.j 4 e l.invariant.0
+    put_end (λ (k : ℕ). stamp_bytes (get_or a.x k zero_stamp)) a.out.now l.out a.at l.j 4 e l.invariant.0

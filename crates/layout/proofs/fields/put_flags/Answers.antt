@@ -27,7 +27,7 @@ loop-j-preserved c =
     let l = c.loop-j in
     let a = c.args in
     let h : a.at + l.j ≡ a.at + l.j * 1 = omega arith in
-    let p = put_turn (λ (k : ℕ). flag_byte (get_or a.t1 k false) ∷ []) 1 a.out.now l.out _ a.at l.j _ (λ k. refl) h l.invariant.0 (c.put_byte.ensures ∙ ap (λ z. sets l.out (a.at + l.j) (z ∷ [])) c.flag_byte.ensures) in
+    let p = put_turn (λ (k : ℕ). flag_byte (get_or a.f k false) ∷ []) 1 a.out.now l.out _ a.at l.j _ (λ k. refl) h l.invariant.0 (c.put_byte.ensures ∙ ap (λ z. sets l.out (a.at + l.j) (z ∷ [])) c.flag_byte.ensures) in
     (p, omega arith, search rules)
 
 pub returns : goal.returns
@@ -36,4 +36,4 @@ returns c =
     let l = c.loop-j in
     let a = c.args in
     let e : l.j ≡ 11 = omega arith in
-    put_end (λ (k : ℕ). flag_byte (get_or a.t1 k false) ∷ []) a.out.now l.out a.at l.j 11 e l.invariant.0
+    put_end (λ (k : ℕ). flag_byte (get_or a.f k false) ∷ []) a.out.now l.out a.at l.j 11 e l.invariant.0

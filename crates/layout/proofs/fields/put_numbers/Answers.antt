@@ -26,7 +26,7 @@ loop-j-preserved c =
     let l = c.loop-j in
     let a = c.args in
     let h : a.at + l.j * 8 ≡ a.at + l.j * 8 = refl in
-    let p = put_turn (λ (k : ℕ). bytes8 (get_or a.t1 k 0)) 8 a.out.now l.out _ a.at l.j _ (λ k. length_bytes8 (get_or a.t1 k 0)) h l.invariant.0 c.put_number.ensures in
+    let p = put_turn (λ (k : ℕ). bytes8 (get_or a.x k 0)) 8 a.out.now l.out _ a.at l.j _ (λ k. length_bytes8 (get_or a.x k 0)) h l.invariant.0 c.put_number.ensures in
     (p, omega arith, search rules)
 
 pub returns : goal.returns
@@ -35,4 +35,4 @@ returns c =
     let l = c.loop-j in
     let a = c.args in
     let e : l.j ≡ 11 = omega arith in
-    put_end (λ (k : ℕ). bytes8 (get_or a.t1 k 0)) a.out.now l.out a.at l.j 11 e l.invariant.0
+    put_end (λ (k : ℕ). bytes8 (get_or a.x k 0)) a.out.now l.out a.at l.j 11 e l.invariant.0

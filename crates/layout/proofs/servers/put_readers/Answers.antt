@@ -27,7 +27,7 @@ loop-j-preserved c =
     let l = c.loop-j in
     let a = c.args in
     let h : a.at + l.j * reader_size ≡ a.at + l.j * reader_size = refl in
-    let p = put_turn (λ (k : ℕ). reader_bytes (get_or a.t1 k no_reader)) reader_size a.out.now l.out _ a.at l.j _ (λ k. length_reader (get_or a.t1 k no_reader)) h l.invariant.0 c.put_reader.ensures in
+    let p = put_turn (λ (k : ℕ). reader_bytes (get_or a.x k no_reader)) reader_size a.out.now l.out _ a.at l.j _ (λ k. length_reader (get_or a.x k no_reader)) h l.invariant.0 c.put_reader.ensures in
     (p, omega arith, search rules)
 
 pub returns : goal.returns
@@ -36,4 +36,4 @@ returns c =
     let l = c.loop-j in
     let a = c.args in
     let e : l.j ≡ 9 = omega arith in
-    put_end (λ (k : ℕ). reader_bytes (get_or a.t1 k no_reader)) a.out.now l.out a.at l.j 9 e l.invariant.0
+    put_end (λ (k : ℕ). reader_bytes (get_or a.x k no_reader)) a.out.now l.out a.at l.j 9 e l.invariant.0

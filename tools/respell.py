@@ -39,7 +39,8 @@ def antt_files():
 
 def is_of_function(path):
     """Whether the file is the proof of one function, whose names are mostly made by Rattle."""
-    return os.path.basename(path) in ("Proof.antt", "Answers.antt", "Invariants.antt")
+    folder, name = os.path.split(path)
+    return name in ("Proof.antt", "Answers.antt", "Invariants.antt") and os.path.basename(folder) != "proofs"
 
 
 def snake(word):

@@ -17,9 +17,9 @@ use Rattle.client.specs.Stages.{stepped, answered}
 
 module _ (v u : Verdict) (s : Client) (a : List ℕ) (x : Effect) (l out to : List ℕ) (e : v ≡ u) where
   -- turned down
-  pub refused-is : (r : Refusal) → v ≡ J.Bad r → outcome (record { answer = Y.Refused r; client = s }) a l out to ≡ answered u s a x l out to
+  pub refused_is : (r : Refusal) → v ≡ J.Bad r → outcome (record { answer = Y.Refused r; client = s }) a l out to ≡ answered u s a x l out to
   unfolding answered
-  refused-is r f = ap (λ (z : Verdict). answered z s a x l out to) (sym f ∙ e)
+  refused_is r f = ap (λ (z : Verdict). answered z s a x l out to) (sym f ∙ e)
 
   -- a step
   pub step_is : (o : Outcome) → v ≡ J.Fine → o ≡ stepped x l out to → o ≡ answered u s a x l out to
@@ -27,12 +27,12 @@ module _ (v u : Verdict) (s : Client) (a : List ℕ) (x : Effect) (l out to : Li
   step_is o f h = h ∙ ap (λ (z : Verdict). answered z s a x l out to) (sym f ∙ e)
 
 -- the verdict on a stamp or an ack, of whose phase b is the test's value
-pub verdict-in : (v w : Verdict) (t b phase x : Bool) → v ≡ pick t (awaited (b && x)) w → b ≡ phase → v ≡ pick t (awaited (phase && x)) w
-verdict-in v w t b phase x e p = e ∙ ap (λ z. pick t (awaited (z && x)) w) p
+pub verdict_in : (v w : Verdict) (t b phase x : Bool) → v ≡ pick t (awaited (b && x)) w → b ≡ phase → v ≡ pick t (awaited (phase && x)) w
+verdict_in v w t b phase x e p = e ∙ ap (λ z. pick t (awaited (z && x)) w) p
 
 -- the verdict on a report of time U, which names any client
-pub report-in : (v w : Verdict) (t : Bool) (m U T : ℕ) → v ≡ pick t (awaited (ltb m U)) w → U ≡ T → v ≡ pick (t && true) (awaited (ltb m T)) w
-report-in v w t m U T e p = e ∙ (λ i. pick (same t i) (awaited (ltb m (p i))) w)
+pub report_in : (v w : Verdict) (t : Bool) (m U T : ℕ) → v ≡ pick t (awaited (ltb m U)) w → U ≡ T → v ≡ pick (t && true) (awaited (ltb m T)) w
+report_in v w t m U T e p = e ∙ (λ i. pick (same t i) (awaited (ltb m (p i))) w)
   where
     same : (b : Bool) → b ≡ (b && true)
     same true = refl

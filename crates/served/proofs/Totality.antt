@@ -37,7 +37,7 @@ use Rattle.runs.specs.Blocks.{Collision, of_written, of_decoded}
 use Rattle.runs.specs.Events.{At, Accepts, OpensWrite}
 use Rattle.runs.specs.World.{Setup, Call, to_server, to_client, begin_read, begin_write}
 use Rattle.runs.proofs.Agreement.{small, empty}
-use Rattle.runs.proofs.Answers.{honest-caller}
+use Rattle.runs.proofs.Answers.{honest_caller}
 use Rattle.runs.proofs.Assumed.{Assumed}
 use Rattle.runs.proofs.Broadcasts.{Agreed, server_at, SaidBy, views, lawful_run}
 use Rattle.runs.proofs.Formation.{formed, accepted_in_bounds}
@@ -67,7 +67,7 @@ module _ (Z : Setup) (G : Assumed Z) where
 
   pub sender_honest : (ks : List Call) → Admissible Z ks → (a b : Party) (m : Message) → SentBy Z G ks a b m → Honest Z a
   sender_honest [] adm a b m u = absurd u
-  sender_honest (k ∷ ks) adm a b m (inl (e, u)) = subst (Honest Z) e (honest-caller Z ks k adm.0)
+  sender_honest (k ∷ ks) adm a b m (inl (e, u)) = subst (Honest Z) e (honest_caller Z ks k adm.0)
   sender_honest (k ∷ ks) adm a b m (inr u) = sender_honest ks adm.1 a b m u
 
   pub accepts_honest : (ks : List Call) → Admissible Z ks → (i p : ℕ) (x : S.Write) → At (Accepts Z i x) ks p → Honest Z (A.Server i)

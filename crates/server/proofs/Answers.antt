@@ -35,10 +35,10 @@ use Rattle.frame.proofs.PartyLaws.{server_number}
 use Rattle.server.proofs.Scopes.{as_it_was}
 
 -- turned down
-pub refused-is : (v u : Verdict) (r : Refusal) (w : Server) (c : ℕ) (s : Scope) (a : List ℕ) (x : Effect) (out to : List ℕ) → s ≡ scope_of w c → v ≡ u
+pub refused_is : (v u : Verdict) (r : Refusal) (w : Server) (c : ℕ) (s : Scope) (a : List ℕ) (x : Effect) (out to : List ℕ) → s ≡ scope_of w c → v ≡ u
     → v ≡ J.Bad r → outcome_in w c (record { reply = Y.Refused r; scope = s }) a out to ≡ answered u w a x out to
 unfolding answered
-refused-is v u r w c s a x out to h e f =
+refused_is v u r w c s a x out to h e f =
     ap (λ (z : Server). answered (J.Bad r) z a x out to) (as_it_was w c s h) ∙ ap (λ (z : Verdict). answered z w a x out to) (sym f ∙ e)
 
 -- a step
@@ -58,9 +58,9 @@ step_is v u s a a' x out to out' to' c y p r e f h i j =
     z ∙ ap (λ (w : Verdict). answered w s a x out to) (sym f ∙ e)
 
 -- the open write
-pub open-fine : (x : Slot) (q : ℕ) (again : Bool) → open_test x q again ≡ J.Fine → x.sequence ≡ q
+pub open_fine : (x : Slot) (q : ℕ) (again : Bool) → open_test x q again ≡ J.Fine → x.sequence ≡ q
 unfolding open_test
-open-fine x q again e =
+open_fine x q again e =
     let a = fine_not (ltb q x.sequence) R.Stale _ e in
     let b = fine_not (ltb x.sequence q) R.Ahead _ a.1 in
     omega (arith, ltb-false q x.sequence a.0, ltb-false x.sequence q b.0)
@@ -76,17 +76,17 @@ pub voted : (g : Params) (from : Party) (x : Slot) (q : ℕ) (again : Bool) (v :
 voted g from x q again v e f =
     let a = fine_is (from_server g from) R.Sender (open_test x q again) (sym e ∙ f) in
     let n = server_number g from a.0 in
-    record { low = n.0; high = n.1; at_open = open-fine x q again a.1 }
+    record { low = n.0; high = n.1; at_open = open_fine x q again a.1 }
 
 -- the owner's frame of the open write
 pub owned : (from : Party) (c : ℕ) (x : Slot) (q : ℕ) (again : Bool) (v : Verdict)
     → v ≡ pick (from_owner from c) (open_test x q again) (J.Bad R.Sender) → v ≡ J.Fine → x.sequence ≡ q
-owned from c x q again v e f = open-fine x q again (fine_is (from_owner from c) R.Sender (open_test x q again) (sym e ∙ f)).1
+owned from c x q again v e f = open_fine x q again (fine_is (from_owner from c) R.Sender (open_test x q again) (sym e ∙ f)).1
 
 -- a step that changes the server and sends
-pub only-sent : (s s' : Server) (a : List ℕ) (l : List Sending) (q q' : Outbox) → s' ≡ s → q' ≡ sent q l → progress s' a q' ≡ moved (send_only s a l) q
+pub only_sent : (s s' : Server) (a : List ℕ) (l : List Sending) (q q' : Outbox) → s' ≡ s → q' ≡ sent q l → progress s' a q' ≡ moved (send_only s a l) q
 unfolding moved
-only-sent s s' a l q q' e f = λ i. progress (e i) a (f i)
+only_sent s s' a l q q' e f = λ i. progress (e i) a (f i)
 
-pub none-sent : (s s' : Server) (a : List ℕ) (q : Outbox) → s' ≡ s → progress s' a q ≡ moved (send_only s a []) q
-none-sent s s' a q e = only-sent s s' a [] q q e (sym (sent_none q))
+pub none_sent : (s s' : Server) (a : List ℕ) (q : Outbox) → s' ≡ s → progress s' a q ≡ moved (send_only s a []) q
+none_sent s s' a q e = only_sent s s' a [] q q e (sym (sent_none q))

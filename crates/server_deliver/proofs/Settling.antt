@@ -22,7 +22,7 @@ use Rattle.server.specs.declared.Counted.{Counted}
 use Rattle.server.specs.declared.Taken.{Taken}
 use Rattle.server.specs.Stages.{slot_in, Holds, left, counts, Handled, handled, handled_by, progress, moved, outcome_in, answered}
 use Rattle.server.proofs.Scopes.{slot_set}
-use Rattle.server.proofs.Answers.{refused-is, step_is, none_sent}
+use Rattle.server.proofs.Answers.{refused_is, step_is, none_sent}
 
 -- ---- what counting a frame gives
 
@@ -60,7 +60,7 @@ module _ (g : Params) (w : Server) (c : ℕ) (s : Scope) (rs : List Reader) (k :
         → outcome_in w c (record { reply = Y.Refused r; scope = s }) a' out' to' ≡ answered v w a x out to
     refused_write x r e =
         let (u, i, j, l) = turned_down_lem n s.slot a a' out out' to to' p v r h e in
-        (λ d. outcome_in w c (record { reply = Y.Refused r; scope = s }) (i d) (j d) (l d)) ∙ refused-is v v r w c s a x out to k.scope refl u
+        (λ d. outcome_in w c (record { reply = Y.Refused r; scope = s }) (i d) (j d) (l d)) ∙ refused_is v v r w c s a x out to k.scope refl u
 
     module _ (e : n.verdict ≡ J.Fine) (y : Scope) (f : y ≡ slot_in s n.slot) where
       -- after the client's own frame

@@ -1,7 +1,7 @@
 -- The tests; then the value is kept. Assumes nothing.
 use Rattle.client_rules.specs.Tests.{message_test, order_test, answers, owner_right}
 use Rattle.client_deliver.proofs.Senders.{fine_sender}
-use Rattle.client_deliver.proofs.Answers.{refused-is, step_is}
+use Rattle.client_deliver.proofs.Answers.{refused_is, step_is}
 use Rattle.client_deliver.proofs.ReadLaws.{kept_from, value_verdict}
 use Rattle.client_deliver.proofs.reading.on_value.Goals as goal
 
@@ -9,7 +9,7 @@ pub returns-in-Bad : goal.returns-in-Bad
 unfolding message_test order_test answers owner_right
 returns-in-Bad c =
     let a = c.args in
-    refused-is _ _ a.s a.area.now _ _ _ _ (value_verdict a.k.params a.k.me a.s a.k.from a.k.header _ _ _ _ c.stamp_in-x.ensures c.entry_test-v.ensures) _ c.in-Bad.is
+    refused_is _ _ a.s a.area.now _ _ _ _ (value_verdict a.k.params a.k.me a.s a.k.from a.k.header _ _ _ _ c.stamp_in-x.ensures c.entry_test-v.ensures) _ c.in-Bad.is
 
 pub keep-requires : goal.keep-requires
 keep-requires c =

@@ -2,7 +2,7 @@
 use Rattle.client_rules.specs.State.{acking}
 use Rattle.client_rules.specs.Tests.{message_test, order_test, answers, owner_right}
 use Rattle.client_deliver.proofs.Senders.{fine_sender}
-use Rattle.client_deliver.proofs.Answers.{refused-is, step_is, verdict-in}
+use Rattle.client_deliver.proofs.Answers.{refused_is, step_is, verdict_in}
 use Rattle.client_deliver.proofs.WriteLaws.{ack_waits, ack_ends}
 use native.Mathlib.Omega.{arith}
 use Rattle.client_deliver.proofs.writing.on_ack.Goals as goal
@@ -11,7 +11,7 @@ pub returns-in-Bad : goal.returns-in-Bad
 unfolding message_test order_test answers owner_right
 returns-in-Bad c =
     let a = c.args in
-    λ z l o t. refused-is _ _ a.s z _ l o t (verdict-in _ _ _ _ (acking a.s.phase) _ c.reply_test-v.ensures c.is_acking.ensures) _ c.in-Bad.is
+    λ z l o t. refused_is _ _ a.s z _ l o t (verdict_in _ _ _ _ (acking a.s.phase) _ c.reply_test-v.ensures c.is_acking.ensures) _ c.in-Bad.is
 
 pub bounds-heard-j : goal.bounds-heard-j
 bounds-heard-j c =
@@ -23,12 +23,12 @@ pub returns-then-not-is_quorate : goal.returns-then-not-is_quorate
 unfolding message_test order_test answers owner_right
 returns-then-not-is_quorate c =
     let a = c.args in
-    λ z l o t. step_is _ _ a.s z _ l o t (verdict-in _ _ _ _ (acking a.s.phase) _ c.reply_test-v.ensures c.is_acking.ensures) _ c.in_default.is
+    λ z l o t. step_is _ _ a.s z _ l o t (verdict_in _ _ _ _ (acking a.s.phase) _ c.reply_test-v.ensures c.is_acking.ensures) _ c.in_default.is
     (ack_waits a.k.params a.k.me a.s z l o t _ _ _ _ c.number_in-j.ensures c.is_quorate.ensures c.in_phase-client.ensures c.if-not-is_quorate.true-raw)
 
 pub returns : goal.returns
 unfolding message_test order_test answers owner_right
 returns c =
     let a = c.args in
-    λ z l o t. step_is _ _ a.s z _ l o t (verdict-in _ _ _ _ (acking a.s.phase) _ c.reply_test-v.ensures c.is_acking.ensures) _ c.in_default.is
+    λ z l o t. step_is _ _ a.s z _ l o t (verdict_in _ _ _ _ (acking a.s.phase) _ c.reply_test-v.ensures c.is_acking.ensures) _ c.in_default.is
     (ack_ends a.k.params a.k.me a.s z l o t _ _ _ _ c.number_in-j.ensures c.is_quorate.ensures c.in_phase-client-2.ensures c.if-not-is_quorate.false-raw)

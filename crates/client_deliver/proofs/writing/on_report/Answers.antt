@@ -3,7 +3,7 @@ use mathlib.Core.Path.{sym, ◌∙◌}
 use borrow.Author.Tests.{not-false}
 use Rattle.client_rules.specs.Tests.{message_test, order_test, answers, owner_right}
 use Rattle.client_deliver.proofs.Senders.{report_sender}
-use Rattle.client_deliver.proofs.Answers.{refused-is, step_is, report_in_lem}
+use Rattle.client_deliver.proofs.Answers.{refused_is, step_is, report_in_lem}
 use Rattle.client_deliver.proofs.WriteLaws.{asking_writes, report_kept, report_gathers}
 use native.Mathlib.Omega.{arith}
 use Rattle.client_deliver.proofs.writing.on_report.Goals as goal
@@ -12,7 +12,7 @@ pub returns-in-Bad : goal.returns-in-Bad
 unfolding message_test order_test answers owner_right
 returns-in-Bad c =
     let a = c.args in
-    λ z l. refused-is _ _ a.s z _ l _ _ (report_in_lem _ _ _ _ _ _ c.report_test-v.ensures c.read8-time.ensures) _ c.in-Bad.is
+    λ z l. refused_is _ _ a.s z _ l _ _ (report_in_lem _ _ _ _ _ _ c.report_test-v.ensures c.read8-time.ensures) _ c.in-Bad.is
 
 pub with_report-client-requires : goal.with_report-client-requires
 with_report-client-requires c =

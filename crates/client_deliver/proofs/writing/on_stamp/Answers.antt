@@ -5,7 +5,7 @@ use Rattle.frame.proofs.Verdicts.{fine_is}
 use Rattle.client_rules.specs.State.{asking}
 use Rattle.client_rules.specs.Tests.{message_test, order_test, answers, owner_right}
 use Rattle.client_deliver.proofs.Senders.{fine_sender, awaited_fit}
-use Rattle.client_deliver.proofs.Answers.{refused-is, step_is, verdict-in}
+use Rattle.client_deliver.proofs.Answers.{refused_is, step_is, verdict_in}
 use Rattle.client_deliver.proofs.WriteLaws.{asking_writes, stamp_gathers}
 use native.Mathlib.Omega.{arith}
 use Rattle.client_deliver.proofs.writing.on_stamp.Goals as goal
@@ -14,7 +14,7 @@ pub returns-in-Bad : goal.returns-in-Bad
 unfolding message_test order_test answers owner_right
 returns-in-Bad c =
     let a = c.args in
-    λ z l. refused-is _ _ a.s z _ l _ _ (verdict-in _ _ _ _ (asking a.s.phase) _ c.reply_test-v.ensures c.is_asking.ensures) _ c.in-Bad.is
+    λ z l. refused_is _ _ a.s z _ l _ _ (verdict_in _ _ _ _ (asking a.s.phase) _ c.reply_test-v.ensures c.is_asking.ensures) _ c.in-Bad.is
 
 pub bounds-heard-j : goal.bounds-heard-j
 bounds-heard-j c =
@@ -38,7 +38,7 @@ pub gather-requires : goal.gather-requires
 gather-requires c =
     let a = c.args in
     let p = c.requires.0 in
-    let v = sym (verdict-in _ _ _ _ (asking a.s.phase) _ c.reply_test-v.ensures c.is_asking.ensures) ∙ c.in_default.is in
+    let v = sym (verdict_in _ _ _ _ (asking a.s.phase) _ c.reply_test-v.ensures c.is_asking.ensures) ∙ c.in_default.is in
     let t = awaited_fit (asking a.s.phase) _ (fine_is _ R.Sender _ v).1 in
     (p.bounded, p.whole (asking_writes a.s.phase t), p.room)
 
@@ -46,5 +46,5 @@ pub returns : goal.returns
 unfolding message_test order_test answers owner_right
 returns c =
     let a = c.args in
-    λ z l. step_is _ _ a.s z _ l _ _ (verdict-in _ _ _ _ (asking a.s.phase) _ c.reply_test-v.ensures c.is_asking.ensures) _ c.in_default.is
+    λ z l. step_is _ _ a.s z _ l _ _ (verdict_in _ _ _ _ (asking a.s.phase) _ c.reply_test-v.ensures c.is_asking.ensures) _ c.in_default.is
     (stamp_gathers a.k.params a.k.me a.s a.value.now z l _ _ _ _ _ _ _ _ c.number_in-j.ensures c.read8-time.ensures c.with_report-reported.ensures c.in_phase-client.ensures _ (c.gather.ensures z l))

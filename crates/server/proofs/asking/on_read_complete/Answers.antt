@@ -1,5 +1,5 @@
 -- The step of one kind: refused as the tests say, or its whole outcome. Assumes nothing.
-use Rattle.server.proofs.Answers.{refused-is, step_is, none_sent}
+use Rattle.server.proofs.Answers.{refused_is, step_is, none_sent}
 use Rattle.server_rules.specs.Steps.{on_read_complete}
 use Rattle.server_rules.specs.Tests.{message_test, sender_right, order_test, from_owner, done_test}
 use Rattle.server_rules.specs.State.{with_reader}
@@ -17,7 +17,7 @@ pub returns-in-Bad : goal.returns-in-Bad
 unfolding message_test sender_right order_test
 returns-in-Bad c =
     let a = c.args in
-    λ w e z out to. refused-is _ _ _ w a.h.client a.s z _ out to e (c.end_test-v.ensures ∙ ap (λ (u : Scope). pick (from_owner a.from a.h.client) (done_test u.reader a.h.sequence) (J.Bad R.Sender)) e) c.in-Bad.is
+    λ w e z out to. refused_is _ _ _ w a.h.client a.s z _ out to e (c.end_test-v.ensures ∙ ap (λ (u : Scope). pick (from_owner a.from a.h.client) (done_test u.reader a.h.sequence) (J.Bad R.Sender)) e) c.in-Bad.is
 
 pub returns : goal.returns
 unfolding message_test sender_right order_test on_read_complete

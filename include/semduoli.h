@@ -1,4 +1,4 @@
-/* The register for hosts in C and C++. Link libsemduoli.a (`rt staticlib semduoli` writes it, for x86-64 Linux).
+/* The register for hosts in C and C++. Link libsemduoli.a (examples/library writes it, for x86-64 Linux).
  *
  * Numbers and lent areas of bytes are all that is passed. An area is a pointer and its length in bytes. A call reads and writes only the areas
  * it is lent, keeps no pointer after it returns, and allocates nothing. Of an area of length 0 the pointer is not used and may be NULL. An area

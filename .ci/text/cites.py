@@ -4,9 +4,11 @@ import re
 
 ENDINGS = r"(?:antt|rt|rs|c|h|md|py|edit|hex|out|txt|toml|in|patch)"
 PATH = re.compile(rf"^[\w.+*\-/]*(?:/|\.{ENDINGS}$)[\w.+*\-/]*$")
-NAME = re.compile(r"^[A-Za-z_⊕⊗μ][\w\-′⊕⊗]*(?:::[A-Za-z_]\w*)*$")
+NAME = re.compile(r"^[A-Za-z_◌μ][\w\-'⊕⊗◌]*(?:::[A-Za-z_]\w*)*$")
 SPAN = re.compile(r"`([^`]+)`")
 
+# folders of what is made: nothing in them is held to be there
+MADE = {"target", "out"}
 # what a command line of a page leaves open: any folder or file is meant
 OPEN = {"NAME", "LABEL", "FUNCTION", "PROGRAM", "FILE", "DIR", "COMMIT", "KIND", "SEED"}
 # names that the tree does not have and a page may say: tools, words of the language and of its libraries, what is made while it is built
@@ -75,7 +77,7 @@ class Cited:
         return last + [crates / name for name in self.tree.crates]
 
     def path_fault(self, cited):
-        if cited.startswith(("target/", "../")) or cited in (".ci/run", "/") or ".." in cited:
+        if cited.startswith("../") or MADE & set(cited.split("/")[:-1]) or cited in (".ci/run", "/") or ".." in cited:
             return None
         found = self.paths(cited)
         if not found:
@@ -124,9 +126,9 @@ def command_faults(tree, page):
     """Paths in the command lines of a page that begin with a folder of the root, or of the page's own, and are not there."""
     for number, line in enumerate(tree.text(page).split("\n"), 1):
         for word in re.findall(r"[\w.\-]+(?:/[\w.\-]+)+", line) if line.startswith("    ") else []:
-            first = word.split("/")[0]
-            known = [place for place in (tree.root, page.parent) if first != "target" and (place / first).is_dir()]
-            if known and not OPEN & set(word.split("/")) and not any((place / word).exists() for place in known):
+            parts = word.split("/")
+            known = [place for place in (tree.root, page.parent) if (place / parts[0]).is_dir()]
+            if known and not (OPEN | MADE) & set(parts) and not any((place / word).exists() for place in known):
                 yield number, f"there is no {word}"
 
 

@@ -39,12 +39,12 @@ def section(text, title):
 
 
 def named_by(tree, crate):
-    """The crates and libraries that the text of a crate names: in paths of code (`area::put`) and of definitions (`Rattle·area.`)."""
+    """The crates and libraries that the text of a crate names: in paths of code (`area::put`) and of definitions (`Rattle.area.`)."""
     named = set()
     for path in tree.files:
         if tree.root / "crates" / crate in path.parents and path.suffix in (".rt", ".antt"):
             code = tree.code(path)
-            named |= set(re.findall(r"\b([a-z_0-9]+)::", code)) | set(re.findall(r"Rattle·([a-z_0-9]+)", code))
+            named |= set(re.findall(r"\b([a-z_0-9]+)::", code)) | set(re.findall(r"\bRattle\.([a-z_0-9]+)", code))
     return named
 
 

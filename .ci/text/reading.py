@@ -9,7 +9,7 @@ from functools import cached_property
 
 from tree import ANTT_DEFINED, ANTT_MODIFIERS, ANTT_NAME, names_defined, without_comments
 
-USE = re.compile(r"^\s*(?:ghost\s+)?use\s+Rattle·(\w+?)(?:·specs)?\.specs\.([\w.]+?)(?:\.\{([^}]*)\}|\s+as\s+(\w+))?;?$", re.M)
+USE = re.compile(r"^\s*(?:ghost\s+)?use\s+Rattle\.(\w+)\.specs\.([\w.]+?)(?:\.\{([^}]*)\}|\s+as\s+(\w+))?;?$", re.M)
 ITEM = re.compile(rf"^[ ]*{ANTT_MODIFIERS}(?:(record|data)[ ]+)?({ANTT_NAME})")
 TOKEN = re.compile(r"[^\s(){},;]+")
 

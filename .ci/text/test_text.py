@@ -15,7 +15,7 @@ SOUND = {
     "compare/README.md": "Nothing.\n",
     "crates.txt": "# what each sees\nlow:\nhigh: low io\n",
     "crates/low/specs/Low.antt": """-- not `gone`: a comment
-use Rattle·low·specs.specs.Deep.{deep}
+use Rattle.low.specs.Deep.{deep}
 pub record Pair : Type 0 where
   pub left : ℕ
 
@@ -27,17 +27,17 @@ stage n = n
     "crates/low/specs/Deep.antt": "unfoldable pub deep : ℕ → ℕ\ndeep n = n\n",
     "crates/low/specs/Aside.antt": "unfoldable pub aside : ℕ → ℕ\naside n = n\n",
     "crates/low/src/lib.rt": """// Doubles.
-ghost use Rattle·low·specs.specs.Low.{twice, stage};
+ghost use Rattle.low.specs.Low.{twice, stage};
 
 pub fn double(x: u8) -> u8
-    ensures { λ r. ⌜ r ≡ twice x ⌝ }
+    ensures { result ≡ twice x }
 {
     x
 }
 
 fn inner(x: u8) -> u8
-    requires { ⌜ x ≡ 0 ⌝ }
-    ensures { λ r. ⌜ r ≡ stage x ⌝ }
+    requires { x ≡ 0 }
+    ensures { result ≡ stage x }
 {
     x
 }
@@ -131,6 +131,8 @@ class Text(unittest.TestCase):
 
     def test_a_path_of_a_command_that_is_not_there(self):
         self.assertEqual(self.changed(cite_faults, "compare/README.md", "Nothing.", "    docs/MAP.md target/none\n"), [])
+        self.assertEqual(self.changed(cite_faults, "compare/README.md", "Nothing.", "    crates/high/out/high\n\nIn `crates/high/out/high`.\n"), [])
+        self.assertEqual(self.changed(cite_faults, "compare/README.md", "Nothing.", "In `crates/high/gone/high`.\n"), ["there is no crates/high/gone/high"])
         self.assertEqual(self.changed(cite_faults, "compare/README.md", "Nothing.", "    run docs/GONE.md\n"), ["there is no docs/GONE.md"])
 
     def test_a_name_that_is_not_there(self):
@@ -152,7 +154,7 @@ class Text(unittest.TestCase):
 
     def test_a_definition_that_comes_to_be_reached(self):
         self.assertEqual(
-            self.changed(reading_faults, "crates/low/specs/Deep.antt", "deep n = n", "deep n = aside n\nuse Rattle·low·specs.specs.Aside.{aside}"),
+            self.changed(reading_faults, "crates/low/specs/Deep.antt", "deep n = n", "deep n = aside n\nuse Rattle.low.specs.Aside.{aside}"),
             ["the reading list lacks low/specs/Aside.antt, which a promise or a theorem reaches"],
         )
 
@@ -178,6 +180,7 @@ class Text(unittest.TestCase):
         self.assertEqual(self.changed(crates, "crates.txt", "low io", "low io low"), ["high has low twice"])
         self.assertEqual(self.changed(crates, "crates.txt", "low:\n", "low:\ngone:\n"), ["there is no crate gone"])
         self.assertIn("crates/low is not listed", self.changed(crates, "crates.txt", "low:\n", ""))
+        self.assertEqual(self.changed(crates, "crates.txt", "high:", "high staticlib:"), [])
 
     def test_an_entry_that_is_never_named(self):
         never = self.changed(lambda tree: crate_faults(tree, 0), "crates.txt", "low io", "low io libc")

@@ -8,7 +8,8 @@ from pathlib import Path
 SUPPLIED = {"io", "libc", "os"}
 
 LINE_COMMENT = {".rt": "//", ".rs": "//", ".antt": "--", ".py": "#", "": "#"}
-WORD = re.compile(r"[A-Za-z_⊕⊗μ][\w\-′⊕⊗]*")
+WORD = re.compile(r"[A-Za-z_◌μ][\w\-⊕⊗◌]*")
+PRIMED = re.compile(r"[A-Za-z_◌μ][\w\-⊕⊗◌]*'+")  # of definitions and proofs alone: elsewhere a ' is a quotation mark
 
 ANTT_MODIFIERS = r"(?:(?:abbrev|unfoldable|pub|private|opaque)[ ]+)*"
 ANTT_NAME = r"[^\s(){}:,;.=]+"
@@ -46,7 +47,7 @@ def names_defined(text, suffix):
 class Tree:
     """The files below a root, without what git ignores and without history."""
 
-    SKIPPED = {".git", "target", "__pycache__"}
+    SKIPPED = {".git", "target", "out", "__pycache__"}
 
     def __init__(self, root):
         self.root = Path(root)
@@ -79,12 +80,12 @@ class Tree:
 
     @cached_property
     def crates(self):
-        """crates.txt: each crate with the crates and libraries that it names, in order."""
+        """crates.txt: each crate with the crates and libraries that it names, in order; what kind of crate it is, which may follow its name, aside."""
         table = {}
         for line in (self.root / "crates.txt").read_text().splitlines():
             if line.strip() and not line.startswith("#"):
                 name, names = line.split(":", 1)
-                table[name.strip()] = names.split()
+                table[name.split()[0]] = names.split()
         return table
 
     @cached_property
@@ -118,4 +119,6 @@ class Tree:
         for path in self.files:
             if path.suffix in (".antt", ".rt", ".rs", ".c", ".h", ".py", ".edit", ".toml", "") and ".ci" not in path.parts:
                 words |= set(WORD.findall(self.code(path)))
+            if path.suffix == ".antt":
+                words |= set(PRIMED.findall(self.code(path)))
         return words

@@ -13,7 +13,7 @@ fn main() {
     let library = folder.join(format!("lib{name}.a"));
     println!("cargo:rerun-if-changed={}", library.display());
     if !library.is_file() {
-        eprintln!("{} is missing: run `rt staticlib semduoli` in the repository's root,", library.display());
+        eprintln!("{} is missing: run examples/library in the repository's root,", library.display());
         eprintln!("or set SEMDUOLI_LIBRARY to the folder that has libsemduoli.a");
         std::process::exit(1);
     }

@@ -1,5 +1,5 @@
 //! The proved programs on inputs that cannot be read and outputs that cannot be written: they say so and answer nothing; and on such as make them wait, which
-//! takes next to no processor time. They are taken from target/bin, where `rt check history sheet hall accession decode` puts them.
+//! takes next to no processor time. Each is taken as crates/NAME/out/NAME, where `rt run` in crates/NAME puts it.
 
 use std::fs::{read, File};
 use std::io::{Read, Write};
@@ -19,9 +19,13 @@ fn example(name: &str, file: &str) -> PathBuf {
     at(&format!("crates/{name}/{file}"))
 }
 
+fn built(name: &str) -> PathBuf {
+    at(&format!("crates/{name}/out/{name}"))
+}
+
 fn program(name: &str) -> Command {
-    let path = at(&format!("target/bin/{name}"));
-    assert!(path.exists(), "{} is not built: rt check {name}", path.display());
+    let path = built(name);
+    assert!(path.exists(), "{} is not built: rt run in crates/{name}", path.display());
     Command::new(path)
 }
 
@@ -50,7 +54,7 @@ fn unreadable() {
         fails(piped().arg(at("crates")), "the input could not be read: ");
         fails(piped().arg("no such file"), "no such file: ");
         fails(piped().args(["one", "two"]), "one file at most can be named");
-        let closed = format!("exec '{}' <&-", at(&format!("target/bin/{name}")).display());
+        let closed = format!("exec '{}' <&-", built(name).display());
         fails(
             Command::new("sh").args(["-c", &closed]).stdout(Stdio::piped()),
             "the input could not be read: ",

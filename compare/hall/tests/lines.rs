@@ -1,5 +1,5 @@
-//! Random lines, many of them damaged, through the proved programs and through the second implementation. The programs are taken from target/bin, where
-//! `rt check hall accession decode history sheet` puts them. A failure prints the line and the seed; SEMDUOLI_SEED=SEED tries that input alone, and
+//! Random lines, many of them damaged, through the proved programs and through the second implementation. Each program is taken as
+//! crates/NAME/out/NAME, where `rt run` in crates/NAME puts it. A failure prints the line and the seed; SEMDUOLI_SEED=SEED tries that input alone, and
 //! SEMDUOLI_FACTOR=N tries N times as many from SEMDUOLI_SEED on.
 
 use register::blocks::encoded;
@@ -25,8 +25,8 @@ fn variable(name: &str) -> Option<u64> {
 
 /// What the proved program answers; the input is written beside the reading, since it may be longer than a pipe holds.
 fn proved(name: &str, input: &[u8]) -> Vec<u8> {
-    let path = at(&format!("target/bin/{name}"));
-    assert!(path.exists(), "{} is not built: rt check {name}", path.display());
+    let path = at(&format!("crates/{name}/out/{name}"));
+    assert!(path.exists(), "{} is not built: rt run in crates/{name}", path.display());
     let mut child = Command::new(path).stdin(Stdio::piped()).stdout(Stdio::piped()).spawn().unwrap();
     let mut to = child.stdin.take().unwrap();
     std::thread::scope(|scope| {

@@ -6,8 +6,7 @@ ghost use Rattle.semduoli.specs.Calls.{wrote};
 use accession_index::answers::{insertion_answer, search_answer};
 
 // Makes an index empty.
-#[unsafe(no_mangle)]
-pub extern "C" fn semduoli_index_fresh(index: &mut [u8]) -> u64
+pub fn semduoli_index_fresh(index: &mut [u8]) -> u64
     ensures { wrote result index.new ≡ index_fresh_call index.old }
 {
     if index.len() < 577 {
@@ -18,8 +17,7 @@ pub extern "C" fn semduoli_index_fresh(index: &mut [u8]) -> u64
 }
 
 // Inserts a value by its first eight bytes.
-#[unsafe(no_mangle)]
-pub extern "C" fn semduoli_index_insert(value: &[u8], index: &mut [u8]) -> u64
+pub fn semduoli_index_insert(value: &[u8], index: &mut [u8]) -> u64
     ensures { wrote result index.new ≡ index_insert_call value.now index.old }
 {
     if index.len() < 577 {
@@ -30,8 +28,7 @@ pub extern "C" fn semduoli_index_insert(value: &[u8], index: &mut [u8]) -> u64
 }
 
 // The place of the last inserted value of a number.
-#[unsafe(no_mangle)]
-pub extern "C" fn semduoli_index_search(number: u64, index: &[u8]) -> u64
+pub fn semduoli_index_search(number: u64, index: &[u8]) -> u64
     ensures { result ≡ index_search_call number index.now }
 {
     if index.len() < 577 {

@@ -10,16 +10,14 @@ use layout::servers::{SERVER_SIZE, scope_at};
 use site::answers::open_answer;
 
 // The version of include/semduoli.h.
-#[unsafe(no_mangle)]
-pub extern "C" fn semduoli_version() -> u64
+pub fn semduoli_version() -> u64
     ensures { result ≡ header_version }
 {
     4
 }
 
 // Which operation is open at a client.
-#[unsafe(no_mangle)]
-pub extern "C" fn semduoli_client_open(state: &[u8]) -> u64
+pub fn semduoli_client_open(state: &[u8]) -> u64
     ensures { result ≡ client_open_call state.now }
 {
     if state.len() < CLIENT_SIZE {
@@ -31,8 +29,7 @@ pub extern "C" fn semduoli_client_open(state: &[u8]) -> u64
 }
 
 // Writes the stamp that a server holds.
-#[unsafe(no_mangle)]
-pub extern "C" fn semduoli_server_stamp(state: &[u8], stamp: &mut [u8]) -> u64
+pub fn semduoli_server_stamp(state: &[u8], stamp: &mut [u8]) -> u64
     ensures { wrote result stamp.new ≡ server_stamp_call state.now stamp.old }
 {
     if state.len() < SERVER_SIZE {
@@ -47,8 +44,7 @@ pub extern "C" fn semduoli_server_stamp(state: &[u8], stamp: &mut [u8]) -> u64
 }
 
 // The number of the write that a server works on for a client.
-#[unsafe(no_mangle)]
-pub extern "C" fn semduoli_server_open(client: usize, state: &[u8]) -> u64
+pub fn semduoli_server_open(client: usize, state: &[u8]) -> u64
     ensures { result ≡ server_open_call client state.now }
 {
     if client < 1 {

@@ -18,8 +18,7 @@ use site::answers::{client_answer, is_refusal, test_answer};
 use site::short::{frame_short, read_short, stamp_short, value_short};
 
 // Writes a fresh client's record.
-#[unsafe(no_mangle)]
-pub extern "C" fn semduoli_client_fresh(state: &mut [u8]) -> u64
+pub fn semduoli_client_fresh(state: &mut [u8]) -> u64
     ensures { wrote result state.new ≡ fresh_call state.old }
 {
     if state.len() < CLIENT_SIZE {
@@ -47,8 +46,7 @@ fn keep(a: Answer, s: Client, state: &mut [u8], n: usize) -> u64
 // ---- an operation begins
 
 // Begins a read.
-#[unsafe(no_mangle)]
-pub extern "C" fn semduoli_begin_read(
+pub fn semduoli_begin_read(
     n: usize,
     t: usize,
     k: usize,
@@ -78,8 +76,7 @@ pub extern "C" fn semduoli_begin_read(
 }
 
 // Begins the write of a value of size bytes.
-#[unsafe(no_mangle)]
-pub extern "C" fn semduoli_begin_write(
+pub fn semduoli_begin_write(
     n: usize,
     t: usize,
     k: usize,
@@ -127,8 +124,7 @@ fn put_read(a: Answer, stamp: &mut [u8])
 }
 
 // Delivers a frame to client me; where a write is open, its value is lent.
-#[unsafe(no_mangle)]
-pub extern "C" fn semduoli_client_deliver(
+pub fn semduoli_client_deliver(
     n: usize,
     t: usize,
     k: usize,

@@ -6,8 +6,7 @@ use blocks::Params;
 use blocks::answers::code_answer;
 
 // The SHA-256 digest of at most 256 bytes, into the first 32 bytes of out.
-#[unsafe(no_mangle)]
-pub extern "C" fn semduoli_digest(message: &[u8], out: &mut [u8]) -> u64
+pub fn semduoli_digest(message: &[u8], out: &mut [u8]) -> u64
     ensures { wrote result out.new ≡ digest_call message.now out.old }
 {
     if 256 < message.len() {
@@ -22,8 +21,7 @@ pub extern "C" fn semduoli_digest(message: &[u8], out: &mut [u8]) -> u64
 }
 
 // The n blocks of a value of size bytes, end to end in the front of out.
-#[unsafe(no_mangle)]
-pub extern "C" fn semduoli_encode(
+pub fn semduoli_encode(
     n: usize,
     t: usize,
     k: usize,
@@ -39,8 +37,7 @@ pub extern "C" fn semduoli_encode(
 }
 
 // Decodes k to n blocks, which lie end to end in blocks: the value that has them all goes to the front of out; refusal 21 if there is none.
-#[unsafe(no_mangle)]
-pub extern "C" fn semduoli_decode(
+pub fn semduoli_decode(
     n: usize,
     t: usize,
     k: usize,

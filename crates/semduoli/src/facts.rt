@@ -12,8 +12,7 @@ use host_facts::present::server_block;
 use host_facts::traces::{entry_read, entry_write};
 
 // The kind, client and sequence of a frame that opens.
-#[unsafe(no_mangle)]
-pub extern "C" fn semduoli_frame_header(n: usize, t: usize, k: usize, size: usize, f: &[u8]) -> u64
+pub fn semduoli_frame_header(n: usize, t: usize, k: usize, size: usize, f: &[u8]) -> u64
     ensures { result ≡ header_call (params n t k size) f.now }
 {
     let g = Params { n, t, k, size };
@@ -21,8 +20,7 @@ pub extern "C" fn semduoli_frame_header(n: usize, t: usize, k: usize, size: usiz
 }
 
 // Writes the time that a frame carries.
-#[unsafe(no_mangle)]
-pub extern "C" fn semduoli_frame_time(
+pub fn semduoli_frame_time(
     n: usize,
     t: usize,
     k: usize,
@@ -37,24 +35,21 @@ pub extern "C" fn semduoli_frame_time(
 }
 
 // The sender of the first entry of a trace, and how many bytes the entry takes; or how the trace closes there.
-#[unsafe(no_mangle)]
-pub extern "C" fn semduoli_entry_read(trace: &[u8]) -> u64
+pub fn semduoli_entry_read(trace: &[u8]) -> u64
     ensures { result ≡ entry_read_call trace.now }
 {
     entry_read(trace)
 }
 
 // Writes an entry of a trace.
-#[unsafe(no_mangle)]
-pub extern "C" fn semduoli_entry_write(class: usize, sender: usize, f: &[u8], out: &mut [u8]) -> u64
+pub fn semduoli_entry_write(class: usize, sender: usize, f: &[u8], out: &mut [u8]) -> u64
     ensures { wrote result out.new ≡ entry_write_call class sender f.now out.old }
 {
     entry_write(class, sender, f, out)
 }
 
 // Copies the present block of a server.
-#[unsafe(no_mangle)]
-pub extern "C" fn semduoli_server_block<'a>(
+pub fn semduoli_server_block<'a>(
     n: usize,
     t: usize,
     k: usize,

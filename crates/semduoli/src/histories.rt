@@ -6,8 +6,7 @@ use history_text::text::judge_text;
 use order::answers::{history_answer, line_count};
 
 // Whether the operations of a history have an order; if so its line numbers go to the front of lines. Refusal 10 if lines has fewer than 64 bytes.
-#[unsafe(no_mangle)]
-pub extern "C" fn semduoli_judge(text: &[u8], lines: &mut [u8]) -> u64
+pub fn semduoli_judge(text: &[u8], lines: &mut [u8]) -> u64
     ensures { wrote result lines.new ≡ history_call text.now lines.old }
 {
     if lines.len() < 64 {

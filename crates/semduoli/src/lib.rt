@@ -1,6 +1,7 @@
-// The register for hosts in C and Rust: a static library whose functions take numbers and lent areas of bytes only.
-// include/semduoli.h says the same for a host.
+// The register for hosts: functions that take numbers and lent areas of bytes only. Crate `semduoli_c` exports each of them to hosts in C and Rust, and
+// crate `hosts` shows what hosts do with them.
 #![tactic(auto)]
+
 pub mod accession;
 pub mod asked;
 pub mod clients;

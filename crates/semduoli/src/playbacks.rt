@@ -9,8 +9,7 @@ use playback::play;
 use playback::resume::resume;
 
 // Plays a trace back on server me, made afresh from the initial value: writes its record, its area and initial block, and what each entry gave into out.
-#[unsafe(no_mangle)]
-pub extern "C" fn semduoli_playback(
+pub fn semduoli_playback(
     n: usize,
     t: usize,
     k: usize,
@@ -33,8 +32,7 @@ pub extern "C" fn semduoli_playback(
 }
 
 // Server me goes on from the record in state: the entries of a trace are handed to it. Each step writes its frames into out over those of the step before.
-#[unsafe(no_mangle)]
-pub extern "C" fn semduoli_server_resume(
+pub fn semduoli_server_resume(
     n: usize,
     t: usize,
     k: usize,

@@ -11,8 +11,7 @@ use server_deliver::deliver;
 use server_deliver::fresh::fresh;
 
 // Writes a fresh server's record to state, the digest list of the initial value into the area, and server me's block of that value into initial.
-#[unsafe(no_mangle)]
-pub extern "C" fn semduoli_server_fresh(
+pub fn semduoli_server_fresh(
     n: usize,
     t: usize,
     k: usize,
@@ -32,8 +31,7 @@ pub extern "C" fn semduoli_server_fresh(
 }
 
 // Delivers a frame to server me.
-#[unsafe(no_mangle)]
-pub extern "C" fn semduoli_server_deliver(
+pub fn semduoli_server_deliver(
     n: usize,
     t: usize,
     k: usize,

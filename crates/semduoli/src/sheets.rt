@@ -7,8 +7,7 @@ use history_sheet::answers::sheet_answer;
 use history_sheet::lay;
 
 // Lays the sheet of a history at the front of out. Refusal 10 if its pages do not fit.
-#[unsafe(no_mangle)]
-pub extern "C" fn semduoli_sheet(text: &[u8], out: &mut [u8]) -> u64
+pub fn semduoli_sheet(text: &[u8], out: &mut [u8]) -> u64
     ensures { wrote result out.new ≡ sheet_call text.now out.old }
 {
     let laid = lay(text, out);

@@ -40,7 +40,7 @@ def antt_files():
 def is_of_function(path):
     """Whether the file is the proof of one function, whose names are mostly made by Rattle."""
     folder, name = os.path.split(path)
-    return name in ("Proof.antt", "Answers.antt", "Invariants.antt") and os.path.basename(folder) != "proofs"
+    return name in ("Proof.antt", "Answers.antt", "Invariants.antt") and os.path.basename(folder) not in ("proofs", "specs")
 
 
 def snake(word):

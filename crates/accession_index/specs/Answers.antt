@@ -4,11 +4,11 @@ use Rattle.std.proofs.Math.Option.{Option, none, some}
 use Rattle.area.specs.Responses.{Response, turned_down, gives}
 
 -- an insertion: the place, in the bytes from the third on; or refusal 25 or 26
-unfoldable pub insertionAnswer : Response ℕ → ℕ
-insertionAnswer (gives p) = 65536 * p
-insertionAnswer (turned_down n) = n
+unfoldable pub insertion_answer : Response ℕ → ℕ
+insertion_answer (gives p) = 65536 * p
+insertion_answer (turned_down n) = n
 
 -- a search: the place, or 0 for none
-unfoldable pub searchAnswer : Option ℕ → ℕ
-searchAnswer (some p) = 65536 * p
-searchAnswer none = 0
+unfoldable pub search_answer : Option ℕ → ℕ
+search_answer (some p) = 65536 * p
+search_answer none = 0

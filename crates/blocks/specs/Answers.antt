@@ -2,6 +2,6 @@
 use Rattle.std.specs.Prelude.{ℕ}
 use Rattle.area.specs.Responses.{Response, turned_down, gives}
 
-unfoldable pub codeAnswer : Response (Unit {0}) → ℕ
-codeAnswer (gives x) = 0
-codeAnswer (turned_down n) = n
+unfoldable pub code_answer : Response (Unit {0}) → ℕ
+code_answer (gives x) = 0
+code_answer (turned_down n) = n

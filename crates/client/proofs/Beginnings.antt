@@ -29,7 +29,7 @@ use Rattle.client_rules.specs.declared.Phase.TheVariants as F
 use Rattle.client_rules.specs.State.{fresh_row, idle}
 use Rattle.client_rules.specs.Tests.{send_room}
 use Rattle.client_rules.specs.Steps.{Effect}
-use Rattle.client_rules.specs.Answers.{goesOn}
+use Rattle.client_rules.specs.Answers.{goes_on}
 use Rattle.client_rules.specs.Beginning.{Begun, idle_test, closed_test, length_test, open_read, open_write, begin_by, begun_of}
 use Rattle.client.specs.Stages.{Opening}
 use Rattle.frame.proofs.Rooms.{room_within}
@@ -75,21 +75,21 @@ module _ (g : Params) (me : ℕ) where
   -- frames sent, and the client
   pub begun_law : (x : Effect) (y : Client) (out to o t : List ℕ) (q : Place)
       → y ≡ x.client → outbox o t q ≡ sent (outbox out to first_place) x.sends
-      → ◌≡◌ {A = Begun} (record { answer = gives (goesOn q.count); client = y; out = o; to = t }) (begun_of g me J.Fine x out to)
+      → ◌≡◌ {A = Begun} (record { answer = gives (goes_on q.count); client = y; out = o; to = t }) (begun_of g me J.Fine x out to)
   unfolding begun_of sent
   begun_law x y out to o t q p e =
       let z : 0 + length x.sends ≡ length x.sends = omega arith in
       let n : q.count ≡ length x.sends = ap (λ (b : Outbox). b.place.count) e ∙ z in
       let u : o ≡ sets out 0 (frames x.sends) = ap (λ (b : Outbox). b.out) e in
       let w : t ≡ sets to 0 (receivers x.sends) = ap (λ (b : Outbox). b.to) e in
-      λ i. record { answer = gives (goesOn (n i)); client = p i; out = u i; to = w i }
+      λ i. record { answer = gives (goes_on (n i)); client = p i; out = u i; to = w i }
 
   module _ (s : Client) (out to o t : List ℕ) (q : Place) where
     pub read_law : (rows : List Row) → rows ≡ replicate 11 fresh_row
         → outbox o t q ≡ sent (outbox out to first_place) (to_all g (λ j. message me (s.reads + 1) ask_read))
         → ◌≡◌ {A = Begun}
         (record {
-          answer = gives (goesOn q.count);
+          answer = gives (goes_on q.count);
           client = record {
             writes = s.writes;
             reads = s.reads + 1;
@@ -122,7 +122,7 @@ module _ (g : Params) (me : ℕ) where
     pub write_law : outbox o t q ≡ sent (outbox out to first_place) (to_all g (λ j. message me (s.writes + 1) get_stamp))
         → ◌≡◌ {A = Begun}
         (record {
-          answer = gives (goesOn q.count);
+          answer = gives (goes_on q.count);
           client = record {
             writes = s.writes + 1;
             reads = s.reads;

@@ -21,7 +21,7 @@ use Rattle.client_rules.specs.declared.Phase.TheVariants as F
 use Rattle.client_rules.specs.declared.Answer.TheVariants as Y
 use Rattle.client_rules.specs.State.{asking, writing, in_phase, shut, with_report}
 use Rattle.client_rules.specs.Steps.{quorate, gathered, largest_counted, send_below, gather_by, gather, on_stamp, report_by, on_report, end_by, on_ack}
-use Rattle.client_rules.specs.Answers.{goesOn, writeEnds, writeCloses}
+use Rattle.client_rules.specs.Answers.{goes_on, write_ends, write_closes}
 use Rattle.client_rules.specs.Delivery.{Outcome, outcome, progress_by, result_of}
 use Rattle.client.specs.Stages.{stepped}
 use Rattle.client_deliver.proofs.OwnBlocks.{own}
@@ -45,7 +45,7 @@ module _ (g : Params) (me : ℕ) (s : Client) (v a l out to : List ℕ) where
   out_of_stamps_lem T y e h p =
       let d : ltb top last_time ≡ false = ap (λ z. ltb z last_time) (sym e) ∙ le-ltb T last_time h in
       let c : outcome (record { answer = Y.OutOfStamps; client = y }) a l out to ≡ stepped (send_below digest_of g me false s a v top) l out to =
-      λ i. record { answer = gives writeCloses; client = p i; area = a; result = l; out = out; to = to } in
+      λ i. record { answer = gives write_closes; client = p i; area = a; result = l; out = out; to = to } in
       c ∙ ap (λ b. stepped (send_below digest_of g me b s a v top) l out to) (sym d)
 
   pub write_sent : (T : ℕ) (y : Client) (q : Place) (o t : List ℕ) → T ≡ top → T < last_time → y ≡ in_phase s F.Acking (replicate 11 false) s.times
@@ -59,7 +59,7 @@ module _ (g : Params) (me : ℕ) (s : Client) (v a l out to : List ℕ) where
       let u : o ≡ sets out 0 (frames xs) = ap (λ (z : Outbox). z.out) w in
       let r : t ≡ sets to 0 (receivers xs) = ap (λ (z : Outbox). z.to) w in
       let c : outcome (record { answer = Y.Sent q.count; client = y }) a l o t ≡ stepped (send_below digest_of g me true s a v T) l out to =
-      λ i. record { answer = gives (goesOn (n i)); client = p i; area = a; result = l; out = u i; to = r i } in
+      λ i. record { answer = gives (goes_on (n i)); client = p i; area = a; result = l; out = u i; to = r i } in
       c ∙ ap (λ b. stepped (send_below digest_of g me b s a v T) l out to) (sym d)
       ∙ ap (λ z. stepped (send_below digest_of g me (ltb z last_time) s a v z) l out to) e
 
@@ -99,7 +99,7 @@ module _ (g : Params) (me : ℕ) (s : Client) (v a l out to : List ℕ) where
           let d : asking s.phase ≡ false = sym q ∙ not-true b h in
           let m = stored_is in
           let c : outcome (record { answer = Y.Sent 0; client = x }) a l out to ≡ stepped (report_by digest_of g me false (with_report s j T) a v) l out to =
-          λ z. record { answer = gives (goesOn 0); client = m z; area = a; result = l; out = out; to = to } in
+          λ z. record { answer = gives (goes_on 0); client = m z; area = a; result = l; out = out; to = to } in
           c ∙ ap (λ z. stepped (report_by digest_of g me z (with_report s j T) a v) l out to) (sym d)
 
       pub report_gathers : (r : Outcome) → not b ≡ false → r ≡ stepped (gather digest_of g me x a v) l out to
@@ -121,7 +121,7 @@ module _ (g : Params) (me : ℕ) (s : Client) (a l out to : List ℕ) (i j : ℕ
       let d : quorate g (set s.heard j true) ≡ false = ap (λ z. quorate g (set s.heard z true)) (sym at) ∙ sym q ∙ not-true b h in
       let m = p ∙ ap (λ z. in_phase s F.Acking (set s.heard z true) s.times) at in
       let c : outcome (record { answer = Y.Sent 0; client = y }) a l out to ≡ stepped (end_by digest_of g me false s a (set s.heard j true)) l out to =
-      λ z. record { answer = gives (goesOn 0); client = m z; area = a; result = l; out = out; to = to } in
+      λ z. record { answer = gives (goes_on 0); client = m z; area = a; result = l; out = out; to = to } in
       c ∙ ap (λ z. stepped (end_by digest_of g me z s a (set s.heard j true)) l out to) (sym d)
 
   pub ack_ends : y ≡ in_phase s F.Idle (set s.heard i true) s.times → not b ≡ false
@@ -131,5 +131,5 @@ module _ (g : Params) (me : ℕ) (s : Client) (a l out to : List ℕ) (i j : ℕ
       let d : quorate g (set s.heard j true) ≡ true = ap (λ z. quorate g (set s.heard z true)) (sym at) ∙ sym q ∙ not-false b h in
       let m = p ∙ ap (λ z. in_phase s F.Idle (set s.heard z true) s.times) at in
       let c : outcome (record { answer = Y.Written; client = y }) a l out to ≡ stepped (end_by digest_of g me true s a (set s.heard j true)) l out to =
-      λ z. record { answer = gives writeEnds; client = m z; area = a; result = l; out = out; to = to } in
+      λ z. record { answer = gives write_ends; client = m z; area = a; result = l; out = out; to = to } in
       c ∙ ap (λ z. stepped (end_by digest_of g me z s a (set s.heard j true)) l out to) (sym d)

@@ -5,17 +5,17 @@ use Rattle.frame.specs.Refusals.{refusal}
 use Rattle.frame.proofs.Responses.{one_each}
 use Rattle.client_rules.specs.declared.Answer.{Answer}
 use Rattle.client_rules.specs.declared.Answer.TheVariants as Y
-use Rattle.client_rules.specs.Answers.{Progress, goesOn, writeEnds, writeCloses, readGives, readDisagrees, answerResponse}
+use Rattle.client_rules.specs.Answers.{Progress, goes_on, write_ends, write_closes, read_gives, read_disagrees, answer_response}
 
 abbrev answer_in : Response Progress → Answer
-answer_in (gives (goesOn m)) = Y.Sent m
-answer_in (gives writeEnds) = Y.Written
-answer_in (gives writeCloses) = Y.OutOfStamps
-answer_in (gives (readGives x)) = Y.Value x
-answer_in (gives readDisagrees) = Y.Disagreement
+answer_in (gives (goes_on m)) = Y.Sent m
+answer_in (gives write_ends) = Y.Written
+answer_in (gives write_closes) = Y.OutOfStamps
+answer_in (gives (read_gives x)) = Y.Value x
+answer_in (gives read_disagrees) = Y.Disagreement
 answer_in (turned_down n) = Y.Refused (refusal n)
 
-pub answer_back : (a : Answer) → answer_in (answerResponse a) ≡ a
+pub answer_back : (a : Answer) → answer_in (answer_response a) ≡ a
 answer_back (Y.Sent m) = refl
 answer_back Y.Written = refl
 answer_back Y.OutOfStamps = refl

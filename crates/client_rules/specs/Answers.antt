@@ -8,17 +8,17 @@ use Rattle.client_rules.specs.declared.Answer.TheVariants as Y
 
 pub data Progress : Type 0 where
   -- this many frames were sent, and nothing has ended
-  goesOn : ℕ → Progress
+  goes_on : ℕ → Progress
   -- "At n - t acks it has ended"; "closes the write as out of stamps"
-  writeEnds writeCloses : Progress
+  write_ends write_closes : Progress
   -- the read is completed, "its stamp is where its search stopped"; request F-7: it "reports the disagreement"
-  readGives : Stamp → Progress
-  readDisagrees : Progress
+  read_gives : Stamp → Progress
+  read_disagrees : Progress
 
-abbrev pub answerResponse : Answer → Response Progress
-answerResponse (Y.Sent m) = gives (goesOn m)
-answerResponse Y.Written = gives writeEnds
-answerResponse Y.OutOfStamps = gives writeCloses
-answerResponse (Y.Value x) = gives (readGives x)
-answerResponse Y.Disagreement = gives readDisagrees
-answerResponse (Y.Refused r) = turned_down (number_of r)
+abbrev pub answer_response : Answer → Response Progress
+answer_response (Y.Sent m) = gives (goes_on m)
+answer_response Y.Written = gives write_ends
+answer_response Y.OutOfStamps = gives write_closes
+answer_response (Y.Value x) = gives (read_gives x)
+answer_response Y.Disagreement = gives read_disagrees
+answer_response (Y.Refused r) = turned_down (number_of r)

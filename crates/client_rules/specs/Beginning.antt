@@ -16,7 +16,7 @@ use Rattle.client_rules.specs.declared.Client.{Client}
 use Rattle.client_rules.specs.declared.Answered.{Answered}
 use Rattle.client_rules.specs.declared.Phase.{Phase}
 use Rattle.client_rules.specs.declared.Phase.TheVariants as F
-use Rattle.client_rules.specs.Answers.{Progress, goesOn, answerResponse}
+use Rattle.client_rules.specs.Answers.{Progress, goes_on, answer_response}
 use Rattle.client_rules.specs.State.{fresh_row, idle}
 use Rattle.client_rules.specs.Tests.{send_room}
 use Rattle.client_rules.specs.Steps.{nothing, Effect, quiet}
@@ -29,7 +29,7 @@ pub record Begun : Type 0 where
   pub to : List ℕ
 
 abbrev pub begun : Answered → List ℕ → List ℕ → Begun
-begun r out to = record { answer = answerResponse r.answer; client = r.client; out = out; to = to }
+begun r out to = record { answer = answer_response r.answer; client = r.client; out = out; to = to }
 
 -- ---- the tests
 
@@ -112,7 +112,7 @@ module _ (g : Params) (me : ℕ) where
 
   unfoldable pub begun_of : Verdict → Effect → List ℕ → List ℕ → Begun
   begun_of b x out to = record {
-    answer = answered_by b (goesOn (length x.sends));
+    answer = answered_by b (goes_on (length x.sends));
     client = x.client;
     out = sets out 0 (frames x.sends);
     to = sets to 0 (receivers x.sends);

@@ -11,7 +11,7 @@ use Rattle.frame.specs.Messages.{Judged, bad, good}
 use Rattle.frame.specs.Outbox.{frames, receivers}
 use Rattle.client_rules.specs.declared.Client.{Client}
 use Rattle.client_rules.specs.declared.Answered.{Answered}
-use Rattle.client_rules.specs.Answers.{Progress, goesOn, writeEnds, writeCloses, readGives, readDisagrees, answerResponse}
+use Rattle.client_rules.specs.Answers.{Progress, goes_on, write_ends, write_closes, read_gives, read_disagrees, answer_response}
 use Rattle.client_rules.specs.Tests.{judge}
 use Rattle.client_rules.specs.Steps.{Event, nothing, written, out_of_stamps, stopped, Effect, quiet, effect}
 
@@ -25,18 +25,18 @@ pub record Outcome : Type 0 where
   pub to : List ℕ
 
 abbrev pub outcome : Answered → List ℕ → List ℕ → List ℕ → List ℕ → Outcome
-outcome r area result out to = record { answer = answerResponse r.answer; client = r.client; area = area; result = result; out = out; to = to }
+outcome r area result out to = record { answer = answer_response r.answer; client = r.client; area = area; result = result; out = out; to = to }
 
 -- the end of a read at a stamp: its value, or the disagreement of its blocks, which is a result and no refusal (request F-7)
 abbrev pub read_progress : Stamp → Option (List ℕ) → Progress
-read_progress x none = readDisagrees
-read_progress x (some v) = readGives x
+read_progress x none = read_disagrees
+read_progress x (some v) = read_gives x
 
 -- of a step with an event and this many frames sent
 unfoldable pub progress_by : Event → ℕ → Progress
-progress_by nothing c = goesOn c
-progress_by written c = writeEnds
-progress_by out_of_stamps c = writeCloses
+progress_by nothing c = goes_on c
+progress_by written c = write_ends
+progress_by out_of_stamps c = write_closes
 progress_by (stopped x) c = read_progress x.stamp x.bytes
 
 unfoldable pub answer_of : Judged → Effect → Response Progress

@@ -37,7 +37,7 @@ use Rattle.client_rules.specs.Steps.{complete_by, settle}
 use Rattle.client_rules.proofs.Agreed.{first_agreed_lem}
 use Rattle.client.specs.Stages.{Lent, stepped}
 use Rattle.frame.proofs.Rooms.{room_within}
-use Rattle.client_rules.specs.Answers.{goesOn, answerResponse}
+use Rattle.client_rules.specs.Answers.{goes_on, answer_response}
 use Rattle.client_rules.specs.Delivery.{Outcome, read_progress, read_result, progress_by, result_of}
 use Rattle.client_search.specs.declared.Hits.{Hits}
 use Rattle.client_search.specs.declared.Stop.{Stop}
@@ -144,7 +144,7 @@ module _ (g : Params) (rows : List Row) (a : List ℕ) (result out to : ℕ) (le
 
 -- ---- the outcome
 
-answer_by_lem : (b : Bool) (x : Stamp) (v : List ℕ) → answerResponse (pick b (Y.Value x) Y.Disagreement) ≡ gives (read_progress x (pick b (some v) none))
+answer_by_lem : (b : Bool) (x : Stamp) (v : List ℕ) → answer_response (pick b (Y.Value x) Y.Disagreement) ≡ gives (read_progress x (pick b (some v) none))
 unfolding pick
 answer_by_lem true x v = refl
 answer_by_lem false x v = refl
@@ -158,7 +158,7 @@ module _ (g : Params) (me : ℕ) (s : Client) (a result out to : List ℕ) where
       → s' ≡ in_phase s F.Idle s.heard s.times
       → ◌≡◌ {A = Outcome}
       (record {
-        answer = answerResponse y;
+        answer = answer_response y;
         client = s';
         area = a;
         result = r;
@@ -169,7 +169,7 @@ module _ (g : Params) (me : ℕ) (s : Client) (a result out to : List ℕ) where
   unfolding stepped complete_by found_of progress_by result_of sent
   finish_law j i r o t q b y s' p d n e c =
       let f : ℕ → Option Entry = λ m. at_stamp (view g s.rows a m) (kept_at g s.rows a j i).stamp in
-      let h = ap answerResponse (n ∙ ap (λ (c : Bool). pick c (Y.Value (kept_at g s.rows a j i).stamp) Y.Disagreement) p)
+      let h = ap answer_response (n ∙ ap (λ (c : Bool). pick c (Y.Value (kept_at g s.rows a j i).stamp) Y.Disagreement) p)
       ∙ answer_by_lem (agreeing g f (entry_at g a (place_at j i)).digests) (kept_at g s.rows a j i).stamp (lowest_value g f (entry_at g a (place_at j i)).digests)
       ∙ sym (ap (λ o. gives (read_progress (kept_at g s.rows a j i).stamp o)) (decoded_by g f (entry_at g a (place_at j i)).digests)) in
       let u : o ≡ sets out 0 (frames (to_all g (λ m. message me s.reads read_complete))) = ap (λ (b : Outbox). b.out) e in
@@ -193,7 +193,7 @@ module _ (g : Params) (me : ℕ) (s : Client) (a result out to : List ℕ) where
     -- nothing is found
     pub settle_none : p ≡ Nowhere
         → ◌≡◌ {A = Outcome}
-        (record { answer = gives (goesOn 0); client = s; area = a; result = result; out = out; to = to })
+        (record { answer = gives (goes_on 0); client = s; area = a; result = result; out = out; to = to })
         (stepped (settle digest_of g me s a) result out to)
     unfolding stepped complete_by found_by progress_by result_of frames receivers
     settle_none e = sym (ap (λ x. stepped x result out to) (stopped Nowhere e))

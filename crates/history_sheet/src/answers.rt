@@ -1,12 +1,12 @@
 // The answer to a host for a season sheet, as one number.
 ghost use Rattle.std.specs.Prelude.{◌≡◌};
 ghost use Rattle.history_sheet.specs.Laying.{laid_response};
-ghost use Rattle.history_sheet.specs.Answers.{sheetAnswer};
+ghost use Rattle.history_sheet.specs.Answers.{sheet_answer};
 
 use crate::Laid;
 
 pub fn sheet_answer(a: Laid) -> u64
-    ensures { result ≡ sheetAnswer (laid_response a) }
+    ensures { result ≡ sheet_answer (laid_response a) }
 {
     match a {
         Laid::Pages(pages) => 65536 * (pages as u64 % 256),

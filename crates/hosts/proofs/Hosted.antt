@@ -30,7 +30,7 @@ use Rattle.server_rules.specs.declared.Reader.{Reader}
 use Rattle.server_rules.specs.Delivery as SD
 use Rattle.server_rules.proofs.Within.{either}
 use Rattle.server_rules.proofs.Parts.{put_same, put_cases}
-use Rattle.client_rules.specs.Answers.{Progress, goesOn}
+use Rattle.client_rules.specs.Answers.{Progress, goes_on}
 use Rattle.client_rules.specs.declared.Client.{Client}
 use Rattle.client_rules.specs.declared.Phase.{Phase}
 use Rattle.client_rules.specs.declared.Phase.TheVariants as F
@@ -50,7 +50,7 @@ use Rattle.layout.specs.Fields.{stamp_size}
 use Rattle.layout.specs.Clients.{client_size, client_bytes, client_in}
 use Rattle.layout.specs.Servers.{server_size, server_bytes, server_in, slot_bytes, reader_bytes, scope_sets}
 use Rattle.layout.specs.Left.{left_by}
-use Rattle.site.specs.Answers.{client_answer, openAnswer}
+use Rattle.site.specs.Answers.{client_answer, open_answer}
 use Rattle.server_deliver.specs.Answers.{server_answer}
 use Rattle.server_deliver.specs.Records.{outcome_at, constructed_at}
 use Rattle.server_deliver.proofs.Records.{whole_record}
@@ -139,8 +139,8 @@ low : (k m : ℕ) → k < 65536 → (k + 65536 * m) % 65536 ≡ k
 low k m h = omega arith
 
 module _ (w r : ℕ) where
-  open_read_lem : (p : Phase) → write_open (openAnswer p w r) ≡ writing p
-  unfolding openAnswer
+  open_read_lem : (p : Phase) → write_open (open_answer p w r) ≡ writing p
+  unfolding open_answer
   open_read_lem F.Idle = refl
   open_read_lem F.Asking = ap (λ x. eqb x 256 || eqb x 512) (low 256 w (omega arith))
   open_read_lem F.Acking = ap (λ x. eqb x 256 || eqb x 512) (low 512 w (omega arith))
@@ -158,7 +158,7 @@ refused_low r = let h = number_bounds r in ne_eqb (number_of r % 65536) 0 (λ e.
 
 -- the answer of semduoli_begin_write says whether the write was begun
 kept_by_lem : (Z : Setup) (w : World) (n m : ℕ) (b : Verdict) (v old : List ℕ)
-    → kept_by (client_answer n (answered_by b (goesOn m))) v old ≡ value_by Z w (answered_by b (goesOn m)) v old
+    → kept_by (client_answer n (answered_by b (goes_on m))) v old ≡ value_by Z w (answered_by b (goes_on m)) v old
 unfolding client_answer pick
 kept_by_lem Z w n m J.Fine v old = let h : 65536 * (m % 65536) % 65536 ≡ 0 = omega arith in ap (λ x. pick (eqb x 0) v old) h
 kept_by_lem Z w n m (J.Bad r) v old = ap (λ b. pick b v old) (refused_low r)

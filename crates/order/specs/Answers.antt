@@ -4,14 +4,14 @@ use Rattle.area.specs.Responses.{Response, turned_down, gives}
 use Rattle.order.specs.Histories.{Finding, has_order, no_order}
 
 -- how many line numbers an answer gives
-unfoldable pub lineCount : Response Finding → ℕ
-lineCount (gives (has_order m)) = m
-lineCount (gives (no_order a b)) = 0
-lineCount (turned_down n) = 0
+unfoldable pub line_count : Response Finding → ℕ
+line_count (gives (has_order m)) = m
+line_count (gives (no_order a b)) = 0
+line_count (turned_down n) = 0
 
 -- 0, its operations have an order, as many as the bytes above say; 1, a pair of them offends, the line number of the earlier in the byte above
 -- and that of the later in the byte above that
-unfoldable pub historyAnswer : Response Finding → ℕ
-historyAnswer (gives (has_order m)) = 65536 * (m % 256)
-historyAnswer (gives (no_order a b)) = 256 + 65536 * (a % 256) + 16777216 * (b % 256)
-historyAnswer (turned_down n) = n
+unfoldable pub history_answer : Response Finding → ℕ
+history_answer (gives (has_order m)) = 65536 * (m % 256)
+history_answer (gives (no_order a b)) = 256 + 65536 * (a % 256) + 16777216 * (b % 256)
+history_answer (turned_down n) = n

@@ -1,13 +1,13 @@
 // The number that a host is answered for a history.
 ghost use Rattle.std.specs.Prelude.{◌≡◌};
 ghost use Rattle.order.specs.Histories.{judge_response};
-ghost use Rattle.order.specs.Answers.{lineCount, historyAnswer};
+ghost use Rattle.order.specs.Answers.{line_count, history_answer};
 
 use crate::judge::Answer;
 
 // How many line numbers an answer gives.
 pub fn line_count(a: Answer) -> usize
-    ensures { result ≡ lineCount (judge_response a) }
+    ensures { result ≡ line_count (judge_response a) }
 {
     match a {
         Answer::Ordered(m) => m,
@@ -17,7 +17,7 @@ pub fn line_count(a: Answer) -> usize
 }
 
 pub fn history_answer(a: Answer) -> u64
-    ensures { result ≡ historyAnswer (judge_response a) }
+    ensures { result ≡ history_answer (judge_response a) }
 {
     match a {
         Answer::Ordered(m) => 65536 * (m as u64 % 256),

@@ -10,7 +10,7 @@ use Rattle.playback.specs.declared.Ending.{Ending}
 use Rattle.playback.specs.declared.Ending.TheVariants as E
 use Rattle.playback.specs.declared.Summary.{Summary}
 use Rattle.playback.specs.Playback.{end_in, summed, playback_response}
-use Rattle.playback.specs.Answers.{closedAnswer, summaryAnswer, playbackAnswer}
+use Rattle.playback.specs.Answers.{closed_answer, summary_answer, playback_answer}
 
 -- ---- the answer
 
@@ -18,22 +18,22 @@ module _ (x : Summary) where
   abbrev counted : ℕ
   counted = 16777216 * (x.entries % 1099511627776)
 
-  pub whole_summary : x.ending ≡ E.Whole → counted ≡ summaryAnswer (summed x)
-  unfolding summaryAnswer closedAnswer
-  whole_summary p = sym (ap (λ (y : Ending). closedAnswer (end_in y) + counted) p ∙ zero-add counted)
+  pub whole_summary : x.ending ≡ E.Whole → counted ≡ summary_answer (summed x)
+  unfolding summary_answer closed_answer
+  whole_summary p = sym (ap (λ (y : Ending). closed_answer (end_in y) + counted) p ∙ zero-add counted)
 
-  pub malformed_summary : (i : ℕ) → x.ending ≡ E.Malformed i → 256 * 22 + counted ≡ summaryAnswer (summed x)
-  unfolding summaryAnswer closedAnswer
-  malformed_summary i p = sym (ap (λ (y : Ending). closedAnswer (end_in y) + counted) p)
+  pub malformed_summary : (i : ℕ) → x.ending ≡ E.Malformed i → 256 * 22 + counted ≡ summary_answer (summed x)
+  unfolding summary_answer closed_answer
+  malformed_summary i p = sym (ap (λ (y : Ending). closed_answer (end_in y) + counted) p)
 
-  pub cut_summary : (i : ℕ) → x.ending ≡ E.Cut i → 256 * 23 + counted ≡ summaryAnswer (summed x)
-  unfolding summaryAnswer closedAnswer
-  cut_summary i p = sym (ap (λ (y : Ending). closedAnswer (end_in y) + counted) p)
+  pub cut_summary : (i : ℕ) → x.ending ≡ E.Cut i → 256 * 23 + counted ≡ summary_answer (summed x)
+  unfolding summary_answer closed_answer
+  cut_summary i p = sym (ap (λ (y : Ending). closed_answer (end_in y) + counted) p)
 
-pub played_answer : (a : Answer) (x : Summary) (r : ℕ) → a ≡ A.Played x → r ≡ summaryAnswer (summed x) → r ≡ playbackAnswer (playback_response a)
-unfolding playbackAnswer
-played_answer a x r e f = f ∙ sym (ap (λ z. playbackAnswer (playback_response z)) e)
+pub played_answer : (a : Answer) (x : Summary) (r : ℕ) → a ≡ A.Played x → r ≡ summary_answer (summed x) → r ≡ playback_answer (playback_response a)
+unfolding playback_answer
+played_answer a x r e f = f ∙ sym (ap (λ z. playback_answer (playback_response z)) e)
 
-pub refused_answer : (a : Answer) (x : Refusal) (r : ℕ) → a ≡ A.Refused x → r ≡ number_of x → r ≡ playbackAnswer (playback_response a)
-unfolding playbackAnswer
-refused_answer a x r e f = f ∙ sym (ap (λ z. playbackAnswer (playback_response z)) e)
+pub refused_answer : (a : Answer) (x : Refusal) (r : ℕ) → a ≡ A.Refused x → r ≡ number_of x → r ≡ playback_answer (playback_response a)
+unfolding playback_answer
+refused_answer a x r e f = f ∙ sym (ap (λ z. playback_answer (playback_response z)) e)

@@ -4,14 +4,14 @@ use Rattle.area.specs.Responses.{Response, turned_down, gives}
 use Rattle.playback.specs.Playback.{End, whole, closed_with, Summed}
 
 -- how the trace closed, in the second byte: 22 or 23; 0 where it is whole
-unfoldable pub closedAnswer : End → ℕ
-closedAnswer whole = 0
-closedAnswer (closed_with n i) = 256 * n
+unfoldable pub closed_answer : End → ℕ
+closed_answer whole = 0
+closed_answer (closed_with n i) = 256 * n
 
 -- from the fourth byte on, how many entries were played; the third byte is 0
-unfoldable pub summaryAnswer : Summed → ℕ
-summaryAnswer x = closedAnswer x.ending + 16777216 * (x.entries % 1099511627776)
+unfoldable pub summary_answer : Summed → ℕ
+summary_answer x = closed_answer x.ending + 16777216 * (x.entries % 1099511627776)
 
-unfoldable pub playbackAnswer : Response Summed → ℕ
-playbackAnswer (gives x) = summaryAnswer x
-playbackAnswer (turned_down n) = n
+unfoldable pub playback_answer : Response Summed → ℕ
+playback_answer (gives x) = summary_answer x
+playback_answer (turned_down n) = n

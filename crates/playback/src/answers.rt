@@ -1,7 +1,7 @@
 // A playback's answer to a host, as one number.
 ghost use Rattle.std.specs.Prelude.{◌≡◌};
 ghost use Rattle.playback.specs.Playback.{summed, playback_response};
-ghost use Rattle.playback.specs.Answers.{summaryAnswer, playbackAnswer};
+ghost use Rattle.playback.specs.Answers.{summary_answer, playback_answer};
 
 use crate::{Answer, Ending, Summary};
 use frame::refusals::number_of;
@@ -13,7 +13,7 @@ const CUT: u64 = 256 * 23;
 
 // How the trace closed, and from the fourth byte on how many entries were played.
 fn summary_answer(x: Summary) -> u64
-    ensures { result ≡ summaryAnswer (summed x) }
+    ensures { result ≡ summary_answer (summed x) }
 {
     let ending = x.ending;
     let entries = x.entries as u64 % 1099511627776;
@@ -25,7 +25,7 @@ fn summary_answer(x: Summary) -> u64
 }
 
 pub fn playback_answer(a: Answer) -> u64
-    ensures { result ≡ playbackAnswer (playback_response a) }
+    ensures { result ≡ playback_answer (playback_response a) }
 {
     match a {
         Answer::Played(x) => summary_answer(x),

@@ -11,7 +11,7 @@ use Rattle.frame.specs.declared.Stamp.{Stamp}
 use Rattle.frame.specs.declared.Party.{Party}
 use Rattle.frame.specs.Messages.{Judged, bad, good}
 use Rattle.client_rules.specs.declared.Client.{Client}
-use Rattle.client_rules.specs.Answers.{Progress, readGives}
+use Rattle.client_rules.specs.Answers.{Progress, read_gives}
 use Rattle.client_rules.specs.Rows.{Found}
 use Rattle.client_rules.specs.Steps as C
 use Rattle.client_rules.specs.Tests as CT
@@ -22,7 +22,7 @@ use Rattle.runs.specs.Answers.{Tells, AnswersTell}
 found_same : (x y : Found) → C.stopped x ≡ C.stopped y → x ≡ y
 found_same x y e = cc
 
-stamp_same : (s r : Stamp) → ◌≡◌ {A = Response Progress} (gives (readGives s)) (gives (readGives r)) → s ≡ r
+stamp_same : (s r : Stamp) → ◌≡◌ {A = Response Progress} (gives (read_gives s)) (gives (read_gives r)) → s ≡ r
 stamp_same s r e = cc
 
 -- a read that ends, with its value and without
@@ -33,49 +33,49 @@ told_read y o b result = subst (λ o. Tells (C.stopped y) (gives (CD.read_progre
     go : (o : Option (List ℕ)) → y.bytes ≡ o → Tells (C.stopped y) (gives (CD.read_progress y.stamp o)) result (CD.read_result o result)
     go none b = record {
       completes = λ x v e c. let h = found_same y x e in impossible (cc);
-      completed-only = λ s e. impossible (cc);
+      completed_only = λ s e. impossible (cc);
       disagrees = λ x e c. (refl, refl);
-      disagreed-only = λ e. (y, refl, b);
+      disagreed_only = λ e. (y, refl, b);
       ends = λ e. impossible (cc);
-      ended-only = λ e. impossible (cc);
+      ended_only = λ e. impossible (cc);
     }
     go (some u) b = record {
       completes = λ x v e c.
           let h = found_same y x e in
           let w : u ≡ v = cc in
-          (ap (λ z. gives (readGives z.stamp)) h, ap (sets result 0) w);
-      completed-only = λ s e. (y, u, refl, stamp_same y.stamp s e, b);
+          (ap (λ z. gives (read_gives z.stamp)) h, ap (sets result 0) w);
+      completed_only = λ s e. (y, u, refl, stamp_same y.stamp s e, b);
       disagrees = λ x e c. let h = found_same y x e in impossible (cc);
-      disagreed-only = λ e. impossible (cc);
+      disagreed_only = λ e. impossible (cc);
       ends = λ e. impossible (cc);
-      ended-only = λ e. impossible (cc);
+      ended_only = λ e. impossible (cc);
     }
 
 told : (ev : C.Event) (n : ℕ) (result : List ℕ) → Tells ev (gives (CD.progress_by ev n)) result (CD.result_of ev result)
 unfolding CD.progress_by CD.result_of
 told C.nothing n result = record {
   completes = λ x v e b. impossible (cc);
-  completed-only = λ s e. impossible (cc);
+  completed_only = λ s e. impossible (cc);
   disagrees = λ x e b. impossible (cc);
-  disagreed-only = λ e. impossible (cc);
+  disagreed_only = λ e. impossible (cc);
   ends = λ e. impossible (cc);
-  ended-only = λ e. impossible (cc);
+  ended_only = λ e. impossible (cc);
 }
 told C.written n result = record {
   completes = λ x v e b. impossible (cc);
-  completed-only = λ s e. impossible (cc);
+  completed_only = λ s e. impossible (cc);
   disagrees = λ x e b. impossible (cc);
-  disagreed-only = λ e. impossible (cc);
+  disagreed_only = λ e. impossible (cc);
   ends = λ e. refl;
-  ended-only = λ e. refl;
+  ended_only = λ e. refl;
 }
 told C.out_of_stamps n result = record {
   completes = λ x v e b. impossible (cc);
-  completed-only = λ s e. impossible (cc);
+  completed_only = λ s e. impossible (cc);
   disagrees = λ x e b. impossible (cc);
-  disagreed-only = λ e. impossible (cc);
+  disagreed_only = λ e. impossible (cc);
   ends = λ e. impossible (cc);
-  ended-only = λ e. impossible (cc);
+  ended_only = λ e. impossible (cc);
 }
 told (C.stopped y) n result = told_read y y.bytes refl result
 
@@ -85,11 +85,11 @@ module _ (H : List ℕ → List ℕ) (g : Params) (me : ℕ) (s : Client) (a v :
   unfolding CD.outcome_of CD.effect_by CD.answer_of
   told_by_lem (bad r) = record {
     completes = λ x v e b. impossible (cc);
-    completed-only = λ t e. impossible (cc);
+    completed_only = λ t e. impossible (cc);
     disagrees = λ x e b. impossible (cc);
-    disagreed-only = λ e. impossible (cc);
+    disagreed_only = λ e. impossible (cc);
     ends = λ e. impossible (cc);
-    ended-only = λ e. impossible (cc);
+    ended_only = λ e. impossible (cc);
   }
   told_by_lem (good m) = told (C.effect H g me s a v from m).event _ result
 

@@ -33,7 +33,7 @@ use Rattle.server_rules.specs.declared.Server.{Server}
 use Rattle.server_rules.specs.Tests as ST
 use Rattle.server_rules.specs.Delivery as SD
 use Rattle.client_rules.specs.declared.Client.{Client}
-use Rattle.client_rules.specs.Answers.{goesOn}
+use Rattle.client_rules.specs.Answers.{goes_on}
 use Rattle.client_rules.specs.Tests as CT
 use Rattle.client_rules.specs.Steps as C
 use Rattle.client_rules.specs.Delivery as CD
@@ -42,7 +42,7 @@ use Rattle.steps.proofs.ClientTaken.{by_fine, after_fine, send_room_lem, took_ro
 use Rattle.steps.proofs.SendCount.{server_sends, event_sends, client_sends, read_sends, write_sends}
 use Rattle.runs.specs.World.{Setup, Call, to_server, to_client, begin_read, begin_write, caller, World, initial_of, lent_to, run, sends}
 use Rattle.runs.specs.Admissible.{Honest, Proper, Admissible}
-use Rattle.runs.specs.Answers.{framesIn, receiversIn, answerCount, said, AnswersReadBack}
+use Rattle.runs.specs.Answers.{frames_in, receivers_in, answer_count, said, AnswersReadBack}
 use Rattle.runs.proofs.Assumed.{Assumed, assumed}
 use Rattle.runs.proofs.Agreement.{small}
 use Rattle.runs.proofs.Formation.{formed}
@@ -50,8 +50,8 @@ use Rattle.runs.proofs.Formation.{formed}
 -- ---- frames end to end
 
 module _ (g : Params) (B : Bounded g) where
-  pub frames_back : (xs : List Sending) → AllFormed g xs → (rest : List ℕ) → framesIn (length xs) (frames xs ++ rest) ≡ map (λ x. build x.says) xs
-  unfolding framesIn frames
+  pub frames_back : (xs : List Sending) → AllFormed g xs → (rest : List ℕ) → frames_in (length xs) (frames xs ++ rest) ≡ map (λ x. build x.says) xs
+  unfolding frames_in frames
   frames_back [] f rest = refl
   frames_back (x ∷ xs) f rest =
       let b = build x.says in
@@ -60,28 +60,28 @@ module _ (g : Params) (B : Bounded g) where
       let t : take (be2 (b ++ (frames xs ++ rest)) 0 + 2) (b ++ (frames xs ++ rest)) ≡ b = take_at b (frames xs ++ rest) _ n in
       let d : drop (be2 (b ++ (frames xs ++ rest)) 0 + 2) (b ++ (frames xs ++ rest)) ≡ frames xs ++ rest = drop_at b (frames xs ++ rest) _ n in
       let r = frames_back xs f.1 rest in
-      ap (λ z. take (be2 z 0 + 2) z ∷ framesIn (length xs) (drop (be2 z 0 + 2) z)) l ∙ (λ i. t i ∷ framesIn (length xs) (d i)) ∙ ap (λ z. b ∷ z) r
+      ap (λ z. take (be2 z 0 + 2) z ∷ frames_in (length xs) (drop (be2 z 0 + 2) z)) l ∙ (λ i. t i ∷ frames_in (length xs) (d i)) ∙ ap (λ z. b ∷ z) r
 
 -- ---- receivers
 
-pub receivers_back : (xs : List Sending) (rest : List ℕ) → receiversIn (length xs) (receivers xs ++ rest) ≡ map (λ x. x.receiver) xs
-unfolding receiversIn receivers
+pub receivers_back : (xs : List Sending) (rest : List ℕ) → receivers_in (length xs) (receivers xs ++ rest) ≡ map (λ x. x.receiver) xs
+unfolding receivers_in receivers
 receivers_back [] rest = refl
 receivers_back (x ∷ xs) rest =
     let l = append_assoc (party_bytes x.receiver) (receivers xs) rest in
     let w = party_back x.receiver (receivers xs ++ rest) in
     let r = receivers_back xs rest in
-    ap (λ z. party_in (get_or z 0 0) (get_or z 1 0) ∷ receiversIn (length xs) (drop 2 z)) l ∙ (λ i. w.0 i ∷ receiversIn (length xs) (w.1 i))
+    ap (λ z. party_in (get_or z 0 0) (get_or z 1 0) ∷ receivers_in (length xs) (drop 2 z)) l ∙ (λ i. w.0 i ∷ receivers_in (length xs) (w.1 i))
     ∙ ap (λ z. x.receiver ∷ z) r
 
 -- ---- what a step writes
 
 -- m frames and receivers in an out and a to area are those of xs
 abbrev Back : ℕ → List Sending → List ℕ → List ℕ → Type 0
-Back m xs out to = (framesIn m out ≡ map (λ x. build x.says) xs) × (receiversIn m to ≡ map (λ x. x.receiver) xs)
+Back m xs out to = (frames_in m out ≡ map (λ x. build x.says) xs) × (receivers_in m to ≡ map (λ x. x.receiver) xs)
 
 nothing_back : (out to : List ℕ) → Back 0 [] out to
-unfolding framesIn receiversIn
+unfolding frames_in receivers_in
 nothing_back out to = (refl, refl)
 
 written_back : (g : Params) → Bounded g → (xs : List Sending) → AllFormed g xs → (m : ℕ) → length xs ≤ m → (out to : List ℕ) → out_room g m ≤ length out
@@ -92,8 +92,8 @@ written_back g B xs f m h out to o t =
     let more = mul-le-mul_right {m = length xs} {n = m} (largest_frame g) h in
     let long : 0 + length (frames xs) ≤ length out = omega (arith, few, more, o) in
     let wide : 0 + length (receivers xs) ≤ length to = omega (arith, length_receivers xs, h, t) in (
-      ap (framesIn (length xs)) (sets-eq (frames xs) out 0 long) ∙ frames_back g B xs f _,
-      ap (receiversIn (length xs)) (sets-eq (receivers xs) to 0 wide) ∙ receivers_back xs _,
+      ap (frames_in (length xs)) (sets-eq (frames xs) out 0 long) ∙ frames_back g B xs f _,
+      ap (receivers_in (length xs)) (sets-eq (receivers xs) to 0 wide) ∙ receivers_back xs _,
     )
 
 -- ---- a frame that is taken found room
@@ -129,14 +129,14 @@ module _ (H : List ℕ → List ℕ) (g : Params) (me : ℕ) where
           (ltb-false _ _ p₃.0, ltb-false _ _ p₄.0)
 
   -- the count in a client's answer
-  count_is : (v : C.Event) (m : ℕ) → answerCount g (gives (CD.progress_by v m)) ≡ event_sends H g me v m
+  count_is : (v : C.Event) (m : ℕ) → answer_count g (gives (CD.progress_by v m)) ≡ event_sends H g me v m
   unfolding CD.progress_by
   count_is C.nothing m = refl
   count_is C.written m = refl
   count_is C.out_of_stamps m = refl
   count_is (C.stopped x) m = of_read x.bytes
     where
-      of_read : (o : Option (List ℕ)) → answerCount g (gives (CD.read_progress x.stamp o)) ≡ g.n
+      of_read : (o : Option (List ℕ)) → answer_count g (gives (CD.read_progress x.stamp o)) ≡ g.n
       of_read none = refl
       of_read (some v) = refl
 
@@ -197,14 +197,14 @@ module _ (Z : Setup) (G : Assumed Z) where
       v = lent_to Z w c lent
 
       go : (j : Judged) → CT.judge H g c s a v from f result out to ≡ j → AllFormed g (CD.effect_by H g c j s a v from).sends
-          → Back (answerCount g (CD.answer_of j (CD.effect_by H g c j s a v from))) (CD.effect_by H g c j s a v from).sends
+          → Back (answer_count g (CD.answer_of j (CD.effect_by H g c j s a v from))) (CD.effect_by H g c j s a v from).sends
           (sets out 0 (frames (CD.effect_by H g c j s a v from).sends)) (sets to 0 (receivers (CD.effect_by H g c j s a v from).sends))
       go (bad r) e F = nothing_back _ _
       go (good m) e F =
           let r = took_room H g c s a v from f result out to m e in
           let S = client_sends H g c s a v from m in
           let x = C.effect H g c s a v from m in
-          let n : length x.sends ≡ answerCount g (gives (CD.progress_by x.event (length x.sends))) =
+          let n : length x.sends ≡ answer_count g (gives (CD.progress_by x.event (length x.sends))) =
           sym (count_is H g c x.event (length x.sends) ∙ S.event) in
           subst (λ y. Back y x.sends (sets out 0 (frames x.sends)) (sets to 0 (receivers x.sends))) n
           (written_back g G.bounded x.sends F (client_frames g) S.few out to r.out_room_lem r.to_room_lem)
@@ -217,7 +217,7 @@ module _ (Z : Setup) (G : Assumed Z) where
       s = (w.clients c).client
 
       go : (b : Verdict) → CB.read_test g c s out to ≡ b → AllFormed g (CB.begin_by g c b s (CB.open_read g c s)).sends
-          → Back (answerCount g (answered_by b (goesOn (length (CB.begin_by g c b s (CB.open_read g c s)).sends))))
+          → Back (answer_count g (answered_by b (goes_on (length (CB.begin_by g c b s (CB.open_read g c s)).sends))))
           (CB.begin_by g c b s (CB.open_read g c s)).sends
           (sets out 0 (frames (CB.begin_by g c b s (CB.open_read g c s)).sends)) (sets to 0 (receivers (CB.begin_by g c b s (CB.open_read g c s)).sends))
       go (J.Bad r) e F = nothing_back _ _
@@ -233,7 +233,7 @@ module _ (Z : Setup) (G : Assumed Z) where
       s = (w.clients c).client
 
       go : (b : Verdict) → CB.write_test g c s v out to ≡ b → AllFormed g (CB.begin_by g c b s (CB.open_write g c s)).sends
-          → Back (answerCount g (answered_by b (goesOn (length (CB.begin_by g c b s (CB.open_write g c s)).sends))))
+          → Back (answer_count g (answered_by b (goes_on (length (CB.begin_by g c b s (CB.open_write g c s)).sends))))
           (CB.begin_by g c b s (CB.open_write g c s)).sends
           (sets out 0 (frames (CB.begin_by g c b s (CB.open_write g c s)).sends)) (sets to 0 (receivers (CB.begin_by g c b s (CB.open_write g c s)).sends))
       go (J.Bad r) e F = nothing_back _ _

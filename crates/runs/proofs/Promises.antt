@@ -24,7 +24,7 @@ use Rattle.server_rules.proofs.Shapes.{Shape, idle, answers, notes, ends, settle
 use Rattle.server_rules.proofs.Speaking.{counted_cast}
 use Rattle.server_rules.specs.Tests as ST
 use Rattle.client_rules.specs.declared.Client.{Client}
-use Rattle.client_rules.specs.Answers.{goesOn}
+use Rattle.client_rules.specs.Answers.{goes_on}
 use Rattle.client_rules.specs.Delivery as CD
 use Rattle.client_rules.specs.Beginning as CB
 use Rattle.runs.specs.World.{Setup, Call, to_server, to_client, begin_read, begin_write, caller, World, initial_of, lent_by, step, put}
@@ -37,7 +37,7 @@ other_put f i v j ne = ⊎_elim (λ w. absurd (ne (sym w.0))) (λ w. w) (put_cas
 
 -- the answer says whether the write was begun
 value_told : (Z : Setup) (w : World) (c : ℕ) (s : Client) (b : Verdict) (v old : List ℕ)
-    → lent_by Z b v old ≡ value_by Z w (answered_by b (goesOn (length (CB.begin_by Z.g c b s (CB.open_write Z.g c s)).sends))) v old
+    → lent_by Z b v old ≡ value_by Z w (answered_by b (goes_on (length (CB.begin_by Z.g c b s (CB.open_write Z.g c s)).sends))) v old
 value_told Z w c s J.Fine v old = refl
 value_told Z w c s (J.Bad r) v old = refl
 
@@ -125,7 +125,7 @@ accepted_where_acked Z w i from f out to = delivery_acks Z.H Z.g i (w.servers i)
 
 -- ---- where an operation begins
 
-begins : (b : Verdict) (m : ℕ) → Begins b (answered_by b (goesOn m))
+begins : (b : Verdict) (m : ℕ) → Begins b (answered_by b (goes_on m))
 begins J.Fine m = record { sent = λ e. (_, refl); sent_only = λ m e. refl }
 begins (J.Bad r) m = record { sent = λ e. impossible (cc); sent_only = λ m e. impossible (cc) }
 

@@ -11,7 +11,7 @@ use Rattle.frame.specs.declared.Party.{Party}
 use Rattle.frame.specs.Frames.{build}
 use Rattle.frame.specs.Outbox.{party_in}
 use Rattle.server_rules.specs.Delivery as SD
-use Rattle.client_rules.specs.Answers.{Progress, goesOn, writeEnds, writeCloses, readGives, readDisagrees}
+use Rattle.client_rules.specs.Answers.{Progress, goes_on, write_ends, write_closes, read_gives, read_disagrees}
 use Rattle.client_rules.specs.Rows.{Found}
 use Rattle.client_rules.specs.Steps as C
 use Rattle.client_rules.specs.Delivery as CD
@@ -21,23 +21,23 @@ use Rattle.runs.specs.World.{begin_write, World, initial_of, lent_to, client_eff
 use Rattle.runs.specs.Admissible.{Admissible}
 
 -- m frames from the front of an out area
-unfoldable pub framesIn : ℕ → List ℕ → List (List ℕ)
-framesIn zero l = []
-framesIn (suc m) l = take (be2 l 0 + 2) l ∷ framesIn m (drop (be2 l 0 + 2) l)
+unfoldable pub frames_in : ℕ → List ℕ → List (List ℕ)
+frames_in zero l = []
+frames_in (suc m) l = take (be2 l 0 + 2) l ∷ frames_in m (drop (be2 l 0 + 2) l)
 
 -- m receivers from the front of a to area: class (0 client, 1 server) and number
-unfoldable pub receiversIn : ℕ → List ℕ → List Party
-receiversIn zero l = []
-receiversIn (suc m) l = party_in (get_or l 0 0) (get_or l 1 0) ∷ receiversIn m (drop 2 l)
+unfoldable pub receivers_in : ℕ → List ℕ → List Party
+receivers_in zero l = []
+receivers_in (suc m) l = party_in (get_or l 0 0) (get_or l 1 0) ∷ receivers_in m (drop 2 l)
 
 -- how many frames a client's answer says went out; a read that ends sends read-complete to all (of a server's reply: `reply_count` of server_rules)
-abbrev pub answerCount : Params → Response Progress → ℕ
-answerCount g (turned_down n) = 0
-answerCount g (gives (goesOn m)) = m
-answerCount g (gives writeEnds) = 0
-answerCount g (gives writeCloses) = 0
-answerCount g (gives (readGives s)) = g.n
-answerCount g (gives readDisagrees) = g.n
+abbrev pub answer_count : Params → Response Progress → ℕ
+answer_count g (turned_down n) = 0
+answer_count g (gives (goes_on m)) = m
+answer_count g (gives write_ends) = 0
+answer_count g (gives write_closes) = 0
+answer_count g (gives (read_gives s)) = g.n
+answer_count g (gives read_disagrees) = g.n
 
 -- an answer: the count, and the out and to areas as the call leaves them
 pub record Said : Type 0 where
@@ -55,18 +55,18 @@ module _ (Z : Setup) where
       record { count = SD.reply_count r.reply; out = r.out; to = r.to }
   said w (to_client c from f lent result out to) =
       let r = CD.delivery H g c (w.clients c).client (w.clients c).area (lent_to Z w c lent) from f result out to in
-      record { count = answerCount g r.answer; out = r.out; to = r.to }
+      record { count = answer_count g r.answer; out = r.out; to = r.to }
   said w (begin_read c out to) =
       let r = CB.read_beginning g c (w.clients c).client out to in
-      record { count = answerCount g r.answer; out = r.out; to = r.to }
+      record { count = answer_count g r.answer; out = r.out; to = r.to }
   said w (begin_write c v out to) =
       let r = CB.write_beginning g c (w.clients c).client v out to in
-      record { count = answerCount g r.answer; out = r.out; to = r.to }
+      record { count = answer_count g r.answer; out = r.out; to = r.to }
 
 -- what is read off an answer is what the run takes as sent
 pub record ReadsBack (Z : Setup) (ks : List Call) (k : Call) : Type 0 where
-  pub frames : framesIn (said Z (run Z ks) k).count (said Z (run Z ks) k).out ≡ map (λ x. build x.says) (sends Z (run Z ks) k)
-  pub receivers : receiversIn (said Z (run Z ks) k).count (said Z (run Z ks) k).to ≡ map (λ x. x.receiver) (sends Z (run Z ks) k)
+  pub frames : frames_in (said Z (run Z ks) k).count (said Z (run Z ks) k).out ≡ map (λ x. build x.says) (sends Z (run Z ks) k)
+  pub receivers : receivers_in (said Z (run Z ks) k).count (said Z (run Z ks) k).to ≡ map (λ x. x.receiver) (sends Z (run Z ks) k)
 
 unfoldable pub AnswersReadBack : Type 0
 AnswersReadBack = (Z : Setup) → Sound Z → DigestSize Z.H → (k : Call) (ks : List Call) → Admissible Z (k ∷ ks) → ReadsBack Z ks k
@@ -76,14 +76,14 @@ AnswersReadBack = (Z : Setup) → Sound Z → DigestSize Z.H → (k : Call) (ks 
 -- "A read is completed by the call that answers its value": the event ev of a delivery to a client, its answer, and the result area before and after
 pub record Tells (ev : C.Event) (answer : Response Progress) (result left : List ℕ) : Type 0 where
   -- a completed read is answered with its stamp, and its bytes lie at the start of the result area
-  pub completes : (x : Found) (v : List ℕ) → ev ≡ C.stopped x → x.bytes ≡ some v → (answer ≡ gives (readGives x.stamp)) × (left ≡ sets result 0 v)
-  pub completed-only : (s : Stamp) → answer ≡ gives (readGives s) → (x : Found) × (v : List ℕ) × (ev ≡ C.stopped x) × (x.stamp ≡ s) × (x.bytes ≡ some v)
+  pub completes : (x : Found) (v : List ℕ) → ev ≡ C.stopped x → x.bytes ≡ some v → (answer ≡ gives (read_gives x.stamp)) × (left ≡ sets result 0 v)
+  pub completed_only : (s : Stamp) → answer ≡ gives (read_gives s) → (x : Found) × (v : List ℕ) × (ev ≡ C.stopped x) × (x.stamp ≡ s) × (x.bytes ≡ some v)
   -- one whose blocks disagree is answered so, and the result area stays as lent (request F-7)
-  pub disagrees : (x : Found) → ev ≡ C.stopped x → x.bytes ≡ none → (answer ≡ gives readDisagrees) × (left ≡ result)
-  pub disagreed-only : answer ≡ gives readDisagrees → (x : Found) × (ev ≡ C.stopped x) × (x.bytes ≡ none)
+  pub disagrees : (x : Found) → ev ≡ C.stopped x → x.bytes ≡ none → (answer ≡ gives read_disagrees) × (left ≡ result)
+  pub disagreed_only : answer ≡ gives read_disagrees → (x : Found) × (ev ≡ C.stopped x) × (x.bytes ≡ none)
   -- a write that ends is answered so
-  pub ends : ev ≡ C.written → answer ≡ gives writeEnds
-  pub ended-only : answer ≡ gives writeEnds → ev ≡ C.written
+  pub ends : ev ≡ C.written → answer ≡ gives write_ends
+  pub ended_only : answer ≡ gives write_ends → ev ≡ C.written
 
 unfoldable pub AnswersTell : Type 0
 AnswersTell = (Z : Setup) (w : World) (c : ℕ) (from : Party) (f lent result out to : List ℕ)

@@ -12,7 +12,7 @@ use Rattle.frame.specs.declared.Verdict.TheVariants as J
 use Rattle.frame.specs.Messages.{ack, message, sending}
 use Rattle.server_rules.specs.Steps as S
 use Rattle.server_rules.specs.Delivery as SD
-use Rattle.client_rules.specs.Answers.{Progress, goesOn, writeEnds, writeCloses, readGives, readDisagrees}
+use Rattle.client_rules.specs.Answers.{Progress, goes_on, write_ends, write_closes, read_gives, read_disagrees}
 use Rattle.client_rules.specs.Delivery as CD
 use Rattle.client_rules.specs.Beginning as CB
 use Rattle.runs.specs.World.{Setup, Call, to_server, to_client, begin_read, begin_write, caller}
@@ -43,11 +43,11 @@ module _ (Z : Setup) (w : World) where
   -- v is the value of the open write from then on if the answer is that frames were sent
   abbrev pub value_by : Response Progress → List ℕ → List ℕ → List ℕ
   value_by (turned_down n) v old = old
-  value_by (gives (goesOn m)) v old = v
-  value_by (gives writeEnds) v old = old
-  value_by (gives writeCloses) v old = old
-  value_by (gives (readGives s)) v old = old
-  value_by (gives readDisagrees) v old = old
+  value_by (gives (goes_on m)) v old = v
+  value_by (gives write_ends) v old = old
+  value_by (gives write_closes) v old = old
+  value_by (gives (read_gives s)) v old = old
+  value_by (gives read_disagrees) v old = old
 
   abbrev pub write_promised : ℕ → List ℕ → List ℕ → List ℕ → ClientSide
   write_promised c v out to =
@@ -84,8 +84,8 @@ AcceptedWhereAcked = (Z : Setup) (w : World) (i : ℕ) (from : Party) (f out to 
 
 -- the tests of a beginning pass, and its answer is that frames were sent
 pub record Begins (b : Verdict) (answer : Response Progress) : Type 0 where
-  pub sent : b ≡ J.Fine → (m : ℕ) × (answer ≡ gives (goesOn m))
-  pub sent_only : (m : ℕ) → answer ≡ gives (goesOn m) → b ≡ J.Fine
+  pub sent : b ≡ J.Fine → (m : ℕ) × (answer ≡ gives (goes_on m))
+  pub sent_only : (m : ℕ) → answer ≡ gives (goes_on m) → b ≡ J.Fine
 
 pub record BeginningsTell (Z : Setup) (w : World) : Type 0 where
   pub read : (c : ℕ) (out to : List ℕ)

@@ -17,7 +17,7 @@ use Rattle.layout.specs.Fields.{stamp_size, stamp_at}
 use Rattle.layout.specs.Clients.{client_size, client_at, client_in}
 use Rattle.layout.specs.Servers.{server_size, server_at, server_in}
 use Rattle.semduoli.specs.Calls.{Wrote, wrote}
-use Rattle.site.specs.Answers.{openAnswer}
+use Rattle.site.specs.Answers.{open_answer}
 use Rattle.semduoli.specs.Asked.{open_of, client_open_call, server_stamp_call, server_open_call}
 use Rattle.semduoli.proofs.Laws.{enough, short}
 
@@ -26,7 +26,7 @@ module _ (state : List ℕ) where
   unfolding client_open_call
   open_short h = short (length state) client_size 10 (open_of (client_in state)) h
 
-  pub open_done : (s : Client) (x : ℕ) → client_size ≤ length state → s ≡ client_at state 0 → x ≡ openAnswer s.phase s.writes s.reads
+  pub open_done : (s : Client) (x : ℕ) → client_size ≤ length state → s ≡ client_at state 0 → x ≡ open_answer s.phase s.writes s.reads
       → x ≡ client_open_call state
   unfolding client_open_call open_of client_in
   open_done s x h p e = e ∙ ap open_of p ∙ enough (length state) client_size 10 (open_of (client_in state)) h

@@ -19,7 +19,7 @@ use Rattle.frame.specs.Refusals.{answered_by}
 use Rattle.frame.specs.Stamps.{last_client}
 use Rattle.frame.specs.Frames.{stamp_bytes}
 use Rattle.frame.specs.Messages.{Judged, bad, good}
-use Rattle.client_rules.specs.Answers.{Progress, readGives}
+use Rattle.client_rules.specs.Answers.{Progress, read_gives}
 use Rattle.client_rules.specs.declared.Client.{Client}
 use Rattle.client_rules.specs.State.{fresh_client}
 use Rattle.client_rules.specs.Tests.{judge}
@@ -33,7 +33,7 @@ use Rattle.layout.specs.Typed.{TypedClient}
 use Rattle.layout.proofs.ClientBack.{client_stored}
 use Rattle.layout.proofs.TypedCalls.{typed_client_in, typed_client_fresh, typed_read, typed_write, typed_client_delivery}
 use Rattle.layout.specs.Left.{left_by}
-use Rattle.site.specs.Answers.{testAnswer}
+use Rattle.site.specs.Answers.{test_answer}
 use Rattle.site.specs.Short.{read_short, value_short, frame_short, stamp_short}
 use Rattle.semduoli.specs.Calls.{wrote, fresh_call, Began, began, state_after, began_of, read_call, write_call}
 use Rattle.semduoli.specs.Handed.{stamp_after, client_got, client_got_of, client_call}
@@ -137,25 +137,25 @@ module _ (g : Params) (me : ℕ) (state out to : List ℕ) where
   pub read_back : client_size ≤ length state → Bytes state → client_in (read_call g me state out to).state ≡ (read_beginning g me (client_in state) out to).client
   unfolding read_call
   read_back long p =
-      begins_back g state out to (testAnswer (read_short g me)) reads long (typed_read g me (client_in state) (typed_client_in state p) out to)
+      begins_back g state out to (test_answer (read_short g me)) reads long (typed_read g me (client_in state) (typed_client_in state p) out to)
       (read_stays g me (client_in state) out to)
 
   -- one that is turned down leaves the bytes as they were
   pub read_kept : is_turned_down (read_beginning g me (client_in state) out to).answer ≡ true → (read_call g me state out to).state ≡ state
   unfolding read_call
-  read_kept e = begins_kept g state out to (testAnswer (read_short g me)) reads e
+  read_kept e = begins_kept g state out to (test_answer (read_short g me)) reads e
 
   -- and so does one whose area for the record is short
   pub read_short_kept : length state < client_size → (read_call g me state out to).state ≡ state
   unfolding read_call
-  read_short_kept h = begins_short g state out to (testAnswer (read_short g me)) reads h
+  read_short_kept h = begins_short g state out to (test_answer (read_short g me)) reads h
 
 module _ (g : Params) (me : ℕ) (value state out to : List ℕ) where
   abbrev writes : Begun
   writes = write_beginning g me (client_in state) value out to
 
   abbrev told : ℕ
-  told = testAnswer (value_short g me last_client (length value))
+  told = test_answer (value_short g me last_client (length value))
 
   -- after the beginning of a write the bytes say the client that it leaves
   pub write_back : client_size ≤ length state → Bytes state
@@ -190,9 +190,9 @@ module _ (g : Params) (me : ℕ) (from : Party) (value f rows result stamp state
   keeps_by : (l : List ℕ) → state ≡ l → state_after delivers.answer delivers.client state ≡ l → keeps ≡ l
   unfolding client_call client_got_of
   keeps_by l p q =
-      ends (λ z. z.state) (ltb (length state) client_size) (client_got (testAnswer (frame_short g me last_client f)) rows result stamp state out to) _ l p
+      ends (λ z. z.state) (ltb (length state) client_size) (client_got (test_answer (frame_short g me last_client f)) rows result stamp state out to) _ l p
       (ends (λ z. z.state) (ltb (length stamp) stamp_size)
-      (client_got (testAnswer (stamp_short g me (client_in state) (length value) f)) rows result stamp state out to)
+      (client_got (test_answer (stamp_short g me (client_in state) (length value) f)) rows result stamp state out to)
       (client_got_of g delivers stamp state) l p q)
 
   -- after a call the bytes say the client that the delivery leaves, whether it was turned down or not
@@ -212,19 +212,19 @@ module _ (g : Params) (me : ℕ) (from : Party) (value f rows result stamp state
   pub client_short_kept : length state < client_size → keeps ≡ state
   unfolding client_call
   client_short_kept h =
-      ap (λ z. z.state) (sym (short (length state) client_size (client_got (testAnswer (frame_short g me last_client f)) rows result stamp state out to) _ h))
+      ap (λ z. z.state) (sym (short (length state) client_size (client_got (test_answer (frame_short g me last_client f)) rows result stamp state out to) _ h))
 
   -- or for the stamp
   pub client_stamp_kept : length stamp < stamp_size → keeps ≡ state
   unfolding client_call
   client_stamp_kept h =
-      ends (λ z. z.state) (ltb (length state) client_size) (client_got (testAnswer (frame_short g me last_client f)) rows result stamp state out to) _ state refl
+      ends (λ z. z.state) (ltb (length state) client_size) (client_got (test_answer (frame_short g me last_client f)) rows result stamp state out to) _ state refl
       (ap (λ z. z.state)
-      (sym (short (length stamp) stamp_size (client_got (testAnswer (stamp_short g me (client_in state) (length value) f)) rows result stamp state out to)
+      (sym (short (length stamp) stamp_size (client_got (test_answer (stamp_short g me (client_in state) (length value) f)) rows result stamp state out to)
       (client_got_of g delivers stamp state) h)))
 
   -- a call that ends a read leaves the read's stamp at the start of the stamp area
-  pub read_stamped : client_size ≤ length state → stamp_size ≤ length stamp → (x : Stamp) → delivers.answer ≡ gives (readGives x)
+  pub read_stamped : client_size ≤ length state → stamp_size ≤ length stamp → (x : Stamp) → delivers.answer ≡ gives (read_gives x)
       → (client_call g me from value f rows result stamp state out to).stamp ≡ sets stamp 0 (stamp_bytes x)
   unfolding client_got_of stamp_after
   read_stamped long wide x e =

@@ -12,12 +12,12 @@ use Rattle.frame.specs.declared.Party.{Party}
 use Rattle.frame.specs.declared.Verdict.{Verdict}
 use Rattle.frame.specs.Stamps.{last_client}
 use Rattle.client_rules.specs.declared.Answer.{Answer}
-use Rattle.client_rules.specs.Answers.{Progress, answerResponse}
+use Rattle.client_rules.specs.Answers.{Progress, answer_response}
 use Rattle.client_rules.specs.declared.Client.{Client}
 use Rattle.client_rules.specs.Delivery.{Outcome, delivery}
 use Rattle.layout.specs.Fields.{stamp_size}
 use Rattle.layout.specs.Clients.{client_size, client_at, client_in}
-use Rattle.site.specs.Answers.{testAnswer, client_answer}
+use Rattle.site.specs.Answers.{test_answer, client_answer}
 use Rattle.site.specs.Short.{frame_short, stamp_short}
 use Rattle.semduoli.specs.Calls.{wrote, state_after}
 use Rattle.semduoli.specs.Handed.{stamp_after, ClientGot, client_got, client_got_of, client_call}
@@ -26,35 +26,35 @@ use Rattle.semduoli.proofs.Laws.{enough, short}
 -- ---- a read's stamp
 
 -- the answer a is the case b
-pub stamp_case : (a b : Answer) (l o : List ℕ) → a ≡ b → o ≡ stamp_after (answerResponse b) l → o ≡ stamp_after (answerResponse a) l
-stamp_case a b l o e p = p ∙ sym (ap (λ x. stamp_after (answerResponse x) l) e)
+pub stamp_case : (a b : Answer) (l o : List ℕ) → a ≡ b → o ≡ stamp_after (answer_response b) l → o ≡ stamp_after (answer_response a) l
+stamp_case a b l o e p = p ∙ sym (ap (λ x. stamp_after (answer_response x) l) e)
 
 -- ---- a client
 
 module _ (g : Params) (me : ℕ) (from : Party) (value f rows result stamp state out to : List ℕ) where
   -- what the call gives where the record's area is short, where the stamp's is, and where both are long enough
   abbrev without_record : ClientGot
-  without_record = client_got (testAnswer (frame_short g me last_client f)) rows result stamp state out to
+  without_record = client_got (test_answer (frame_short g me last_client f)) rows result stamp state out to
 
   abbrev without_stamp : ClientGot
-  without_stamp = client_got (testAnswer (stamp_short g me (client_in state) (length value) f)) rows result stamp state out to
+  without_stamp = client_got (test_answer (stamp_short g me (client_in state) (length value) f)) rows result stamp state out to
 
   abbrev whole : ClientGot
   whole = client_got_of g (delivery digest_of g me (client_in state) rows value from f result out to) stamp state
 
-  pub client_short : (x : ℕ) (t : Verdict) → length state < client_size → x ≡ testAnswer t → t ≡ frame_short g me last_client f
+  pub client_short : (x : ℕ) (t : Verdict) → length state < client_size → x ≡ test_answer t → t ≡ frame_short g me last_client f
       → client_got x rows result stamp state out to ≡ client_call g me from value f rows result stamp state out to
   unfolding client_call
   client_short x t h e p =
-      ap (λ z. client_got z rows result stamp state out to) (e ∙ ap testAnswer p)
+      ap (λ z. client_got z rows result stamp state out to) (e ∙ ap test_answer p)
       ∙ short (length state) client_size without_record (pick (ltb (length stamp) stamp_size) without_stamp whole) h
 
   module _ (long : client_size ≤ length state) where
-    pub client_stamp_short : (x : ℕ) (t : Verdict) (s : Client) → length stamp < stamp_size → s ≡ client_at state 0 → x ≡ testAnswer t
+    pub client_stamp_short : (x : ℕ) (t : Verdict) (s : Client) → length stamp < stamp_size → s ≡ client_at state 0 → x ≡ test_answer t
         → t ≡ stamp_short g me s (length value) f → client_got x rows result stamp state out to ≡ client_call g me from value f rows result stamp state out to
     unfolding client_call client_in
     client_stamp_short x t s h k e p =
-        ap (λ z. client_got z rows result stamp state out to) (e ∙ ap testAnswer (p ∙ ap (λ y. stamp_short g me y (length value) f) k))
+        ap (λ z. client_got z rows result stamp state out to) (e ∙ ap test_answer (p ∙ ap (λ y. stamp_short g me y (length value) f) k))
         ∙ short (length stamp) stamp_size without_stamp whole h
         ∙ enough (length state) client_size without_record (pick (ltb (length stamp) stamp_size) without_stamp whole) long
 

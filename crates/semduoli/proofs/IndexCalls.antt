@@ -10,15 +10,15 @@ use Rattle.area.specs.Responses.{Response}
 use Rattle.accession_index.specs.Index.{searched}
 use Rattle.accession_bytes.specs.Layout.{index_size, index_in, stored, insertion_in}
 use Rattle.semduoli.specs.Calls.{wrote}
-use Rattle.accession_index.specs.Answers.{insertionAnswer, searchAnswer}
+use Rattle.accession_index.specs.Answers.{insertion_answer, search_answer}
 use Rattle.semduoli.specs.Accession.{wrote_of, index_insert_call, index_search_call}
 
-pub index_inserted : (value l o : List ℕ) (a : Response ℕ) (x : ℕ) → index_size ≤ length l → stored a o ≡ insertion_in l value → x ≡ insertionAnswer a
+pub index_inserted : (value l o : List ℕ) (a : Response ℕ) (x : ℕ) → index_size ≤ length l → stored a o ≡ insertion_in l value → x ≡ insertion_answer a
     → wrote x o ≡ index_insert_call value l
 unfolding index_insert_call wrote_of pick
 index_inserted value l o a x h e p = ap (λ y. wrote y o) p ∙ ap wrote_of e ∙ sym (rw (le-ltb (length l) index_size h))
 
-pub index_searched : (n : ℕ) (l : List ℕ) (f : Option ℕ) (x : ℕ) → index_size ≤ length l → f ≡ searched (index_in l) n → x ≡ searchAnswer f
+pub index_searched : (n : ℕ) (l : List ℕ) (f : Option ℕ) (x : ℕ) → index_size ≤ length l → f ≡ searched (index_in l) n → x ≡ search_answer f
     → x ≡ index_search_call n l
 unfolding index_search_call pick
-index_searched n l f x h e p = p ∙ ap searchAnswer e ∙ sym (rw (le-ltb (length l) index_size h))
+index_searched n l f x h e p = p ∙ ap search_answer e ∙ sym (rw (le-ltb (length l) index_size h))

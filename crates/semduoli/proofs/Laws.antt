@@ -26,10 +26,10 @@ use Rattle.order.specs.Histories.{any, malformed, unlisted, offended, later, ear
 use Rattle.order.specs.Histories.{offending, ordered, judged}
 use Rattle.history_sheet.specs.Laying.{SheetResult, outcome as laidOutcome, laying}
 use Rattle.layout.specs.Clients.{client_size, client_bytes, client_at, client_in}
-use Rattle.blocks.specs.Answers.{codeAnswer}
-use Rattle.site.specs.Answers.{testAnswer, client_answer}
-use Rattle.order.specs.Answers.{lineCount, historyAnswer}
-use Rattle.history_sheet.specs.Answers.{sheetAnswer}
+use Rattle.blocks.specs.Answers.{code_answer}
+use Rattle.site.specs.Answers.{test_answer, client_answer}
+use Rattle.order.specs.Answers.{line_count, history_answer}
+use Rattle.history_sheet.specs.Answers.{sheet_answer}
 use Rattle.site.specs.Short.{read_short, value_short}
 use Rattle.layout.specs.Left.{left_by}
 use Rattle.layout.proofs.Left.{left_old, left_new}
@@ -61,7 +61,7 @@ digest_done m out o d h k e p =
     ∙ enough (length out) 32 (wrote 10 out) (wrote 0 (sets out 0 (digest_of m))) k
     ∙ enough 256 (length m) (wrote 3 out) (pick (ltb (length out) 32) (wrote 10 out) (wrote 0 (sets out 0 (digest_of m)))) h
 
-pub code_done : (a : Response (Unit {0})) (o : List ℕ) (x : ℕ) (y : Outcome) → coded a o ≡ y → x ≡ codeAnswer a → wrote x o ≡ code_call y
+pub code_done : (a : Response (Unit {0})) (o : List ℕ) (x : ℕ) (y : Outcome) → coded a o ≡ y → x ≡ code_answer a → wrote x o ≡ code_call y
 unfolding code_call
 code_done a o x y e p = ap (λ z. wrote z o) p ∙ ap code_call e
 
@@ -103,18 +103,18 @@ whole_answer text v e = ap (λ w. length w.lines) e ∙ whole_lines (lines_of te
 
 -- an answer gives at most 64 line numbers
 abbrev Few : Judgement → Type 0
-Few v = lineCount v.answer ≤ 64
+Few v = line_count v.answer ≤ 64
 
 few_refused : (x : ℕ) → Few (refused x)
-unfolding refused lineCount
+unfolding refused line_count
 few_refused x = omega arith
 
 few_offending : (a b : ℕ) → Few (offending a b)
-unfolding offending lineCount
+unfolding offending line_count
 few_offending a b = omega arith
 
 few_ordered : (ops : List Operation) → length ops ≤ 64 → Few (ordered ops)
-unfolding ordered lineCount
+unfolding ordered line_count
 few_ordered ops h = h
 
 few_judged : (ops : List Operation) → Few (judged ops)
@@ -131,12 +131,12 @@ unfolding answer_of
 few_lines (Records ops) = few_judged ops
 few_lines Malformed = few_refused 18
 
-pub few_answer : (text : List ℕ) (v : Judgement) (n : ℕ) → v ≡ answer_to text → n ≡ lineCount v.answer → n ≤ 64
+pub few_answer : (text : List ℕ) (v : Judgement) (n : ℕ) → v ≡ answer_to text → n ≡ line_count v.answer → n ≤ 64
 unfolding answer_to
-few_answer text v n e q = subst (λ k. k ≤ 64) (sym (q ∙ ap (λ w. lineCount w.answer) e)) (few_lines (lines_of text))
+few_answer text v n e q = subst (λ k. k ≤ 64) (sym (q ∙ ap (λ w. line_count w.answer) e)) (few_lines (lines_of text))
 
 pub judged_done : (text lines : List ℕ) (v : Judgement) → v ≡ answer_to text → 64 ≤ length lines → (x : ℕ)
-    → x ≡ historyAnswer v.answer → (n : ℕ) → n ≡ lineCount v.answer → (o : List ℕ) → o ≡ sets lines 0 (take n v.lines)
+    → x ≡ history_answer v.answer → (n : ℕ) → n ≡ line_count v.answer → (o : List ℕ) → o ≡ sets lines 0 (take n v.lines)
     → wrote x o ≡ history_call text lines
 unfolding history_call judged_call
 judged_done text lines v e h x p n q o r =
@@ -146,7 +146,7 @@ judged_done text lines v e h x p n q o r =
 
 -- ---- sheets
 
-pub sheet_done : (text out o : List ℕ) (a : Response SheetResult) (x : ℕ) → laidOutcome a o ≡ laying text out → x ≡ sheetAnswer a
+pub sheet_done : (text out o : List ℕ) (a : Response SheetResult) (x : ℕ) → laidOutcome a o ≡ laying text out → x ≡ sheet_answer a
     → wrote x o ≡ sheet_call text out
 unfolding sheet_call sheet_wrote
 sheet_done text out o a x e p = ap (λ z. wrote z o) p ∙ ap sheet_wrote e
@@ -168,18 +168,18 @@ module _ {A : Type 0} (a : Response A) (old new : List ℕ) (x y : ℕ) (b : Boo
   keep_new q o r = ap₂ wrote e (left_new a old new b p q o r)
 
 module _ (g : Params) (me : ℕ) (state out to : List ℕ) where
-  module _ (x : ℕ) (t : Verdict) (h : length state < client_size) (e : x ≡ testAnswer t) where
+  module _ (x : ℕ) (t : Verdict) (h : length state < client_size) (e : x ≡ test_answer t) where
     pub read_short_lem : t ≡ read_short g me → began x state out to ≡ read_call g me state out to
     unfolding read_call
     read_short_lem p =
-        ap (λ z. began z state out to) (e ∙ ap testAnswer p)
-        ∙ short (length state) client_size (began (testAnswer (read_short g me)) state out to) (began_of g (read_beginning g me (client_in state) out to) state) h
+        ap (λ z. began z state out to) (e ∙ ap test_answer p)
+        ∙ short (length state) client_size (began (test_answer (read_short g me)) state out to) (began_of g (read_beginning g me (client_in state) out to) state) h
 
     pub write_short : (v : List ℕ) → t ≡ value_short g me last_client (length v) → began x state out to ≡ write_call g me v state out to
     unfolding write_call
     write_short v p =
-        ap (λ z. began z state out to) (e ∙ ap testAnswer p)
-        ∙ short (length state) client_size (began (testAnswer (value_short g me last_client (length v))) state out to)
+        ap (λ z. began z state out to) (e ∙ ap test_answer p)
+        ∙ short (length state) client_size (began (test_answer (value_short g me last_client (length v))) state out to)
         (began_of g (write_beginning g me (client_in state) v out to) state) h
 
   module _ (s r : Client) (a : Response Progress) (x : ℕ) (st o u : List ℕ) (h : client_size ≤ length state) (p : s ≡ client_at state 0)
@@ -195,12 +195,12 @@ module _ (g : Params) (me : ℕ) (state out to : List ℕ) where
     unfolding read_call
     read_done e =
         begun_done (λ z. read_beginning g me z out to) e
-        ∙ enough (length state) client_size (began (testAnswer (read_short g me)) state out to) (began_of g (read_beginning g me (client_in state) out to) state) h
+        ∙ enough (length state) client_size (began (test_answer (read_short g me)) state out to) (began_of g (read_beginning g me (client_in state) out to) state) h
 
     pub write_done : (v : List ℕ) → ◌≡◌ {A = Begun} (record { answer = a; client = r; out = o; to = u }) (write_beginning g me s v out to)
         → began x st o u ≡ write_call g me v state out to
     unfolding write_call
     write_done v e =
         begun_done (λ z. write_beginning g me z v out to) e
-        ∙ enough (length state) client_size (began (testAnswer (value_short g me last_client (length v))) state out to)
+        ∙ enough (length state) client_size (began (test_answer (value_short g me last_client (length v))) state out to)
         (began_of g (write_beginning g me (client_in state) v out to) state) h

@@ -27,7 +27,7 @@ use Rattle.client_deliver.proofs.Deliveries.{call_refused}
 use Rattle.server_rules.proofs.Within.{either}
 use Rattle.layout.specs.Clients.{client_size, client_in}
 use Rattle.layout.specs.Left.{left_by}
-use Rattle.site.specs.Answers.{testAnswer, client_answer}
+use Rattle.site.specs.Answers.{test_answer, client_answer}
 use Rattle.site.specs.Short.{read_short, value_short, frame_short, stamp_short}
 use Rattle.semduoli.specs.Calls.{began, state_after, began_of, read_call, write_call}
 use Rattle.semduoli.specs.Handed.{stamp_after, client_got, client_got_of, client_call}
@@ -59,9 +59,9 @@ stops : (p : Verdict) (v : Verdict) → p ≡ J.Bad R.Parties → and_then p v �
 stops p v e = ap (λ z. and_then z v) e
 
 -- and its number
-told : (p : Verdict) (v : Verdict) → p ≡ J.Bad R.Parties → 1 ≡ testAnswer (and_then p v)
-unfolding testAnswer
-told p v e = sym (ap testAnswer (stops p v e))
+told : (p : Verdict) (v : Verdict) → p ≡ J.Bad R.Parties → 1 ≡ test_answer (and_then p v)
+unfolding test_answer
+told p v e = sym (ap test_answer (stops p v e))
 
 -- ---- a client
 

@@ -10,7 +10,7 @@ use Rattle.server_rules.specs.State.{slot_of}
 use Rattle.layout.specs.Fields.{stamp_size}
 use Rattle.layout.specs.Clients.{client_size, client_in}
 use Rattle.layout.specs.Servers.{server_size, server_in}
-use Rattle.site.specs.Answers.{openAnswer}
+use Rattle.site.specs.Answers.{open_answer}
 use Rattle.semduoli.specs.Calls.{Wrote, wrote}
 
 -- the version of include/semduoli.h to which these calls belong
@@ -18,7 +18,7 @@ abbrev pub header_version : ℕ
 header_version = 4
 
 unfoldable pub open_of : Client → ℕ
-open_of s = openAnswer s.phase s.writes s.reads
+open_of s = open_answer s.phase s.writes s.reads
 
 -- refusal 10, "lent area short"
 unfoldable pub client_open_call : List ℕ → ℕ

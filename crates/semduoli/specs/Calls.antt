@@ -16,9 +16,9 @@ use Rattle.history_text.specs.Lines.{answer_to}
 use Rattle.order.specs.Histories.{Judgement}
 use Rattle.layout.specs.Clients.{client_size, client_bytes, client_in}
 use Rattle.layout.specs.Left.{left_by}
-use Rattle.blocks.specs.Answers.{codeAnswer}
-use Rattle.site.specs.Answers.{testAnswer, client_answer}
-use Rattle.order.specs.Answers.{lineCount, historyAnswer}
+use Rattle.blocks.specs.Answers.{code_answer}
+use Rattle.site.specs.Answers.{test_answer, client_answer}
+use Rattle.order.specs.Answers.{line_count, history_answer}
 use Rattle.site.specs.Short.{read_short, value_short}
 pub use Rattle.host_facts.specs.Outcomes.{Wrote, wrote}
 
@@ -32,7 +32,7 @@ unfoldable pub digest_call : List ℕ → List ℕ → Wrote
 digest_call m out = pick (ltb 256 (length m)) (wrote 3 out) (pick (ltb (length out) 32) (wrote 10 out) (wrote 0 (sets out 0 (digest_of m))))
 
 unfoldable pub code_call : Outcome → Wrote
-code_call x = wrote (codeAnswer x.answer) x.out
+code_call x = wrote (code_answer x.answer) x.out
 
 unfoldable pub encode_call : Params → List ℕ → List ℕ → Wrote
 encode_call g value out = code_call (encoding g value out)
@@ -42,7 +42,7 @@ decode_call g numbers blocks out = code_call (decoding g numbers blocks out)
 
 -- the line numbers of an order go to the front of the lent area; the bytes after them stay as lent
 unfoldable pub judged_call : Judgement → List ℕ → Wrote
-judged_call v lines = wrote (historyAnswer v.answer) (sets lines 0 (take (lineCount v.answer) v.lines))
+judged_call v lines = wrote (history_answer v.answer) (sets lines 0 (take (line_count v.answer) v.lines))
 
 unfoldable pub history_call : List ℕ → List ℕ → Wrote
 history_call text lines = pick (ltb (length lines) 64) (wrote 10 lines) (judged_call (answer_to text) lines)
@@ -71,9 +71,9 @@ began_of g x state = began (client_answer g.n x.answer) (state_after x.answer x.
 
 unfoldable pub read_call : Params → ℕ → List ℕ → List ℕ → List ℕ → Began
 read_call g me state out to =
-    pick (ltb (length state) client_size) (began (testAnswer (read_short g me)) state out to) (began_of g (read_beginning g me (client_in state) out to) state)
+    pick (ltb (length state) client_size) (began (test_answer (read_short g me)) state out to) (began_of g (read_beginning g me (client_in state) out to) state)
 
 unfoldable pub write_call : Params → ℕ → List ℕ → List ℕ → List ℕ → List ℕ → Began
 write_call g me value state out to =
-    pick (ltb (length state) client_size) (began (testAnswer (value_short g me last_client (length value))) state out to)
+    pick (ltb (length state) client_size) (began (test_answer (value_short g me last_client (length value))) state out to)
     (began_of g (write_beginning g me (client_in state) value out to) state)

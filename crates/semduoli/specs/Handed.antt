@@ -10,11 +10,11 @@ use Rattle.frame.specs.declared.Party.TheVariants as P
 use Rattle.frame.specs.Stamps.{last_client}
 use Rattle.frame.specs.Frames.{stamp_bytes}
 use Rattle.frame.specs.Outbox.{party_in}
-use Rattle.client_rules.specs.Answers.{Progress, goesOn, writeEnds, writeCloses, readGives, readDisagrees}
+use Rattle.client_rules.specs.Answers.{Progress, goes_on, write_ends, write_closes, read_gives, read_disagrees}
 use Rattle.client_rules.specs.Delivery.{Outcome, delivery}
 use Rattle.layout.specs.Fields.{stamp_size}
 use Rattle.layout.specs.Clients.{client_size, client_in}
-use Rattle.site.specs.Answers.{testAnswer, client_answer}
+use Rattle.site.specs.Answers.{test_answer, client_answer}
 use Rattle.site.specs.Short.{frame_short, stamp_short}
 use Rattle.semduoli.specs.Calls.{state_after}
 
@@ -27,11 +27,11 @@ sender_of class j = pick (ltb 255 j) nobody (pick (ltb 1 class) nobody (party_in
 
 -- the stamp area after a call: a completed read's stamp, "where its search stopped", goes to its start
 unfoldable pub stamp_after : Response Progress → List ℕ → List ℕ
-stamp_after (gives (goesOn m)) l = l
-stamp_after (gives writeEnds) l = l
-stamp_after (gives writeCloses) l = l
-stamp_after (gives (readGives x)) l = sets l 0 (stamp_bytes x)
-stamp_after (gives readDisagrees) l = l
+stamp_after (gives (goes_on m)) l = l
+stamp_after (gives write_ends) l = l
+stamp_after (gives write_closes) l = l
+stamp_after (gives (read_gives x)) l = sets l 0 (stamp_bytes x)
+stamp_after (gives read_disagrees) l = l
 stamp_after (turned_down n) l = l
 
 pub record ClientGot : Type 0 where
@@ -52,6 +52,6 @@ client_got_of g x stamp state =
 
 unfoldable pub client_call : Params → ℕ → Party → List ℕ → List ℕ → List ℕ → List ℕ → List ℕ → List ℕ → List ℕ → List ℕ → ClientGot
 client_call g me from value f rows result stamp state out to =
-    pick (ltb (length state) client_size) (client_got (testAnswer (frame_short g me last_client f)) rows result stamp state out to)
-    (pick (ltb (length stamp) stamp_size) (client_got (testAnswer (stamp_short g me (client_in state) (length value) f)) rows result stamp state out to)
+    pick (ltb (length state) client_size) (client_got (test_answer (frame_short g me last_client f)) rows result stamp state out to)
+    (pick (ltb (length stamp) stamp_size) (client_got (test_answer (stamp_short g me (client_in state) (length value) f)) rows result stamp state out to)
     (client_got_of g (delivery digest_of g me (client_in state) rows value from f result out to) stamp state))

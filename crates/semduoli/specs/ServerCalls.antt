@@ -5,7 +5,7 @@ use Rattle.blocks.specs.declared.Params.{Params}
 use Rattle.frame.specs.declared.Party.{Party}
 use Rattle.server_deliver.specs.Answers.{server_answer}
 use Rattle.server_deliver.specs.Records.{ByteOutcome, byte_delivery, ByteConstructed, byte_construction}
-use Rattle.playback.specs.Answers.{playbackAnswer}
+use Rattle.playback.specs.Answers.{playback_answer}
 use Rattle.playback.specs.Records.{BytesPlayed, byte_playback}
 use Rattle.playback.specs.Resume.{areas, Resumption, byte_resumption}
 
@@ -57,7 +57,7 @@ abbrev pub played_back : ℕ → List ℕ → List ℕ → List ℕ → List ℕ
 played_back x area initial state out = record { answer = x; area = area; initial = initial; state = state; out = out }
 
 abbrev pub played_back_of : BytesPlayed → PlayedBack
-played_back_of x = played_back (playbackAnswer x.answer) x.area x.initial x.state x.out
+played_back_of x = played_back (playback_answer x.answer) x.area x.initial x.state x.out
 
 unfoldable pub playback_call : Params → ℕ → List ℕ → List ℕ → List ℕ → List ℕ → List ℕ → List ℕ → PlayedBack
 playback_call g me value trace area initial state out = played_back_of (byte_playback digest_of g me value trace area initial state out)
@@ -75,7 +75,7 @@ abbrev pub resumed_to : ℕ → List ℕ → List ℕ → List ℕ → List ℕ 
 resumed_to x area state out to = record { answer = x; area = area; state = state; out = out; to = to }
 
 abbrev pub resumed_of : Resumption → Resumed
-resumed_of x = resumed_to (playbackAnswer x.answer) x.areas.area x.areas.state x.areas.out x.areas.to
+resumed_of x = resumed_to (playback_answer x.answer) x.areas.area x.areas.state x.areas.out x.areas.to
 
 unfoldable pub resume_call : Params → ℕ → List ℕ → List ℕ → List ℕ → List ℕ → List ℕ → List ℕ → Resumed
 resume_call g me trace area initial state out to = resumed_of (byte_resumption digest_of g me initial trace (areas area state out to))

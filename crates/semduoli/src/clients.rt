@@ -2,7 +2,7 @@
 ghost use Rattle.std.specs.Prelude.{◌≡◌, ◌≤◌, length};
 ghost use Rattle.layout.specs.Fields.{stamp_size};
 ghost use Rattle.layout.specs.Clients.{client_size};
-ghost use Rattle.client_rules.specs.Answers.{answerResponse};
+ghost use Rattle.client_rules.specs.Answers.{answer_response};
 ghost use Rattle.site.specs.Answers.{client_answer};
 ghost use Rattle.semduoli.specs.Calls.{params, wrote, fresh_call, began, state_after, read_call, write_call};
 ghost use Rattle.semduoli.specs.Handed.{sender_of, stamp_after, client_got, client_call};
@@ -34,7 +34,7 @@ pub fn semduoli_client_fresh(state: &mut [u8]) -> u64
 // Writes the record, unless the call was turned down.
 fn keep(a: Answer, s: Client, state: &mut [u8], n: usize) -> u64
     requires { client_size ≤ length state.old }
-    ensures { wrote result state.new ≡ wrote (client_answer n (answerResponse a)) (state_after (answerResponse a) s state.old) }
+    ensures { wrote result state.new ≡ wrote (client_answer n (answer_response a)) (state_after (answer_response a) s state.old) }
 {
     if is_refusal(a) {
         return client_answer(a, n);
@@ -111,7 +111,7 @@ pub fn semduoli_begin_write(
 // Writes the stamp of a completed read.
 fn put_read(a: Answer, stamp: &mut [u8])
     requires { stamp_size ≤ length stamp.old }
-    ensures { stamp.new ≡ stamp_after (answerResponse a) stamp.old }
+    ensures { stamp.new ≡ stamp_after (answer_response a) stamp.old }
 {
     match a {
         Answer::Sent(m) => {}

@@ -3,6 +3,6 @@ use Rattle.std.specs.Prelude.{ℕ, ◌*◌, ◌%◌}
 use Rattle.area.specs.Responses.{Response, turned_down, gives}
 
 -- the bytes from the third on say how many frames were sent
-unfoldable pub serverAnswer : Response ℕ → ℕ
-serverAnswer (gives m) = 65536 * (m % 65536)
-serverAnswer (turned_down n) = n
+unfoldable pub server_answer : Response ℕ → ℕ
+server_answer (gives m) = 65536 * (m % 65536)
+server_answer (turned_down n) = n

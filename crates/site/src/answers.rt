@@ -1,15 +1,15 @@
 // A client's answer to a host, as one number.
 ghost use Rattle.std.specs.Prelude.{◌≡◌};
 ghost use Rattle.area.specs.Responses.{is_turned_down};
-ghost use Rattle.client_rules.specs.Answers.{answerResponse};
-ghost use Rattle.site.specs.Answers.{testAnswer, client_answer, openAnswer};
+ghost use Rattle.client_rules.specs.Answers.{answer_response};
+ghost use Rattle.site.specs.Answers.{test_answer, client_answer, open_answer};
 
 use client_rules::{Answer, Phase};
 use frame::Verdict;
 use frame::refusals::number_of;
 
 pub fn test_answer(v: Verdict) -> u64
-    ensures { result ≡ testAnswer v }
+    ensures { result ≡ test_answer v }
 {
     match v {
         Verdict::Fine => 0,
@@ -19,7 +19,7 @@ pub fn test_answer(v: Verdict) -> u64
 
 // Whether a client's call was turned down.
 pub fn is_refusal(a: Answer) -> bool
-    ensures { result ≡ is_turned_down (answerResponse a) }
+    ensures { result ≡ is_turned_down (answer_response a) }
 {
     match a {
         Answer::Sent(m) => false,
@@ -33,7 +33,7 @@ pub fn is_refusal(a: Answer) -> bool
 
 // A client's answer, where there are n servers.
 pub fn client_answer(a: Answer, n: usize) -> u64
-    ensures { result ≡ client_answer n (answerResponse a) }
+    ensures { result ≡ client_answer n (answer_response a) }
 {
     match a {
         Answer::Sent(m) => 65536 * (m as u64 % 65536),
@@ -47,7 +47,7 @@ pub fn client_answer(a: Answer, n: usize) -> u64
 
 // Which operation is open at a client in phase p; writes and reads are how many it has begun.
 pub fn open_answer(p: Phase, writes: u32, reads: u32) -> u64
-    ensures { result ≡ openAnswer p writes reads }
+    ensures { result ≡ open_answer p writes reads }
 {
     match p {
         Phase::Idle => 0,

@@ -15,13 +15,13 @@ testAnswer (J.Bad r) = number_of r
 
 -- the second byte says what happened: 0, nothing has ended; 1, the write has ended; 2, it closed as out of stamps; 3, the read has ended with a value;
 -- 4, it has ended because its blocks disagree. The bytes above say how many frames were sent; at the end of a read a read-complete to each of n servers.
-unfoldable pub clientAnswer : ℕ → Response Progress → ℕ
-clientAnswer n (gives (goesOn m)) = 65536 * (m % 65536)
-clientAnswer n (gives writeEnds) = 256
-clientAnswer n (gives writeCloses) = 512
-clientAnswer n (gives (readGives x)) = 768 + 65536 * (n % 65536)
-clientAnswer n (gives readDisagrees) = 1024 + 65536 * (n % 65536)
-clientAnswer n (turned_down r) = r
+unfoldable pub client_answer : ℕ → Response Progress → ℕ
+client_answer n (gives (goesOn m)) = 65536 * (m % 65536)
+client_answer n (gives writeEnds) = 256
+client_answer n (gives writeCloses) = 512
+client_answer n (gives (readGives x)) = 768 + 65536 * (n % 65536)
+client_answer n (gives readDisagrees) = 1024 + 65536 * (n % 65536)
+client_answer n (turned_down r) = r
 
 -- the second byte says what is open: 0, nothing; 1, a write that awaits stamps; 2, a write that awaits acks; 3, a read. The bytes above say its number:
 -- w of a write, r of a read

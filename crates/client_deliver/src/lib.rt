@@ -1,5 +1,6 @@
 // What frames do to a client: the entry point `deliver`.
 #![tactic(auto)]
+
 pub mod dispersal;
 pub mod reading;
 pub mod tests;

@@ -1,5 +1,6 @@
 // The client's record lent to a delivery, which updates it; a client's answers to a host.
 #![tactic(auto)]
+
 pub mod answers;
 pub mod short;
 
@@ -33,7 +34,7 @@ pub fn deliver(
     stepped.answer
 }
 
-// The same with the record by value: it is lent to deliver for the call, so that callers need no proof by hand about a reference.
+// The same with the record by value: it is lent to deliver for the call, so that callers hold no reference to it.
 pub fn lend(
     s: Client,
     g: Params,

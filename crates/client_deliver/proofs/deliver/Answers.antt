@@ -5,7 +5,7 @@ use Rattle.client_deliver.proofs.deliver.Goals as goal
 pub returns-in-Bad : goal.returns-in-Bad
 returns-in-Bad c =
     let a = c.args in
-    call_refused a.g a.me a.s a.area.now a.value.now a.from a.f.now a.result.now _ _ _ c.call_test-call.ensures _ c.in-Bad.is
+    call_refused a.g a.me a.s a.area.now a.value.now a.from a.f.now a.res.now _ _ _ c.call_test-call.ensures _ c.in-Bad.is
 
 pub open_frame-opened-requires : goal.open_frame-opened-requires
 open_frame-opened-requires c = bounded_of_call c.args.g c.args.me _ _ c.call_test-call.ensures c.in_default.is
@@ -16,7 +16,7 @@ room_test-room-requires c = bounded_of_call c.args.g c.args.me _ _ c.call_test-c
 pub returns-in-Bad-room : goal.returns-in-Bad-room
 returns-in-Bad-room c =
     let a = c.args in
-    room_refused a.g a.me a.s a.area.now a.value.now a.from a.f.now a.result.now _ _ _ c.call_test-call.ensures c.in_default.is _ c.open_frame-opened.ensures _ c.in-Frame.is _ c.room_test-room.ensures _ c.in-Bad-room.is
+    room_refused a.g a.me a.s a.area.now a.value.now a.from a.f.now a.res.now _ _ _ c.call_test-call.ensures c.in_default.is _ c.open_frame-opened.ensures _ c.in-Frame.is _ c.room_test-room.ensures _ c.in-Bad-room.is
 
 pub step-requires : goal.step-requires
 step-requires c =
@@ -26,9 +26,9 @@ step-requires c =
 pub returns-in-Refused : goal.returns-in-Refused
 returns-in-Refused c =
     let a = c.args in
-    not_opened a.g a.me a.s a.area.now a.value.now a.from a.f.now a.result.now _ _ _ c.call_test-call.ensures c.in_default.is _ c.open_frame-opened.ensures _ c.in-Refused.is
+    not_opened a.g a.me a.s a.area.now a.value.now a.from a.f.now a.res.now _ _ _ c.call_test-call.ensures c.in_default.is _ c.open_frame-opened.ensures _ c.in-Refused.is
 
 pub returns-in_default-room : goal.returns-in_default-room
 returns-in_default-room c =
     let a = c.args in
-    frame_answered a.g a.me a.s a.area.now a.value.now a.from a.f.now a.result.now _ _ _ c.call_test-call.ensures c.in_default.is _ c.open_frame-opened.ensures _ c.in-Frame.is _ c.room_test-room.ensures _ c.in_default-room.is c.step.ensures
+    frame_answered a.g a.me a.s a.area.now a.value.now a.from a.f.now a.res.now _ _ _ c.call_test-call.ensures c.in_default.is _ c.open_frame-opened.ensures _ c.in-Frame.is _ c.room_test-room.ensures _ c.in_default-room.is c.step.ensures

@@ -10,12 +10,12 @@ on_stamp-requires c =
 pub returns-then-h-eq2 : goal.returns-then-h-eq2
 returns-then-h-eq2 c =
     let a = c.args in
-    of_stamp a.k.params a.k.me a.s a.area.now a.value.now a.k.from a.f.now a.result.now _ _ a.k.header _ c.if-h-eq2.true (c.on_stamp.ensures a.area.now a.result.now)
+    of_stamp a.k.params a.k.me a.s a.area.now a.value.now a.k.from a.f.now a.res.now _ _ a.k.header _ c.if-h-eq2.true (c.on_stamp.ensures a.area.now a.res.now)
 
 pub returns-then-h-eq9 : goal.returns-then-h-eq9
 returns-then-h-eq9 c =
     let a = c.args in
-    of_ack a.k.params a.k.me a.s a.area.now a.value.now a.k.from a.f.now a.result.now _ _ a.k.header _ c.if-h-eq9.true (c.on_ack.ensures a.area.now a.result.now a.out.now a.to.now)
+    of_ack a.k.params a.k.me a.s a.area.now a.value.now a.k.from a.f.now a.res.now _ _ a.k.header _ c.if-h-eq9.true (c.on_ack.ensures a.area.now a.res.now a.out.now a.to.now)
 
 pub on_value-requires : goal.on_value-requires
 on_value-requires c = (c.requires.lent, value_long c.args.k.params _ _ c.requires.frame_is c.if-h-eq11.true)
@@ -23,7 +23,7 @@ on_value-requires c = (c.requires.lent, value_long c.args.k.params _ _ c.require
 pub returns-then-h-eq11 : goal.returns-then-h-eq11
 returns-then-h-eq11 c =
     let a = c.args in
-    of_value a.k.params a.k.me a.s a.area.now a.value.now a.k.from a.f.now a.result.now _ _ a.k.header _ c.if-h-eq11.true c.on_value.ensures
+    of_value a.k.params a.k.me a.s a.area.now a.value.now a.k.from a.f.now a.res.now _ _ a.k.header _ c.if-h-eq11.true c.on_value.ensures
 
 pub on_report-requires : goal.on_report-requires
 on_report-requires c =
@@ -33,10 +33,10 @@ on_report-requires c =
 pub returns-then-h-eq13 : goal.returns-then-h-eq13
 returns-then-h-eq13 c =
     let a = c.args in
-    of_report a.k.params a.k.me a.s a.area.now a.value.now a.k.from a.f.now a.result.now _ _ a.k.header _ c.if-h-eq13.true (c.on_report.ensures a.area.now a.result.now)
+    of_report a.k.params a.k.me a.s a.area.now a.value.now a.k.from a.f.now a.res.now _ _ a.k.header _ c.if-h-eq13.true (c.on_report.ensures a.area.now a.res.now)
 
 pub returns : goal.returns
 returns c =
     let a = c.args in
     let A = c.requires in
-    of_others a.k.params a.k.me a.s a.area.now a.value.now a.k.from a.f.now a.result.now _ _ a.k.header c.if-h-eq2.false c.if-h-eq9.false c.if-h-eq11.false c.if-h-eq13.false A.kind_low A.kind_high A.kind_used
+    of_others a.k.params a.k.me a.s a.area.now a.value.now a.k.from a.f.now a.res.now _ _ a.k.header c.if-h-eq2.false c.if-h-eq9.false c.if-h-eq11.false c.if-h-eq13.false A.kind_low A.kind_high A.kind_used

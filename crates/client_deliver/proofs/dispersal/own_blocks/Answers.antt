@@ -1,5 +1,4 @@
 -- After j turns servers 1 to j were sent their blocks. Assumes nothing.
-use Prim.Native.Nat.{◌-◌}
 use Rattle.client_deliver.proofs.Rooms.{same_lengths}
 use Rattle.client_deliver.proofs.OwnBlocks.{own, turn_none, turn_next, turn_last, turn_room}
 use native.Mathlib.Omega.{arith}

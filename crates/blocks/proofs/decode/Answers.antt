@@ -1,4 +1,5 @@
 -- A refusal is returned; a value is stored once all blocks are known to be its blocks. Assumes nothing.
+use mathlib.Core.Bool.{not}
 use mathlib.Core.Path.{sym, ap, ◌∙◌}
 use Prim.Native.Nat.{ℕ, ◌*◌}
 use lib.ListN.{length}
@@ -40,7 +41,7 @@ pub returns-then-not-decode_all : goal.returns-then-not-decode_all
 returns-then-not-decode_all c =
     let f = decodes _ _ _ _ (sym c.decode_test-tested.ensures ∙ c.in-Done.is) in
     disagreed _ _ _ _ _ _ _ c.decode_test-tested.ensures c.in-Done.is (length-take-le _ (zeros 256) f.within.size_high)
-    c.decode_all.ensures.0 c.if-not-decode_all.true-raw
+    c.decode_all.ensures.0 (ap not c.if-not-decode_all.true)
 
 pub slice_bounds-value-end-2 : goal.slice_bounds-value-end-2
 slice_bounds-value-end-2 c =
@@ -69,5 +70,5 @@ returns c =
     let f = decodes _ _ _ _ (sym c.decode_test-tested.ensures ∙ c.in-Done.is) in
     let d = c.decode_all in
     agreed _ _ _ _ _ _ _ c.decode_test-tested.ensures c.in-Done.is (length-take-le _ (zeros 256) f.within.size_high)
-    d.ensures.0 _ _ c.if-not-decode_all.false-raw c.put.ensures
+    d.ensures.0 _ _ (ap not c.if-not-decode_all.false) c.put.ensures
     (front_back (zeros 256) d.new.value _ f.within.size_high d.auto.value ∙ d.ensures.1)

@@ -1,3 +1,5 @@
+use mathlib.Core.Bool.{not}
+use mathlib.Core.Path.{ap}
 use Rattle.server_accept.proofs.Acceptance.{told_silent, told_late, told_due}
 use borrow.Author.Tests.{not-true, not-false}
 use Rattle.server_accept.proofs.tell_one.Goals as goal
@@ -8,9 +10,9 @@ returns-then-not-r c = let a = c.args in told_silent a.r a.c a.x _ _ (not-true _
 pub returns-then-not-is_older : goal.returns-then-not-is_older
 returns-then-not-is_older c =
     let a = c.args in
-    told_late a.r a.c a.x _ _ _ (not-false _ c.if-not-r.false) c.is_older.ensures (not-true _ c.if-not-is_older.true-raw)
+    told_late a.r a.c a.x _ _ _ (not-false _ c.if-not-r.false) c.is_older.ensures (not-true _ (ap not c.if-not-is_older.true))
 
 pub returns : goal.returns
 returns c =
     let a = c.args in
-    told_due a.r a.c a.x _ _ _ _ (not-false _ c.if-not-r.false) c.is_older.ensures (not-false _ c.if-not-is_older.false-raw) c.send_value.ensures
+    told_due a.r a.c a.x _ _ _ _ (not-false _ c.if-not-r.false) c.is_older.ensures (not-false _ (ap not c.if-not-is_older.false)) c.send_value.ensures

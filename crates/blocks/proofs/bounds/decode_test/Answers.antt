@@ -1,4 +1,5 @@
 -- The parameters' tests, and then five demands. Assumes nothing.
+use mathlib.Core.Bool.{not}
 use mathlib.Core.Path.{sym, ap, ◌∙◌}
 use Prim.Native.Nat.{ℕ, ◌*◌}
 use lib.ListN.{length}
@@ -46,7 +47,7 @@ returns-then-not-numbers_fit c =
     let m : ℕ = length c.args.numbers.now in
     let same = ap (λ (x : ℕ). m * x) c.block_length.ensures in
     sym (then_done _ _ _ c.params_test-tested.ensures c.in-Done.is ∙ suffices _ _ _ _ c.if-m-k.false
-    ∙ suffices _ _ _ _ c.if-n-m.false ∙ equals _ _ _ _ (c.if-len-m.false ∙ same) ∙ refuses _ _ _ _ c.numbers_fit.ensures c.if-not-numbers_fit.true-raw)
+    ∙ suffices _ _ _ _ c.if-n-m.false ∙ equals _ _ _ _ (c.if-len-m.false ∙ same) ∙ refuses _ _ _ _ c.numbers_fit.ensures (ap not c.if-not-numbers_fit.true))
 
 pub returns-then-room-size : goal.returns-then-room-size
 unfolding decode_test
@@ -54,7 +55,7 @@ returns-then-room-size c =
     let m : ℕ = length c.args.numbers.now in
     let same = ap (λ (x : ℕ). m * x) c.block_length.ensures in
     sym (then_done _ _ _ c.params_test-tested.ensures c.in-Done.is ∙ suffices _ _ _ _ c.if-m-k.false
-    ∙ suffices _ _ _ _ c.if-n-m.false ∙ equals _ _ _ _ (c.if-len-m.false ∙ same) ∙ passes _ _ _ _ c.numbers_fit.ensures c.if-not-numbers_fit.false-raw
+    ∙ suffices _ _ _ _ c.if-n-m.false ∙ equals _ _ _ _ (c.if-len-m.false ∙ same) ∙ passes _ _ _ _ c.numbers_fit.ensures (ap not c.if-not-numbers_fit.false)
     ∙ lacks _ _ _ _ c.if-room-size.true)
 
 pub returns : goal.returns
@@ -63,5 +64,5 @@ returns c =
     let m : ℕ = length c.args.numbers.now in
     let same = ap (λ (x : ℕ). m * x) c.block_length.ensures in
     sym (then_done _ _ _ c.params_test-tested.ensures c.in-Done.is ∙ suffices _ _ _ _ c.if-m-k.false
-    ∙ suffices _ _ _ _ c.if-n-m.false ∙ equals _ _ _ _ (c.if-len-m.false ∙ same) ∙ passes _ _ _ _ c.numbers_fit.ensures c.if-not-numbers_fit.false-raw
+    ∙ suffices _ _ _ _ c.if-n-m.false ∙ equals _ _ _ _ (c.if-len-m.false ∙ same) ∙ passes _ _ _ _ c.numbers_fit.ensures (ap not c.if-not-numbers_fit.false)
     ∙ suffices _ _ _ _ c.if-room-size.false)

@@ -1,4 +1,5 @@
 -- After each turn, what is left of the blocks gives the same answer as all of them. Assumes nothing.
+use mathlib.Core.Bool.{not}
 use Prim.Native.Nat.{ℕ, ◌+◌, ◌-◌}
 use native.Mathlib.Nat.{zero-mul}
 use mathlib.Core.Path.{refl, sym, ap, ◌∙◌}
@@ -19,7 +20,7 @@ block_stands-requires c =
 
 pub returns-then-not-block_stands : goal.returns-then-not-block_stands
 returns-then-not-block_stands c =
-    sym (c.loop-i.invariant.3 ∙ stand_out _ _ _ _ _ _ c.loop-i-test.true c.loop-i.invariant.2 c.requires.4 _ c.block_stands.ensures c.if-not-block_stands.true-raw)
+    sym (c.loop-i.invariant.3 ∙ stand_out _ _ _ _ _ _ c.loop-i-test.true c.loop-i.invariant.2 c.requires.4 _ c.block_stands.ensures (ap not c.if-not-block_stands.true))
 
 pub overflow_add-at : goal.overflow_add-at
 overflow_add-at c =
@@ -35,7 +36,7 @@ loop-i-preserved c =
       omega arith,
       ap (λ x. c.loop-i.at + x) c.loop-i.invariant.0 ∙ next_place _ _ _ c.loop-i.invariant.2,
       c.loop-i.invariant.3
-          ∙ stand_turn _ _ _ _ _ _ c.loop-i-test.true c.loop-i.invariant.2 c.requires.4 _ c.block_stands.ensures c.if-not-block_stands.false-raw
+          ∙ stand_turn _ _ _ _ _ _ c.loop-i-test.true c.loop-i.invariant.2 c.requires.4 _ c.block_stands.ensures (ap not c.if-not-block_stands.false)
           ∙ ap (λ x. same (blocks_of c.args.k c.args.v.now (drop (c.loop-i.i + 1) c.args.js.now)) (drop (c.loop-i.at + x) c.args.w.now)) (sym c.loop-i.invariant.0),
     )
 

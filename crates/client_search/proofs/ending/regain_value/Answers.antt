@@ -1,5 +1,6 @@
 -- n - t rows have the value, which is at least k; the laws of Endings. Assumes nothing.
-use mathlib.Core.Path.{sym, ◌∙◌}
+use mathlib.Core.Bool.{not}
+use mathlib.Core.Path.{ap, sym, ◌∙◌}
 use lib.Seq.{length-take-le, length_front}
 use Rattle.blocks.proofs.Values.{zeros, front_back}
 use Rattle.client_search.proofs.Searches.{comparing, chunk_room}
@@ -49,7 +50,7 @@ returns-then-not-all_of c =
     let P = c.requires in
     let d = c.regain in
     let f = front_back (zeros 256) d.new.value _ P.searching.bounded.size_high d.auto.value ∙ d.ensures in
-    disagreed _ _ _ _ _ _ P _ _ c.hits-h.ensures c.holders-k.ensures _ f _ _ c.powers-ps.ensures c.logs-ls.ensures _ c.all_of.ensures _ c.if-not-all_of.true-raw
+    disagreed _ _ _ _ _ _ P _ _ c.hits-h.ensures c.holders-k.ensures _ f _ _ c.powers-ps.ensures c.logs-ls.ensures _ c.all_of.ensures _ (ap not c.if-not-all_of.true)
 
 pub slice_bounds-value-end-3 : goal.slice_bounds-value-end-3
 slice_bounds-value-end-3 c =
@@ -76,4 +77,4 @@ returns c =
     let P = c.requires in
     let d = c.regain in
     let f = front_back (zeros 256) d.new.value _ P.searching.bounded.size_high d.auto.value ∙ d.ensures in
-    unanimous _ _ _ _ _ _ P _ _ c.hits-h.ensures c.holders-k.ensures _ f _ _ c.powers-ps.ensures c.logs-ls.ensures _ c.all_of.ensures _ _ c.if-not-all_of.false-raw c.put.ensures
+    unanimous _ _ _ _ _ _ P _ _ c.hits-h.ensures c.holders-k.ensures _ f _ _ c.powers-ps.ensures c.logs-ls.ensures _ c.all_of.ensures _ _ (ap not c.if-not-all_of.false) c.put.ensures

@@ -1,6 +1,7 @@
 -- After j turns the first j servers are in order, and what is left decides. Assumes nothing.
+use mathlib.Core.Bool.{not}
 use Prim.Native.Nat.{◌+◌, ◌-◌}
-use mathlib.Core.Path.{sym, ◌∙◌}
+use mathlib.Core.Path.{ap, sym, ◌∙◌}
 use Rattle.group.proofs.Unanimous.{within_at, in_order_lem, left_start, own_long, left_turn, left_out, left_end}
 use native.Mathlib.Omega.{arith}
 use Rattle.group.proofs.decoding.all_of.Goals as goal
@@ -24,7 +25,7 @@ is_block-requires c =
 pub returns-then-not-is_block : goal.returns-then-not-is_block
 returns-then-not-is_block c =
     let p = c.requires in
-    left_out _ _ _ p.0.bounded p.1 _ _ p.0.whole _ _ c.loop-j-test.true (in_order_lem _ _ _ p.0.bounded p.1 _ _ p.0.whole _ (c.loop-j.j + 1) _ c.block_at-own.ensures c.is_block.ensures) c.if-not-is_block.true-raw
+    left_out _ _ _ p.0.bounded p.1 _ _ p.0.whole _ _ c.loop-j-test.true (in_order_lem _ _ _ p.0.bounded p.1 _ _ p.0.whole _ (c.loop-j.j + 1) _ c.block_at-own.ensures c.is_block.ensures) (ap not c.if-not-is_block.true)
     c.loop-j.invariant.0
 
 pub loop-j-smaller : goal.loop-j-smaller
@@ -33,7 +34,7 @@ loop-j-smaller c = omega arith
 pub loop-j-preserved : goal.loop-j-preserved
 loop-j-preserved c =
     let p = c.requires in (
-      left_turn _ _ _ p.0.bounded p.1 _ _ p.0.whole _ _ c.loop-j-test.true (in_order_lem _ _ _ p.0.bounded p.1 _ _ p.0.whole _ (c.loop-j.j + 1) _ c.block_at-own.ensures c.is_block.ensures) c.if-not-is_block.false-raw
+      left_turn _ _ _ p.0.bounded p.1 _ _ p.0.whole _ _ c.loop-j-test.true (in_order_lem _ _ _ p.0.bounded p.1 _ _ p.0.whole _ (c.loop-j.j + 1) _ c.block_at-own.ensures c.is_block.ensures) (ap not c.if-not-is_block.false)
           c.loop-j.invariant.0,
       omega arith,
     )

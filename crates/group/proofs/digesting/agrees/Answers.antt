@@ -1,4 +1,6 @@
 -- After j turns the first j servers and digests are in order, and what is left decides. Assumes nothing.
+use mathlib.Core.Bool.{not}
+use mathlib.Core.Path.{ap}
 use Prim.Native.Nat.{◌+◌, ◌-◌}
 use Rattle.group.proofs.Unanimous.{within_at}
 use Rattle.group.proofs.Comparing.{compare_start, step_is, compare_turn, compare_out, compare_end}
@@ -25,7 +27,7 @@ pub returns-then-not-agrees_at : goal.returns-then-not-agrees_at
 returns-then-not-agrees_at c =
     let p = c.requires in
     compare_out _ _ _ p.0.bounded p.1 _ _ p.0.whole _ p.2 _ _ c.loop-j-test.true
-    (step_is _ _ _ p.0.bounded p.1 _ _ p.0.whole _ p.2 c.loop-j.j _ _ c.block_at-own.ensures c.agrees_at.ensures) c.if-not-agrees_at.true-raw c.loop-j.invariant.0
+    (step_is _ _ _ p.0.bounded p.1 _ _ p.0.whole _ p.2 c.loop-j.j _ _ c.block_at-own.ensures c.agrees_at.ensures) (ap not c.if-not-agrees_at.true) c.loop-j.invariant.0
 
 pub loop-j-smaller : goal.loop-j-smaller
 loop-j-smaller c = omega arith
@@ -34,7 +36,7 @@ pub loop-j-preserved : goal.loop-j-preserved
 loop-j-preserved c =
     let p = c.requires in (
       compare_turn _ _ _ p.0.bounded p.1 _ _ p.0.whole _ p.2 _ _ c.loop-j-test.true
-          (step_is _ _ _ p.0.bounded p.1 _ _ p.0.whole _ p.2 c.loop-j.j _ _ c.block_at-own.ensures c.agrees_at.ensures) c.if-not-agrees_at.false-raw c.loop-j.invariant.0,
+          (step_is _ _ _ p.0.bounded p.1 _ _ p.0.whole _ p.2 c.loop-j.j _ _ c.block_at-own.ensures c.agrees_at.ensures) (ap not c.if-not-agrees_at.false) c.loop-j.invariant.0,
       omega arith,
     )
 

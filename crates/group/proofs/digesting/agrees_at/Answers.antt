@@ -1,5 +1,6 @@
 -- The block is encoded into a buffer, and compared with the list and with the server's. Assumes nothing.
-use mathlib.Core.Path.{refl}
+use mathlib.Core.Bool.{not}
+use mathlib.Core.Path.{ap, refl}
 use Rattle.blocks.proofs.Standing.{buffer_room, buffer_front, buffer_length}
 use Rattle.group.proofs.Digests.{short_block}
 use Rattle.group.proofs.Comparing.{no_fit, fit_unflagged, fit_flagged}
@@ -28,12 +29,12 @@ block_fits-requires c =
 pub returns-then-not-block_fits : goal.returns-then-not-block_fits
 returns-then-not-block_fits c =
     let f = buffer_front _ _ _ _ _ _ c.requires.0 c.requires.2 c.block_length-b.ensures refl c.encode_block.ensures in
-    no_fit c.args.mark c.args.own.now _ _ c.args.list.now c.args.j _ f c.block_fits.ensures c.if-not-block_fits.true-raw
+    no_fit c.args.mark c.args.own.now _ _ c.args.list.now c.args.j _ f c.block_fits.ensures (ap not c.if-not-block_fits.true)
 
 pub returns-then-not-mark : goal.returns-then-not-mark
 returns-then-not-mark c =
     let f = buffer_front _ _ _ _ _ _ c.requires.0 c.requires.2 c.block_length-b.ensures refl c.encode_block.ensures in
-    fit_unflagged c.args.mark c.args.own.now _ _ c.args.list.now c.args.j _ f c.block_fits.ensures c.if-not-block_fits.false-raw c.if-not-mark.true-raw
+    fit_unflagged c.args.mark c.args.own.now _ _ c.args.list.now c.args.j _ f c.block_fits.ensures (ap not c.if-not-block_fits.false) (ap not c.if-not-mark.true)
 
 pub slice_bounds-block-end-2 : goal.slice_bounds-block-end-2
 slice_bounds-block-end-2 c = buffer_room _ _ _ _ _ _ c.requires.0 c.requires.2 c.block_length-b.ensures refl c.encode_block.ensures
@@ -44,4 +45,4 @@ slice_bounds-equal-end c = buffer_length _ _ _ _ _ _ c.requires.0 c.requires.2 c
 pub returns : goal.returns
 returns c =
     let f = buffer_front _ _ _ _ _ _ c.requires.0 c.requires.2 c.block_length-b.ensures refl c.encode_block.ensures in
-    fit_flagged c.args.mark c.args.own.now _ _ c.args.list.now c.args.j _ f c.block_fits.ensures _ c.if-not-block_fits.false-raw c.if-not-mark.false-raw c.equal.ensures
+    fit_flagged c.args.mark c.args.own.now _ _ c.args.list.now c.args.j _ f c.block_fits.ensures _ (ap not c.if-not-block_fits.false) (ap not c.if-not-mark.false) c.equal.ensures

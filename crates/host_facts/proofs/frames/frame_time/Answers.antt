@@ -1,5 +1,6 @@
 -- Each return, by the laws of FrameLaws.antt. Assumes nothing.
-use mathlib.Core.Path.{sym, ◌∙◌}
+use mathlib.Core.Bool.{not}
+use mathlib.Core.Path.{ap, sym, ◌∙◌}
 use borrow.Author.Tests.{not-true, not-false}
 use Rattle.frame.proofs.Within.{bounded_of}
 use Rattle.host_facts.proofs.FrameLaws.{time_bounds, time_refused, time_short, time_long, time_none, time_done}
@@ -18,10 +19,10 @@ pub returns-then-time-lt-TIME_BYTES : goal.returns-then-time-lt-TIME_BYTES
 returns-then-time-lt-TIME_BYTES c = time_short _ _ _ _ c.bounds_test-bounds.ensures c.in_default.is _ c.open_frame-opened.ensures _ c.in-Frame.is c.if-time-lt-TIME_BYTES.true
 
 pub returns-then-not-carries_time : goal.returns-then-not-carries_time
-returns-then-not-carries_time c = time_none _ _ _ _ c.bounds_test-bounds.ensures c.in_default.is _ c.open_frame-opened.ensures _ c.in-Frame.is c.if-time-lt-TIME_BYTES.false (sym c.carries_time.ensures ∙ not-true _ c.if-not-carries_time.true-raw)
+returns-then-not-carries_time c = time_none _ _ _ _ c.bounds_test-bounds.ensures c.in_default.is _ c.open_frame-opened.ensures _ c.in-Frame.is c.if-time-lt-TIME_BYTES.false (sym c.carries_time.ensures ∙ not-true _ (ap not c.if-not-carries_time.true))
 
 pub read8-t-requires : goal.read8-t-requires
-read8-t-requires c = time_long _ _ _ (sym c.open_frame-opened.ensures ∙ c.in-Frame.is) (sym c.carries_time.ensures ∙ not-false _ c.if-not-carries_time.false-raw)
+read8-t-requires c = time_long _ _ _ (sym c.open_frame-opened.ensures ∙ c.in-Frame.is) (sym c.carries_time.ensures ∙ not-false _ (ap not c.if-not-carries_time.false))
 
 pub returns : goal.returns
-returns c = time_done _ _ _ _ c.bounds_test-bounds.ensures c.in_default.is _ c.open_frame-opened.ensures _ c.in-Frame.is _ _ c.if-time-lt-TIME_BYTES.false (sym c.carries_time.ensures ∙ not-false _ c.if-not-carries_time.false-raw) c.read8-t.ensures c.write8.ensures
+returns c = time_done _ _ _ _ c.bounds_test-bounds.ensures c.in_default.is _ c.open_frame-opened.ensures _ c.in-Frame.is _ _ c.if-time-lt-TIME_BYTES.false (sym c.carries_time.ensures ∙ not-false _ (ap not c.if-not-carries_time.false)) c.read8-t.ensures c.write8.ensures

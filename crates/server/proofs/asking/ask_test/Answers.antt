@@ -1,13 +1,14 @@
 -- Assumes nothing.
+use mathlib.Core.Bool.{not}
 use borrow.Author.Tests.{not-true, not-false}
-use mathlib.Core.Path.{sym, ◌∙◌}
+use mathlib.Core.Path.{ap, sym, ◌∙◌}
 use Rattle.area.specs.Area.{pick}
 use Rattle.server.proofs.asking.ask_test.Goals as goal
 
 pub returns-then-not-from_owner : goal.returns-then-not-from_owner
 unfolding pick
-returns-then-not-from_owner c = rw (sym c.from_owner.ensures ∙ not-true _ c.if-not-from_owner.true-raw)
+returns-then-not-from_owner c = rw (sym c.from_owner.ensures ∙ not-true _ (ap not c.if-not-from_owner.true))
 
 pub returns : goal.returns
 unfolding pick
-returns c = rw (sym c.from_owner.ensures ∙ not-false _ c.if-not-from_owner.false-raw) c.read_test.ensures
+returns c = rw (sym c.from_owner.ensures ∙ not-false _ (ap not c.if-not-from_owner.false)) c.read_test.ensures

@@ -1,7 +1,6 @@
 -- Each turn stores one more line. Assumes nothing.
 use mathlib.Core.Path.{refl, ◌∙◌}
 use mathlib.Core.List.{[]}
-use Prim.Native.Nat.{◌-◌}
 use Rattle.history_sheet.specs.Sheet.{filled, ended}
 use Rattle.history_sheet.proofs.Lines.{length_blank}
 use Rattle.history_sheet.proofs.Pages.{no_lines, turn, all_lines}

@@ -1,6 +1,6 @@
 -- Each turn stores one more line. Assumes nothing.
 use mathlib.Core.Path.{refl, ◌∙◌}
-use Prim.Native.Nat.{◌+◌, ◌-◌}
+use Prim.Native.Nat.{◌+◌}
 use Rattle.history_sheet.specs.Sheet.{operation_line, ended}
 use Rattle.history_sheet.specs.Stages.{named}
 use Rattle.history_sheet.proofs.Pages.{no_lines, turn, all_lines, named_line}

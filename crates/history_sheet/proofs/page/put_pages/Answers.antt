@@ -1,6 +1,5 @@
 -- Each turn stores one more page. Assumes nothing.
 use mathlib.Core.Path.{refl, ◌∙◌}
-use Prim.Native.Nat.{◌-◌}
 use Rattle.history_sheet.specs.Sheet.{page_size, page_of}
 use Rattle.history_sheet.specs.Stages.{named_all}
 use Rattle.history_sheet.proofs.Pages.{no_lines, turn_front, all_lines, length_page, named_fits}

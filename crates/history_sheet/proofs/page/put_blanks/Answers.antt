@@ -17,9 +17,6 @@ loop-j-preserved c =
     let a = c.args in
     (search rules, c.put_blank.auto.out ∙ l.invariant.1, turn (λ i. ended (filled [])) 73 0 l.j a.out.now l.out _ a.at (λ k p q. length_blank) l.invariant.2 c.put_blank.ensures)
 
-pub shape_of-out : goal.shape_of-out
-shape_of-out c = c.loop-j.invariant.1
-
 pub returns : goal.returns
 returns c =
     let l = c.loop-j in

@@ -1,5 +1,6 @@
 // The season sheet (document 02, F-5): a history that has an order, laid out on pages of 72 columns and 60 lines in a lent area.
 #![tactic(auto)]
+
 pub mod answers;
 pub mod line;
 pub mod number;

@@ -8,10 +8,8 @@ use lib.ListN.{length, drop, length-append}
 use Rattle.order.proofs.Picks.{pick_no}
 use Rattle.order.proofs.Lists.{by_test}
 use Rattle.order.specs.declared.operation.Operation.{Operation}
-use Rattle.history_row.specs.Rows.{none}
-use Rattle.history_row.specs.declared.History.{History}
 use Rattle.area.specs.Area.{pick, same}
-use Rattle.history_text.specs.Lines.{split, is_formed, record_of, Lines, Records, Malformed, record_then, records_of, lines_of, answer_of, answer_to}
+use Rattle.history_text.specs.Lines.{split, is_formed, record_of, Records, Malformed, record_then, records_of, lines_of}
 use Rattle.history_text.specs.Printed.{join, fields_of, printed}
 use Rattle.history_text.specs.ReadLines.{operation_of, lines_read}
 use Rattle.history_text.specs.declared.line.Line.{Line}

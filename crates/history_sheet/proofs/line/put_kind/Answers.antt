@@ -1,11 +1,6 @@
 -- Two bytes stored. Assumes nothing.
 use native.Mathlib.Numerals.{add-one}
-use lib.ListN.{length-set}
-use native.Mathlib.Omega.{arith}
 use Rattle.history_sheet.proofs.line.put_kind.Goals as goal
-
-pub bounds-out-at-2 : goal.bounds-out-at-2
-bounds-out-at-2 c = simp length-set (omega arith)
 
 pub returns : goal.returns
 returns c = rw (add-one, c.kind.ensures)

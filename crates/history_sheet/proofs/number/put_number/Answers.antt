@@ -22,9 +22,6 @@ loop-x-preserved c =
     let short = t.0 in
     (omega arith, search rules, search rules, simp length-set l.invariant.3, t.0, t.1 ∙ l.invariant.5)
 
-pub shape_of-out : goal.shape_of-out
-shape_of-out c = simp length-set (c.fill.auto.area ∙ c.loop-x.invariant.3)
-
 pub returns : goal.returns
 returns c =
     let l = c.loop-x in

@@ -1,6 +1,6 @@
 -- After each turn, storing the digits that are left in the columns that are left would still give the whole number. Assumes nothing.
 use mathlib.Core.Path.{◌≡◌}
-use Prim.Native.Nat.{◌-◌, ◌≤◌}
+use Prim.Native.Nat.{◌≤◌}
 use lib.ListN.{length}
 use lib.Seq.{sets}
 use Rattle.history_text.specs.Decimals.{decimal}

@@ -1,7 +1,6 @@
 -- Each turn stores one more line. Assumes nothing.
 use mathlib.Core.Path.{refl, ◌∙◌}
 use mathlib.Core.List.{[]}
-use Prim.Native.Nat.{◌-◌}
 use Rattle.history_sheet.specs.Sheet.{filled, ended}
 use Rattle.history_sheet.proofs.Lines.{length_blank}
 use Rattle.history_sheet.proofs.Pages.{no_lines, turn, all_lines}
@@ -17,9 +16,6 @@ loop-j-preserved c =
     let l = c.loop-j in
     let a = c.args in
     (search rules, c.put_blank.auto.out ∙ l.invariant.1, turn (λ i. ended (filled [])) 73 0 l.j a.out.now l.out _ a.at (λ k p q. length_blank) l.invariant.2 c.put_blank.ensures)
-
-pub shape_of-out : goal.shape_of-out
-shape_of-out c = c.loop-j.invariant.1
 
 pub returns : goal.returns
 returns c =

@@ -1,6 +1,6 @@
 -- Each turn stores one more line. Assumes nothing.
 use mathlib.Core.Path.{refl, ◌∙◌}
-use Prim.Native.Nat.{◌+◌, ◌-◌}
+use Prim.Native.Nat.{◌+◌}
 use Rattle.history_sheet.specs.Sheet.{operation_line, ended}
 use Rattle.history_sheet.specs.Stages.{named}
 use Rattle.history_sheet.proofs.Pages.{no_lines, turn, all_lines, named_line}
@@ -10,37 +10,6 @@ use Rattle.history_sheet.proofs.page.put_operations.Goals as goal
 
 pub loop-j-init : goal.loop-j-init
 loop-j-init c = (search rules, refl, no_lines _ _ _ _)
-
-pub overflow_add-i : goal.overflow_add-i
-overflow_add-i c = let few = c.requires.1.few in omega arith
-
-pub overflow_add-place : goal.overflow_add-place
-overflow_add-place c = let few = c.requires.1.few in omega arith
-
-pub bounds-lines-i : goal.bounds-lines-i
-bounds-lines-i c = let few = c.requires.1.few in omega arith
-
-pub overflow_sub-a : goal.overflow_sub-a
-overflow_sub-a c =
-    let a = c.args in
-    let j = c.loop-j.j in
-    let low = c.requires.1.low (a.first + j) (omega arith) in
-    omega arith
-
-pub offset_bounds-rows-line : goal.offset_bounds-rows-line
-offset_bounds-rows-line c =
-    let a = c.args in
-    let j = c.loop-j.j in
-    let high = c.requires.1.high (a.first + j) (omega arith) in
-    record { fits = omega arith }
-
-pub bounds-rows-line : goal.bounds-rows-line
-bounds-rows-line c =
-    let a = c.args in
-    let j = c.loop-j.j in
-    let low = c.requires.1.low (a.first + j) (omega arith) in
-    let high = c.requires.1.high (a.first + j) (omega arith) in
-    omega arith
 
 pub put_operation-requires : goal.put_operation-requires
 unfolding named
@@ -62,9 +31,6 @@ loop-j-preserved c =
       c.put_operation.auto.out ∙ l.invariant.1,
       turn (λ i. ended (operation_line (i + 1) (named a.rows a.lines i))) 73 a.first l.j a.out.now l.out _ a.at (λ k p q. named_line a.rows a.lines _ N k (omega arith)) l.invariant.2 c.put_operation.ensures,
     )
-
-pub shape_of-out : goal.shape_of-out
-shape_of-out c = c.loop-j.invariant.1
 
 pub returns : goal.returns
 returns c =

@@ -1,14 +1,8 @@
 -- Lines of operations, lines of spaces and the number, end to end. Assumes nothing.
-use Rattle.history_sheet.proofs.Pages.{named_fewer, one_digit, page_put}
+use Rattle.history_sheet.proofs.Pages.{one_digit, page_put}
 use native.Mathlib.Omega.{arith}
 use borrow.Author.Rules.{rules}
 use Rattle.history_sheet.proofs.page.put_page.Goals as goal
-
-pub put_operations-requires : goal.put_operations-requires
-put_operations-requires c =
-    let a = c.args in
-    let e = c.taken-count.ensures in
-    (omega arith, named_fewer a.rows a.lines a.m c.requires.1 _ (omega arith))
 
 pub put_field-requires : goal.put_field-requires
 put_field-requires c = let d = one_digit c.args.p c.requires.2 in (search rules, omega arith)

@@ -1,6 +1,5 @@
 -- Each turn stores one more page. Assumes nothing.
 use mathlib.Core.Path.{refl, ◌∙◌}
-use Prim.Native.Nat.{◌-◌}
 use Rattle.history_sheet.specs.Sheet.{page_size, page_of}
 use Rattle.history_sheet.specs.Stages.{named_all}
 use Rattle.history_sheet.proofs.Pages.{no_lines, turn_front, all_lines, length_page, named_fits}
@@ -10,9 +9,6 @@ use Rattle.history_sheet.proofs.page.put_pages.Goals as goal
 
 pub loop-p-init : goal.loop-p-init
 loop-p-init c = (search rules, refl, no_lines _ _ _ _)
-
-pub put_page-requires : goal.put_page-requires
-put_page-requires c = (search rules, c.requires.1, search rules, search rules)
 
 pub loop-p-preserved : goal.loop-p-preserved
 loop-p-preserved c =
@@ -24,9 +20,6 @@ loop-p-preserved c =
       c.put_page.auto.out ∙ l.invariant.1,
       turn_front (page_of row) page_size l.p a.out.now l.out _ (λ k x. length_page row (named_fits a.rows a.lines a.m c.requires.1) k (omega arith)) l.invariant.2 c.put_page.ensures,
     )
-
-pub shape_of-out : goal.shape_of-out
-shape_of-out c = c.loop-p.invariant.1
 
 pub returns : goal.returns
 returns c =

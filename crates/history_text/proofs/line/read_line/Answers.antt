@@ -33,24 +33,6 @@ returns-in_default c =
     let g : c.kind-k.result ≤ 1 = omega arith in
     (line_interval s a.at h c.kind-k.ensures g c.if-s-at-ne32.false c.read_interval-i.ensures.0 c.in_default.is, tt)
 
-pub overflow_add-at-4 : goal.overflow_add-at-4
-overflow_add-at-4 c =
-    let a = c.args in
-    let s = a.s.now in
-    let r = c.read_interval-i in
-    let i = c.i-1.given in
-    let w = subst (WithinInterval (length s - (a.at + 2))) i.1 r.ensures.1 in
-    record { fits = omega arith }
-
-pub read_stamp-p-requires : goal.read_stamp-p-requires
-read_stamp-p-requires c =
-    let a = c.args in
-    let s = a.s.now in
-    let r = c.read_interval-i in
-    let i = c.i-1.given in
-    let w = subst (WithinInterval (length s - (a.at + 2))) i.1 r.ensures.1 in
-    omega arith
-
 pub returns-in_default-p : goal.returns-in_default-p
 returns-in_default-p c =
     let a = c.args in
@@ -58,136 +40,34 @@ returns-in_default-p c =
     let h : 2 ≤ length s - a.at = omega arith in
     let g : c.kind-k.result ≤ 1 = omega arith in
     let r = c.read_interval-i in
-    let i = c.i-1.given in
-    let w = subst (WithinInterval (length s - (a.at + 2))) i.1 r.ensures.1 in
-    (line_stamp s a.at h c.kind-k.ensures g c.if-s-at-ne32.false i.0.0 i.0.1.0 i.0.1.1.0 r.ensures.0 i.1 c.read_stamp-p.ensures.0 c.in_default-p.is, tt)
-
-pub overflow_add-at-6 : goal.overflow_add-at-6
-overflow_add-at-6 c =
-    let a = c.args in
-    let s = a.s.now in
-    let r = c.read_interval-i in
-    let i = c.i-1.given in
-    let w = subst (WithinInterval (length s - (a.at + 2))) i.1 r.ensures.1 in
-    let v = c.read_stamp-p in
-    let p = c.p-1.given in
-    let w₂ = subst (WithinStamp (length s - (a.at + 2 + i.0.1.1.0))) p.1 v.ensures.1 in
-    record { fits = omega arith }
-
-pub overflow_add-at-7 : goal.overflow_add-at-7
-overflow_add-at-7 c =
-    let a = c.args in
-    let s = a.s.now in
-    let r = c.read_interval-i in
-    let i = c.i-1.given in
-    let w = subst (WithinInterval (length s - (a.at + 2))) i.1 r.ensures.1 in
-    let v = c.read_stamp-p in
-    let p = c.p-1.given in
-    let w₂ = subst (WithinStamp (length s - (a.at + 2 + i.0.1.1.0))) p.1 v.ensures.1 in
-    record { fits = omega arith }
-
-pub read_field-f-requires : goal.read_field-f-requires
-read_field-f-requires c =
-    let a = c.args in
-    let s = a.s.now in
-    let r = c.read_interval-i in
-    let i = c.i-1.given in
-    let w = subst (WithinInterval (length s - (a.at + 2))) i.1 r.ensures.1 in
-    let v = c.read_stamp-p in
-    let p = c.p-1.given in
-    let w₂ = subst (WithinStamp (length s - (a.at + 2 + i.0.1.1.0))) p.1 v.ensures.1 in
-    (omega arith, omega arith)
+    let i = c.in-Times in
+    (line_stamp s a.at h c.kind-k.ensures g c.if-s-at-ne32.false i.start i.end i.a r.ensures.0 i.is c.read_stamp-p.ensures.0 c.in_default-p.is, tt)
 
 pub returns-in_default-f : goal.returns-in_default-f
 returns-in_default-f c =
     let a = c.args in
     let s = a.s.now in
     let r = c.read_interval-i in
-    let i = c.i-1.given in
-    let w = subst (WithinInterval (length s - (a.at + 2))) i.1 r.ensures.1 in
+    let i = c.in-Times in
     let v = c.read_stamp-p in
-    let p = c.p-1.given in
-    let w₂ = subst (WithinStamp (length s - (a.at + 2 + i.0.1.1.0))) p.1 v.ensures.1 in
+    let p = c.in-Parts in
     let h : 2 ≤ length s - a.at = omega arith in
     let g : c.kind-k.result ≤ 1 = omega arith in
-    (line_caller s a.at h c.kind-k.ensures g c.if-s-at-ne32.false i.0.0 i.0.1.0 i.0.1.1.0 p.0.0 p.0.1.0 p.0.1.1.0 p.0.1.1.1.0 r.ensures.0 i.1 v.ensures.0 p.1 c.read_field-f.ensures.0 c.in_default-f.is, tt)
-
-pub overflow_cast-operation : goal.overflow_cast-operation
-overflow_cast-operation c =
-    let a = c.args in
-    let s = a.s.now in
-    let r = c.read_interval-i in
-    let i = c.i-1.given in
-    let w = subst (WithinInterval (length s - (a.at + 2))) i.1 r.ensures.1 in
-    let v = c.read_stamp-p in
-    let p = c.p-1.given in
-    let w₂ = subst (WithinStamp (length s - (a.at + 2 + i.0.1.1.0))) p.1 v.ensures.1 in
-    let n = c.read_field-f in
-    let f = c.f-1.given in
-    let w₃ = subst (WithinField 8 (length s - (a.at + 2 + i.0.1.1.0 + p.0.1.1.1.0))) f.1 n.ensures.1 in
-    record { fits = omega arith }
-
-pub overflow_add-result : goal.overflow_add-result
-overflow_add-result c =
-    let a = c.args in
-    let s = a.s.now in
-    let r = c.read_interval-i in
-    let i = c.i-1.given in
-    let w = subst (WithinInterval (length s - (a.at + 2))) i.1 r.ensures.1 in
-    let v = c.read_stamp-p in
-    let p = c.p-1.given in
-    let w₂ = subst (WithinStamp (length s - (a.at + 2 + i.0.1.1.0))) p.1 v.ensures.1 in
-    let n = c.read_field-f in
-    let f = c.f-1.given in
-    let w₃ = subst (WithinField 8 (length s - (a.at + 2 + i.0.1.1.0 + p.0.1.1.1.0))) f.1 n.ensures.1 in
-    let room : 2 ≤ length s - a.at = c.if-s-at-lt2.false in
-    record { fits = omega (arith, room, w, w₂, w₃.1, c.well_formed.0.0) }
-
-pub overflow_add-result-2 : goal.overflow_add-result-2
-overflow_add-result-2 c =
-    let a = c.args in
-    let s = a.s.now in
-    let r = c.read_interval-i in
-    let i = c.i-1.given in
-    let w = subst (WithinInterval (length s - (a.at + 2))) i.1 r.ensures.1 in
-    let v = c.read_stamp-p in
-    let p = c.p-1.given in
-    let w₂ = subst (WithinStamp (length s - (a.at + 2 + i.0.1.1.0))) p.1 v.ensures.1 in
-    let n = c.read_field-f in
-    let f = c.f-1.given in
-    let w₃ = subst (WithinField 8 (length s - (a.at + 2 + i.0.1.1.0 + p.0.1.1.1.0))) f.1 n.ensures.1 in
-    let room : 2 ≤ length s - a.at = c.if-s-at-lt2.false in
-    record { fits = omega (arith, room, w, w₂, w₃.1, c.well_formed.0.0) }
-
-pub overflow_add-result-3 : goal.overflow_add-result-3
-overflow_add-result-3 c =
-    let a = c.args in
-    let s = a.s.now in
-    let r = c.read_interval-i in
-    let i = c.i-1.given in
-    let w = subst (WithinInterval (length s - (a.at + 2))) i.1 r.ensures.1 in
-    let v = c.read_stamp-p in
-    let p = c.p-1.given in
-    let w₂ = subst (WithinStamp (length s - (a.at + 2 + i.0.1.1.0))) p.1 v.ensures.1 in
-    let n = c.read_field-f in
-    let f = c.f-1.given in
-    let w₃ = subst (WithinField 8 (length s - (a.at + 2 + i.0.1.1.0 + p.0.1.1.1.0))) f.1 n.ensures.1 in
-    let room : 2 ≤ length s - a.at = c.if-s-at-lt2.false in
-    record { fits = omega (arith, room, w, w₂, w₃.1, c.well_formed.0.0) }
+    (line_caller s a.at h c.kind-k.ensures g c.if-s-at-ne32.false i.start i.end i.a p.time p.writer p.sequence p.b r.ensures.0 i.is v.ensures.0 p.is c.read_field-f.ensures.0 c.in_default-f.is, tt)
 
 pub returns : goal.returns
 returns c =
     let a = c.args in
     let s = a.s.now in
     let r = c.read_interval-i in
-    let i = c.i-1.given in
-    let w = subst (WithinInterval (length s - (a.at + 2))) i.1 r.ensures.1 in
+    let i = c.in-Times in
+    let w = subst (WithinInterval (length s - (a.at + 2))) i.is r.ensures.1 in
     let v = c.read_stamp-p in
-    let p = c.p-1.given in
-    let w₂ = subst (WithinStamp (length s - (a.at + 2 + i.0.1.1.0))) p.1 v.ensures.1 in
+    let p = c.in-Parts in
+    let w₂ = subst (WithinStamp (length s - (a.at + 2 + i.a))) p.is v.ensures.1 in
     let n = c.read_field-f in
-    let f = c.f-1.given in
-    let w₃ = subst (WithinField 8 (length s - (a.at + 2 + i.0.1.1.0 + p.0.1.1.1.0))) f.1 n.ensures.1 in
+    let f = c.in-Number in
+    let w₃ = subst (WithinField 8 (length s - (a.at + 2 + i.a + p.b))) f.is n.ensures.1 in
     let h : 2 ≤ length s - a.at = c.if-s-at-lt2.false in
     let g : c.kind-k.result ≤ 1 = c.if-k-gt1.false in
-    (line_whole s a.at h c.kind-k.ensures g c.if-s-at-ne32.false i.0.0 i.0.1.0 i.0.1.1.0 p.0.0 p.0.1.0 p.0.1.1.0 p.0.1.1.1.0 r.ensures.0 i.1 v.ensures.0 p.1 n.ensures.0 f.0.0 f.0.1.0 f.1, (omega (arith, w, w₂, w₃.1), omega (arith, h, w, w₂, w₃.1)))
+    (line_whole s a.at h c.kind-k.ensures g c.if-s-at-ne32.false i.start i.end i.a p.time p.writer p.sequence p.b r.ensures.0 i.is v.ensures.0 p.is n.ensures.0 f.caller f.d f.is, (omega (arith, w, w₂, w₃.1), omega (arith, h, w, w₂, w₃.1)))

@@ -11,65 +11,14 @@ pub returns-in_default : goal.returns-in_default
 unfolding stamp_of
 returns-in_default c = (then_bad _ _ _ c.read_field-f.ensures.0 c.in_default.is, tt)
 
-pub overflow_add-at : goal.overflow_add-at
-overflow_add-at c =
-    let a = c.args in
-    let s = a.s.now in
-    let r = c.read_field-f in
-    let f = c.f-1.given in
-    let w = subst (WithinField 18446744073709551615 (length s - a.at)) f.1 r.ensures.1 in
-    record { fits = omega arith }
-
-pub read_field-g-requires : goal.read_field-g-requires
-read_field-g-requires c =
-    let a = c.args in
-    let s = a.s.now in
-    let r = c.read_field-f in
-    let f = c.f-1.given in
-    let w = subst (WithinField 18446744073709551615 (length s - a.at)) f.1 r.ensures.1 in
-    (omega arith, omega arith)
-
 pub returns-in_default-g : goal.returns-in_default-g
 unfolding stamp_of
 returns-in_default-g c =
     let a = c.args in
     let s = a.s.now in
     let r = c.read_field-f in
-    let f = c.f-1.given in
-    (then_number_lem _ _ _ f.0.0 f.0.1.0 r.ensures.0 f.1 (then_bad _ _ _ (further 8 32 a.at f.0.1.0 s c.read_field-g.ensures.0) c.in_default-g.is), tt)
-
-pub overflow_add-at-2 : goal.overflow_add-at-2
-overflow_add-at-2 c =
-    let a = c.args in
-    let s = a.s.now in
-    let r = c.read_field-f in
-    let f = c.f-1.given in
-    let w = subst (WithinField 18446744073709551615 (length s - a.at)) f.1 r.ensures.1 in
-    record { fits = omega arith }
-
-pub overflow_add-at-3 : goal.overflow_add-at-3
-overflow_add-at-3 c =
-    let a = c.args in
-    let s = a.s.now in
-    let r = c.read_field-f in
-    let f = c.f-1.given in
-    let w = subst (WithinField 18446744073709551615 (length s - a.at)) f.1 r.ensures.1 in
-    let r₂ = c.read_field-g in
-    let g = c.g-1.given in
-    let w₂ = subst (WithinField 8 (length s - (a.at + f.0.1.0))) g.1 r₂.ensures.1 in
-    record { fits = omega arith }
-
-pub read_field-h-requires : goal.read_field-h-requires
-read_field-h-requires c =
-    let a = c.args in
-    let s = a.s.now in
-    let r = c.read_field-f in
-    let f = c.f-1.given in
-    let w = subst (WithinField 18446744073709551615 (length s - a.at)) f.1 r.ensures.1 in
-    let r₂ = c.read_field-g in
-    let g = c.g-1.given in
-    let w₂ = subst (WithinField 8 (length s - (a.at + f.0.1.0))) g.1 r₂.ensures.1 in
-    (omega arith, omega arith)
+    let f = c.in-Number in
+    (then_number_lem _ _ _ f.time f.a r.ensures.0 f.is (then_bad _ _ _ (further 8 32 a.at f.a s c.read_field-g.ensures.0) c.in_default-g.is), tt)
 
 pub returns-in_default-h : goal.returns-in_default-h
 unfolding stamp_of
@@ -77,73 +26,13 @@ returns-in_default-h c =
     let a = c.args in
     let s = a.s.now in
     let r = c.read_field-f in
-    let f = c.f-1.given in
+    let f = c.in-Number in
     let r₂ = c.read_field-g in
-    let g = c.g-1.given in
+    let g = c.in-Number-g in
     let r₃ = c.read_field-h in
-    let n : a.at + f.0.1.0 + g.0.1.0 ≡ a.at + (f.0.1.0 + g.0.1.0) = omega arith in
-    let e₃ = further 4294967295 32 a.at (f.0.1.0 + g.0.1.0) s (r₃.ensures.0 ∙ ap (λ i. field_of 4294967295 32 (drop i s)) n) in
-    (then_number_lem _ _ _ f.0.0 f.0.1.0 r.ensures.0 f.1 (then_number_lem _ _ _ g.0.0 g.0.1.0 (further 8 32 a.at f.0.1.0 s r₂.ensures.0) g.1 (then_bad _ _ _ e₃ c.in_default-h.is)), tt)
-
-pub overflow_cast-result : goal.overflow_cast-result
-overflow_cast-result c =
-    let a = c.args in
-    let s = a.s.now in
-    let r = c.read_field-f in
-    let f = c.f-1.given in
-    let w = subst (WithinField 18446744073709551615 (length s - a.at)) f.1 r.ensures.1 in
-    let r₂ = c.read_field-g in
-    let g = c.g-1.given in
-    let w₂ = subst (WithinField 8 (length s - (a.at + f.0.1.0))) g.1 r₂.ensures.1 in
-    let r₃ = c.read_field-h in
-    let h = c.h-1.given in
-    let w₃ = subst (WithinField 4294967295 (length s - (a.at + f.0.1.0 + g.0.1.0))) h.1 r₃.ensures.1 in
-    record { fits = omega arith }
-
-pub overflow_cast-result-2 : goal.overflow_cast-result-2
-overflow_cast-result-2 c =
-    let a = c.args in
-    let s = a.s.now in
-    let r = c.read_field-f in
-    let f = c.f-1.given in
-    let w = subst (WithinField 18446744073709551615 (length s - a.at)) f.1 r.ensures.1 in
-    let r₂ = c.read_field-g in
-    let g = c.g-1.given in
-    let w₂ = subst (WithinField 8 (length s - (a.at + f.0.1.0))) g.1 r₂.ensures.1 in
-    let r₃ = c.read_field-h in
-    let h = c.h-1.given in
-    let w₃ = subst (WithinField 4294967295 (length s - (a.at + f.0.1.0 + g.0.1.0))) h.1 r₃.ensures.1 in
-    record { fits = omega arith }
-
-pub overflow_add-result : goal.overflow_add-result
-overflow_add-result c =
-    let a = c.args in
-    let s = a.s.now in
-    let r = c.read_field-f in
-    let f = c.f-1.given in
-    let w = subst (WithinField 18446744073709551615 (length s - a.at)) f.1 r.ensures.1 in
-    let r₂ = c.read_field-g in
-    let g = c.g-1.given in
-    let w₂ = subst (WithinField 8 (length s - (a.at + f.0.1.0))) g.1 r₂.ensures.1 in
-    let r₃ = c.read_field-h in
-    let h = c.h-1.given in
-    let w₃ = subst (WithinField 4294967295 (length s - (a.at + f.0.1.0 + g.0.1.0))) h.1 r₃.ensures.1 in
-    record { fits = omega (arith, w.1, w₂.1, w₃.1, c.well_formed.0.0) }
-
-pub overflow_add-result-2 : goal.overflow_add-result-2
-overflow_add-result-2 c =
-    let a = c.args in
-    let s = a.s.now in
-    let r = c.read_field-f in
-    let f = c.f-1.given in
-    let w = subst (WithinField 18446744073709551615 (length s - a.at)) f.1 r.ensures.1 in
-    let r₂ = c.read_field-g in
-    let g = c.g-1.given in
-    let w₂ = subst (WithinField 8 (length s - (a.at + f.0.1.0))) g.1 r₂.ensures.1 in
-    let r₃ = c.read_field-h in
-    let h = c.h-1.given in
-    let w₃ = subst (WithinField 4294967295 (length s - (a.at + f.0.1.0 + g.0.1.0))) h.1 r₃.ensures.1 in
-    record { fits = omega (arith, w.1, w₂.1, w₃.1, c.well_formed.0.0) }
+    let n : a.at + f.a + g.b ≡ a.at + (f.a + g.b) = omega arith in
+    let e₃ = further 4294967295 32 a.at (f.a + g.b) s (r₃.ensures.0 ∙ ap (λ i. field_of 4294967295 32 (drop i s)) n) in
+    (then_number_lem _ _ _ f.time f.a r.ensures.0 f.is (then_number_lem _ _ _ g.writer g.b (further 8 32 a.at f.a s r₂.ensures.0) g.is (then_bad _ _ _ e₃ c.in_default-h.is)), tt)
 
 pub returns : goal.returns
 unfolding stamp_of
@@ -151,14 +40,14 @@ returns c =
     let a = c.args in
     let s = a.s.now in
     let r = c.read_field-f in
-    let f = c.f-1.given in
-    let w = subst (WithinField 18446744073709551615 (length s - a.at)) f.1 r.ensures.1 in
+    let f = c.in-Number in
+    let w = subst (WithinField 18446744073709551615 (length s - a.at)) f.is r.ensures.1 in
     let r₂ = c.read_field-g in
-    let g = c.g-1.given in
-    let w₂ = subst (WithinField 8 (length s - (a.at + f.0.1.0))) g.1 r₂.ensures.1 in
+    let g = c.in-Number-g in
+    let w₂ = subst (WithinField 8 (length s - (a.at + f.a))) g.is r₂.ensures.1 in
     let r₃ = c.read_field-h in
-    let h = c.h-1.given in
-    let w₃ = subst (WithinField 4294967295 (length s - (a.at + f.0.1.0 + g.0.1.0))) h.1 r₃.ensures.1 in
-    let n : a.at + f.0.1.0 + g.0.1.0 ≡ a.at + (f.0.1.0 + g.0.1.0) = omega arith in
-    let e₃ = further 4294967295 32 a.at (f.0.1.0 + g.0.1.0) s (r₃.ensures.0 ∙ ap (λ i. field_of 4294967295 32 (drop i s)) n) in
-    (then_number_lem _ _ _ f.0.0 f.0.1.0 r.ensures.0 f.1 (then_number_lem _ _ _ g.0.0 g.0.1.0 (further 8 32 a.at f.0.1.0 s r₂.ensures.0) g.1 (then_number_lem _ _ _ h.0.0 h.0.1.0 e₃ h.1 refl)), omega arith)
+    let h = c.in-Number-h in
+    let w₃ = subst (WithinField 4294967295 (length s - (a.at + f.a + g.b))) h.is r₃.ensures.1 in
+    let n : a.at + f.a + g.b ≡ a.at + (f.a + g.b) = omega arith in
+    let e₃ = further 4294967295 32 a.at (f.a + g.b) s (r₃.ensures.0 ∙ ap (λ i. field_of 4294967295 32 (drop i s)) n) in
+    (then_number_lem _ _ _ f.time f.a r.ensures.0 f.is (then_number_lem _ _ _ g.writer g.b (further 8 32 a.at f.a s r₂.ensures.0) g.is (then_number_lem _ _ _ h.sequence h.d e₃ h.is refl)), omega arith)

@@ -1,5 +1,5 @@
 use mathlib.Core.Path.{◌≡◌, sym, ap, ◌∙◌}
-use Prim.Native.Nat.{suc, ◌+◌, ◌-◌, ◌*◌, ◌<◌, ◌≤◌}
+use Prim.Native.Nat.{suc, ◌+◌, ◌*◌, ◌<◌, ◌≤◌}
 use lib.ListN.{length, drop}
 use borrow.Author.Tests.{leb-true}
 use Rattle.history_text.specs.ReadNumbers.{digits_of}
@@ -18,20 +18,6 @@ returns-then-d-gt9 c =
     let h : a.at + l.used < length s = omega arith in
     let e = digits_stop a.limit l.value l.used (a.at + l.used) s h c.digit-d.ensures.0 c.if-d-gt9.true in
     (sym e ∙ l.invariant.2, (omega arith, omega arith))
-
-pub overflow_mul-value : goal.overflow_mul-value
-overflow_mul-value c =
-    let a = c.args in
-    let l = c.loop-used in
-    let k : l.value * 10 + c.digit-d.result ≤ a.limit = leb-true _ _ (sym c.fits.ensures ∙ c.if-fits.true) in
-    record { fits = omega arith }
-
-pub overflow_add-value : goal.overflow_add-value
-overflow_add-value c =
-    let a = c.args in
-    let l = c.loop-used in
-    let k : l.value * 10 + c.digit-d.result ≤ a.limit = leb-true _ _ (sym c.fits.ensures ∙ c.if-fits.true) in
-    record { fits = omega arith }
 
 pub loop-used-preserved : goal.loop-used-preserved
 loop-used-preserved c =

@@ -16,23 +16,21 @@ pub returns-then-s-at : goal.returns-then-s-at
 returns-then-s-at c =
     let a = c.args in
     let r = c.read_number-n in
-    let g = c.n-1.given in
-    let w = subst (WithinField a.limit (length a.s.now - a.at)) g.1 r.ensures.1 in
-    let h : length a.s.now ≤ a.at + g.0.1.0 = omega arith in
-    (field_short a.limit a.end a.at g.0.0 g.0.1.0 a.s.now r.ensures.0 g.1 (search rules) h, tt)
+    let g = c.in-Number in
+    let h : length a.s.now ≤ a.at + g.used = omega arith in
+    (field_short a.limit a.end a.at g.value g.used a.s.now r.ensures.0 g.is (search rules) h, tt)
 
 pub returns-then-s-at-2 : goal.returns-then-s-at-2
 returns-then-s-at-2 c =
     let a = c.args in
     let r = c.read_number-n in
-    let g = c.n-1.given in
-    let w = subst (WithinField a.limit (length a.s.now - a.at)) g.1 r.ensures.1 in
-    (field_found a.limit a.end a.at g.0.0 g.0.1.0 a.s.now r.ensures.0 g.1 c.if-s-at-2.true, (w.0, omega arith))
+    let g = c.in-Number in
+    let w = subst (WithinField a.limit (length a.s.now - a.at)) g.is r.ensures.1 in
+    (field_found a.limit a.end a.at g.value g.used a.s.now r.ensures.0 g.is c.if-s-at-2.true, (w.0, omega arith))
 
 pub returns : goal.returns
 returns c =
     let a = c.args in
     let r = c.read_number-n in
-    let g = c.n-1.given in
-    let w = subst (WithinField a.limit (length a.s.now - a.at)) g.1 r.ensures.1 in
-    (field_other a.limit a.end a.at g.0.0 g.0.1.0 a.s.now r.ensures.0 g.1 c.if-s-at-2.false, tt)
+    let g = c.in-Number in
+    (field_other a.limit a.end a.at g.value g.used a.s.now r.ensures.0 g.is c.if-s-at-2.false, tt)

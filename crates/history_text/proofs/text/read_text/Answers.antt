@@ -22,33 +22,15 @@ returns-in_default c =
     ap (reading true) c.empty.ensures
     ∙ sym (final_bad l.history l.invariant.1.0 l.at s h l.invariant.1.1 c.read_line-line.ensures.0 c.in_default.is) ∙ l.invariant.1.2
 
-pub overflow_add-at : goal.overflow_add-at
-overflow_add-at c =
-    let s = c.args.s.now in
-    let l = c.loop-at in
-    let r = c.read_line-line in
-    let x = c.line-1.given in
-    let w = subst (WithinLine (length s - l.at)) x.1 r.ensures.1 in
-    record { fits = omega arith }
-
-pub loop-at-smaller : goal.loop-at-smaller
-loop-at-smaller c =
-    let s = c.args.s.now in
-    let l = c.loop-at in
-    let r = c.read_line-line in
-    let x = c.line-1.given in
-    let w = subst (WithinLine (length s - l.at)) x.1 r.ensures.1 in
-    omega arith
-
 pub loop-at-preserved : goal.loop-at-preserved
 loop-at-preserved c =
     let s = c.args.s.now in
     let l = c.loop-at in
     let r = c.read_line-line in
-    let x = c.line-1.given in
-    let w = subst (WithinLine (length s - l.at)) x.1 r.ensures.1 in
+    let x = c.in-Record in
+    let w = subst (WithinLine (length s - l.at)) x.is r.ensures.1 in
     let h : l.at < length s = omega arith in
-    let m = final_next l.history l.invariant.1.0 l.at x.0.1.0 s x.0.0 h l.invariant.1.1 w.0 w.1 r.ensures.0 x.1 c.add-history.ensures l.invariant.1.2 in
+    let m = final_next l.history l.invariant.1.0 l.at x.used s x.a h l.invariant.1.1 w.0 w.1 r.ensures.0 x.is c.add-history.ensures l.invariant.1.2 in
     (omega arith, m)
 
 pub returns : goal.returns

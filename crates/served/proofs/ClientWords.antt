@@ -21,7 +21,7 @@ use Rattle.client_rules.specs.Tests as CT
 use Rattle.client_rules.proofs.Shapes.{learns_writes, Shape, notes, hears, shuts, counts, ends, waits, completes, sends as disperses, idle as idles}
 use Rattle.steps.proofs.ClientTaken.{learns_asking}
 use Rattle.runs.specs.Admissible.{Admissible}
-use Rattle.runs.specs.World.{Setup, Call, caller, run, sends}
+use Rattle.runs.specs.World.{client_left, Setup, Call, caller, run, sends}
 use Rattle.runs.proofs.Assumed.{Assumed}
 use Rattle.taking.proofs.Readers.{all_to}
 use Rattle.served.proofs.Clients.{home, TakesFrame, ClientTurn, rests, takes, begins_read, begins_write, client_turn}
@@ -110,16 +110,16 @@ module _ (Z : Setup) (G : Assumed Z) where
     shape_word (idles x) b m u = absurd (Memᴰ.not-nil u)
     shape_word (notes T p) b m u = absurd (Memᴰ.not-nil u)
     shape_word (hears x K q) b m u = absurd (Memᴰ.not-nil u)
-    shape_word (disperses x K q l) b m u =
+    shape_word {r = r} (disperses x K q l) b m u =
         let (j, i, e, w) = from_all _ b m u in
-        worded _ c b m _ w (refl, j, i, e, inr (sym (learns_writes H g c s a t.v t.j K), omega arith), _, t.v, refl)
+        worded r.client c b m _ w (refl, j, i, e, inr (sym (learns_writes H g c s a t.v t.j K), omega arith), _, t.v, refl)
     shape_word (shuts x K q l) b m u = absurd (Memᴰ.not-nil u)
     shape_word (counts q) b m u = absurd (Memᴰ.not-nil u)
     shape_word (ends q) b m u = absurd (Memᴰ.not-nil u)
     shape_word (waits x e K z) b m u = absurd (Memᴰ.not-nil u)
-    shape_word (completes x e {s'} K y z) b m u =
+    shape_word {r = r} (completes x e {s'} K y z) b m u =
         let (j, i, e, w) = from_all (λ i. message c s'.reads read_complete) b m u in
-        worded _ c b m _ w (refl, (j, i, e), inr (refl, omega arith))
+        worded r.client c b m _ w (refl, (j, i, e), inr (refl, omega arith))
 
     -- its blocks are of the open write, which was asking, and of one time and value
     abbrev Offers : List Sending → Type 0
@@ -164,10 +164,10 @@ module _ (Z : Setup) (G : Assumed Z) where
         (shape_word ks k c t t.shape b m (subst (Memᴰ (sending b m)) t.sent u))
     call_word (begins_read out to _ t h l) b m u =
         let (j, i, x, w) = from_all (λ j. message c ((home Z ks c).client.reads + 1) ask_read) b m (subst (Memᴰ (sending b m)) l u) in
-        subst (λ h. Word h.client c b m.client m.sequence m.body) (sym h) (worded _ c b m _ w (refl, (j, i, x), omega arith))
+        subst (λ h. Word h.client c b m.client m.sequence m.body) (sym h) (worded (client_left Z (CB.open_read Z.g c (home Z ks c).client) (home Z ks c).area (home Z ks c).value).client c b m _ w (refl, (j, i, x), omega arith))
     call_word (begins_write v out to _ t h l o) b m u =
         let (j, i, x, w) = from_all (λ j. message c ((home Z ks c).client.writes + 1) get_stamp) b m (subst (Memᴰ (sending b m)) l u) in
-        subst (λ h. Word h.client c b m.client m.sequence m.body) (sym h) (worded _ c b m _ w (refl, (j, i, x), omega arith))
+        subst (λ h. Word h.client c b m.client m.sequence m.body) (sym h) (worded (client_left Z (CB.open_write Z.g c (home Z ks c).client) (home Z ks c).area v).client c b m _ w (refl, (j, i, x), omega arith))
 
     call_offers : ClientTurn Z ks k c → (b : Party) (d q : ℕ) (o : Offer) → Memᴰ (sending b (message d q (block_is send o))) (sends Z (run Z ks) k)
         → (q ≡ (home Z ks c).client.writes) × (write_stage (home Z ks c).client.phase ≡ 0)

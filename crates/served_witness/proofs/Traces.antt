@@ -218,6 +218,7 @@ module _ (Z : Setup) (G : Exact Z) where
   all_of_lem : (a : Party) (s : List Sending) (l : List Hand) → all_of Z a s l ≡ true → (x : Sending) → Memᴰ x s → Honest Z x.receiver
       → among_hands l a x.receiver (build x.says) ≡ true
   unfolding all_of
+  all_of_lem a [] l e x u h = elim u [ ]
   all_of_lem a (y ∷ s) l e x (Memᴰ.head q) h =
       let w = and_split (not (honest Z y.receiver) || among_hands l a y.receiver (build y.says)) _ e in
       subst (λ z. among_hands l a z.receiver (build z.says) ≡ true) (sym q)

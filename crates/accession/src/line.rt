@@ -2,7 +2,7 @@
 use case_text::fields::{Field, field_with, no_field, store};
 
 // Its word; how many spaces it has, 2 meaning more than 1; the argument, and how many bytes that spells, 8 meaning 8 or more.
-#[derive(Drop)]
+#[derive(Clone, Copy)]
 pub struct Line {
     pub word: Field,
     pub spaces: u8,
@@ -57,10 +57,8 @@ fn add_byte(line: Line, b: u8, bytes: &mut [u8]) -> Line {
 // The line with one more part.
 pub fn add_part(line: Line, part: &[u8], bytes: &mut [u8]) -> Line {
     let mut y = line;
-    let mut i = 0;
-    while i < part.len() {
-        y = add_byte(y, part[i], bytes);
-        i += 1;
+    for b in part {
+        y = add_byte(y, *b, bytes);
     }
     y
 }

@@ -6,7 +6,7 @@ use crate::text::digit;
 // How many bytes it has, 9 for any number above 8; the last eight of them as one number; its value as a decimal number, modulo 2^64; whether all of it are
 // decimal digits without leading zeros, and whether the value is 2^64 or more; whether all of it are hexadecimal digits, whether they are odd in number, and
 // the last of them.
-#[derive(Drop)]
+#[derive(Clone, Copy)]
 pub struct Field {
     pub length: usize,
     pub word: u64,
@@ -74,7 +74,7 @@ fn stays_hex(hex: bool, d: u8) -> bool {
 }
 
 fn number_with(number: u64, d: u8) -> u64 {
-    std::num::wrapping_add_u64(number % 1844674407370955162 * 10, d as u64)
+    (number % 1844674407370955162 * 10).wrapping_add(d as u64)
 }
 
 // The field with one more byte.

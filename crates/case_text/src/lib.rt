@@ -1,4 +1,6 @@
 // What programs that read lines share: words, numbers and bytes as text, fields read byte by byte, and what is printed for a case.
+#![tactic(auto)]
+
 pub mod fields;
 pub mod report;
 pub mod text;

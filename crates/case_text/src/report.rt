@@ -1,23 +1,29 @@
 // What is printed for a case.
 ghost use Rattle.std.specs.Prelude.{◌≤◌, length};
 
-use libc::STDOUT_FILENO;
+use std::io;
+use std::io::Write;
 
 // The line as it is.
-pub fn echo(line: &[u8]) {
-    io::write_all(STDOUT_FILENO, line);
-    io::write_all(STDOUT_FILENO, b"\n");
+pub fn echo<W: Write>(out: &mut W, line: &[u8]) -> io::Result<()> {
+    out.write_all(line)?;
+    out.write_all(b"\n")
 }
 
 // The kind of a case and its result, with `ok` if the line has the same from index expected on.
-pub fn result(kind: &[u8], line: &[u8], expected: usize, text: &[u8])
+pub fn result<W: Write>(
+    out: &mut W,
+    kind: &[u8],
+    line: &[u8],
+    expected: usize,
+    text: &[u8],
+) -> io::Result<()>
     requires { expected ≤ length line.now }
 {
-    io::write_all(STDOUT_FILENO, kind);
-    io::write_all(STDOUT_FILENO, text);
+    out.write_all(kind)?;
+    out.write_all(text)?;
     if area::equal(&line[expected..], text) {
-        io::write_all(STDOUT_FILENO, b" ok\n");
-        return;
+        return out.write_all(b" ok\n");
     }
-    io::write_all(STDOUT_FILENO, b" differs\n");
+    out.write_all(b" differs\n")
 }

@@ -1,9 +1,8 @@
 // Words, numbers and bytes as text.
 ghost use Rattle.std.specs.Prelude.{◌+◌, ◌*◌, ◌<◌, ◌≤◌, length};
-ghost use Rattle.io.specs.Counts.{IsPrefixLen};
 
 // A word of a line: where it starts and ends, and where the next one starts.
-#[derive(Drop)]
+#[derive(Clone, Copy)]
 pub struct Word {
     pub start: usize,
     pub end: usize,
@@ -15,14 +14,12 @@ pub fn until(s: &[u8], at: usize, b: u8) -> usize
     requires { at ≤ length s.now }
     ensures { (at ≤ result) × (result ≤ length s.now) }
 {
-    let mut i = at;
-    while i < s.len() {
+    for i in at..s.len() {
         if s[i] == b {
             return i;
         }
-        i += 1;
     }
-    i
+    s.len()
 }
 
 // The word that starts at index at.
@@ -70,10 +67,8 @@ pub fn number(line: &[u8], start: usize, end: usize) -> usize
     ensures { result < 100000 }
 {
     let mut x: usize = 0;
-    let mut i = start;
-    while i < end {
+    for i in start..end {
         x = (x * 10 + digit(line[i]) as usize) % 100000;
-        i += 1;
     }
     x
 }
@@ -91,27 +86,18 @@ fn letter(x: u8) -> u8
 // The bytes that the digits of line from start to end give, into the front of out: as many as fit, up to the first that is no digit. Answers how many.
 pub fn bytes(line: &[u8], start: usize, end: usize, out: &mut [u8]) -> usize
     requires { (start ≤ end) × (end ≤ length line.now) }
-    ensures { IsPrefixLen result out.new }
+    ensures { result ≤ length out.new }
 {
-    let mut n = 0;
-    let mut i = start;
-    while i + 1 < end {
-        if out.len() <= n {
-            return n;
-        }
-        let high = digit(line[i]);
-        let low = digit(line[i + 1]);
-        if 16 <= high {
-            return n;
-        }
-        if 16 <= low {
+    let most = out.len().min((end - start) / 2);
+    for n in 0..most {
+        let high = digit(line[start + 2 * n]);
+        let low = digit(line[start + 2 * n + 1]);
+        if high == 16 || low == 16 {
             return n;
         }
         out[n] = high * 16 + low;
-        n += 1;
-        i += 2;
     }
-    n
+    most
 }
 
 // Writes the two digits of a byte.
@@ -125,12 +111,10 @@ pub fn put_digits(text: &mut [u8], at: usize, b: u8)
 // Writes bytes as digits into text from index at on, and answers where they end.
 pub fn put_bytes(text: &mut [u8], at: usize, bytes: &[u8]) -> usize
     requires { at + length bytes.now * 2 ≤ length text.old }
-    ensures { IsPrefixLen result text.new }
+    ensures { result ≤ length text.new }
 {
-    let mut i = 0;
-    while i < bytes.len() {
-        put_digits(text, at + i * 2, bytes[i]);
-        i += 1;
+    for (i, b) in bytes.iter().enumerate() {
+        put_digits(text, at + i * 2, *b);
     }
-    at + i * 2
+    at + bytes.len() * 2
 }

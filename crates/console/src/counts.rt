@@ -1,13 +1,10 @@
 // How many bytes of a slice are used.
-ghost use Rattle.io.specs.Counts.{IsPrefixLen};
+ghost use Rattle.std.specs.Prelude.{◌≡◌, ◌≤◌, length, min};
 
 // The size, or the length of the slice if that is smaller.
 pub fn count_of(size: usize, bytes: &[u8]) -> usize
-    ensures { IsPrefixLen result bytes.now }
+    ensures within { result ≤ length bytes.now }
+    ensures value { result ≡ min size (length bytes.now) }
 {
-    let most = bytes.len();
-    if most < size {
-        return most;
-    }
-    size
+    size.min(bytes.len())
 }

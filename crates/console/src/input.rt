@@ -1,124 +1,83 @@
 // The input of a program: standard input, or the file that its argument names.
-ghost use Rattle.std.specs.Prelude.{◌≡◌, ◌+◌, ◌≤◌, ◌<◌, length};
-ghost use Rattle.io.specs.Counts.{IsPrefixLen};
+ghost use Rattle.std.specs.Prelude.{◌≤◌, length, IfOk};
+ghost use Rattle.std.specs.Io.{ReadsAtMost};
 
-use crate::patience::{is_again, left_after};
+use crate::failure::Failure;
+use crate::patience::{is_put_off, left_after};
+use std::io::Read;
+use std::rt::{Clock, Env, Files};
+use std::{env, fs, io};
 
-// Opens the file that the argument names; -1, with a message, if it can't be opened.
-fn open_named() -> i32 {
-    let mut name = io::buffer();
-    let k = os::arg(1, &mut name);
-    if os::errno() != 0 {
-        os::fail(b"the file's name");
-        return -1;
-    }
-    let fd = os::open_read(&name[..k]);
-    if fd < 0 {
-        os::fail(&name[..k]);
-    }
-    fd
-}
-
-// The descriptor of the input: standard input, or the file that the one argument names; -1, with a message, if it can't be opened or there are more arguments.
-pub fn open_input() -> i32 {
-    let count = os::arg_count();
-    if count < 2 {
-        return libc::STDIN_FILENO;
-    }
-    if 2 < count {
-        io::write_all(libc::STDERR_FILENO, b"one file at most can be named\n");
-        return -1;
-    }
-    open_named()
-}
-
-// What was read: how many bytes, at the front of a buffer; none at the input's end, or if it could not be read.
+// Standard input, or a file.
 #[derive(Drop)]
-pub struct Piece {
-    pub count: usize,
-    pub failed: bool,
+pub enum Source<S, F> {
+    Standard(S),
+    Named(F),
 }
 
-// One read: what it gave, and whether it is to be made again.
-#[derive(Drop)]
-struct Try {
-    count: usize,
-    failed: bool,
-    again: bool,
-}
-
-fn read_once(fd: i32, buf: &mut [u8]) -> Try
-    ensures { IsPrefixLen result.count buf.new }
-{
-    let got = libc::read(fd, buf);
-    let count = io::count(got, buf);
-    if got < 0 {
-        let again = is_again();
-        return Try {
-            count,
-            failed: !again,
-            again,
-        };
-    }
-    Try {
-        count,
-        failed: false,
-        again: false,
+impl<S: Read, F: Read> Read for Source<S, F> {
+    fn read(&mut self, buf: &mut [u8]) -> io::Result<usize> {
+        match self {
+            Source::Standard(reader) => reader.read(buf),
+            Source::Named(file) => file.read(buf),
+        }
     }
 }
 
-// Reads the next piece of the input; prints a message if it can't be read.
-pub fn read_piece(fd: i32, buf: &mut [u8]) -> Piece
-    ensures { IsPrefixLen result.count buf.new }
+// Opens the file of this name.
+pub fn open_file<R: Files>(rt: &R, name: String) -> Result<R::File, Failure> {
+    match fs::open(rt, name.as_str()) {
+        Ok(file) => Ok(file),
+        Err(error) => Err(Failure::Opening(name, error)),
+    }
+}
+
+// The input: standard input, or the file that the one argument names. It fails if the file can't be opened or there are more arguments.
+pub fn open_input<R: Input + Files + Env + AllocGlobal>(
+    rt: &R,
+) -> Result<Source<R::Reader, R::File>, Failure> {
+    let mut names = env::args(rt).map_err(Failure::Arguments)?.skip(1);
+    let Some(name) = names.next() else {
+        return Ok(Source::Standard(rt.reader()));
+    };
+    if names.next().is_some() {
+        return Err(Failure::ManyNames);
+    }
+    Ok(Source::Named(open_file(rt, name)?))
+}
+
+// Reads the next piece of the input into the front of the buffer, and answers how many bytes it has: none at the input's end.
+pub fn read_piece<C: Clock, S: Read>(
+    clock: &C,
+    source: &mut S,
+    buf: &mut [u8],
+) -> Result<usize, Failure>
+    ensures { ReadsAtMost result buf.new }
 {
-    let mut t = read_once(fd, buf);
-    let mut left: u64 = left_after(18446744073709551615, t.again);
+    let mut outcome = source.read(buf);
+    let mut left = left_after(u64::MAX, is_put_off(clock, &outcome));
     while 0 < left {
-        t = read_once(fd, buf);
-        left = left_after(left, t.again);
+        outcome = source.read(buf);
+        left = left_after(left, is_put_off(clock, &outcome));
     }
-    if t.failed {
-        os::fail(b"the input could not be read");
-    }
-    Piece {
-        count: t.count,
-        failed: t.failed,
-    }
+    outcome.map_err(Failure::Reading)
 }
 
-// What was read of a whole input, and whether it goes on.
-#[derive(Drop)]
-struct Whole {
-    count: usize,
-    failed: bool,
-    more: bool,
-}
-
-// Reads one more piece, into the buffer after its first count bytes.
-fn read_more(fd: i32, buf: &mut [u8], count: usize) -> Whole
-    requires { count ≤ length buf.old }
-    ensures { result.count ≤ length buf.new }
+// Reads the input to its end, or until the buffer is full, and answers how many bytes it has.
+pub fn read_whole<C: Clock, S: Read>(
+    clock: &C,
+    source: &mut S,
+    buf: &mut [u8],
+) -> Result<usize, Failure>
+    ensures { ReadsAtMost result buf.new }
 {
-    let p = read_piece(fd, &mut buf[count..]);
-    Whole {
-        count: count + p.count,
-        failed: p.failed,
-        more: 0 < p.count,
+    let mut count = 0;
+    for _ in 0..u64::MAX {
+        let more = read_piece(clock, source, &mut buf[count..])?;
+        if more == 0 {
+            break;
+        }
+        count += more;
     }
-}
-
-// Reads the input to its end, or until the buffer is full; prints a message if it can't be read.
-pub fn read_whole(fd: i32, buf: &mut [u8]) -> Piece
-    ensures { IsPrefixLen result.count buf.new }
-{
-    let mut count: usize = 0;
-    let mut failed = false;
-    let mut left: u64 = 18446744073709551615;
-    while 0 < left {
-        let w = read_more(fd, buf, count);
-        count = w.count;
-        failed = w.failed;
-        left = left_after(left, w.more);
-    }
-    Piece { count, failed }
+    Ok(count)
 }

@@ -1,136 +1,77 @@
-// Standard output, written in large pieces: what is put waits in an area until there is no room, or until it is flushed.
-use crate::counts::count_of;
-use crate::patience::{is_again, left_after};
-use case_text::text::put_digits;
+// Standard output, written in large pieces: what is put waits until there is no room, or until it is flushed.
+use crate::failure::Failure;
+use crate::patience::{is_put_off, left_after};
+use std::io;
+use std::io::{BufWriter, Write};
+use std::rt::Clock;
 
-// How many bytes wait at the front of the area; and whether a write failed, after which nothing more is written.
+// Standard output itself. A write that can't be made yet is made again; after one that failed nothing more is written.
 #[derive(Drop)]
-pub struct Out {
-    pub used: usize,
-    pub failed: bool,
+pub struct Patient<'a, R> {
+    rt: &'a R,
+    failed: Option<io::Error>,
 }
 
-pub fn nothing() -> Out {
-    Out {
-        used: 0,
-        failed: false,
+impl<R: Print + Clock> Write for Patient<'_, R> {
+    fn write(&mut self, buf: &[u8]) -> io::Result<usize> {
+        if let Some(error) = self.failed {
+            return Err(error);
+        }
+        let mut outcome = self.rt.write_some(buf);
+        let mut left = left_after(u64::MAX, is_put_off(self.rt, &outcome));
+        while 0 < left {
+            outcome = self.rt.write_some(buf);
+            left = left_after(left, is_put_off(self.rt, &outcome));
+        }
+        self.failed = outcome.err();
+        outcome
+    }
+
+    fn flush(&mut self) -> io::Result<()> {
+        Ok(())
     }
 }
 
-// How many bytes of a text are written, and whether that goes on.
-#[derive(Drop)]
-struct Written {
-    done: usize,
-    more: bool,
-}
+pub type Out<'a, R> = BufWriter<Patient<'a, R>>;
 
-// One write of the text from index done on.
-fn write_some(text: &[u8], done: usize) -> Written {
-    let n = text.len();
-    if n <= done {
-        return Written { done, more: false };
-    }
-    let got = libc::write(libc::STDOUT_FILENO, &text[done..]);
-    if 0 < got {
-        let moved = io::count(got, &text[done..]);
-        return Written {
-            done: done + moved,
-            more: true,
-        };
-    }
-    if got < 0 {
-        return Written {
-            done,
-            more: is_again(),
-        };
-    }
-    Written { done, more: false }
-}
+// How many bytes wait at most.
+const ROOM: usize = 65536;
 
-// Writes a text, in at most 2^64 - 1 pieces, and answers whether all of it was written.
-fn write_whole(text: &[u8]) -> bool {
-    let mut done: usize = 0;
-    let mut left: u64 = 18446744073709551615;
-    while 0 < left {
-        let w = write_some(text, done);
-        done = w.done;
-        left = left_after(left, w.more);
-    }
-    text.len() <= done
-}
-
-// Writes a text, unless a write failed before; prints a message if this one fails.
-fn send(out: Out, text: &[u8]) -> Out {
-    if out.failed {
-        return out;
-    }
-    if write_whole(text) {
-        return nothing();
-    }
-    os::fail(b"the output could not be written");
-    Out {
-        used: 0,
-        failed: true,
-    }
+// Standard output, where nothing waits yet.
+pub fn nothing<R: Print + Clock + AllocGlobal>(rt: &R) -> Result<Out<'_, R>, Failure> {
+    let patient = Patient { rt, failed: None };
+    BufWriter::with_capacity(rt.alloc(), ROOM, patient).map_err(Failure::Writing)
 }
 
 // Writes what waits.
-pub fn flush(out: Out, area: &[u8]) -> Out {
-    let n = count_of(out.used, area);
-    send(out, &area[..n])
-}
-
-// Makes room for size more bytes: what waits is written if they do not fit after it.
-fn with_room(out: Out, area: &[u8], size: usize) -> Out {
-    let n = count_of(out.used, area);
-    if area.len() - n < size {
-        return flush(out, area);
-    }
-    out
+pub fn flush<W: Write>(out: &mut W) -> Result<(), Failure> {
+    out.flush().map_err(Failure::Writing)
 }
 
 // Adds a text to what waits.
-pub fn put(out: Out, area: &mut [u8], text: &[u8]) -> Out {
-    let ready = with_room(out, area, text.len());
-    let n = count_of(ready.used, area);
-    if area.len() - n < text.len() {
-        return send(ready, text);
-    }
-    area::put(area, n, text);
-    Out {
-        used: n + text.len(),
-        failed: ready.failed,
-    }
+pub fn put<W: Write>(out: &mut W, text: &[u8]) -> Result<(), Failure> {
+    out.write_all(text).map_err(Failure::Writing)
 }
 
 // Puts a number's digits.
-pub fn put_decimal(out: Out, area: &mut [u8], x: u64) -> Out {
-    let mut digits = [0u8; 20];
-    let k = io::decimal(x, &mut digits);
-    put(out, area, &digits[..k])
+pub fn put_decimal<W: Write>(out: &mut W, x: u64) -> Result<(), Failure> {
+    write!(out, "{x}").map_err(Failure::Writing)
 }
 
 // Puts bytes as hexadecimal digits.
-pub fn put_hex(out: Out, area: &mut [u8], bytes: &[u8]) -> Out {
-    let mut y = out;
-    let mut i = 0;
-    while i < bytes.len() {
-        let mut two = [0u8; 2];
-        put_digits(&mut two, 0, bytes[i]);
-        y = put(y, area, &two);
-        i += 1;
+pub fn put_hex<W: Write>(out: &mut W, bytes: &[u8]) -> Result<(), Failure> {
+    for byte in bytes {
+        write!(out, "{byte:02x}").map_err(Failure::Writing)?;
     }
-    y
+    Ok(())
 }
 
 // Puts the answer to a line that the program does not understand.
-pub fn put_what(out: Out, area: &mut [u8]) -> Out {
-    put(out, area, b"what?\n")
+pub fn put_what<W: Write>(out: &mut W) -> Result<(), Failure> {
+    put(out, b"what?\n")
 }
 
 // Puts the answer to what is refused, with the refusal's number.
-pub fn put_refused(out: Out, area: &mut [u8], number: u64) -> Out {
-    let word = put(out, area, b"refused ");
-    let digits = put_decimal(word, area, number);
-    put(digits, area, b"\n")
+pub fn put_refused<W: Write>(out: &mut W, number: u64) -> Result<(), Failure> {
+    writeln!(out, "refused {number}").map_err(Failure::Writing)
 }

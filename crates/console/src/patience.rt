@@ -1,33 +1,34 @@
 // Calls that fail only for now, and loops that make such a call again.
 ghost use Rattle.std.specs.Prelude.{◌<◌};
 
-use libc::types::timespec;
+use std::io::ErrorKind;
+use std::rt::Clock;
+use std::time::Duration;
+use std::{io, thread};
 
-// Waits for a hundredth of a second, or until a signal comes. The libraries have no call that waits for a descriptor, so a program that waits for one
-// tries again after such a pause.
-fn pause() {
-    let asked = timespec {
-        tv_sec: 0,
-        tv_nsec: 10000000,
-    };
-    let mut left = timespec {
-        tv_sec: 0,
-        tv_nsec: 0,
-    };
-    libc::nanosleep(&asked, &mut left);
+// Waits for a hundredth of a second. The library has no call that waits for a descriptor, so a program that waits for one tries again after such a pause.
+fn pause(clock: &impl Clock) {
+    thread::sleep(clock, Duration::from_millis(10));
 }
 
-// Whether the call that just failed is to be made again: it was interrupted, or nothing was ready yet; in the second case it pauses first.
-pub fn is_again() -> bool {
-    let error = os::errno();
-    if error == libc::EINTR {
-        return true;
+// Whether the call that failed is to be made again: it was interrupted, or nothing was ready yet; in the second case it pauses first.
+pub fn is_again(clock: &impl Clock, error: &io::Error) -> bool {
+    match error.kind() {
+        ErrorKind::Interrupted => true,
+        ErrorKind::WouldBlock => {
+            pause(clock);
+            true
+        }
+        _ => false,
     }
-    if error == libc::EAGAIN {
-        pause();
-        return true;
+}
+
+// Whether a call is to be made again, which it is if it failed only for now.
+pub fn is_put_off<T>(clock: &impl Clock, outcome: &io::Result<T>) -> bool {
+    match outcome {
+        Ok(_) => false,
+        Err(error) => is_again(clock, error),
     }
-    false
 }
 
 // How many turns a loop has left after one of them: none if it is not to go on.
@@ -35,8 +36,5 @@ pub fn left_after(left: u64, more: bool) -> u64
     requires { 0 < left }
     ensures { result < left }
 {
-    if !more {
-        return 0;
-    }
-    left - 1
+    if more { left - 1 } else { 0 }
 }

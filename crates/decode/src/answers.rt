@@ -6,12 +6,14 @@ use crate::line::{Line, is_whole};
 use blocks::faults::fault_number;
 use blocks::{Coded, Params};
 use console::counts::count_of;
-use console::output::{Out, put, put_hex, put_refused, put_what};
+use console::failure::Failure;
+use console::output::{put, put_hex, put_refused, put_what};
+use std::io::Write;
 
-fn put_value(out: Out, text: &mut [u8], value: &[u8]) -> Out {
-    let word = put(out, text, b"value ");
-    let digits = put_hex(word, text, value);
-    put(digits, text, b"\n")
+fn put_value<W: Write>(out: &mut W, value: &[u8]) -> Result<(), Failure> {
+    put(out, b"value ")?;
+    put_hex(out, value)?;
+    put(out, b"\n")
 }
 
 // Decodes from what is kept of a line's numbers and blocks: the outcome is the same as from all of them.
@@ -22,41 +24,44 @@ fn decode_kept(g: Params, numbers: &[u8], blocks: &[u8], area: &mut [u8]) -> Cod
 }
 
 // Decodes into the first room bytes of the area.
-fn decode_in(
+fn decode_in<W: Write>(
     g: Params,
     room: usize,
     numbers: &[u8],
     blocks: &[u8],
     area: &mut [u8],
-    out: Out,
-    text: &mut [u8],
-) -> Out {
+    out: &mut W,
+) -> Result<(), Failure> {
     let most = count_of(room, area);
     let said = decode_kept(g, numbers, blocks, &mut area[..most]);
     if let Coded::Refused(f) = said {
-        return put_refused(out, text, fault_number(f));
+        return put_refused(out, fault_number(f));
     }
     let n = count_of(g.size, area);
-    put_value(out, text, &area[..n])
+    put_value(out, &area[..n])
 }
 
 // A value has at most 256 bytes, so a longer area changes nothing.
-fn decoded(
+fn decoded<W: Write>(
     g: Params,
     room: usize,
     numbers: &[u8],
     blocks: &[u8],
-    out: Out,
-    text: &mut [u8],
-) -> Out {
+    out: &mut W,
+) -> Result<(), Failure> {
     let mut area = [0u8; 256];
-    decode_in(g, room, numbers, blocks, &mut area, out, text)
+    decode_in(g, room, numbers, blocks, &mut area, out)
 }
 
 // Answers a line, whose last two fields spell these bytes.
-pub fn answer(line: Line, numbers: &[u8], blocks: &[u8], out: Out, text: &mut [u8]) -> Out {
+pub fn answer<W: Write>(
+    line: Line,
+    numbers: &[u8],
+    blocks: &[u8],
+    out: &mut W,
+) -> Result<(), Failure> {
     if !is_whole(line) {
-        return put_what(out, text);
+        return put_what(out);
     }
     let values = line.values;
     let g = Params {
@@ -67,5 +72,5 @@ pub fn answer(line: Line, numbers: &[u8], blocks: &[u8], out: Out, text: &mut [u
     };
     let m = count_of(line.numbers, numbers);
     let w = count_of(line.blocks, blocks);
-    decoded(g, values[5], &numbers[..m], &blocks[..w], out, text)
+    decoded(g, values[5], &numbers[..m], &blocks[..w], out)
 }

@@ -15,7 +15,7 @@ const DECODE_LENGTH: usize = 6;
 
 // The place of the field being read, 8 for any after the last; whether each field before it has the form that its place asks for, and its value as a decimal
 // number, or 1000 if it is larger; the field being read; and how many bytes of NUMBERS and of BLOCKS are kept.
-#[derive(Drop)]
+#[derive(Clone, Copy)]
 pub struct Line {
     pub place: usize,
     pub right: bool,
@@ -116,10 +116,8 @@ fn add_byte(line: Line, b: u8, numbers: &mut [u8], blocks: &mut [u8]) -> Line {
 // The line with one more part.
 pub fn add_part(line: Line, part: &[u8], numbers: &mut [u8], blocks: &mut [u8]) -> Line {
     let mut y = line;
-    let mut i = 0;
-    while i < part.len() {
-        y = add_byte(y, part[i], numbers, blocks);
-        i += 1;
+    for b in part {
+        y = add_byte(y, *b, numbers, blocks);
     }
     y
 }

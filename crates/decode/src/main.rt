@@ -1,11 +1,15 @@
 // Decodes blocks from lines on standard input, or in the file that the argument names, and answers each at once: `decode N T K L ROOM NUMBERS BLOCKS`, numbers
 // decimal and bytes hexadecimal, `-` for none. The answer is `value HEX` or `refused N`, N being the refusal's number; `what?` for any other line.
+#![tactic(auto)]
+
 use crate::answers::answer;
 use crate::line::{Line, add_part, no_line};
+use console::failure::{Failure, report};
 use console::input::open_input;
 use console::lines::{Part, next_part, no_part};
-use console::output::{Out, flush, nothing};
-use console::patience::left_after;
+use console::output::{flush, nothing};
+use std::io::{Read, Write};
+use std::rt::{Clock, Runtime};
 
 mod answers;
 mod line;
@@ -16,67 +20,51 @@ const NUMBERS_KEPT: usize = 11;
 
 const BYTES_KEPT: usize = 2561;
 
-// The line that is being read, and the output.
-#[derive(Drop)]
-struct Run {
+// Takes the next part of the line, and answers the line where it ends. Gives the line after it.
+fn take<W: Write>(
     line: Line,
-    out: Out,
-}
-
-// Takes the next part of the line, and answers the line where it ends.
-fn take(
-    r: Run,
     p: Part,
     part: &[u8],
     numbers: &mut [u8],
     blocks: &mut [u8],
-    text: &mut [u8],
-) -> Run {
-    let line = add_part(r.line, part, numbers, blocks);
-    let out = p.out;
+    out: &mut W,
+) -> Result<Line, Failure> {
+    let longer = add_part(line, part, numbers, blocks);
     if !p.ends {
-        return Run { line, out };
+        return Ok(longer);
     }
-    let said = answer(line, numbers, blocks, out, text);
-    Run {
-        line: no_line(),
-        out: said,
-    }
+    answer(longer, numbers, blocks, out)?;
+    Ok(no_line())
 }
 
 // Reads the input to its end, in at most 2^64 - 1 parts.
-fn read_all(fd: i32) {
-    let mut text = io::buffer();
-    let mut chunk = io::large_buffer();
+fn read_all<C: Clock, S: Read, W: Write>(
+    clock: &C,
+    source: &mut S,
+    out: &mut W,
+) -> Result<(), Failure> {
+    let mut chunk = [0u8; 65536];
     let mut numbers = [0u8; NUMBERS_KEPT];
     let mut blocks = [0u8; BYTES_KEPT];
-    let mut r = Run {
-        line: no_line(),
-        out: nothing(),
-    };
-    let mut p = no_part(r.out);
-    let mut left: u64 = 18446744073709551615;
-    while 0 < left {
-        p = next_part(p, fd, &mut chunk, r.out, &text);
-        let start = p.start;
-        let end = p.end;
-        r = take(
-            r,
-            p,
-            &chunk[start..end],
-            &mut numbers,
-            &mut blocks,
-            &mut text,
-        );
-        left = left_after(left, p.more);
+    let mut line = no_line();
+    let mut p = no_part();
+    for _ in 0..u64::MAX {
+        p = next_part(p, clock, source, &mut chunk, out)?;
+        let part = &chunk[p.start..p.end];
+        line = take(line, p, part, &mut numbers, &mut blocks, out)?;
+        if !p.more {
+            break;
+        }
     }
-    flush(r.out, &text);
+    flush(out)
 }
 
-fn main() {
-    let fd = open_input();
-    if fd < 0 {
-        return;
-    }
-    read_all(fd);
+fn serve<R: Runtime + AllocGlobal>(rt: &R) -> Result<(), Failure> {
+    let mut source = open_input(rt)?;
+    let mut out = nothing(rt)?;
+    read_all(rt, &mut source, &mut out)
+}
+
+fn main(rt: HostRuntime) {
+    report(&rt, serve(&rt));
 }

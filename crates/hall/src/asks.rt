@@ -4,7 +4,7 @@ use blocks::Params;
 use frame::Party;
 
 // The server or client with this number gets a frame from this sender, or begins a read or a write. The line's last field spells the frame or the value.
-#[derive(Drop)]
+#[derive(Clone, Copy)]
 pub enum Ask {
     Other,
     Begin(Params),
@@ -171,12 +171,5 @@ pub fn asked(ready: bool, line: Line) -> Ask {
 
 // Whether it is a call, or opens a hall.
 pub fn is_call(ask: Ask) -> bool {
-    match ask {
-        Ask::Other => false,
-        Ask::Begin(g) => true,
-        Ask::ToServer(j, p) => true,
-        Ask::ToClient(j, p) => true,
-        Ask::Read(j) => true,
-        Ask::Write(j) => true,
-    }
+    !matches!(ask, Ask::Other)
 }

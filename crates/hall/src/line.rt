@@ -32,7 +32,7 @@ const SPELT_FROM_CLIENT: u64 = 0x63;
 const SPELT_FROM_SERVER: u64 = 0x73;
 
 // What is kept of a field: which word it is; whether it is a decimal number, and its value, 1000 meaning 1000 or more; whether it spells bytes.
-#[derive(Drop)]
+#[derive(Clone, Copy)]
 pub struct Mark {
     pub word: u8,
     pub decimal: bool,
@@ -41,7 +41,7 @@ pub struct Mark {
 }
 
 // The place of the field being read, 6 meaning too many fields; what is kept of the fields before it; that field; and how many bytes it spells so far.
-#[derive(Drop)]
+#[derive(Clone, Copy)]
 pub struct Line {
     pub last: usize,
     pub marks: [Mark; 6],

@@ -1,16 +1,20 @@
 // Runs all parties of a register on one machine from a script, on standard input or in the file that the argument names, and answers each line at once.
-ghost use Rattle.std.specs.Prelude.{◌≡◌, ◌≤◌, ◌<◌, length};
+#![tactic(auto)]
+
+ghost use Rattle.std.specs.Prelude.{◌≡◌, ◌<◌, ◌≤◌, length, OnOk};
 ghost use Rattle.hall.specs.Areas.{Parties};
 
 use crate::asks::{asked, is_call};
 use crate::calls::answer;
 use crate::line::{Line, ended, is_begun, no_line};
-use crate::parties::{AREAS, Hall, INITIALS, RECORDS, ROWS, VALUES, no_hall, with_out};
+use crate::parties::{AREAS, Hall, INITIALS, RECORDS, ROWS, VALUES, no_hall};
 use crate::script::{Next, next_ask};
 use console::counts::count_of;
+use console::failure::{Failure, report};
 use console::input::{open_input, read_piece};
-use console::output::flush;
-use console::patience::left_after;
+use console::output::{flush, nothing};
+use std::io::{Read, Write};
+use std::rt::{Clock, Runtime};
 
 mod asks;
 mod calls;
@@ -27,17 +31,9 @@ struct Run {
     at: usize,
 }
 
-// After a piece of the script: the run, whether the script goes on, and whether it could not be read or its answers could not be written.
-#[derive(Drop)]
-struct Taken {
-    run: Run,
-    more: bool,
-    failed: bool,
-}
-
 // Does what the next line asks for.
-fn step(
-    r: Run,
+fn step<W: Write>(
+    r: &mut Run,
     n: Next,
     bytes: &[u8],
     areas: &mut [u8],
@@ -45,36 +41,33 @@ fn step(
     records: &mut [u8],
     rows: &mut [u8],
     values: &mut [u8],
-    text: &mut [u8],
-) -> Run
+    out: &mut W,
+) -> Result<(), Failure>
     requires { Parties areas.old initials.old records.old rows.old values.old }
-    ensures { result.at ≡ n.at }
+    ensures { OnOk result (r.new.at ≡ n.at) }
 {
-    let line = n.line;
-    let ask = n.ask;
-    let at = n.at;
-    let h = with_out(r.hall, n.out);
-    if !is_call(ask) {
-        return Run { hall: h, line, at };
+    r.line = n.line;
+    r.at = n.at;
+    if !is_call(n.ask) {
+        return Ok(());
     }
     let used = count_of(n.used, bytes);
-    let hall = answer(
-        h,
-        ask,
+    answer(
+        &mut r.hall,
+        n.ask,
         &bytes[..used],
         areas,
         initials,
         records,
         rows,
         values,
-        text,
-    );
-    Run { hall, line, at }
+        out,
+    )
 }
 
 // Reads on to the next line that asks for something, and does it.
-fn take_next(
-    r: Run,
+fn take_next<W: Write>(
+    r: &mut Run,
     piece: &[u8],
     bytes: &mut [u8],
     areas: &mut [u8],
@@ -82,28 +75,19 @@ fn take_next(
     records: &mut [u8],
     rows: &mut [u8],
     values: &mut [u8],
-    text: &mut [u8],
-) -> Run
-    requires at_in_bounds { r.at < length piece.now }
-    requires parties { Parties areas.old initials.old records.old rows.old values.old }
-    ensures { (r.at < result.at) × (result.at ≤ length piece.now) }
+    out: &mut W,
+) -> Result<(), Failure>
+    requires within { r.old.at < length piece.now }
+    requires lengths { Parties areas.old initials.old records.old rows.old values.old }
+    ensures { OnOk result ((r.old.at < r.new.at) × (r.new.at ≤ length piece.now)) }
 {
-    let h = r.hall;
-    let n = next_ask(h.ready, r.line, piece, r.at, bytes, h.out, text);
-    step(r, n, bytes, areas, initials, records, rows, values, text)
-}
-
-fn from_start(r: Run) -> Run
-    ensures { result.at ≡ 0 }
-{
-    let hall = r.hall;
-    let line = r.line;
-    Run { hall, line, at: 0 }
+    let n = next_ask(r.hall.ready, r.line, piece, r.at, bytes, out)?;
+    step(r, n, bytes, areas, initials, records, rows, values, out)
 }
 
 // All lines of one piece of the script.
-fn take_all(
-    r: Run,
+fn take_all<W: Write>(
+    r: &mut Run,
     piece: &[u8],
     bytes: &mut [u8],
     areas: &mut [u8],
@@ -111,51 +95,38 @@ fn take_all(
     records: &mut [u8],
     rows: &mut [u8],
     values: &mut [u8],
-    text: &mut [u8],
-) -> Run
+    out: &mut W,
+) -> Result<(), Failure>
     requires { Parties areas.old initials.old records.old rows.old values.old }
 {
-    let mut y = from_start(r);
-    while y.at < piece.len() {
-        y = take_next(
-            y, piece, bytes, areas, initials, records, rows, values, text,
-        );
+    r.at = 0;
+    while r.at < piece.len() {
+        take_next(r, piece, bytes, areas, initials, records, rows, values, out)?;
     }
-    y
+    Ok(())
 }
 
-fn flushed(r: Run, text: &[u8]) -> Run {
-    let h = r.hall;
-    let line = r.line;
-    let hall = with_out(h, flush(h.out, text));
-    Run { hall, line, at: 0 }
-}
-
-// Reads the next piece of the script, answers its lines, and writes the answers.
-fn take_piece(
-    fd: i32,
-    r: Run,
+// Reads the next piece of the script, answers its lines, and writes the answers; says whether the script goes on.
+fn take_piece<C: Clock, S: Read, W: Write>(
+    clock: &C,
+    source: &mut S,
+    r: &mut Run,
     bytes: &mut [u8],
     areas: &mut [u8],
     initials: &mut [u8],
     records: &mut [u8],
     rows: &mut [u8],
     values: &mut [u8],
-    text: &mut [u8],
-) -> Taken
+    out: &mut W,
+) -> Result<bool, Failure>
     requires { Parties areas.old initials.old records.old rows.old values.old }
 {
-    let mut chunk = io::large_buffer();
-    let p = read_piece(fd, &mut chunk);
-    let n = p.count;
+    let mut chunk = [0u8; 65536];
+    let n = read_piece(clock, source, &mut chunk)?;
     if n == 0 {
-        return Taken {
-            run: r,
-            more: false,
-            failed: p.failed,
-        };
+        return Ok(false);
     }
-    let y = take_all(
+    take_all(
         r,
         &chunk[..n],
         bytes,
@@ -164,40 +135,32 @@ fn take_piece(
         records,
         rows,
         values,
-        text,
-    );
-    let run = flushed(y, text);
-    let hall = run.hall;
-    let out = hall.out;
-    Taken {
-        run,
-        more: !out.failed,
-        failed: out.failed,
-    }
+        out,
+    )?;
+    flush(out)?;
+    Ok(true)
 }
 
 // A last line without a newline is a line too.
-fn end_script(
-    r: Run,
+fn end_script<W: Write>(
+    r: &mut Run,
     bytes: &[u8],
     areas: &mut [u8],
     initials: &mut [u8],
     records: &mut [u8],
     rows: &mut [u8],
     values: &mut [u8],
-    text: &mut [u8],
-)
+    out: &mut W,
+) -> Result<(), Failure>
     requires { Parties areas.old initials.old records.old rows.old values.old }
 {
-    let line = r.line;
-    if !is_begun(line) {
-        return;
+    if !is_begun(r.line) {
+        return Ok(());
     }
-    let h = r.hall;
-    let used = count_of(line.used, bytes);
-    let ask = asked(h.ready, ended(line));
-    let last = answer(
-        h,
+    let used = count_of(r.line.used, bytes);
+    let ask = asked(r.hall.ready, ended(r.line));
+    answer(
+        &mut r.hall,
         ask,
         &bytes[..used],
         areas,
@@ -205,22 +168,23 @@ fn end_script(
         records,
         rows,
         values,
-        text,
-    );
-    flush(last.out, text);
+        out,
+    )?;
+    flush(out)
 }
 
 // Reads the script to its end, in at most 2^64 - 1 pieces. If it can't be read to its end, a line that was not read to its end is not answered.
-fn read_script(
-    fd: i32,
+fn read_script<C: Clock, S: Read, W: Write>(
+    clock: &C,
+    source: &mut S,
     bytes: &mut [u8],
     areas: &mut [u8],
     initials: &mut [u8],
     records: &mut [u8],
     rows: &mut [u8],
     values: &mut [u8],
-    text: &mut [u8],
-)
+    out: &mut W,
+) -> Result<(), Failure>
     requires { Parties areas.old initials.old records.old rows.old values.old }
 {
     let mut r = Run {
@@ -228,46 +192,38 @@ fn read_script(
         line: no_line(),
         at: 0,
     };
-    let mut failed = false;
-    let mut left: u64 = 18446744073709551615;
-    while 0 < left {
-        let taken = take_piece(fd, r, bytes, areas, initials, records, rows, values, text);
-        r = taken.run;
-        failed = taken.failed;
-        left = left_after(left, taken.more);
+    for _ in 0..u64::MAX {
+        let more = take_piece(
+            clock, source, &mut r, bytes, areas, initials, records, rows, values, out,
+        )?;
+        if !more {
+            break;
+        }
     }
-    if !failed {
-        end_script(r, bytes, areas, initials, records, rows, values, text);
-    }
+    end_script(&mut r, bytes, areas, initials, records, rows, values, out)
 }
 
-// Reads the script, once the areas are known to have their lengths.
-fn serve(
-    fd: i32,
-    bytes: &mut [u8],
-    areas: &mut [u8],
-    initials: &mut [u8],
-    records: &mut [u8],
-    rows: &mut [u8],
-    values: &mut [u8],
-    text: &mut [u8],
-) {
-    if areas.len() != AREAS {
-        return;
-    }
-    if initials.len() != INITIALS {
-        return;
-    }
-    if records.len() != RECORDS {
-        return;
-    }
-    if rows.len() != ROWS {
-        return;
-    }
-    if values.len() != VALUES {
-        return;
-    }
-    read_script(fd, bytes, areas, initials, records, rows, values, text);
+// Opens the script, makes room for all parties, and runs the script.
+fn serve<R: Runtime + AllocGlobal>(rt: &R) -> Result<(), Failure> {
+    let mut areas = no_areas();
+    let mut initials = [0u8; INITIALS];
+    let mut records = [0u8; RECORDS];
+    let mut rows = no_rows();
+    let mut values = [0u8; VALUES];
+    let mut bytes = no_bytes();
+    let mut source = open_input(rt)?;
+    let mut out = nothing(rt)?;
+    read_script(
+        rt,
+        &mut source,
+        &mut bytes,
+        &mut areas,
+        &mut initials,
+        &mut records,
+        &mut rows,
+        &mut values,
+        &mut out,
+    )
 }
 
 // Eleven state areas.
@@ -285,26 +241,6 @@ fn no_bytes() -> [u8; 65538] {
     [0; 65538]
 }
 
-fn main() {
-    let mut areas = no_areas();
-    let mut initials = [0u8; INITIALS];
-    let mut records = [0u8; RECORDS];
-    let mut rows = no_rows();
-    let mut values = [0u8; VALUES];
-    let mut bytes = no_bytes();
-    let mut text = io::large_buffer();
-    let fd = open_input();
-    if fd < 0 {
-        return;
-    }
-    serve(
-        fd,
-        &mut bytes,
-        &mut areas,
-        &mut initials,
-        &mut records,
-        &mut rows,
-        &mut values,
-        &mut text,
-    );
+fn main(rt: HostRuntime) {
+    report(&rt, serve(&rt));
 }

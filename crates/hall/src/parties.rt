@@ -11,13 +11,14 @@ use client::begin::{begin_read, begin_write};
 use client::fresh::fresh_client;
 use client_rules::{Answer, Client};
 use console::counts::count_of;
-use console::output::{Out, nothing};
+use console::failure::Failure;
 use frame::Party;
 use frame::places::{AREA_BYTES, ROWS_BYTES};
 use layout::servers::SERVER_SIZE;
 use server_deliver::deliver;
 use server_deliver::fresh::fresh;
 use server_rules::{Reply, Server};
+use std::io::Write;
 
 // The areas of all parties, with a place 0 for nobody: state areas, initial blocks and records of servers 1 to 10, rows areas and values of clients 1 to 8.
 pub const AREAS: usize = 11 * AREA_BYTES;
@@ -39,13 +40,12 @@ const CLIENT_OUT: usize = 5980;
 
 const CLIENT_TO: usize = 20;
 
-// What waits to be printed goes with them.
-#[derive(Drop)]
+// Whether the register is open, its parameters, and its clients.
+#[derive(Clone, Copy)]
 pub struct Hall {
     pub ready: bool,
     pub g: Params,
     pub clients: [Client; Server::PLACES],
-    pub out: Out,
 }
 
 pub fn no_hall() -> Hall {
@@ -59,7 +59,6 @@ pub fn no_hall() -> Hall {
         ready: false,
         g,
         clients: [fresh_client(); Server::PLACES],
-        out: nothing(),
     }
 }
 
@@ -67,26 +66,13 @@ pub fn no_hall() -> Hall {
 fn place_of(j: usize, most: usize) -> usize
     ensures { result ≤ most }
 {
-    if most < j {
-        return 0;
-    }
-    j
+    if most < j { 0 } else { j }
 }
 
-pub fn with_out(h: Hall, o: Out) -> Hall {
-    let mut y = h;
-    y.out = o;
-    y
-}
-
-fn with_client(h: Hall, i: usize, s: Client, o: Out) -> Hall {
-    let mut y = h;
-    y.out = o;
-    if Server::CLIENTS < i {
-        return y;
+fn with_client(h: &mut Hall, i: usize, s: Client) {
+    if i <= Server::CLIENTS {
+        h.clients[i] = s;
     }
-    y.clients[i] = s;
-    y
 }
 
 // Makes servers 1 to n afresh with this initial value. The first refusal is the reply; all servers have the same parameters, so it is server 1's.
@@ -99,8 +85,7 @@ pub fn fresh_servers(
 ) -> Reply
     requires { Servers areas.old initials.old records.old }
 {
-    let mut j = 1;
-    while j < 11 {
+    for j in 1..11 {
         let at = AREA_BYTES * j;
         let first = 256 * j;
         let own = SERVER_SIZE * j;
@@ -116,17 +101,16 @@ pub fn fresh_servers(
             return Reply::Refused(x);
         }
         if g.n <= j {
-            return Reply::Step(0);
+            break;
         }
-        j += 1;
     }
     Reply::Step(0)
 }
 
-fn put_served(o: Out, text: &mut [u8], r: Reply, out: &[u8], to: &[u8]) -> Out {
+fn put_served<W: Write>(out: &mut W, r: Reply, frames: &[u8], to: &[u8]) -> Result<(), Failure> {
     match r {
-        Reply::Step(count) => put_step(o, text, out, to, count),
-        Reply::Refused(x) => put_refused(o, text, x),
+        Reply::Step(count) => put_step(out, frames, to, count),
+        Reply::Refused(x) => put_refused(out, x),
     }
 }
 
@@ -135,95 +119,91 @@ fn no_frames() -> [u8; SERVER_OUT] {
 }
 
 // A frame is handed to server j.
-pub fn hand_server(
-    h: Hall,
+pub fn hand_server<W: Write>(
+    h: &Hall,
     j: usize,
     from: Party,
     f: &[u8],
     areas: &mut [u8],
     initials: &[u8],
     records: &mut [u8],
-    text: &mut [u8],
-) -> Hall
+    out: &mut W,
+) -> Result<(), Failure>
     requires { Servers areas.old initials.now records.old }
 {
     let i = place_of(j, 10);
     let at = AREA_BYTES * i;
     let first = 256 * i;
     let own = SERVER_SIZE * i;
-    let g = h.g;
-    let mut out = no_frames();
+    let mut frames = no_frames();
     let mut to = [0u8; SERVER_TO];
     let reply = deliver(
-        g,
+        h.g,
         j,
         from,
         f,
         &mut areas[at..at + AREA_BYTES],
         &initials[first..first + 256],
         &mut records[own..own + SERVER_SIZE],
-        &mut out,
+        &mut frames,
         &mut to,
     );
-    let o = put_served(h.out, text, reply, &out, &to);
-    with_out(h, o)
+    put_served(out, reply, &frames, &to)
 }
 
-fn put_answered(
-    o: Out,
-    text: &mut [u8],
+fn put_answered<W: Write>(
+    out: &mut W,
     a: Answer,
     n: usize,
     value: &[u8],
-    out: &[u8],
+    frames: &[u8],
     to: &[u8],
-) -> Out {
+) -> Result<(), Failure> {
     match a {
-        Answer::Sent(count) => put_step(o, text, out, to, count),
+        Answer::Sent(count) => put_step(out, frames, to, count),
         Answer::Written => {
-            let y = put_step(o, text, out, to, 0);
-            put_written(y, text)
+            put_step(out, frames, to, 0)?;
+            put_written(out)
         }
         Answer::OutOfStamps => {
-            let y = put_step(o, text, out, to, 0);
-            put_out_of_stamps(y, text)
+            put_step(out, frames, to, 0)?;
+            put_out_of_stamps(out)
         }
         Answer::Value(stamp) => {
-            let y = put_step(o, text, out, to, n);
-            put_value(y, text, value, stamp)
+            put_step(out, frames, to, n)?;
+            put_value(out, value, stamp)
         }
         Answer::Disagreement => {
-            let y = put_step(o, text, out, to, n);
-            put_disagreement(y, text)
+            put_step(out, frames, to, n)?;
+            put_disagreement(out)
         }
-        Answer::Refused(x) => put_refused(o, text, x),
+        Answer::Refused(x) => put_refused(out, x),
     }
 }
 
 // A frame is handed to client j; the value of its open write lies in values. Its record is lent to the delivery, which updates it.
-pub fn hand_client(
-    h: Hall,
+pub fn hand_client<W: Write>(
+    h: &mut Hall,
     j: usize,
     from: Party,
     f: &[u8],
     rows: &mut [u8],
     values: &[u8],
-    text: &mut [u8],
-) -> Hall
+    out: &mut W,
+) -> Result<(), Failure>
     requires { Clients rows.old values.now }
 {
     let i = place_of(j, Server::CLIENTS);
     let at = ROWS_BYTES * i;
     let first = 256 * i;
     let g = h.g;
-    let clients = h.clients;
     let mut result = [0u8; 256];
     let value = &values[first..first + 256];
     let size = count_of(g.size, value);
-    let mut out = [0u8; CLIENT_OUT];
+    let mut frames = [0u8; CLIENT_OUT];
     let mut to = [0u8; CLIENT_TO];
     let r = site::lend(
-        clients[i],
+        h.clients[i],
         g,
         byte_of(j),
         &value[..size],
@@ -231,35 +211,29 @@ pub fn hand_client(
         f,
         &mut rows[at..at + ROWS_BYTES],
         &mut result,
-        &mut out,
+        &mut frames,
         &mut to,
     );
-    let a = r.answer;
+    with_client(h, i, r.client);
     let shown = count_of(g.size, &result);
-    let o = put_answered(h.out, text, a, g.n, &result[..shown], &out, &to);
-    let s = r.client;
-    with_client(h, i, s, o)
+    put_answered(out, r.answer, g.n, &result[..shown], &frames, &to)
 }
 
 // Client j begins a read.
-pub fn read(h: Hall, j: usize, text: &mut [u8]) -> Hall {
+pub fn read<W: Write>(h: &mut Hall, j: usize, out: &mut W) -> Result<(), Failure> {
     let i = place_of(j, Server::CLIENTS);
-    let mut out = [0u8; CLIENT_OUT];
+    let mut frames = [0u8; CLIENT_OUT];
     let mut to = [0u8; CLIENT_TO];
-    let g = h.g;
-    let clients = h.clients;
-    let r = begin_read(g, byte_of(j), clients[i], &mut out, &mut to);
-    let a = r.answer;
-    let o = put_answered(h.out, text, a, 0, b"", &out, &to);
-    let s = r.client;
-    with_client(h, i, s, o)
+    let r = begin_read(h.g, byte_of(j), h.clients[i], &mut frames, &mut to);
+    with_client(h, i, r.client);
+    put_answered(out, r.answer, 0, b"", &frames, &to)
 }
 
 // Keeps the value of a write that has begun.
 fn keep(a: Answer, value: &[u8], values: &mut [u8], at: usize)
     requires { at + 256 ≤ length values.old }
 {
-    if let Answer::Sent(count) = a {
+    if let Answer::Sent(_) = a {
         if value.len() <= 256 {
             area::put(values, at, value);
         }
@@ -267,18 +241,20 @@ fn keep(a: Answer, value: &[u8], values: &mut [u8], at: usize)
 }
 
 // Client j begins the write of a value.
-pub fn write(h: Hall, j: usize, value: &[u8], values: &mut [u8], text: &mut [u8]) -> Hall
+pub fn write<W: Write>(
+    h: &mut Hall,
+    j: usize,
+    value: &[u8],
+    values: &mut [u8],
+    out: &mut W,
+) -> Result<(), Failure>
     requires { length values.old ≡ 9 * 256 }
 {
     let i = place_of(j, Server::CLIENTS);
-    let mut out = [0u8; CLIENT_OUT];
+    let mut frames = [0u8; CLIENT_OUT];
     let mut to = [0u8; CLIENT_TO];
-    let g = h.g;
-    let clients = h.clients;
-    let r = begin_write(g, byte_of(j), clients[i], value, &mut out, &mut to);
-    let a = r.answer;
-    keep(a, value, values, 256 * i);
-    let o = put_answered(h.out, text, a, 0, b"", &out, &to);
-    let s = r.client;
-    with_client(h, i, s, o)
+    let r = begin_write(h.g, byte_of(j), h.clients[i], value, &mut frames, &mut to);
+    keep(r.answer, value, values, 256 * i);
+    with_client(h, i, r.client);
+    put_answered(out, r.answer, 0, b"", &frames, &to)
 }

@@ -1,9 +1,16 @@
 // The history program: reads a history from standard input, or from the file that its argument names, and prints its order, an offending pair, or a
 // refusal.
-fn main() {
-    let fd = console::input::open_input();
-    if fd < 0 {
-        return;
-    }
-    history_run::run(fd);
+#![tactic(auto)]
+
+use console::failure::{Failure, report};
+use console::input::open_input;
+use std::rt::Runtime;
+
+fn judge<R: Runtime + AllocGlobal>(rt: &R) -> Result<(), Failure> {
+    let mut source = open_input(rt)?;
+    history_run::run(rt, &mut source)
+}
+
+fn main(rt: HostRuntime) {
+    report(&rt, judge(&rt));
 }

@@ -1,25 +1,21 @@
 // Runs the history program's code on each file that the arguments name.
-fn main() {
-    let n = os::arg_count();
-    let mut i: usize = 1;
-    while i < n {
-        show(i);
-        i += 1;
+#![tactic(auto)]
+
+use console::failure::{Failure, report};
+use console::input::open_file;
+use std::rt::Runtime;
+use std::{env, io};
+
+fn main(rt: HostRuntime) -> io::Result<()> {
+    for path in env::args(&rt)?.skip(1) {
+        print!(rt; "{path} ")?;
+        report(&rt, show(&rt, path));
     }
+    Ok(())
 }
 
-// Prints the name of file i and the answer to what it holds.
-fn show(i: usize) {
-    let mut name = [0u8; 64];
-    let k = os::arg(i, &mut name);
-    let path = &name[..k];
-    io::write_all(1, path);
-    io::write_all(1, b" ");
-    let fd = os::open_read(path);
-    if fd < 0 {
-        os::fail(path);
-        return;
-    }
-    history_run::run(fd);
-    libc::close(fd);
+// Prints the answer to what this file holds.
+fn show<R: Runtime + AllocGlobal>(rt: &R, path: String) -> Result<(), Failure> {
+    let mut file = open_file(rt, path)?;
+    history_run::run(rt, &mut file)
 }

@@ -1,44 +1,39 @@
 // Reads a history to its end and prints its season sheet.
 use crate::{put_pair, put_refusal};
 use console::counts::count_of;
+use console::failure::Failure;
 use console::input::read_whole;
-use console::output::{Out, flush, nothing, put};
+use console::output::{flush, nothing, put};
 use history_sheet::page::PAGE_SIZE;
 use history_sheet::{Laid, lay};
+use std::io::{Read, Write};
+use std::rt::Clock;
 
 // The bytes of a sheet, which has one page or two.
 fn size(pages: usize) -> usize {
-    if pages == 1 {
-        return PAGE_SIZE;
-    }
-    2 * PAGE_SIZE
+    if pages == 1 { PAGE_SIZE } else { 2 * PAGE_SIZE }
 }
 
 // Reads a history to its end and prints its sheet, an offending pair or a refusal. What fills the buffer is refused, whatever follows: a text of more than
-// 3840 bytes has more than 64 lines or a malformed one. What could not be read to its end is not laid out, and that is said on standard error.
-pub fn run(fd: i32) {
-    let mut history = io::large_buffer();
-    let got = read_whole(fd, &mut history);
-    if got.failed {
-        return;
-    }
-    let n = got.count;
-    let mut sheet = io::large_buffer();
+// 3840 bytes has more than 64 lines or a malformed one. What can't be read to its end is not laid out.
+pub fn run<R: Print + Clock + AllocGlobal, S: Read>(rt: &R, source: &mut S) -> Result<(), Failure> {
+    let mut history = [0u8; 65536];
+    let n = read_whole(rt, source, &mut history)?;
+    let mut sheet = [0u8; 65536];
     let laid = lay(&history[..n], &mut sheet);
-    let mut text = io::buffer();
-    let out = print(laid, &sheet, &mut text);
-    flush(out, &text);
+    let mut out = nothing(rt)?;
+    print(laid, &sheet, &mut out)?;
+    flush(&mut out)
 }
 
 // Puts a sheet's pages, no order and an offending pair, or refused and the number.
-fn print(laid: Laid, sheet: &[u8], text: &mut [u8]) -> Out {
-    let start = nothing();
+fn print<W: Write>(laid: Laid, sheet: &[u8], out: &mut W) -> Result<(), Failure> {
     match laid {
         Laid::Pages(pages) => {
             let used = count_of(size(pages), sheet);
-            put(start, text, &sheet[..used])
+            put(out, &sheet[..used])
         }
-        Laid::Offending(a, b) => put_pair(start, text, a, b),
-        Laid::Refused(number) => put_refusal(start, text, number),
+        Laid::Offending(a, b) => put_pair(out, a, b),
+        Laid::Refused(number) => put_refusal(out, number),
     }
 }

@@ -11,6 +11,8 @@ use client_rules::{Answer, Client};
 use frame::Party;
 use frame::places::{LAST_SEQUENCE, ROWS_BYTES};
 use frame::refusals::number_of;
+use std::io;
+use std::io::Write;
 
 // The lengths that the areas must have: rows, result, four largest frames of 152 bytes, and their receivers.
 const ROWS: usize = ROWS_BYTES;
@@ -39,47 +41,63 @@ fn params() -> Params {
 }
 
 // The name of a call, and its answer: the refusal's number, or how many frames were sent.
-fn print(name: &[u8], a: Answer) {
-    io::write_all(1, name);
+fn print<W: Write>(report: &mut W, name: &[u8], a: Answer) -> io::Result<()> {
+    report.write_all(name)?;
     if let Answer::Refused(r) = a {
-        io::write_all(1, b": refused ");
-        io::print_decimal(1, number_of(r) as u64);
+        write!(report, ": refused {}", number_of(r))?;
     }
     if let Answer::Sent(m) = a {
-        io::write_all(1, b": sent ");
-        io::print_decimal(1, m as u64);
+        write!(report, ": sent {m}")?;
     }
-    io::write_all(1, b"\n");
+    report.write_all(b"\n")
 }
 
 // Client 1 begins a read, with out and to areas of these lengths.
-fn read(name: &[u8], s: Client, out: usize, to: usize) -> Client
+fn read<W: Write>(
+    report: &mut W,
+    name: &[u8],
+    s: Client,
+    out: usize,
+    to: usize,
+) -> io::Result<Client>
     requires { (out ≤ 608) × (to ≤ 8) }
 {
     let mut o = [LENT; OUT];
     let mut t = [LENT; TO];
     let r = begin_read(params(), 1, s, &mut o[..out], &mut t[..to]);
-    let a = r.answer;
-    print(name, a);
-    r.client
+    print(report, name, r.answer)?;
+    Ok(r.client)
 }
 
 // Client 1 begins a write.
-fn write(name: &[u8], s: Client, out: usize, to: usize) -> Client
+fn write<W: Write>(
+    report: &mut W,
+    name: &[u8],
+    s: Client,
+    out: usize,
+    to: usize,
+) -> io::Result<Client>
     requires { (out ≤ 608) × (to ≤ 8) }
 {
     let v = VALUE;
     let mut o = [LENT; OUT];
     let mut t = [LENT; TO];
     let r = begin_write(params(), 1, s, &v, &mut o[..out], &mut t[..to]);
-    let a = r.answer;
-    print(name, a);
-    r.client
+    print(report, name, r.answer)?;
+    Ok(r.client)
 }
 
 // Client 1, whose write awaits stamps, gets one from server 1.
-fn stamp(name: &[u8], s: Client, rows: usize, res: usize, out: usize, to: usize)
-    requires { (rows ≤ rows_bytes) × (res ≤ 3) × (out ≤ 608) × (to ≤ 8) }
+fn stamp<W: Write>(
+    report: &mut W,
+    name: &[u8],
+    s: Client,
+    rows: usize,
+    outcome: usize,
+    out: usize,
+    to: usize,
+) -> io::Result<()>
+    requires { (rows ≤ rows_bytes) × (outcome ≤ 3) × (out ≤ 608) × (to ≤ 8) }
 {
     let v = VALUE;
     let f = STAMP;
@@ -95,70 +113,54 @@ fn stamp(name: &[u8], s: Client, rows: usize, res: usize, out: usize, to: usize)
         Party::Server(1),
         &f,
         &mut a[..rows],
-        &mut l[..result],
+        &mut l[..outcome],
         &mut o[..out],
         &mut t[..to],
     );
-    let answer = r.answer;
-    print(name, answer);
+    print(report, name, r.answer)
 }
 
 // Refusal 10.
-fn rooms(s: Client) {
-    read(b"read, out short by one byte", s, OUT - 1, TO);
-    read(b"read, to short by one byte", s, OUT, TO - 1);
-    read(b"read", s, OUT, TO);
-    write(b"write, out short by one byte", s, OUT - 1, TO);
-    write(b"write, to short by one byte", s, OUT, TO - 1);
-    let w = write(b"write", s, OUT, TO);
-    stamp(
-        b"stamp, rows short by one byte",
-        w,
-        ROWS - 1,
-        RESULT,
-        OUT,
-        TO,
-    );
-    stamp(
-        b"stamp, result short by one byte",
-        w,
-        ROWS,
-        RESULT - 1,
-        OUT,
-        TO,
-    );
-    stamp(
-        b"stamp, out short by one byte",
-        w,
-        ROWS,
-        RESULT,
-        OUT - 1,
-        TO,
-    );
-    stamp(b"stamp, to short by one byte", w, ROWS, RESULT, OUT, TO - 1);
-    stamp(b"stamp", w, ROWS, RESULT, OUT, TO);
+fn rooms<W: Write>(report: &mut W, s: Client) -> io::Result<()> {
+    read(report, b"read, out short by one byte", s, OUT - 1, TO)?;
+    read(report, b"read, to short by one byte", s, OUT, TO - 1)?;
+    read(report, b"read", s, OUT, TO)?;
+    write(report, b"write, out short by one byte", s, OUT - 1, TO)?;
+    write(report, b"write, to short by one byte", s, OUT, TO - 1)?;
+    let w = write(report, b"write", s, OUT, TO)?;
+    let name = b"stamp, rows short by one byte";
+    stamp(report, name, w, ROWS - 1, RESULT, OUT, TO)?;
+    let name = b"stamp, result short by one byte";
+    stamp(report, name, w, ROWS, RESULT - 1, OUT, TO)?;
+    let name = b"stamp, out short by one byte";
+    stamp(report, name, w, ROWS, RESULT, OUT - 1, TO)?;
+    let name = b"stamp, to short by one byte";
+    stamp(report, name, w, ROWS, RESULT, OUT, TO - 1)?;
+    stamp(report, b"stamp", w, ROWS, RESULT, OUT, TO)
 }
 
 // A client that has begun this many reads and writes.
 fn after(s: Client, count: u32) -> Client {
-    let mut y = s;
-    y.writes = count;
-    y.reads = count;
-    y
+    Client {
+        writes: count,
+        reads: count,
+        ..s
+    }
 }
 
 // Refusal 16, and the last sequence before it.
-fn sequences(s: Client) {
+fn sequences<W: Write>(report: &mut W, s: Client) -> io::Result<()> {
     let last = after(s, LAST_SEQUENCE);
-    read(b"read after 4294967295", last, OUT, TO);
-    write(b"write after 4294967295", last, OUT, TO);
+    read(report, b"read after 4294967295", last, OUT, TO)?;
+    write(report, b"write after 4294967295", last, OUT, TO)?;
     let before = after(s, LAST_SEQUENCE - 1);
-    read(b"read 4294967295", before, OUT, TO);
-    write(b"write 4294967295", before, OUT, TO);
+    read(report, b"read 4294967295", before, OUT, TO)?;
+    write(report, b"write 4294967295", before, OUT, TO)?;
+    Ok(())
 }
 
-pub fn run() {
+pub fn run<W: Write>(report: &mut W) -> io::Result<()> {
     let s = fresh_client();
-    rooms(s);
-    sequences(s);
+    rooms(report, s)?;
+    sequences(report, s)
 }

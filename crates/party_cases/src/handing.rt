@@ -8,9 +8,12 @@ use frame::Party;
 use layout::servers::{SERVER_SIZE, put_scope, scope_at};
 use server_deliver::deliver;
 use server_rules::Server;
+use std::io;
+use std::io::Write;
 
 // The frame f comes from a party.
-fn answered(
+fn answered<W: Write>(
+    report: &mut W,
     line: &[u8],
     expected: usize,
     x: Trial,
@@ -20,19 +23,13 @@ fn answered(
     initial: &[u8],
     out: &mut [u8],
     to: &mut [u8],
-) -> Trial
+) -> io::Result<Trial>
     requires { expected ≤ length line.now }
 {
-    let g = x.g;
     let mut record = x.record;
-    let reply = deliver(g, x.me, from, f, area, initial, &mut record, out, to);
-    replied(line, expected, reply, out, to, x.whole);
-    Trial {
-        g,
-        me: x.me,
-        record,
-        whole: x.whole,
-    }
+    let reply = deliver(x.g, x.me, from, f, area, initial, &mut record, out, to);
+    replied(report, line, expected, reply, out, to, x.whole)?;
+    Ok(Trial { record, ..x })
 }
 
 // The largest areas that are lent for sent frames and their receivers: those of a step for four servers.
@@ -44,7 +41,8 @@ const TO_MOST: usize = 344;
 const LENT: u8 = 0x5a;
 
 // The frame from index at on comes from a party; out and to are the lengths of the areas lent for what is sent.
-fn from_party(
+fn from_party<W: Write>(
+    report: &mut W,
     line: &[u8],
     at: usize,
     x: Trial,
@@ -53,7 +51,7 @@ fn from_party(
     initial: &[u8],
     out: usize,
     to: usize,
-) -> Trial
+) -> io::Result<Trial>
     requires { at ≤ length line.now }
 {
     let f = word_at(line, at);
@@ -64,6 +62,7 @@ fn from_party(
     let o = at_most(out, OUT_MOST);
     let r = at_most(to, TO_MOST);
     answered(
+        report,
         line,
         f.next,
         x,
@@ -77,7 +76,14 @@ fn from_party(
 }
 
 // deliver CLASS NUMBER AREA INITIAL OUT TO FRAME ANSWER: the sender's class and number, the lengths of the four lent areas, the frame, what is expected
-pub fn handed(line: &[u8], at: usize, x: Trial, area: &mut [u8], initial: &mut [u8]) -> Trial
+pub fn handed<W: Write>(
+    report: &mut W,
+    line: &[u8],
+    at: usize,
+    x: Trial,
+    area: &mut [u8],
+    initial: &mut [u8],
+) -> io::Result<Trial>
     requires { at ≤ length line.now }
 {
     let class = told(line, at);
@@ -90,6 +96,7 @@ pub fn handed(line: &[u8], at: usize, x: Trial, area: &mut [u8], initial: &mut [
     let most = at_most(a.value, area.len());
     let whole = at_most(i.value, initial.len());
     from_party(
+        report,
         line,
         t.next,
         x,
@@ -125,11 +132,5 @@ pub fn unready(line: &[u8], at: usize, x: Trial) -> Trial
     let c = at_most(client.value, Server::CLIENTS);
     let mut record = x.record;
     take_back(&mut record, c);
-    let g = x.g;
-    Trial {
-        g,
-        me: x.me,
-        record,
-        whole: x.whole,
-    }
+    Trial { record, ..x }
 }

@@ -8,6 +8,8 @@ use case_text::text::put_bytes;
 use frame::Refusal;
 use frame::refusals::number_of;
 use server_rules::Reply;
+use std::io;
+use std::io::Write;
 
 // How many bytes the first count frames in out take: only whole frames, and at most 3000 bytes.
 fn sent_bytes(out: &[u8], count: usize) -> usize
@@ -33,17 +35,32 @@ fn sent_bytes(out: &[u8], count: usize) -> usize
 }
 
 // Prints a refusal, by its number.
-pub fn refused(kind: &[u8], line: &[u8], expected: usize, r: Refusal)
+pub fn refused<W: Write>(
+    report: &mut W,
+    kind: &[u8],
+    line: &[u8],
+    expected: usize,
+    r: Refusal,
+) -> io::Result<()>
     requires { expected ≤ length line.now }
 {
     let mut text = [0u8; 8192];
     let answer = number_of(r);
     let end = put_bytes(&mut text, 0, &[answer]);
-    result(kind, line, expected, &text[..end]);
+    result(report, kind, line, expected, &text[..end])
 }
 
 // Prints a step that sent count frames, with the first m bytes of out and the first k bytes of to.
-fn stepped(line: &[u8], expected: usize, count: usize, out: &[u8], m: usize, to: &[u8], k: usize)
+fn stepped<W: Write>(
+    report: &mut W,
+    line: &[u8],
+    expected: usize,
+    count: usize,
+    out: &[u8],
+    m: usize,
+    to: &[u8],
+    k: usize,
+) -> io::Result<()>
     requires { (expected ≤ length line.now) × (count ≤ 32) × (m ≤ length out.now) × (m ≤ 3000) × (k ≤ length to.now) × (k ≤ 64) }
 {
     let mut text = [0u8; 8192];
@@ -51,37 +68,46 @@ fn stepped(line: &[u8], expected: usize, count: usize, out: &[u8], m: usize, to:
     put_bytes(&mut text, 4, &out[..m]);
     let at = 4 + 2 * m;
     let end = put_bytes(&mut text, at, &to[..k]);
-    result(b"deliver ", line, expected, &text[..end]);
+    result(report, b"deliver ", line, expected, &text[..end])
 }
 
 // Prints a step with its frames and receivers alone, or with the whole areas.
-fn shown(line: &[u8], expected: usize, count: usize, out: &[u8], to: &[u8], whole: bool)
+fn shown<W: Write>(
+    report: &mut W,
+    line: &[u8],
+    expected: usize,
+    count: usize,
+    out: &[u8],
+    to: &[u8],
+    whole: bool,
+) -> io::Result<()>
     requires { (expected ≤ length line.now) × (count ≤ 32) }
 {
     if whole {
         let m = at_most(out.len(), 3000);
         let k = at_most(to.len(), 64);
-        stepped(line, expected, count, out, m, to, k);
-        return;
+        return stepped(report, line, expected, count, out, m, to, k);
     }
     let m = sent_bytes(out, count);
     let k = at_most(2 * count, to.len());
-    stepped(line, expected, count, out, m, to, k);
+    stepped(report, line, expected, count, out, m, to, k)
 }
 
 // The reply to a frame.
-pub fn replied(line: &[u8], expected: usize, reply: Reply, out: &[u8], to: &[u8], whole: bool)
+pub fn replied<W: Write>(
+    report: &mut W,
+    line: &[u8],
+    expected: usize,
+    reply: Reply,
+    out: &[u8],
+    to: &[u8],
+    whole: bool,
+) -> io::Result<()>
     requires { expected ≤ length line.now }
 {
-    if let Reply::Refused(r) = reply {
-        refused(b"deliver ", line, expected, r);
-        return;
+    match reply {
+        Reply::Refused(r) => refused(report, b"deliver ", line, expected, r),
+        Reply::Step(count) if count <= 32 => shown(report, line, expected, count, out, to, whole),
+        Reply::Step(_) => Ok(()),
     }
-    let Reply::Step(count) = reply else {
-        return;
-    };
-    if 32 < count {
-        return;
-    }
-    shown(line, expected, count, out, to, whole);
 }

@@ -6,7 +6,7 @@ use case_text::text::{number, word_at};
 use frame::Party;
 use layout::servers::SERVER_SIZE;
 
-#[derive(Drop)]
+#[derive(Clone, Copy)]
 pub struct Trial {
     pub g: Params,
     pub me: usize,
@@ -16,7 +16,7 @@ pub struct Trial {
 }
 
 // A number in a line, and where the next word starts.
-#[derive(Drop)]
+#[derive(Clone, Copy)]
 pub struct Reading {
     pub value: usize,
     pub next: usize,
@@ -39,14 +39,7 @@ pub fn first() -> Trial {
 
 // The same server, with replies shown by their frames alone, or with the whole areas.
 pub fn showing(x: Trial, whole: bool) -> Trial {
-    let g = x.g;
-    let record = x.record;
-    Trial {
-        g,
-        me: x.me,
-        record,
-        whole,
-    }
+    Trial { whole, ..x }
 }
 
 // The number that starts at index at.

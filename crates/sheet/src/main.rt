@@ -1,9 +1,16 @@
 // The sheet program: reads a history from standard input, or from the file that its argument names, and prints its season sheet, an offending pair, or a
 // refusal.
-fn main() {
-    let fd = console::input::open_input();
-    if fd < 0 {
-        return;
-    }
-    history_run::sheet::run(fd);
+#![tactic(auto)]
+
+use console::failure::{Failure, report};
+use console::input::open_input;
+use std::rt::Runtime;
+
+fn lay_out<R: Runtime + AllocGlobal>(rt: &R) -> Result<(), Failure> {
+    let mut source = open_input(rt)?;
+    history_run::sheet::run(rt, &mut source)
+}
+
+fn main(rt: HostRuntime) {
+    report(&rt, lay_out(&rt));
 }

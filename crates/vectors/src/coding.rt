@@ -1,14 +1,15 @@
 // The block code: encode and decode, with their answers and every byte of the lent area after the call.
 ghost use Rattle.std.specs.Prelude.{◌≡◌, ◌+◌, ◌*◌, ◌≤◌, length};
-ghost use Rattle.io.specs.Counts.{IsPrefixLen};
 
 use blocks::faults::fault_number;
 use blocks::{Coded, Params};
 use case_text::report::result;
 use case_text::text::{bytes, number, put_bytes, word_at};
+use std::io;
+use std::io::Write;
 
 // The front of a case: parameters, the length of the area to lend, and where the next word starts.
-#[derive(Drop)]
+#[derive(Clone, Copy)]
 struct Front {
     params: Params,
     room: usize,
@@ -62,60 +63,80 @@ fn answer_number(answer: Coded) -> u8 {
 }
 
 // Writes the answer's number, a space and the area.
-fn put_answer(text: &mut [u8], answer: u8, out: &[u8]) -> usize
-    requires { 3 + length out.now * 2 ≤ length text.old }
-    ensures { IsPrefixLen result text.new }
+fn put_answer(text: &mut [u8], answer: u8, area: &[u8]) -> usize
+    requires { 3 + length area.now * 2 ≤ length text.old }
+    ensures { result ≤ length text.new }
 {
     put_bytes(text, 0, &[answer]);
     text[2] = b' ';
-    put_bytes(text, 3, out)
+    put_bytes(text, 3, area)
 }
 
-fn shown(kind: &[u8], line: &[u8], expected: usize, answer: Coded, out: &[u8])
-    requires { (expected ≤ length line.now) × (length out.now ≤ 2560) }
+fn shown<W: Write>(
+    out: &mut W,
+    kind: &[u8],
+    line: &[u8],
+    expected: usize,
+    answer: Coded,
+    area: &[u8],
+) -> io::Result<()>
+    requires { (expected ≤ length line.now) × (length area.now ≤ 2560) }
 {
     let mut text = [0u8; 8192];
-    let end = put_answer(&mut text, answer_number(answer), out);
-    result(kind, line, expected, &text[..end]);
+    let end = put_answer(&mut text, answer_number(answer), area);
+    result(out, kind, line, expected, &text[..end])
 }
 
-fn encode_into(line: &[u8], expected: usize, g: Params, value: &[u8], out: &mut [u8])
-    requires { (expected ≤ length line.now) × (length out.old ≤ 2560) }
+fn encode_into<W: Write>(
+    out: &mut W,
+    line: &[u8],
+    expected: usize,
+    g: Params,
+    value: &[u8],
+    area: &mut [u8],
+) -> io::Result<()>
+    requires { (expected ≤ length line.now) × (length area.old ≤ 2560) }
 {
-    let answer = blocks::encode(g, value, out);
-    shown(b"encode ", line, expected, answer, out);
+    let answer = blocks::encode(g, value, area);
+    shown(out, b"encode ", line, expected, answer, area)
 }
 
-fn decode_into(
+fn decode_into<W: Write>(
+    out: &mut W,
     line: &[u8],
     expected: usize,
     g: Params,
     numbers: &[u8],
     blocks: &[u8],
-    out: &mut [u8],
-)
-    requires { (expected ≤ length line.now) × (length out.old ≤ 2560) }
+    area: &mut [u8],
+) -> io::Result<()>
+    requires { (expected ≤ length line.now) × (length area.old ≤ 2560) }
 {
-    let answer = blocks::decode(g, numbers, blocks, out);
-    shown(b"decode ", line, expected, answer, out);
+    let answer = blocks::decode(g, numbers, blocks, area);
+    shown(out, b"decode ", line, expected, answer, area)
 }
 
 // encode N T K L ROOM VALUE ANSWER AREA
-pub fn encode_case(line: &[u8], at: usize)
+pub fn encode_case<W: Write>(out: &mut W, line: &[u8], at: usize) -> io::Result<()>
     requires { at ≤ length line.now }
 {
     let f = front_at(line, at);
     let v = word_at(line, f.next);
     let mut value = [0u8; 1024];
     let len = bytes(line, v.start, v.end, &mut value);
-    let mut out = marked();
-    let room = f.room;
-    let params = f.params;
-    encode_into(line, v.next, params, &value[..len], &mut out[..room]);
+    let mut area = marked();
+    encode_into(
+        out,
+        line,
+        v.next,
+        f.params,
+        &value[..len],
+        &mut area[..f.room],
+    )
 }
 
 // decode N T K L ROOM NUMBERS BLOCKS ANSWER AREA
-pub fn decode_case(line: &[u8], at: usize)
+pub fn decode_case<W: Write>(out: &mut W, line: &[u8], at: usize) -> io::Result<()>
     requires { at ≤ length line.now }
 {
     let f = front_at(line, at);
@@ -125,15 +146,14 @@ pub fn decode_case(line: &[u8], at: usize)
     let mut blocks = [0u8; 1024];
     let count = bytes(line, j.start, j.end, &mut numbers);
     let len = bytes(line, b.start, b.end, &mut blocks);
-    let mut out = marked();
-    let room = f.room;
-    let params = f.params;
+    let mut area = marked();
     decode_into(
+        out,
         line,
         b.next,
-        params,
+        f.params,
         &numbers[..count],
         &blocks[..len],
-        &mut out[..room],
-    );
+        &mut area[..f.room],
+    )
 }

@@ -6,6 +6,8 @@ use case_text::report::result;
 use case_text::text::{bytes, number, put_bytes, word_at};
 use frame::refusals::number_of;
 use frame::{Header, Opened};
+use std::io;
+use std::io::Write;
 
 // Document 01's number of the refusal, or 0 for a frame that opens.
 fn opened_number(o: Opened) -> u8 {
@@ -27,23 +29,22 @@ fn header_bytes(h: Header) -> [u8; 7] {
     ]
 }
 
-fn shown(line: &[u8], expected: usize, o: Opened)
+fn shown<W: Write>(out: &mut W, line: &[u8], expected: usize, o: Opened) -> io::Result<()>
     requires { expected ≤ length line.now }
 {
     let mut text = [0u8; 8192];
     let Opened::Frame(h) = o else {
         let answer = opened_number(o);
         let end = put_bytes(&mut text, 0, &[answer]);
-        result(b"open ", line, expected, &text[..end]);
-        return;
+        return result(out, b"open ", line, expected, &text[..end]);
     };
     let header = header_bytes(h);
     let end = put_bytes(&mut text, 0, &header);
-    result(b"open ", line, expected, &text[..end]);
+    result(out, b"open ", line, expected, &text[..end])
 }
 
 // open N T K L FRAME ANSWER
-pub fn opening(line: &[u8], at: usize)
+pub fn opening<W: Write>(out: &mut W, line: &[u8], at: usize) -> io::Result<()>
     requires { at ≤ length line.now }
 {
     let n = word_at(line, at);
@@ -60,5 +61,5 @@ pub fn opening(line: &[u8], at: usize)
     let mut buffer = [0u8; 1024];
     let len = bytes(line, f.start, f.end, &mut buffer);
     let o = frame::opener::opened_under(params, &buffer[..len]);
-    shown(line, f.next, o);
+    shown(out, line, f.next, o)
 }

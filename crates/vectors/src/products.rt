@@ -3,9 +3,11 @@ ghost use Rattle.std.specs.Prelude.{◌≤◌, length};
 
 use case_text::report::result;
 use case_text::text::{bytes, put_bytes, word_at};
+use std::io;
+use std::io::Write;
 
 // product A B PRODUCT
-pub fn product(line: &[u8], at: usize)
+pub fn product<W: Write>(out: &mut W, line: &[u8], at: usize) -> io::Result<()>
     requires { at ≤ length line.now }
 {
     let a = word_at(line, at);
@@ -19,11 +21,11 @@ pub fn product(line: &[u8], at: usize)
     let c = field::mul(x[0], y[0], &ps, &ls);
     let mut text = [0u8; 8192];
     let end = put_bytes(&mut text, 0, &[c]);
-    result(b"product ", line, b.next, &text[..end]);
+    result(out, b"product ", line, b.next, &text[..end])
 }
 
 // inverse A INVERSE
-pub fn inverse(line: &[u8], at: usize)
+pub fn inverse<W: Write>(out: &mut W, line: &[u8], at: usize) -> io::Result<()>
     requires { at ≤ length line.now }
 {
     let a = word_at(line, at);
@@ -34,5 +36,5 @@ pub fn inverse(line: &[u8], at: usize)
     let c = field::inverse(x[0], &ps, &ls);
     let mut text = [0u8; 8192];
     let end = put_bytes(&mut text, 0, &[c]);
-    result(b"inverse ", line, a.next, &text[..end]);
+    result(out, b"inverse ", line, a.next, &text[..end])
 }

@@ -1,5 +1,6 @@
 // Bytes in lent areas: stored, compared, and read and written as big-endian numbers. All other crates build on these functions.
 #![tactic(auto)]
+
 ghost use Rattle.std.specs.Prelude.{◌≡◌, ◌+◌, ◌≤◌, ◌<◌, length, replicate, get_or};
 ghost use Rattle.std.proofs.lemmas.List.Edits.{sets};
 ghost use Rattle.area.specs.Area.{part, same};

@@ -1,7 +1,7 @@
 -- Laws of polynomials over the byte field: values, bytes, lengths and coefficients of sums, of multiples and of products with X - x. Assumes nothing.
 use mathlib.Core.Path.{◌≡◌, refl, sym, ap, ap₂, ◌∙◌}
 use mathlib.Core.List.{List, [], ◌∷◌}
-use Prim.Native.Nat.{ℕ, zero, suc, ◌<◌, ◌-◌, max}
+use Prim.Native.Nat.{ℕ, zero, suc, ◌<◌, max}
 use native.Mathlib.Omega.{arith}
 use lib.Dec.{lit<}
 use lib.ListN.{length, get_or}

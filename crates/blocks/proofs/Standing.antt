@@ -10,7 +10,7 @@ use lib.ListN.{length, get_or, take, drop, length-drop, drop_of_length-le, take-
 use lib.Seq.{drop-cons, drop-drop, length-take-le, take_at, sets, length-sets}
 use borrow.Author.Tests.{eq-eqb, not-true, not-false}
 use Rattle.area.specs.Area.{part, same}
-use Rattle.area.proofs.Same.{same_true, same_refl, same_false}
+use Rattle.area.proofs.Same.{same_true, same_false}
 use Rattle.area.proofs.Sets.{part_sets_same}
 use Rattle.blocks.specs.Code.{block_length, block_of, blocks_of}
 use Rattle.blocks.proofs.Parameters.{refuted}

@@ -13,7 +13,7 @@ use Rattle.area.specs.Area.{joined}
 use Rattle.area.proofs.Fills.{length_table, get_d_table, joined_snoc, length_joined}
 use Rattle.area.proofs.Sets.{sets_append}
 use Rattle.blocks.specs.Poly.{through}
-use Rattle.blocks.specs.Code.{block_length, stripe, row, value_of}
+use Rattle.blocks.specs.Code.{block_length, row, value_of}
 use Rattle.blocks.proofs.Polynomials.{through_length}
 use Rattle.blocks.proofs.Stripes.{fits}
 

@@ -1,6 +1,6 @@
 -- The parameters of a register and their bounds: document 01, "Partners and lots". Refusals have the numbers of its table "When a frame or call is turned
 -- down". Assumes nothing: these are definitions.
-use Rattle.std.specs.Prelude.{ℕ, ◌+◌, ◌*◌, ◌-◌, ◌≤◌, Bool, true, false, ◌&&◌, List, [], ◌∷◌, leb, ltb}
+use Rattle.std.specs.Prelude.{ℕ, ◌+◌, ◌*◌, ◌-◌, ◌≤◌, Bool, true, false, ◌&&◌, [], ◌∷◌, leb, ltb}
 use Rattle.area.specs.Area.{numbered}
 use Rattle.blocks.specs.declared.Params.{Params}
 use Rattle.blocks.specs.declared.Fault.{Fault}

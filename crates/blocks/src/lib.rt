@@ -1,5 +1,6 @@
 // The block code of document 01: a value as n blocks, any k of which give it back. This crate ships by itself to partners who only decode.
 #![tactic(auto)]
+
 ghost use Rattle.std.specs.Prelude.{◌≡◌};
 ghost use Rattle.blocks.specs.Calls.{outcome, encoding, decoding};
 

@@ -1,5 +1,6 @@
 // A client's tests, rows, counts and record, and the entry points that begin a read or a write.
 #![tactic(auto)]
+
 use blocks::Params;
 use frame::{Header, Party};
 

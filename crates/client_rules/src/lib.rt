@@ -1,5 +1,6 @@
 // A client: its small record of its open operation, by value. Place j of an array belongs to server j; place 0 stays empty.
 #![tactic(auto)]
+
 use frame::{Refusal, Stamp};
 
 // No operation is open; a write awaits stamps, or acks; a read is open.

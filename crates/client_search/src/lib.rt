@@ -1,5 +1,6 @@
 // The search of a client's rows, and the end of a read.
 #![tactic(auto)]
+
 pub mod at_stamp;
 pub mod ending;
 pub mod searching;

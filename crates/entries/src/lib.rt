@@ -1,5 +1,6 @@
 // Entries of a trace (document 02, F-8): each is a frame and its sender.
 #![tactic(auto)]
+
 use frame::{Party, Refusal};
 
 pub mod reader;

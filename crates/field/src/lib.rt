@@ -1,6 +1,7 @@
 // The byte field of FIPS 197 (polynomial 11B): products by the two tables of document 01, and the inverse as the 254th power.
 // A constant table is built anew wherever it is named, so an entry point takes both tables once and lends them down.
 #![tactic(auto)]
+
 ghost use Rattle.std.specs.Prelude.{◌≡◌, ◌<◌};
 ghost use Rattle.field.specs.Field.{◌⊗◌, power_of, Powers, Logs, Tables};
 

@@ -1,6 +1,6 @@
 -- The twelve cases of document 01, computed together. Assumes nothing.
 use mathlib.Core.Path.{◌≡◌, refl}
-use mathlib.Core.List.{List, map}
+use mathlib.Core.List.{map}
 use lib.ListN.{length}
 use Rattle.area.specs.Area.{pick, same, table, table_from, joined}
 use Rattle.area.specs.Numbers.{bytes2, bytes4}
@@ -8,7 +8,7 @@ use Rattle.field.specs.Field.{◌⊕◌, reduction, xtime, shift_add, ◌⊗◌,
 use Rattle.blocks.specs.Poly.{eval, plus, scale, with_root, vanishing, newton_step, through}
 use Rattle.blocks.specs.Code.{block_length, padded, stripe, block_byte, block_of, row, value_of, blocks_of, candidate, agree, decoded_all}
 use Rattle.frame.specs.Frames.{kind_of, body_bytes, header_bytes, frame_of, build}
-use Rattle.frame.specs.Cases.{Case, value, cases}
+use Rattle.frame.specs.Cases.{value, cases}
 
 pub twelve : length cases ≡ 12
 unfolding cases

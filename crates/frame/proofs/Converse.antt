@@ -15,7 +15,7 @@ use Rattle.blocks.specs.declared.Params.{Params}
 use Rattle.frame.specs.declared.Header.{Header}
 use Rattle.frame.specs.declared.Opened.TheVariants as O
 use Rattle.frame.specs.Params.{width, listed, entry_length}
-use Rattle.frame.specs.Messages.{value_is, message, Sized, FormedBody, Formed}
+use Rattle.frame.specs.Messages.{value_is, Sized, FormedBody, Formed}
 use Rattle.frame.specs.Frames.{version, version_at, kind_at, client_at, sequence_at, body_at, offer_at, writer_at, write_at, value_at}
 use Rattle.frame.specs.Frames.{kind_of, retired, body_length, length_of, entry_bytes, offer_bytes, stamp_bytes, body_bytes}
 use Rattle.frame.specs.Frames.{header_bytes, frame_of, build, header_in, stamp_in, opened, entry_in, offer_in, body_in, message_in}

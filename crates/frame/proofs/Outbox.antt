@@ -1,22 +1,19 @@
 -- Frames sent one after the other, and how much room they take. Assumes nothing.
-use Prim.Native.Nat.{ℕ, zero, suc, ◌+◌, ◌*◌, ◌≤◌}
+use Prim.Native.Nat.{ℕ, zero, suc, ◌+◌, ◌*◌}
 use native.Mathlib.Omega.{arith}
-use native.Mathlib.Nat.{suc-mul, add-zero, add-suc, suc-add}
+use native.Mathlib.Nat.{add-zero, add-suc, suc-add}
 use mathlib.Core.Path.{◌≡◌, refl, ap, sym, ◌∙◌}
 use mathlib.Core.List.{List, [], ◌∷◌, ◌++◌, append_assoc, append-nil}
 use lib.ListN.{length, length-append}
-use lib.Seq.{sets, length-sets}
+use lib.Seq.{sets}
 use Rattle.area.specs.Area.{pick}
 use Rattle.area.proofs.Sets.{sets_append}
-use Rattle.blocks.specs.declared.Params.{Params}
 use Rattle.frame.specs.declared.Party.{Party}
 use Rattle.frame.specs.declared.Party.TheVariants as P
-use Rattle.frame.specs.declared.Place.{Place}
-use Rattle.frame.specs.Params.{largest_frame, Bounded}
-use Rattle.frame.specs.Messages.{Message, Sending, sending, Formed, to_from, to_all, clients_from}
+use Rattle.frame.specs.Messages.{Message, Sending, sending, to_from, clients_from}
 use Rattle.frame.specs.Frames.{build}
 use Rattle.frame.proofs.PartyLaws.{length_party}
-use Rattle.frame.specs.Outbox.{frames, party_bytes, party_in, receivers, Outbox, outbox, sent, wrote, wrote_to}
+use Rattle.frame.specs.Outbox.{frames, party_bytes, party_in, receivers, Outbox, sent, wrote, wrote_to}
 
 pub frames_append : (xs ys : List Sending) → frames (xs ++ ys) ≡ frames xs ++ frames ys
 unfolding frames

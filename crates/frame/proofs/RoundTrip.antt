@@ -1,9 +1,9 @@
 -- What is built opens, and says what was said. Assumes nothing.
 use Prim.Native.Nat.{ℕ, ◌+◌, ◌≤◌, ◌<◌}
 use native.Mathlib.Omega.{arith}
-use mathlib.Core.Bool.{true, false}
-use mathlib.Core.Path.{◌≡◌, refl, ap, sym, ◌∙◌}
-use mathlib.Core.List.{List, [], ◌∷◌, ◌++◌, append-nil}
+use mathlib.Core.Bool.{false}
+use mathlib.Core.Path.{◌≡◌, refl, ap, ◌∙◌}
+use mathlib.Core.List.{List, [], ◌++◌}
 use lib.ListN.{length, get_or, length-append}
 use lib.Seq.{take_at, drop_at, drop-drop, take_all}
 use Rattle.area.specs.Area.{pick, part}
@@ -11,17 +11,14 @@ use Rattle.area.specs.Numbers.{be2, be4, be8, bytes2, bytes4, bytes8}
 use Rattle.area.proofs.Numbers.{be2_bytes2, be4_bytes4, be8_bytes8, length_bytes8}
 use Rattle.blocks.specs.declared.Params.{Params}
 use Rattle.frame.specs.declared.Stamp.{Stamp}
-use Rattle.frame.specs.declared.Header.{Header}
-use Rattle.frame.specs.declared.Opened.{Opened}
-use Rattle.frame.specs.declared.Opened.TheVariants as O
 use Rattle.frame.specs.Params.{width, listed, entry_length, Bounded}
-use Rattle.frame.specs.Messages.{Entry, Offer, Stage, send, echo, ready, Body, get_stamp, ack, ask_read, read_complete}
-use Rattle.frame.specs.Messages.{stamp_is, block_is, value_is, report, Message, message, Sized, FormedBody, Formed}
+use Rattle.frame.specs.Messages.{Entry, Offer, send, echo, ready, Body, get_stamp, ack, ask_read, read_complete}
+use Rattle.frame.specs.Messages.{stamp_is, block_is, value_is, report, Message, Sized, FormedBody, Formed}
 use Rattle.frame.specs.Frames.{version, version_at, body_at, offer_at, value_at, kind_of, retired, body_length, length_of, entry_bytes, offer_bytes, stamp_bytes}
-use Rattle.frame.specs.Frames.{body_bytes, header_bytes, frame_of, build, header_in, stamp_in, opened, entry_in, offer_in, body_in, message_in, header_for}
+use Rattle.frame.specs.Frames.{body_bytes, header_bytes, frame_of, build, header_in, stamp_in, entry_in, offer_in, body_in, message_in, header_for}
 use Rattle.frame.specs.Forms.{Back}
 use Rattle.frame.proofs.Sizes.{Small, small}
-use Rattle.frame.proofs.Opening.{StampFine, Opens, opens}
+use Rattle.frame.proofs.Opening.{StampFine, opens}
 
 -- ---- the header of a frame
 

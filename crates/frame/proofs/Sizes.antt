@@ -1,12 +1,11 @@
 -- The sizes within the bounds of the parameters. Assumes nothing.
-use Prim.Native.Nat.{ℕ, ◌+◌, ◌*◌, ◌-◌, ◌/◌, ◌≤◌, ◌<◌}
+use Prim.Native.Nat.{◌+◌, ◌-◌, ◌/◌, ◌≤◌, ◌<◌}
 use native.Mathlib.Omega.{arith}
 use native.Mathlib.Nat.{div-le_of_le-mul, div-lt_iff_lt-mul}
 use native.Mathlib.Decide.{dec_le}
-use mathlib.Core.Path.{◌≡◌}
 use Rattle.blocks.specs.declared.Params.{Params}
 use Rattle.blocks.specs.Code.{block_length}
-use Rattle.frame.specs.Params.{width, listed, entry_length, largest_frame, Bounded}
+use Rattle.frame.specs.Params.{width, listed, Bounded}
 
 -- what chunks and frames have room for
 pub record Small (g : Params) : Type 0 where

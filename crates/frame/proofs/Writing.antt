@@ -1,5 +1,5 @@
 -- What the code writes, one law a function: a frame in parts, one frame sent, one frame sent to all, and entries stored. Assumes nothing.
-use Prim.Native.Nat.{ℕ, zero, suc, ◌+◌, ◌*◌, ◌-◌, ◌≤◌, ◌<◌}
+use Prim.Native.Nat.{ℕ, zero, suc, ◌+◌, ◌*◌, ◌-◌, ◌<◌}
 use native.Mathlib.Omega.{arith}
 use native.Mathlib.Numerals.{add-one}
 use native.Mathlib.Nat.{add-mul, suc-mul}
@@ -12,14 +12,13 @@ use Rattle.area.specs.Numbers.{bytes2, bytes4, bytes8}
 use Rattle.area.proofs.Sets.{sets_append, room}
 use Rattle.blocks.specs.declared.Params.{Params}
 use Rattle.frame.specs.declared.Party.{Party}
-use Rattle.frame.specs.declared.Party.TheVariants as P
 use Rattle.frame.specs.declared.Place.{Place}
 use Rattle.frame.specs.declared.Stamp.{Stamp}
 use Rattle.frame.specs.declared.Broadcast.{Broadcast}
 use Rattle.frame.specs.declared.Ask.{Ask}
 use Rattle.frame.specs.declared.Ask.TheVariants as A
 use Rattle.frame.specs.Params.{width, listed}
-use Rattle.frame.specs.Messages.{entry, Offer, offer, Stage, send, echo, ready, Body, ack, stamp_is, block_is, value_is, report, Message, message, sending}
+use Rattle.frame.specs.Messages.{entry, Offer, offer, Stage, send, echo, ready, ack, stamp_is, block_is, value_is, report, Message, message, sending}
 use Rattle.frame.specs.Messages.{to_all}
 use Rattle.frame.specs.Messages.{to_clients}
 use Rattle.frame.specs.Frames.{kind_of, body_bytes, entry_bytes, offer_bytes, stamp_bytes, header_bytes, frame_of, build, entry_in}

@@ -1,5 +1,6 @@
 // What servers and clients share: parties, stamps and refusals, and frames as they are opened and written.
 #![tactic(auto)]
+
 pub mod bounds;
 pub mod entries;
 pub mod opener;

@@ -1,6 +1,6 @@
 -- Precedence for two callers (`precedence`), and that what precedes ends no later than the other starts (`precedes_le`). Assumes nothing.
 use mathlib.Core.Path.{◌≡◌, sym}
-use mathlib.Core.Bool.{true, false}
+use mathlib.Core.Bool.{true}
 use mathlib.Core.Logic.{⊎_elim}
 use Prim.Native.Nat.{◌≤◌}
 use native.Mathlib.Omega.{arith}

@@ -157,7 +157,7 @@ pub record Theorem (H : List ℕ → List ℕ) (g : Params) (me : ℕ) : Type 0 
   pub steps : (v trace a initial out : List ℕ) → Bytes trace → (x : Summed) → (playback H g me v trace a initial out).answer ≡ gives x
       → (hs : List Handed) → entries_of hs ≡ (trace_of trace).entries → AllEnough g hs
       → IsSteps H g me v trace a initial out (playback H g me v trace a initial out) hs
-  -- "A turned_down frame doesn't end the playback": it is reported by its number, and the next frame is handed to the same server
+  -- "A turned-down frame doesn't end the playback": it is reported by its number, and the next frame is handed to the same server
   pub turned_down_lem : (initial : List ℕ) (s : Server) (a : List ℕ) (e : TraceEntry) (es : List TraceEntry) (n : ℕ)
       → (report_of H g me initial s a e).reply ≡ turned_down n
       → played H g me initial s a (e ∷ es)

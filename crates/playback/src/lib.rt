@@ -1,5 +1,6 @@
 // Playing back a site's trace (document 02, F-8): the frames of its entries one after the other, from a fresh server.
 #![tactic(auto)]
+
 ghost use Rattle.std.specs.Prelude.{◌≡◌, ◌≤◌, ◌<◌};
 ghost use Rattle.frame.specs.Params.{Bounded};
 ghost use Rattle.sha256.specs.Hash.{digest_of};

@@ -2,16 +2,16 @@
 -- strictly below it where the other is a write. In every run of lawful calls, and for operations of honest clients.
 -- Each server's present stamp only grows. When an operation has ended, the honest ones of n - t servers have its stamp or a larger one from then on;
 -- an operation that begins later hears n - t servers, and one of these is honest and among the former. Assumes nothing.
-use Prim.Native.Nat.{ℕ, zero, suc, ◌+◌, ◌*◌, ◌-◌, ◌≤◌, ◌<◌}
+use Prim.Native.Nat.{ℕ, ◌≤◌, ◌<◌}
 use native.Mathlib.Omega.{arith}
 use native.Mathlib.Decide.{dec_le}
 use mathlib.Core.Bool.{Bool, true, false}
-use mathlib.Core.Path.{◌≡◌, refl, ap, sym, ◌∙◌, subst}
+use mathlib.Core.Path.{◌≡◌, ap, sym, ◌∙◌}
 use mathlib.Core.Logic.{◌⊎◌, inl, inr, ⊎_elim}
 use mathlib.Core.List.{List, [], ◌∷◌}
 use Rattle.quorum.specs.Quorum.{Among, Faults}
 use Rattle.quorum.proofs.Logic.{impossible}
-use Rattle.quorum.proofs.Quorums.{AtLeast, at_least_map, quorums_meet, quorum_member}
+use Rattle.quorum.proofs.Quorums.{at_least_map, quorums_meet, quorum_member}
 use Rattle.precedence.specs.Laws as L
 use Rattle.precedence.specs.Laws.{Stamps, Views, Extends}
 

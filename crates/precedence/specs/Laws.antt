@@ -2,7 +2,7 @@
 -- K is a call, and a run is the list of its calls, latest first. S is a stamp with what else a value carries (its digest list). A is what a server
 -- accepts a write with: the time that the client sent, and what else the broadcasts agree on. Nothing here knows frames or areas.
 -- Throughout j is a server, c a client, q the number of its read or write, T a time. Assumes nothing.
-use Rattle.std.specs.Prelude.{ℕ, zero, suc, ◌-◌, ◌≤◌, ◌<◌, Bool, true, false, ◌≡◌, ◌⊎◌, List, [], ◌∷◌}
+use Rattle.std.specs.Prelude.{ℕ, suc, ◌-◌, ◌≤◌, ◌<◌, Bool, true, false, ◌≡◌, ◌⊎◌, List, [], ◌∷◌}
 use Rattle.quorum.specs.Quorum.{Among}
 use Rattle.quorum.proofs.Quorums.{AtLeast}
 

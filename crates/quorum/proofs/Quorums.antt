@@ -3,14 +3,14 @@
 --   two sets of n - t servers share an honest one;
 --   there are at least n - t honest servers.
 -- All agreement in this register comes from the first two, and that all are served from the third. Assumes nothing.
-use Prim.Native.Nat.{ℕ, zero, suc, ◌+◌, ◌*◌, ◌-◌, ◌≤◌, ◌<◌}
+use Prim.Native.Nat.{ℕ, suc, ◌+◌, ◌-◌, ◌≤◌, ◌<◌}
 use native.Mathlib.Omega.{arith}
 use mathlib.Core.Bool.{Bool, true, false, not, ◌&&◌}
 use mathlib.Core.Path.{◌≡◌}
 use borrow.Author.Tests.{not-true}
 use Rattle.quorum.specs.Quorum.{count, Among, Faults}
 use Rattle.quorum.proofs.Logic.{and_split}
-use Rattle.quorum.proofs.Counting.{count_both, count_not, count_mono, Passing, some_passes}
+use Rattle.quorum.proofs.Counting.{count_both, count_not, count_mono, some_passes}
 
 -- At least m of the servers 1 to n, with Q for each. Q is mostly of the form "if j is honest, then ..", so that what a
 -- false server said needs no case of its own.

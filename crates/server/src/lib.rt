@@ -1,5 +1,6 @@
 // A server's code below its stages: the parts of its state, the tests of a frame, what clients ask, construction; and what the stages of a step hand on.
 #![tactic(auto)]
+
 use blocks::Params;
 use frame::{Header, Party, Place, Verdict};
 use server_rules::{Reply, Scope, Slot};

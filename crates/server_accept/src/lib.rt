@@ -1,5 +1,6 @@
 // Acceptance: the write of a client that is complete. Only here are readers and the stamp seen.
 #![tactic(auto)]
+
 ghost use Rattle.std.specs.Prelude.{◌≡◌, ◌+◌, ◌*◌, ◌≤◌, ◌<◌, length, ◌++◌, []};
 ghost use Rattle.std.proofs.lemmas.List.Edits.{sets};
 ghost use Rattle.area.specs.Area.{pick, part};

@@ -1,5 +1,6 @@
 // A server's stage for a write: an echo or a ready was counted, and what follows from it before anything is accepted.
 #![tactic(auto)]
+
 ghost use Rattle.std.specs.Prelude.{◌≡◌, true, length};
 ghost use Rattle.frame.specs.Params.{listed};
 ghost use Rattle.server_blocks.specs.Votes.{matters_by, voters_of};

@@ -1,5 +1,6 @@
 // What a server does with a frame that is handed in, its record being lent as bytes: the entry point deliver.
 #![tactic(auto)]
+
 ghost use Rattle.std.specs.Prelude.{◌≡◌};
 ghost use Rattle.sha256.specs.Hash.{digest_of};
 ghost use Rattle.server_rules.specs.Delivery.{reply_response};

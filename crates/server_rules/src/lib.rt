@@ -1,5 +1,6 @@
 // A server: its state by value. Place j of an array belongs to server or client j; place 0 stays empty.
 #![tactic(auto)]
+
 ghost use Rattle.std.specs.Prelude.{◌≡◌};
 ghost use Rattle.server_rules.specs.State.{fresh_server};
 

@@ -1,5 +1,6 @@
 // SHA-256 (FIPS 180-4) of messages of at most 256 bytes.
 #![tactic(auto)]
+
 ghost use Rattle.std.specs.Prelude.{◌≡◌, ◌+◌, ◌*◌, ◌<◌, ◌≤◌, length};
 ghost use Rattle.std.proofs.lemmas.List.Edits.{sets};
 ghost use Rattle.sha256.specs.Words.{rotr, ch, maj, big_sigma0, big_sigma1, sigma0, sigma1};

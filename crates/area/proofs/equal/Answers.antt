@@ -1,5 +1,4 @@
 -- The parts from index i on are the same where the lists are. Assumes nothing.
-use Prim.Native.Nat.{◌-◌}
 use mathlib.Core.Path.{sym, ◌∙◌}
 use Rattle.area.proofs.Same.{same_step, same_differ, same_end, same_lengths}
 use native.Mathlib.Omega.{arith}

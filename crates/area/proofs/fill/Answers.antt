@@ -1,5 +1,4 @@
 -- After j turns j copies are stored. Assumes nothing.
-use Prim.Native.Nat.{◌-◌}
 use mathlib.Core.Path.{◌≡◌, refl, ◌∙◌}
 use lib.ListN.{length-set}
 use Rattle.area.proofs.Sets.{sets_copy}

@@ -1,5 +1,4 @@
 -- After j turns the first j bytes of src are stored. Assumes nothing.
-use Prim.Native.Nat.{◌-◌}
 use mathlib.Core.Path.{refl, ◌∙◌}
 use lib.ListN.{length-set}
 use lib.Seq.{take_all}

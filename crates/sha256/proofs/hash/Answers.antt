@@ -1,5 +1,5 @@
 -- After i turns s is the hash value of the first i blocks. Assumes nothing.
-use Rattle.std.proofs.Common.{◌≡◌, ◌-◌, ◌∙◌, add-one, arith}
+use Rattle.std.proofs.Common.{◌≡◌, ◌∙◌, add-one, arith}
 use Rattle.sha256.specs.Hash.{hashed}
 use Rattle.sha256.proofs.hash.Goals as goal
 

@@ -1,5 +1,5 @@
 -- After j turns the first 4j rounds of x are done. Assumes nothing.
-use Rattle.std.proofs.Common.{◌≡◌, ◌-◌, refl, ◌∙◌, arith}
+use Rattle.std.proofs.Common.{◌≡◌, refl, ◌∙◌, arith}
 use Rattle.sha256.proofs.Turns.{four_turn}
 use Rattle.sha256.specs.Constants.{constants}
 use Rattle.sha256.specs.Hash.{rounds}

@@ -1,5 +1,5 @@
 -- The first loop stores the block's words one by one, the second the other words four at a time; after the words so far there are zeros. Assumes nothing.
-use Rattle.std.proofs.Common.{◌≡◌, ◌-◌, refl, ◌∙◌, append-nil, arith}
+use Rattle.std.proofs.Common.{◌≡◌, refl, ◌∙◌, append-nil, arith}
 use Rattle.sha256.proofs.Words.{word_turn, words_done, length_block_words, store_turn}
 use Rattle.sha256.specs.Hash.{schedule}
 use Rattle.area.specs.Area.{table, table_from}

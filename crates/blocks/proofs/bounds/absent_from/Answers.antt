@@ -1,5 +1,4 @@
 -- After each turn, what is left of the numbers gives the same answer as all of them. Assumes nothing.
-use Prim.Native.Nat.{◌-◌}
 use mathlib.Core.Path.{refl, sym, ◌∙◌}
 use Rattle.blocks.proofs.Numbers.{absent_turn, absent_found, absent_end}
 use Rattle.blocks.proofs.bounds.absent_from.Goals as goal

@@ -1,6 +1,5 @@
 -- After each turn, what is left of the numbers gives the same answer as all of them. Assumes nothing.
 use mathlib.Core.Bool.{not}
-use Prim.Native.Nat.{◌-◌}
 use mathlib.Core.Path.{ap, refl, sym, ◌∙◌}
 use Rattle.blocks.proofs.Numbers.{numbers_turn, numbers_out, numbers_twice, numbers_end}
 use Rattle.blocks.proofs.bounds.numbers_fit.Goals as goal

@@ -1,6 +1,6 @@
 -- After i turns the sum of the first i rows, each times its block's byte, is the polynomial with these values, and 0 at the other points. Assumes nothing.
 use mathlib.Core.Path.{sym, ap, ◌∙◌}
-use Prim.Native.Nat.{ℕ, ◌+◌, ◌-◌, ◌*◌}
+use Prim.Native.Nat.{ℕ, ◌+◌, ◌*◌}
 use lib.ListN.{length, length-replicate}
 use Rattle.blocks.proofs.Stripes.{product_small}
 use Rattle.blocks.proofs.Values.{index_below, index_small, row_length}

@@ -43,10 +43,9 @@ blocks_stand-requires c =
     )
 
 pub returns : goal.returns
-returns c =
-    (
-      first_agrees c.args.k c.args.js.now c.args.w.now c.args.value.now _ c.requires.0 c.requires.2 c.requires.5 c.block_length.ensures _ _
-          c.decode_into.ensures c.blocks_stand.ensures,
-      first_value c.args.k c.args.js.now c.args.w.now c.args.value.now _ c.requires.0 c.requires.2 c.requires.5 c.block_length.ensures _
-          c.decode_into.ensures,
-    )
+returns c = (
+  first_agrees c.args.k c.args.js.now c.args.w.now c.args.value.now _ c.requires.0 c.requires.2 c.requires.5 c.block_length.ensures _ _
+      c.decode_into.ensures c.blocks_stand.ensures,
+  first_value c.args.k c.args.js.now c.args.w.now c.args.value.now _ c.requires.0 c.requires.2 c.requires.5 c.block_length.ensures _
+      c.decode_into.ensures,
+)

@@ -1,6 +1,5 @@
 -- After i turns the first i rows are stored. Assumes nothing.
 use mathlib.Core.Path.{refl, ◌∙◌}
-use Prim.Native.Nat.{◌-◌}
 use lib.ListN.{length}
 use Rattle.blocks.proofs.Linear.{rows_start, rows_turn, row_room}
 use native.Mathlib.Omega.{arith}

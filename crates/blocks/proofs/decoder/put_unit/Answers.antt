@@ -21,13 +21,12 @@ slice_bounds-interpolate-end-3 c =
     sym (length-take-le (length c.args.js.now + 1) (zeros 9) (omega arith))
 
 pub interpolate-requires : goal.interpolate-requires
-interpolate-requires c =
-    (
-      ap length (unit_front (length c.args.js.now) 8 c.args.i c.requires.0) ∙ unit_length (length c.args.js.now) c.args.i,
-      length-take-le (length c.args.js.now) (zeros 8) c.requires.0,
-      length-take-le (length c.args.js.now + 1) (zeros 9) (omega arith),
-      c.requires.3,
-    )
+interpolate-requires c = (
+  ap length (unit_front (length c.args.js.now) 8 c.args.i c.requires.0) ∙ unit_length (length c.args.js.now) c.args.i,
+  length-take-le (length c.args.js.now) (zeros 8) c.requires.0,
+  length-take-le (length c.args.js.now + 1) (zeros 9) (omega arith),
+  c.requires.3,
+)
 
 pub slice_bounds-p-end-2 : goal.slice_bounds-p-end-2
 slice_bounds-p-end-2 c =

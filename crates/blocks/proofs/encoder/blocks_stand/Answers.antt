@@ -1,6 +1,6 @@
 -- After each turn, what is left of the blocks gives the same answer as all of them. Assumes nothing.
 use mathlib.Core.Bool.{not}
-use Prim.Native.Nat.{ℕ, ◌+◌, ◌-◌}
+use Prim.Native.Nat.{ℕ, ◌+◌}
 use native.Mathlib.Nat.{zero-mul}
 use mathlib.Core.Path.{refl, sym, ap, ◌∙◌}
 use lib.ListN.{length, drop}
@@ -30,15 +30,14 @@ overflow_add-at c =
     record { fits = omega (arith, f, c.loop-i.invariant.0, product_small (length c.args.js.now) b c.requires.3 (omega arith)) }
 
 pub loop-i-preserved : goal.loop-i-preserved
-loop-i-preserved c =
-    (
-      c.loop-i.invariant.0,
-      omega arith,
-      ap (λ x. c.loop-i.at + x) c.loop-i.invariant.0 ∙ next_place _ _ _ c.loop-i.invariant.2,
-      c.loop-i.invariant.3
-          ∙ stand_turn _ _ _ _ _ _ c.loop-i-test.true c.loop-i.invariant.2 c.requires.4 _ c.block_stands.ensures (ap not c.if-not-block_stands.false)
-          ∙ ap (λ x. same (blocks_of c.args.k c.args.v.now (drop (c.loop-i.i + 1) c.args.js.now)) (drop (c.loop-i.at + x) c.args.w.now)) (sym c.loop-i.invariant.0),
-    )
+loop-i-preserved c = (
+  c.loop-i.invariant.0,
+  omega arith,
+  ap (λ x. c.loop-i.at + x) c.loop-i.invariant.0 ∙ next_place _ _ _ c.loop-i.invariant.2,
+  c.loop-i.invariant.3
+      ∙ stand_turn _ _ _ _ _ _ c.loop-i-test.true c.loop-i.invariant.2 c.requires.4 _ c.block_stands.ensures (ap not c.if-not-block_stands.false)
+      ∙ ap (λ x. same (blocks_of c.args.k c.args.v.now (drop (c.loop-i.i + 1) c.args.js.now)) (drop (c.loop-i.at + x) c.args.w.now)) (sym c.loop-i.invariant.0),
+)
 
 pub returns : goal.returns
 returns c =

@@ -1,6 +1,5 @@
 -- After r turns the first r bytes of the block are stored. Assumes nothing.
 use mathlib.Core.Path.{◌≡◌, refl, ap, ◌∙◌}
-use Prim.Native.Nat.{◌-◌}
 use lib.ListN.{length, length-set}
 use lib.Seq.{sets}
 use Rattle.area.specs.Area.{table, table_from}

@@ -2,7 +2,7 @@
 use native.Mathlib.Nat.{zero-mul}
 use Rattle.blocks.proofs.Stripes.{place_fits, next_place}
 use mathlib.Core.Path.{◌≡◌, refl, sym, ap, ◌∙◌}
-use Prim.Native.Nat.{◌-◌, ◌+◌}
+use Prim.Native.Nat.{◌+◌}
 use lib.ListN.{length}
 use lib.Seq.{sets}
 use Rattle.area.specs.Area.{joined}

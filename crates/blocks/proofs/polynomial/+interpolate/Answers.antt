@@ -1,8 +1,6 @@
 -- No point: the zero polynomial and 1; else the points but the first, and then the first. Assumes nothing.
 use mathlib.Core.Path.{◌∙◌}
-use lib.ListN.{length}
 use native.Mathlib.Omega.{arith}
-use Prim.Native.Nat.{◌-◌}
 use Rattle.blocks.proofs.Point.{Level, level, no_points}
 use Rattle.blocks.proofs.polynomial.+interpolate.Goals as goal
 

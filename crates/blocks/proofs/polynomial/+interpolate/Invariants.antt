@@ -1,6 +1,4 @@
-use Rattle.std.proofs.Common.{length, ◌≡◌, ◌+◌, ◌-◌, ◌<◌, take, ℕ, ◌*◌, ◌≤◌}
-use Rattle.field.specs.Field.{Tables}
-use Rattle.blocks.specs.Poly.{eval, plus, scale, with_root, vanishing, newton_step, through}
+use Rattle.std.proofs.Common.{length}
 use Rattle.blocks.proofs.polynomial.+interpolate.Given as goal
 
 -- proposed from what the function passes where it calls itself

@@ -1,5 +1,4 @@
 use mathlib.Core.Path.{◌∙◌}
-use Prim.Native.Nat.{◌-◌}
 use native.Mathlib.Omega.{arith}
 use lib.ListN.{length, length-set, length-take, take}
 use Rattle.blocks.proofs.Point.{step_front, root_front}
@@ -22,9 +21,8 @@ pub shape_of-m : goal.shape_of-m
 shape_of-m c = c.with_root.auto.m ∙ simp length-set
 
 pub returns : goal.returns
-returns c =
-    (
-      c.newton_step.ensures
-          ∙ step_front c.args.p.now (take (length c.args.p.now) c.args.m.now) _ _ c.requires.0 (simp length-take (omega arith)),
-      c.with_root.ensures ∙ root_front c.args.m.now _ (length c.args.p.now) c.requires.1,
-    )
+returns c = (
+  c.newton_step.ensures
+      ∙ step_front c.args.p.now (take (length c.args.p.now) c.args.m.now) _ _ c.requires.0 (simp length-take (omega arith)),
+  c.with_root.ensures ∙ root_front c.args.m.now _ (length c.args.p.now) c.requires.1,
+)

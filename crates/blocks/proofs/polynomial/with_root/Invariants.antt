@@ -1,5 +1,5 @@
 use mathlib.Core.Path.{◌≡◌}
-use Prim.Native.Nat.{◌<◌, ◌-◌, ◌+◌}
+use Prim.Native.Nat.{◌<◌, ◌+◌}
 use lib.ListN.{length}
 use Rattle.area.proofs.Fills.{mixed}
 use Rattle.blocks.proofs.Turns.{rooted}

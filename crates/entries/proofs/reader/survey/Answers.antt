@@ -1,5 +1,4 @@
 -- The entries counted, and those that are left, are those of the whole trace. Assumes nothing.
-use Prim.Native.Nat.{◌-◌}
 use Rattle.entries.proofs.Traces.{counts_start, rest_within, counts_next, counts_end}
 use native.Mathlib.Omega.{arith}
 use Rattle.entries.proofs.reader.survey.Goals as goal

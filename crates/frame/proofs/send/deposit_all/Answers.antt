@@ -1,5 +1,4 @@
 use Rattle.frame.proofs.Writing.{none_sent, one_more, room_for_one, place_after, after_one, length_written}
-use Prim.Native.Nat.{◌-◌, ◌+◌}
 use mathlib.Core.Path.{◌≡◌, refl, ap, ◌∙◌}
 use mathlib.Core.List.{◌++◌}
 use Rattle.frame.specs.Frames.{frame_of}

@@ -44,7 +44,7 @@ fn step<W: Write>(
     out: &mut W,
 ) -> Result<(), Failure>
     requires { Parties areas.old initials.old records.old rows.old values.old }
-    ensures { OnOk result (r.new.at ≡ n.at) }
+    ensures { r.new.at ≡ n.at }
 {
     r.line = n.line;
     r.at = n.at;
@@ -79,10 +79,17 @@ fn take_next<W: Write>(
 ) -> Result<(), Failure>
     requires within { r.old.at < length piece.now }
     requires lengths { Parties areas.old initials.old records.old rows.old values.old }
-    ensures { OnOk result ((r.old.at < r.new.at) × (r.new.at ≤ length piece.now)) }
+    ensures moves { OnOk result (r.old.at < r.new.at) }
+    ensures stays { (r.old.at ≤ r.new.at) × (r.new.at ≤ length piece.now) }
 {
     let n = next_ask(r.hall.ready, r.line, piece, r.at, bytes, out)?;
     step(r, n, bytes, areas, initials, records, rows, values, out)
+}
+
+fn from_start(r: &mut Run)
+    ensures { r.new.at ≡ 0 }
+{
+    r.at = 0;
 }
 
 // All lines of one piece of the script.
@@ -99,7 +106,7 @@ fn take_all<W: Write>(
 ) -> Result<(), Failure>
     requires { Parties areas.old initials.old records.old rows.old values.old }
 {
-    r.at = 0;
+    from_start(r);
     while r.at < piece.len() {
         take_next(r, piece, bytes, areas, initials, records, rows, values, out)?;
     }

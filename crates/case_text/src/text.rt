@@ -1,5 +1,6 @@
 // Words, numbers and bytes as text.
 ghost use Rattle.std.specs.Prelude.{◌+◌, ◌*◌, ◌<◌, ◌≤◌, length};
+ghost use Rattle.std.specs.Counts.{IsPrefixLen};
 
 // A word of a line: where it starts and ends, and where the next one starts.
 #[derive(Clone, Copy)]
@@ -86,7 +87,7 @@ fn letter(x: u8) -> u8
 // The bytes that the digits of line from start to end give, into the front of out: as many as fit, up to the first that is no digit. Answers how many.
 pub fn bytes(line: &[u8], start: usize, end: usize, out: &mut [u8]) -> usize
     requires { (start ≤ end) × (end ≤ length line.now) }
-    ensures { result ≤ length out.new }
+    ensures { IsPrefixLen result out.new }
 {
     let most = out.len().min((end - start) / 2);
     for n in 0..most {
@@ -111,7 +112,7 @@ pub fn put_digits(text: &mut [u8], at: usize, b: u8)
 // Writes bytes as digits into text from index at on, and answers where they end.
 pub fn put_bytes(text: &mut [u8], at: usize, bytes: &[u8]) -> usize
     requires { at + length bytes.now * 2 ≤ length text.old }
-    ensures { result ≤ length text.new }
+    ensures { IsPrefixLen result text.new }
 {
     for (i, b) in bytes.iter().enumerate() {
         put_digits(text, at + i * 2, *b);

@@ -17,6 +17,7 @@ use std::rt::Clock;
 
 // The answer to what was read into a buffer of 65536 bytes. A line of a record has at most 60 bytes, so that what fills the buffer has more than 64 lines or
 // a malformed one, whatever follows.
+#[tactic(auto, using(history_text::proofs::Bounds::long_refused))]
 fn judge(history: &[u8]) -> Verdict
     ensures { judgement result ≡ answer_to history.now }
 {

@@ -3,7 +3,7 @@
 Checked: every path and name in backquotes, and every path of a command line, is in the tree (cites.py); the reading list of MAP is what promises and
 theorems reach (reading.py); crates.txt, the layers of MAP, numbers of crates and edits, minutes, decisions and requests that are cited, lengths of lines
 and links (counts.py); the bindings in Rust, that they declare what the header declares (bindings.py). Not checked: what a sentence says beyond that, and
-the notes of docs/landings, each of which speaks of its own commit.
+the notes of docs/landings, each of which speaks of its own commit, and of docs/PORT.md, which speaks of what has gone.
 """
 
 import sys

@@ -61,9 +61,11 @@ fn read_all<C: Clock, S: Read, W: Write>(
     flush(out)
 }
 
-fn serve<R: Runtime + AllocGlobal>(rt: &R) -> Result<(), Failure> {
-    let mut source = open_input(rt)?;
-    let mut out = nothing(rt)?;
+fn serve<R: Runtime>(rt: &R) -> Result<(), Failure> {
+    let Some(mut source) = open_input(rt) else {
+        return Ok(());
+    };
+    let mut out = nothing(rt);
     read_all(rt, &mut source, &mut out)
 }
 

@@ -1,12 +1,11 @@
 // Why a program stops before its input's end.
+ghost use Rattle.std.specs.Prelude.{IfErr};
+ghost use Rattle.console.specs.Failures.{IsWriting};
+
 use std::{fmt, io};
 
 #[derive(Debug, Drop)]
 pub enum Failure {
-    // the arguments can't be read
-    Arguments(io::Error),
-    ManyNames,
-    Opening(String, io::Error),
     Reading(io::Error),
     Writing(io::Error),
 }
@@ -14,9 +13,6 @@ pub enum Failure {
 impl fmt::Display for Failure {
     fn fmt<W: fmt::Write>(&self, f: &mut fmt::Formatter<W>) -> fmt::Result {
         match self {
-            Failure::Arguments(error) => write!(f, "the file's name: {error}"),
-            Failure::ManyNames => write!(f, "one file at most can be named"),
-            Failure::Opening(name, error) => write!(f, "{name}: {error}"),
             Failure::Reading(error) => write!(f, "the input could not be read: {error}"),
             Failure::Writing(error) => write!(f, "the output could not be written: {error}"),
         }
@@ -24,6 +20,17 @@ impl fmt::Display for Failure {
 }
 
 impl std::error::Error for Failure {}
+
+// The outcome of a write to the output.
+#[tactic(auto, unfolding(crate::specs::Failures::is_writing))]
+pub fn written(outcome: io::Result<()>) -> Result<(), Failure>
+    ensures { IfErr result IsWriting }
+{
+    match outcome {
+        Ok(()) => Ok(()),
+        Err(error) => Err(Failure::Writing(error)),
+    }
+}
 
 // Says on standard error why a program stopped, if it did. Where that can't be written either, nothing can be said.
 pub fn report(rt: &impl Eprint, outcome: Result<(), Failure>) {

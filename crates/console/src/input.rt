@@ -1,12 +1,17 @@
 // The input of a program: standard input, or the file that its argument names.
-ghost use Rattle.std.specs.Prelude.{◌≤◌, length, IfOk};
+ghost use Rattle.std.specs.Prelude.{◌≤◌, length, IfErr};
 ghost use Rattle.std.specs.Io.{ReadsAtMost};
+ghost use Rattle.console.specs.Failures.{IsReading};
 
 use crate::failure::Failure;
 use crate::patience::{is_put_off, left_after};
+use std::env::FillError;
 use std::io::Read;
 use std::rt::{Clock, Env, Files};
-use std::{env, fs, io};
+use std::{fs, io};
+
+// How many bytes a file's name may have.
+pub const NAME: usize = 4096;
 
 // Standard input, or a file.
 #[derive(Drop)]
@@ -24,35 +29,51 @@ impl<S: Read, F: Read> Read for Source<S, F> {
     }
 }
 
-// Opens the file of this name.
-pub fn open_file<R: Files>(rt: &R, name: String) -> Result<R::File, Failure> {
-    match fs::open(rt, name.as_str()) {
-        Ok(file) => Ok(file),
-        Err(error) => Err(Failure::Opening(name, error)),
+// Opens the file of this name; none, with a message, if it can't be opened. A name that is not text can't be one.
+pub fn open_file<R: Files + Eprint>(rt: &R, name: &[u8]) -> Option<R::File> {
+    let Ok(path) = str::from_utf8(name) else {
+        let error = io::Error::from(io::ErrorKind::InvalidData);
+        let _ = eprintln!(rt; "the file's name: {error}");
+        return None;
+    };
+    match fs::open(rt, path) {
+        Ok(file) => Some(file),
+        Err(error) => {
+            let _ = eprintln!(rt; "{path}: {error}");
+            None
+        }
     }
 }
 
-// The input: standard input, or the file that the one argument names. It fails if the file can't be opened or there are more arguments.
-pub fn open_input<R: Input + Files + Env + AllocGlobal>(
-    rt: &R,
-) -> Result<Source<R::Reader, R::File>, Failure> {
-    let mut names = env::args(rt).map_err(Failure::Arguments)?.skip(1);
-    let Some(name) = names.next() else {
-        return Ok(Source::Standard(rt.reader()));
-    };
-    if names.next().is_some() {
-        return Err(Failure::ManyNames);
+// The input: standard input, or the file that the one argument names; none, with a message, if it can't be opened or there are more arguments.
+pub fn open_input<R: Input + Files + Env + Eprint>(rt: &R) -> Option<Source<R::Reader, R::File>> {
+    let mut name = [0u8; NAME];
+    let first = rt.arg(1, &mut name);
+    if let Err(FillError::NotPresent) = first {
+        return Some(Source::Standard(rt.reader()));
     }
-    Ok(Source::Named(open_file(rt, name)?))
+    let mut more = [0u8; NAME];
+    let Err(FillError::NotPresent) = rt.arg(2, &mut more) else {
+        let _ = eprintln!(rt; "one file at most can be named");
+        return None;
+    };
+    let Ok(k) = first else {
+        let error = io::Error::from(io::ErrorKind::InvalidFilename);
+        let _ = eprintln!(rt; "the file's name: {error}");
+        return None;
+    };
+    Some(Source::Named(open_file(rt, &name[..k])?))
 }
 
 // Reads the next piece of the input into the front of the buffer, and answers how many bytes it has: none at the input's end.
+#[tactic(auto, unfolding(crate::specs::Failures::is_reading))]
 pub fn read_piece<C: Clock, S: Read>(
     clock: &C,
     source: &mut S,
     buf: &mut [u8],
 ) -> Result<usize, Failure>
-    ensures { ReadsAtMost result buf.new }
+    ensures count { ReadsAtMost result buf.new }
+    ensures failed { IfErr result IsReading }
 {
     let mut outcome = source.read(buf);
     let mut left = left_after(u64::MAX, is_put_off(clock, &outcome));
@@ -60,7 +81,10 @@ pub fn read_piece<C: Clock, S: Read>(
         outcome = source.read(buf);
         left = left_after(left, is_put_off(clock, &outcome));
     }
-    outcome.map_err(Failure::Reading)
+    match outcome {
+        Ok(count) => Ok(count),
+        Err(error) => Err(Failure::Reading(error)),
+    }
 }
 
 // Reads the input to its end, or until the buffer is full, and answers how many bytes it has.
@@ -69,7 +93,8 @@ pub fn read_whole<C: Clock, S: Read>(
     source: &mut S,
     buf: &mut [u8],
 ) -> Result<usize, Failure>
-    ensures { ReadsAtMost result buf.new }
+    ensures count { ReadsAtMost result buf.new }
+    ensures failed { IfErr result IsReading }
 {
     let mut count = 0;
     for _ in 0..u64::MAX {

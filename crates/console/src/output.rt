@@ -1,8 +1,12 @@
 // Standard output, written in large pieces: what is put waits until there is no room, or until it is flushed.
-use crate::failure::Failure;
+ghost use Rattle.std.specs.Prelude.{IfErr};
+ghost use Rattle.console.specs.Failures.{IsWriting};
+
+use crate::counts::count_of;
+use crate::failure::{Failure, written};
 use crate::patience::{is_put_off, left_after};
 use std::io;
-use std::io::{BufWriter, Write};
+use std::io::Write;
 use std::rt::Clock;
 
 // Standard output itself. A write that can't be made yet is made again; after one that failed nothing more is written.
@@ -32,46 +36,96 @@ impl<R: Print + Clock> Write for Patient<'_, R> {
     }
 }
 
-pub type Out<'a, R> = BufWriter<Patient<'a, R>>;
-
 // How many bytes wait at most.
 const ROOM: usize = 65536;
 
+// Standard output, with the bytes that wait at the front of its area. What waits when it is dropped is not written.
+#[derive(Drop)]
+pub struct Out<'a, R> {
+    patient: Patient<'a, R>,
+    area: [u8; ROOM],
+    used: usize,
+}
+
+impl<R: Print + Clock> Out<'_, R> {
+    // Writes what waits.
+    fn send(&mut self) -> io::Result<()> {
+        let n = count_of(self.used, &self.area);
+        self.used = 0;
+        self.patient.write_all(&self.area[..n])
+    }
+}
+
+impl<R: Print + Clock> Write for Out<'_, R> {
+    // What waits is written if the bytes do not fit after it; what doesn't fit at all does not wait.
+    fn write(&mut self, buf: &[u8]) -> io::Result<usize> {
+        if ROOM - count_of(self.used, &self.area) < buf.len() {
+            self.send()?;
+        }
+        let n = count_of(self.used, &self.area);
+        if ROOM - n < buf.len() {
+            return self.patient.write(buf);
+        }
+        area::put(&mut self.area, n, buf);
+        self.used = n + buf.len();
+        Ok(buf.len())
+    }
+
+    fn flush(&mut self) -> io::Result<()> {
+        self.send()
+    }
+}
+
 // Standard output, where nothing waits yet.
-pub fn nothing<R: Print + Clock + AllocGlobal>(rt: &R) -> Result<Out<'_, R>, Failure> {
-    let patient = Patient { rt, failed: None };
-    BufWriter::with_capacity(rt.alloc(), ROOM, patient).map_err(Failure::Writing)
+pub fn nothing<R: Print + Clock>(rt: &R) -> Out<'_, R> {
+    Out {
+        patient: Patient { rt, failed: None },
+        area: [0; ROOM],
+        used: 0,
+    }
 }
 
 // Writes what waits.
-pub fn flush<W: Write>(out: &mut W) -> Result<(), Failure> {
-    out.flush().map_err(Failure::Writing)
+pub fn flush<W: Write>(out: &mut W) -> Result<(), Failure>
+    ensures failed { IfErr result IsWriting }
+{
+    written(out.flush())
 }
 
 // Adds a text to what waits.
-pub fn put<W: Write>(out: &mut W, text: &[u8]) -> Result<(), Failure> {
-    out.write_all(text).map_err(Failure::Writing)
+pub fn put<W: Write>(out: &mut W, text: &[u8]) -> Result<(), Failure>
+    ensures failed { IfErr result IsWriting }
+{
+    written(out.write_all(text))
 }
 
 // Puts a number's digits.
-pub fn put_decimal<W: Write>(out: &mut W, x: u64) -> Result<(), Failure> {
-    write!(out, "{x}").map_err(Failure::Writing)
+pub fn put_decimal<W: Write>(out: &mut W, x: u64) -> Result<(), Failure>
+    ensures failed { IfErr result IsWriting }
+{
+    written(write!(out, "{x}"))
 }
 
 // Puts bytes as hexadecimal digits.
-pub fn put_hex<W: Write>(out: &mut W, bytes: &[u8]) -> Result<(), Failure> {
+pub fn put_hex<W: Write>(out: &mut W, bytes: &[u8]) -> Result<(), Failure>
+    ensures failed { IfErr result IsWriting }
+{
     for byte in bytes {
-        write!(out, "{byte:02x}").map_err(Failure::Writing)?;
+        written(write!(out, "{byte:02x}"))?;
     }
     Ok(())
 }
 
 // Puts the answer to a line that the program does not understand.
-pub fn put_what<W: Write>(out: &mut W) -> Result<(), Failure> {
+pub fn put_what<W: Write>(out: &mut W) -> Result<(), Failure>
+    ensures failed { IfErr result IsWriting }
+{
     put(out, b"what?\n")
 }
 
 // Puts the answer to what is refused, with the refusal's number.
-pub fn put_refused<W: Write>(out: &mut W, number: u64) -> Result<(), Failure> {
-    writeln!(out, "refused {number}").map_err(Failure::Writing)
+pub fn put_refused<W: Write>(out: &mut W, number: u64) -> Result<(), Failure>
+    ensures failed { IfErr result IsWriting }
+{
+    written(writeln!(out, "refused {number}"))
 }

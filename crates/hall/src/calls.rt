@@ -1,4 +1,6 @@
 // The calls that lines ask for.
+ghost use Rattle.std.specs.Prelude.{IfErr};
+ghost use Rattle.console.specs.Failures.{IsWriting};
 ghost use Rattle.hall.specs.Areas.{Parties, Servers};
 
 use crate::asks::Ask;
@@ -21,6 +23,7 @@ fn begin<W: Write>(
     out: &mut W,
 ) -> Result<(), Failure>
     requires { Servers areas.old initials.old records.old }
+    ensures failed { IfErr result IsWriting }
 {
     let r = fresh_servers(g, value, areas, initials, records);
     if let Reply::Refused(x) = r {
@@ -44,6 +47,7 @@ pub fn answer<W: Write>(
     out: &mut W,
 ) -> Result<(), Failure>
     requires { Parties areas.old initials.old records.old rows.old values.old }
+    ensures failed { IfErr result IsWriting }
 {
     match ask {
         Ask::Other => put_what(out),

@@ -1,7 +1,8 @@
 // Runs all parties of a register on one machine from a script, on standard input or in the file that the argument names, and answers each line at once.
 #![tactic(auto)]
 
-ghost use Rattle.std.specs.Prelude.{◌≡◌, ◌<◌, ◌≤◌, length, OnOk};
+ghost use Rattle.std.specs.Prelude.{◌≡◌, ◌<◌, ◌≤◌, length, IfErr, OnOk};
+ghost use Rattle.console.specs.Failures.{IsWriting};
 ghost use Rattle.hall.specs.Areas.{Parties};
 
 use crate::asks::{asked, is_call};
@@ -44,7 +45,8 @@ fn step<W: Write>(
     out: &mut W,
 ) -> Result<(), Failure>
     requires { Parties areas.old initials.old records.old rows.old values.old }
-    ensures { r.new.at ≡ n.at }
+    ensures at { r.new.at ≡ n.at }
+    ensures failed { IfErr result IsWriting }
 {
     r.line = n.line;
     r.at = n.at;
@@ -81,6 +83,7 @@ fn take_next<W: Write>(
     requires lengths { Parties areas.old initials.old records.old rows.old values.old }
     ensures moves { OnOk result (r.old.at < r.new.at) }
     ensures stays { (r.old.at ≤ r.new.at) × (r.new.at ≤ length piece.now) }
+    ensures failed { IfErr result IsWriting }
 {
     let n = next_ask(r.hall.ready, r.line, piece, r.at, bytes, out)?;
     step(r, n, bytes, areas, initials, records, rows, values, out)
@@ -211,15 +214,17 @@ fn read_script<C: Clock, S: Read, W: Write>(
 }
 
 // Opens the script, makes room for all parties, and runs the script.
-fn serve<R: Runtime + AllocGlobal>(rt: &R) -> Result<(), Failure> {
+fn serve<R: Runtime>(rt: &R) -> Result<(), Failure> {
     let mut areas = no_areas();
     let mut initials = [0u8; INITIALS];
     let mut records = [0u8; RECORDS];
     let mut rows = no_rows();
     let mut values = [0u8; VALUES];
     let mut bytes = no_bytes();
-    let mut source = open_input(rt)?;
-    let mut out = nothing(rt)?;
+    let Some(mut source) = open_input(rt) else {
+        return Ok(());
+    };
+    let mut out = nothing(rt);
     read_script(
         rt,
         &mut source,

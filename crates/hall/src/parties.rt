@@ -1,5 +1,6 @@
 // The parties of one register on one machine. Place j belongs to server or client j; place 0 is lent for a number that no party has, and stays as it is.
-ghost use Rattle.std.specs.Prelude.{◌≡◌, ◌+◌, ◌*◌, ◌≤◌, length};
+ghost use Rattle.std.specs.Prelude.{◌≡◌, ◌+◌, ◌*◌, ◌≤◌, length, IfErr};
+ghost use Rattle.console.specs.Failures.{IsWriting};
 ghost use Rattle.hall.specs.Areas.{Clients, Servers};
 
 use crate::asks::byte_of;
@@ -107,7 +108,9 @@ pub fn fresh_servers(
     Reply::Step(0)
 }
 
-fn put_served<W: Write>(out: &mut W, r: Reply, frames: &[u8], to: &[u8]) -> Result<(), Failure> {
+fn put_served<W: Write>(out: &mut W, r: Reply, frames: &[u8], to: &[u8]) -> Result<(), Failure>
+    ensures failed { IfErr result IsWriting }
+{
     match r {
         Reply::Step(count) => put_step(out, frames, to, count),
         Reply::Refused(x) => put_refused(out, x),
@@ -130,6 +133,7 @@ pub fn hand_server<W: Write>(
     out: &mut W,
 ) -> Result<(), Failure>
     requires { Servers areas.old initials.now records.old }
+    ensures failed { IfErr result IsWriting }
 {
     let i = place_of(j, 10);
     let at = AREA_BYTES * i;
@@ -158,7 +162,9 @@ fn put_answered<W: Write>(
     value: &[u8],
     frames: &[u8],
     to: &[u8],
-) -> Result<(), Failure> {
+) -> Result<(), Failure>
+    ensures failed { IfErr result IsWriting }
+{
     match a {
         Answer::Sent(count) => put_step(out, frames, to, count),
         Answer::Written => {
@@ -192,6 +198,7 @@ pub fn hand_client<W: Write>(
     out: &mut W,
 ) -> Result<(), Failure>
     requires { Clients rows.old values.now }
+    ensures failed { IfErr result IsWriting }
 {
     let i = place_of(j, Server::CLIENTS);
     let at = ROWS_BYTES * i;
@@ -220,7 +227,9 @@ pub fn hand_client<W: Write>(
 }
 
 // Client j begins a read.
-pub fn read<W: Write>(h: &mut Hall, j: usize, out: &mut W) -> Result<(), Failure> {
+pub fn read<W: Write>(h: &mut Hall, j: usize, out: &mut W) -> Result<(), Failure>
+    ensures failed { IfErr result IsWriting }
+{
     let i = place_of(j, Server::CLIENTS);
     let mut frames = [0u8; CLIENT_OUT];
     let mut to = [0u8; CLIENT_TO];
@@ -249,6 +258,7 @@ pub fn write<W: Write>(
     out: &mut W,
 ) -> Result<(), Failure>
     requires { length values.old ≡ 9 * 256 }
+    ensures failed { IfErr result IsWriting }
 {
     let i = place_of(j, Server::CLIENTS);
     let mut frames = [0u8; CLIENT_OUT];

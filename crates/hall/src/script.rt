@@ -1,5 +1,6 @@
 // Lines of the script, one after the other: those that ask for no call are answered here, without the parties.
-ghost use Rattle.std.specs.Prelude.{◌<◌, ◌≤◌, length, IfOk};
+ghost use Rattle.std.specs.Prelude.{◌<◌, ◌≤◌, length, IfErr, IfOk};
+ghost use Rattle.console.specs.Failures.{IsWriting};
 
 use crate::asks::{Ask, asked, is_call};
 use crate::line::{Line, add_byte, ended, no_line};
@@ -53,7 +54,8 @@ fn next_line<W: Write>(
     out: &mut W,
 ) -> Result<Next, Failure>
     requires { at < length piece.now }
-    ensures { IfOk result (λ n. (at < n.at) × (n.at ≤ length piece.now)) }
+    ensures moves { IfOk result (λ n. (at < n.at) × (n.at ≤ length piece.now)) }
+    ensures failed { IfErr result IsWriting }
 {
     let s = scan(line, piece, at, bytes);
     if piece.len() <= s.at {
@@ -89,7 +91,8 @@ pub fn next_ask<W: Write>(
     out: &mut W,
 ) -> Result<Next, Failure>
     requires { at < length piece.now }
-    ensures { IfOk result (λ n. (at < n.at) × (n.at ≤ length piece.now)) }
+    ensures moves { IfOk result (λ n. (at < n.at) × (n.at ≤ length piece.now)) }
+    ensures failed { IfErr result IsWriting }
 {
     let mut n = next_line(ready, line, piece, at, bytes, out)?;
     while n.idle && n.at < piece.len() {

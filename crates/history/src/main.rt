@@ -6,8 +6,10 @@ use console::failure::{Failure, report};
 use console::input::open_input;
 use std::rt::Runtime;
 
-fn judge<R: Runtime + AllocGlobal>(rt: &R) -> Result<(), Failure> {
-    let mut source = open_input(rt)?;
+fn judge<R: Runtime>(rt: &R) -> Result<(), Failure> {
+    let Some(mut source) = open_input(rt) else {
+        return Ok(());
+    };
     history_run::run(rt, &mut source)
 }
 

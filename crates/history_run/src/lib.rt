@@ -28,11 +28,11 @@ fn judge(history: &[u8]) -> Verdict
 }
 
 // Reads a history to its end and prints the answer. What can't be read to its end is not judged.
-pub fn run<R: Print + Clock + AllocGlobal, S: Read>(rt: &R, source: &mut S) -> Result<(), Failure> {
+pub fn run<R: Print + Clock, S: Read>(rt: &R, source: &mut S) -> Result<(), Failure> {
     let mut history = [0u8; 65536];
     let n = read_whole(rt, source, &mut history)?;
     let verdict = judge(&history[..n]);
-    let mut out = nothing(rt)?;
+    let mut out = nothing(rt);
     print(verdict, &mut out)?;
     flush(&mut out)
 }

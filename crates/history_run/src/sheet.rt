@@ -16,12 +16,12 @@ fn size(pages: usize) -> usize {
 
 // Reads a history to its end and prints its sheet, an offending pair or a refusal. What fills the buffer is refused, whatever follows: a text of more than
 // 3840 bytes has more than 64 lines or a malformed one. What can't be read to its end is not laid out.
-pub fn run<R: Print + Clock + AllocGlobal, S: Read>(rt: &R, source: &mut S) -> Result<(), Failure> {
+pub fn run<R: Print + Clock, S: Read>(rt: &R, source: &mut S) -> Result<(), Failure> {
     let mut history = [0u8; 65536];
     let n = read_whole(rt, source, &mut history)?;
     let mut sheet = [0u8; 65536];
     let laid = lay(&history[..n], &mut sheet);
-    let mut out = nothing(rt)?;
+    let mut out = nothing(rt);
     print(laid, &sheet, &mut out)?;
     flush(&mut out)
 }

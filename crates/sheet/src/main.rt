@@ -6,8 +6,10 @@ use console::failure::{Failure, report};
 use console::input::open_input;
 use std::rt::Runtime;
 
-fn lay_out<R: Runtime + AllocGlobal>(rt: &R) -> Result<(), Failure> {
-    let mut source = open_input(rt)?;
+fn lay_out<R: Runtime>(rt: &R) -> Result<(), Failure> {
+    let Some(mut source) = open_input(rt) else {
+        return Ok(());
+    };
     history_run::sheet::run(rt, &mut source)
 }
 

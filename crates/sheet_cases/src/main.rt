@@ -2,20 +2,31 @@
 #![tactic(auto)]
 
 use console::failure::{Failure, report};
-use console::input::open_file;
-use std::rt::Runtime;
-use std::{env, io};
+use console::input::{NAME, open_file};
+use console::output::{flush, nothing, put};
+use std::env::FillError;
+use std::rt::{Env, Runtime};
 
-fn main(rt: HostRuntime) -> io::Result<()> {
-    for path in env::args(&rt)?.skip(1) {
-        println!(rt; "{path}")?;
-        report(&rt, show(&rt, path));
+fn main(rt: HostRuntime) {
+    for i in 1..usize::MAX {
+        let mut name = [0u8; NAME];
+        let k = match rt.arg(i, &mut name) {
+            Ok(k) => k,
+            Err(FillError::TooLong) => 0,
+            Err(FillError::NotPresent) => break,
+        };
+        report(&rt, show(&rt, &name[..k]));
     }
-    Ok(())
 }
 
-// Prints the sheet of what this file holds, or the answer to it.
-fn show<R: Runtime + AllocGlobal>(rt: &R, path: String) -> Result<(), Failure> {
-    let mut file = open_file(rt, path)?;
+// Prints the name of the file on a line, and the sheet or the answer to what it holds.
+fn show<R: Runtime>(rt: &R, path: &[u8]) -> Result<(), Failure> {
+    let mut out = nothing(rt);
+    put(&mut out, path)?;
+    put(&mut out, b"\n")?;
+    flush(&mut out)?;
+    let Some(mut file) = open_file(rt, path) else {
+        return Ok(());
+    };
     history_run::sheet::run(rt, &mut file)
 }

@@ -1,5 +1,6 @@
 // The block code: encode and decode, with their answers and every byte of the lent area after the call.
 ghost use Rattle.std.specs.Prelude.{◌≡◌, ◌+◌, ◌*◌, ◌≤◌, length};
+ghost use Rattle.std.specs.Counts.{IsPrefixLen};
 
 use blocks::faults::fault_number;
 use blocks::{Coded, Params};
@@ -65,7 +66,7 @@ fn answer_number(answer: Coded) -> u8 {
 // Writes the answer's number, a space and the area.
 fn put_answer(text: &mut [u8], answer: u8, area: &[u8]) -> usize
     requires { 3 + length area.now * 2 ≤ length text.old }
-    ensures { result ≤ length text.new }
+    ensures { IsPrefixLen result text.new }
 {
     put_bytes(text, 0, &[answer]);
     text[2] = b' ';

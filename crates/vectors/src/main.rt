@@ -56,10 +56,10 @@ fn cases<W: Write>(out: &mut W, s: &[u8]) -> io::Result<()> {
 }
 
 // Reads at most 65536 bytes, and runs the cases on them.
-fn run<R: Runtime + AllocGlobal>(rt: &R) -> Result<(), Failure> {
+fn run<R: Runtime>(rt: &R) -> Result<(), Failure> {
     let mut s = [0u8; 65536];
     let n = read_whole(rt, &mut rt.reader(), &mut s)?;
-    let mut out = nothing(rt)?;
+    let mut out = nothing(rt);
     cases(&mut out, &s[..n]).map_err(Failure::Writing)?;
     flush(&mut out)
 }

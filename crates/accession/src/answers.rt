@@ -1,4 +1,7 @@
 // What a line does to the index, and what is put for it.
+ghost use Rattle.std.specs.Prelude.{IfErr};
+ghost use Rattle.console.specs.Failures.{IsWriting};
+
 use crate::line::{Line, is_word};
 use accession_index::{Found, Index, Insertion, number_of, rows_in};
 use case_text::fields::{Field, is_bytes, is_number};
@@ -14,24 +17,32 @@ const SEARCH: u64 = 126879263777640;
 
 const INDEX: u64 = 452823639416;
 
-fn put_number<W: Write>(out: &mut W, place: u8) -> Result<(), Failure> {
+fn put_number<W: Write>(out: &mut W, place: u8) -> Result<(), Failure>
+    ensures failed { IfErr result IsWriting }
+{
     put_decimal(out, u64::from(place))
 }
 
-fn put_place<W: Write>(out: &mut W, place: u8) -> Result<(), Failure> {
+fn put_place<W: Write>(out: &mut W, place: u8) -> Result<(), Failure>
+    ensures failed { IfErr result IsWriting }
+{
     put(out, b"place ")?;
     put_number(out, place)?;
     put(out, b"\n")
 }
 
-fn put_inserted<W: Write>(out: &mut W, answer: Insertion) -> Result<(), Failure> {
+fn put_inserted<W: Write>(out: &mut W, answer: Insertion) -> Result<(), Failure>
+    ensures failed { IfErr result IsWriting }
+{
     match answer {
         Insertion::Place(place) => put_place(out, place),
         Insertion::Refused(r) => put_refused(out, number_of(r)),
     }
 }
 
-fn put_found<W: Write>(out: &mut W, found: Found) -> Result<(), Failure> {
+fn put_found<W: Write>(out: &mut W, found: Found) -> Result<(), Failure>
+    ensures failed { IfErr result IsWriting }
+{
     match found {
         Found::Place(place) => put_place(out, place),
         Found::Nothing => put(out, b"none\n"),
@@ -39,7 +50,9 @@ fn put_found<W: Write>(out: &mut W, found: Found) -> Result<(), Failure> {
 }
 
 // Puts the places in the order of the rows.
-fn put_index<W: Write>(out: &mut W, index: &Index) -> Result<(), Failure> {
+fn put_index<W: Write>(out: &mut W, index: &Index) -> Result<(), Failure>
+    ensures failed { IfErr result IsWriting }
+{
     put(out, b"index")?;
     for place in index.places.iter().take(rows_in(index.count)) {
         put(out, b" ")?;
@@ -49,12 +62,9 @@ fn put_index<W: Write>(out: &mut W, index: &Index) -> Result<(), Failure> {
 }
 
 // The value is inserted by its first eight bytes: what follows them changes nothing.
-fn insert<W: Write>(
-    index: &mut Index,
-    line: Line,
-    bytes: &[u8],
-    out: &mut W,
-) -> Result<(), Failure> {
+fn insert<W: Write>(index: &mut Index, line: Line, bytes: &[u8], out: &mut W) -> Result<(), Failure>
+    ensures failed { IfErr result IsWriting }
+{
     if !is_bytes(line.argument) {
         return put_what(out);
     }
@@ -64,7 +74,9 @@ fn insert<W: Write>(
     put_inserted(out, done.answer)
 }
 
-fn search<W: Write>(index: &Index, argument: Field, out: &mut W) -> Result<(), Failure> {
+fn search<W: Write>(index: &Index, argument: Field, out: &mut W) -> Result<(), Failure>
+    ensures failed { IfErr result IsWriting }
+{
     if !is_number(argument) || argument.large {
         return put_what(out);
     }
@@ -77,7 +89,9 @@ pub fn answer<W: Write>(
     line: Line,
     bytes: &[u8],
     out: &mut W,
-) -> Result<(), Failure> {
+) -> Result<(), Failure>
+    ensures failed { IfErr result IsWriting }
+{
     if is_word(line, 6, INSERT, 1) {
         return insert(index, line, bytes, out);
     }

@@ -1,5 +1,7 @@
 // What is put for a line.
+ghost use Rattle.std.specs.Prelude.{IfErr};
 ghost use Rattle.blocks.specs.Calls.{outcome};
+ghost use Rattle.console.specs.Failures.{IsWriting};
 ghost use Rattle.decode.specs.Kept.{DecodesAll};
 
 use crate::line::{Line, is_whole};
@@ -10,7 +12,9 @@ use console::failure::Failure;
 use console::output::{put, put_hex, put_refused, put_what};
 use std::io::Write;
 
-fn put_value<W: Write>(out: &mut W, value: &[u8]) -> Result<(), Failure> {
+fn put_value<W: Write>(out: &mut W, value: &[u8]) -> Result<(), Failure>
+    ensures failed { IfErr result IsWriting }
+{
     put(out, b"value ")?;
     put_hex(out, value)?;
     put(out, b"\n")
@@ -31,7 +35,9 @@ fn decode_in<W: Write>(
     blocks: &[u8],
     area: &mut [u8],
     out: &mut W,
-) -> Result<(), Failure> {
+) -> Result<(), Failure>
+    ensures failed { IfErr result IsWriting }
+{
     let most = count_of(room, area);
     let said = decode_kept(g, numbers, blocks, &mut area[..most]);
     if let Coded::Refused(f) = said {
@@ -48,7 +54,9 @@ fn decoded<W: Write>(
     numbers: &[u8],
     blocks: &[u8],
     out: &mut W,
-) -> Result<(), Failure> {
+) -> Result<(), Failure>
+    ensures failed { IfErr result IsWriting }
+{
     let mut area = [0u8; 256];
     decode_in(g, room, numbers, blocks, &mut area, out)
 }
@@ -59,7 +67,9 @@ pub fn answer<W: Write>(
     numbers: &[u8],
     blocks: &[u8],
     out: &mut W,
-) -> Result<(), Failure> {
+) -> Result<(), Failure>
+    ensures failed { IfErr result IsWriting }
+{
     if !is_whole(line) {
         return put_what(out);
     }

@@ -1,4 +1,5 @@
 -- The beginning of an operation: what its tests tell, what it sends, and its whole outcome. Assumes nothing.
+use Rattle.std.specs.Prelude.{Err}
 use Prim.Native.Nat.{ℕ, ◌+◌, ◌≤◌, ◌<◌}
 use native.Mathlib.Omega.{arith}
 use mathlib.Core.Bool.{Bool, false, not}
@@ -12,10 +13,8 @@ use Rattle.area.specs.Responses.{turned_down, gives}
 use Rattle.blocks.specs.declared.Params.{Params}
 use Rattle.frame.specs.declared.Place.{Place}
 use Rattle.frame.specs.declared.Refusal.{Refusal}
-use Rattle.frame.specs.declared.Verdict.{Verdict}
 use Rattle.frame.specs.declared.Refusal.TheVariants as R
-use Rattle.frame.specs.declared.Verdict.TheVariants as J
-use Rattle.frame.specs.Refusals.{number_of, and_then}
+use Rattle.frame.specs.Refusals.{number_of, and_then, Verdict, fine}
 use Rattle.frame.specs.Params.{Bounded, largest_frame, params_test}
 use Rattle.frame.specs.Stamps.{last_sequence, last_client}
 use Rattle.frame.specs.Messages.{get_stamp, ask_read, message, to_all}
@@ -37,19 +36,19 @@ use Rattle.client.proofs.SendRooms.{room_of_send}
 
 -- ---- what the tests tell where none of them refused
 
-room_first : (g : Params) (out to : ℕ) → send_room g out to ≡ J.Fine → Room first_place g.n 9 out to
+room_first : (g : Params) (out to : ℕ) → send_room g out to ≡ fine → Room first_place g.n 9 out to
 unfolding largest_frame
 room_first g out to e =
     let l : 9 ≤ largest_frame g = omega arith in
     room_within first_place g.n g.n (largest_frame g) 9 out to (omega arith) l (room_of_send g out to e)
 
-left_of : (p : Phase) (last : ℕ) → idle_test p last ≡ J.Fine → last < last_sequence
+left_of : (p : Phase) (last : ℕ) → idle_test p last ≡ fine → last < last_sequence
 left_of p last e =
     let x = fine_not (not (idle p)) R.Busy _ e in
     let y = fine_not (leb last_sequence last) R.Exhausted _ x.1 in
     leb-false _ _ y.0
 
-module _ (g : Params) (me last out to : ℕ) (p : Phase) (v : Verdict) (f : v ≡ J.Fine) where
+module _ (g : Params) (me last out to : ℕ) (p : Phase) (v : Verdict) (f : v ≡ fine) where
   pub read_facts : v ≡ and_then (params_test g me last_client) (and_then (send_room g out to) (idle_test p last)) → Opening g last out to
   read_facts e =
       let x = fine_both (params_test g me last_client) _ (sym e ∙ f) in
@@ -66,7 +65,7 @@ module _ (g : Params) (me last out to : ℕ) (p : Phase) (v : Verdict) (f : v �
       let d = fine_both (idle_test p last) _ y.1 in
       record { bounded = (admitted_of g me last_client x.0).bounded; left = left_of p last d.0; room = room_first g out to y.0 }
 
-pub bounded_of_params : (g : Params) (me : ℕ) (v : Verdict) → v ≡ params_test g me last_client → v ≡ J.Fine → Bounded g
+pub bounded_of_params : (g : Params) (me : ℕ) (v : Verdict) → v ≡ params_test g me last_client → v ≡ fine → Bounded g
 bounded_of_params g me v e f = (admitted_of g me last_client (sym e ∙ f)).bounded
 
 -- ---- the outcome
@@ -75,7 +74,7 @@ module _ (g : Params) (me : ℕ) where
   -- frames sent, and the client
   pub begun_law : (x : Effect) (y : Client) (out to o t : List ℕ) (q : Place)
       → y ≡ x.client → outbox o t q ≡ sent (outbox out to first_place) x.sends
-      → ◌≡◌ {A = Begun} (record { answer = gives (goes_on q.count); client = y; out = o; to = t }) (begun_of g me J.Fine x out to)
+      → ◌≡◌ {A = Begun} (record { answer = gives (goes_on q.count); client = y; out = o; to = t }) (begun_of g me fine x out to)
   unfolding begun_of sent
   begun_law x y out to o t q p e =
       let z : 0 + length x.sends ≡ length x.sends = omega arith in
@@ -103,7 +102,7 @@ module _ (g : Params) (me : ℕ) where
           out = o;
           to = t;
         })
-        (begun_of g me J.Fine (open_read g me s) out to)
+        (begun_of g me fine (open_read g me s) out to)
     unfolding open_read
     read_law rows r e =
         begun_law (open_read g me s) _ out to o t q
@@ -136,20 +135,20 @@ module _ (g : Params) (me : ℕ) where
           out = o;
           to = t;
         })
-        (begun_of g me J.Fine (open_write g me s) out to)
+        (begun_of g me fine (open_write g me s) out to)
     unfolding open_write
     write_law e = begun_law (open_write g me s) _ out to o t q refl e
 
   module _ (s : Client) (t : Verdict) (x : Effect) (out to : List ℕ) (v : Verdict) (p : v ≡ t) where
-    pub begin_refused : (r : Refusal) → v ≡ J.Bad r
+    pub begin_refused : (r : Refusal) → v ≡ Err r
         → ◌≡◌ {A = Begun} (record { answer = turned_down (number_of r); client = s; out = out; to = to }) (begun_of g me t (begin_by g me t s x) out to)
     unfolding begun_of begin_by frames receivers
     begin_refused r q =
-        let d : t ≡ J.Bad r = sym p ∙ q in
+        let d : t ≡ Err r = sym p ∙ q in
         sym (ap (λ w. begun_of g me w (begin_by g me w s x) out to) d)
 
-    pub begin_opened : (b : Begun) → v ≡ J.Fine → b ≡ begun_of g me J.Fine x out to → b ≡ begun_of g me t (begin_by g me t s x) out to
+    pub begin_opened : (b : Begun) → v ≡ fine → b ≡ begun_of g me fine x out to → b ≡ begun_of g me t (begin_by g me t s x) out to
     unfolding begin_by
     begin_opened b q e =
-        let d : t ≡ J.Fine = sym p ∙ q in
+        let d : t ≡ fine = sym p ∙ q in
         e ∙ sym (ap (λ w. begun_of g me w (begin_by g me w s x) out to) d)

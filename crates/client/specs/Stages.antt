@@ -1,12 +1,10 @@
 -- What inner functions of the code ask and promise. The entry points' promises (Delivery.antt, Beginning.antt) do not speak of these. These are definitions.
-use Rattle.std.specs.Prelude.{ℕ, ◌≤◌, ◌<◌, List, length}
+use Rattle.std.specs.Prelude.{ℕ, ◌≤◌, ◌<◌, List, length, Ok, Err}
 use Rattle.std.proofs.Math.Option.{Option, none, some}
 use Rattle.std.proofs.lemmas.List.Edits.{sets}
 use Rattle.area.specs.Responses.{turned_down, gives}
 use Rattle.blocks.specs.declared.Params.{Params}
-use Rattle.frame.specs.declared.Verdict.{Verdict}
-use Rattle.frame.specs.declared.Verdict.TheVariants as J
-use Rattle.frame.specs.Refusals.{number_of}
+use Rattle.frame.specs.Refusals.{number_of, Verdict}
 use Rattle.frame.specs.Params.{Bounded, largest_frame}
 use Rattle.frame.specs.Stamps.{last_sequence}
 use Rattle.frame.specs.Frames.{body_at}
@@ -51,5 +49,5 @@ stepped x result out to = record {
 
 -- turned down by one of the tests 11 to 14, or a step
 unfoldable pub answered : Verdict → Client → List ℕ → Effect → List ℕ → List ℕ → List ℕ → Outcome
-answered (J.Bad r) s a x result out to = record { answer = turned_down (number_of r); client = s; area = a; result = result; out = out; to = to }
-answered J.Fine s a x result out to = stepped x result out to
+answered (Err r) s a x result out to = record { answer = turned_down (number_of r); client = s; area = a; result = result; out = out; to = to }
+answered (Ok _) s a x result out to = stepped x result out to

@@ -3,7 +3,6 @@ ghost use Rattle.std.specs.Prelude.{◌≡◌, length};
 ghost use Rattle.frame.specs.Params.{params_test};
 ghost use Rattle.frame.specs.Refusals.{and_then};
 ghost use Rattle.frame.specs.Stamps.{last_client};
-ghost use Rattle.frame.specs.declared.Verdict.TheVariants as J;
 ghost use Rattle.client_rules.specs.Tests.{send_room};
 ghost use Rattle.client_rules.specs.Beginning.{begun, idle_test, closed_test, length_test, open_read, open_write, begun_of, read_beginning, write_beginning};
 ghost use Rattle.client.specs.Stages.{Opening};
@@ -15,31 +14,22 @@ use client_rules::{Answer, Answered, Client, Phase};
 use frame::bounds::params_test;
 use frame::places::CLIENTS;
 use frame::send::ask_all;
-use frame::{Ask, Place, Verdict};
+use frame::{Ask, Place, Refusal};
 
 // Refusals 1, 2, 3, 10, 15 and 16 of a read; last is the last number used.
-fn read_test(g: Params, me: usize, p: Phase, last: u32, out: usize, to: usize) -> Verdict
+fn read_test(g: Params, me: usize, p: Phase, last: u32, out: usize, to: usize) -> Result<(), Refusal>
     ensures { result ≡ and_then (params_test g me last_client) (and_then (send_room g out to) (idle_test p last)) }
 {
-    let params = params_test(g, me, CLIENTS);
-    if let Verdict::Bad(r) = params {
-        return Verdict::Bad(r);
-    }
-    let room = send_room(g, out, to);
-    if let Verdict::Bad(r) = room {
-        return Verdict::Bad(r);
-    }
+    params_test(g, me, CLIENTS)?;
+    send_room(g, out, to)?;
     idle_test(p, last)
 }
 
 // Refusals 15, 16 and 17 of a write.
-fn ready_test(p: Phase, last: u32, closed: bool) -> Verdict
+fn ready_test(p: Phase, last: u32, closed: bool) -> Result<(), Refusal>
     ensures { result ≡ and_then (idle_test p last) (closed_test closed) }
 {
-    let idle = idle_test(p, last);
-    if let Verdict::Bad(r) = idle {
-        return Verdict::Bad(r);
-    }
+    idle_test(p, last)?;
     closed_test(closed)
 }
 
@@ -53,22 +43,13 @@ fn write_test(
     size: usize,
     out: usize,
     to: usize,
-) -> Verdict
+) -> Result<(), Refusal>
     ensures { result ≡ and_then (params_test g me last_client)
         (and_then (length_test g size) (and_then (send_room g out to) (and_then (idle_test p last) (closed_test closed)))) }
 {
-    let params = params_test(g, me, CLIENTS);
-    if let Verdict::Bad(r) = params {
-        return Verdict::Bad(r);
-    }
-    let whole = length_test(g, size);
-    if let Verdict::Bad(r) = whole {
-        return Verdict::Bad(r);
-    }
-    let room = send_room(g, out, to);
-    if let Verdict::Bad(r) = room {
-        return Verdict::Bad(r);
-    }
+    params_test(g, me, CLIENTS)?;
+    length_test(g, size)?;
+    send_room(g, out, to)?;
     ready_test(p, last, closed)
 }
 
@@ -134,7 +115,7 @@ pub fn begin_read(g: Params, me: u8, s: Client, out: &mut [u8], to: &mut [u8]) -
 {
     let p = s.phase;
     let verdict = read_test(g, me as usize, p, s.reads, out.len(), to.len());
-    if let Verdict::Bad(r) = verdict {
+    if let Err(r) = verdict {
         return Answered {
             answer: Answer::Refused(r),
             client: s,
@@ -165,7 +146,7 @@ pub fn begin_write(
         out.len(),
         to.len(),
     );
-    if let Verdict::Bad(r) = verdict {
+    if let Err(r) = verdict {
         return Answered {
             answer: Answer::Refused(r),
             client: s,

@@ -9,94 +9,94 @@ use blocks::Params;
 use client_rules::Phase;
 use frame::bounds::{out_room, to_room};
 use frame::places::{LAST_SEQUENCE, ROWS_BYTES};
-use frame::{Refusal, Verdict};
+use frame::Refusal;
 
 // Refusal 10: whether the out and to areas, given by their lengths, are long enough.
-pub fn send_room(g: Params, out: usize, to: usize) -> Verdict
+pub fn send_room(g: Params, out: usize, to: usize) -> Result<(), Refusal>
     requires { Bounded g }
     ensures { result ≡ send_room g out to }
 {
     if out < out_room(g, g.n) {
-        return Verdict::Bad(Refusal::Room);
+        return Err(Refusal::Room);
     }
     if to < to_room(g.n) {
-        return Verdict::Bad(Refusal::Room);
+        return Err(Refusal::Room);
     }
-    Verdict::Fine
+    Ok(())
 }
 
 // Refusal 10: whether all lent areas are long enough.
-pub fn room_test(g: Params, area: usize, res: usize, out: usize, to: usize) -> Verdict
+pub fn room_test(g: Params, area: usize, res: usize, out: usize, to: usize) -> Result<(), Refusal>
     requires { Bounded g }
     ensures { result ≡ room_test g area res out to }
 {
     if area < ROWS_BYTES {
-        return Verdict::Bad(Refusal::Room);
+        return Err(Refusal::Room);
     }
     if res < g.size {
-        return Verdict::Bad(Refusal::Room);
+        return Err(Refusal::Room);
     }
     send_room(g, out, to)
 }
 
 // Refusal 3: whether a value of len bytes is L long.
-pub fn length_test(g: Params, len: usize) -> Verdict
+pub fn length_test(g: Params, len: usize) -> Result<(), Refusal>
     ensures { result ≡ length_test g len }
 {
     if len != g.size {
-        return Verdict::Bad(Refusal::Length);
+        return Err(Refusal::Length);
     }
-    Verdict::Fine
+    Ok(())
 }
 
 // Refusal 3: whether the lent value is L long where a write is open.
-pub fn value_test(g: Params, p: Phase, len: usize) -> Verdict
+pub fn value_test(g: Params, p: Phase, len: usize) -> Result<(), Refusal>
     ensures { result ≡ value_test g p len }
 {
     if !is_writing(p) {
-        return Verdict::Fine;
+        return Ok(());
     }
     if len != g.size {
-        return Verdict::Bad(Refusal::Length);
+        return Err(Refusal::Length);
     }
-    Verdict::Fine
+    Ok(())
 }
 
 // Refusals 15 and 16; last is the last number used.
-pub fn idle_test(p: Phase, last: u32) -> Verdict
+pub fn idle_test(p: Phase, last: u32) -> Result<(), Refusal>
     ensures { result ≡ idle_test p last }
 {
     if !is_idle(p) {
-        return Verdict::Bad(Refusal::Busy);
+        return Err(Refusal::Busy);
     }
     if LAST_SEQUENCE <= last {
-        return Verdict::Bad(Refusal::Exhausted);
+        return Err(Refusal::Exhausted);
     }
-    Verdict::Fine
+    Ok(())
 }
 
 // Refusal 17: whether an earlier write closed as out of stamps.
-pub fn closed_test(closed: bool) -> Verdict
+pub fn closed_test(closed: bool) -> Result<(), Refusal>
     ensures { result ≡ closed_test closed }
 {
     if closed {
-        return Verdict::Bad(Refusal::Closed);
+        return Err(Refusal::Closed);
     }
-    Verdict::Fine
+    Ok(())
 }
 
 // Refusal 12 of a frame of operation q: last is the open operation's number, fit says that it is in the right phase, again that one was counted already.
-pub fn awaited_test(fit: bool, q: u32, last: u32, again: bool) -> Verdict
+pub fn awaited_test(fit: bool, q: u32, last: u32, again: bool) -> Result<(), Refusal>
     ensures { result ≡ awaited (fit && (eqb q last && not again)) }
 {
     if !fit {
-        return Verdict::Bad(Refusal::Stale);
+        return Err(Refusal::Stale);
     }
     if q != last {
-        return Verdict::Bad(Refusal::Stale);
+        return Err(Refusal::Stale);
     }
     if again {
-        return Verdict::Bad(Refusal::Stale);
+        return Err(Refusal::Stale);
     }
-    Verdict::Fine
+    Ok(())
 }

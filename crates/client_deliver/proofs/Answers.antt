@@ -1,4 +1,6 @@
 -- From a test's verdict and a step to the outcome of a frame. Assumes nothing.
+use Rattle.std.specs.Prelude.{Err}
+use Rattle.frame.specs.Refusals.{Verdict, fine}
 use Prim.Native.Nat.{ℕ}
 use mathlib.Core.Path.{◌≡◌, refl, ap, sym, ◌∙◌}
 use mathlib.Core.Bool.{Bool, true, false, ◌&&◌}
@@ -6,8 +8,6 @@ use mathlib.Core.List.{List}
 use lib.Dec.{ltb}
 use Rattle.area.specs.Area.{pick}
 use Rattle.frame.specs.declared.Refusal.{Refusal}
-use Rattle.frame.specs.declared.Verdict.{Verdict}
-use Rattle.frame.specs.declared.Verdict.TheVariants as J
 use Rattle.client_rules.specs.declared.Client.{Client}
 use Rattle.client_rules.specs.declared.Answer.TheVariants as Y
 use Rattle.client_rules.specs.Tests.{awaited}
@@ -17,12 +17,12 @@ use Rattle.client.specs.Stages.{stepped, answered}
 
 module _ (v u : Verdict) (s : Client) (a : List ℕ) (x : Effect) (l out to : List ℕ) (e : v ≡ u) where
   -- turned down
-  pub refused_is : (r : Refusal) → v ≡ J.Bad r → outcome (record { answer = Y.Refused r; client = s }) a l out to ≡ answered u s a x l out to
+  pub refused_is : (r : Refusal) → v ≡ Err r → outcome (record { answer = Y.Refused r; client = s }) a l out to ≡ answered u s a x l out to
   unfolding answered
   refused_is r f = ap (λ (z : Verdict). answered z s a x l out to) (sym f ∙ e)
 
   -- a step
-  pub step_is : (o : Outcome) → v ≡ J.Fine → o ≡ stepped x l out to → o ≡ answered u s a x l out to
+  pub step_is : (o : Outcome) → v ≡ fine → o ≡ stepped x l out to → o ≡ answered u s a x l out to
   unfolding answered
   step_is o f h = h ∙ ap (λ (z : Verdict). answered z s a x l out to) (sym f ∙ e)
 

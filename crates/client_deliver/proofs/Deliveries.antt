@@ -1,4 +1,5 @@
 -- From the tests and the step to the outcome of a delivery. Assumes nothing.
+use Rattle.std.specs.Prelude.{Ok, Err}
 use Prim.Native.Nat.{ℕ, suc, ◌+◌, ◌≤◌}
 use native.Mathlib.Omega.{arith}
 use native.Mathlib.Decide.{dec_le}
@@ -14,13 +15,10 @@ use Rattle.sha256.specs.Hash.{digest_of}
 use Rattle.blocks.specs.declared.Params.{Params}
 use Rattle.frame.specs.declared.Party.{Party}
 use Rattle.frame.specs.declared.Header.{Header}
-use Rattle.frame.specs.declared.Opened.{Opened}
-use Rattle.frame.specs.declared.Opened.TheVariants as O
+use Rattle.frame.specs.Frames.{Opened}
 use Rattle.frame.specs.declared.Refusal.{Refusal}
 use Rattle.frame.specs.declared.Refusal.TheVariants as R
-use Rattle.frame.specs.declared.Verdict.{Verdict}
-use Rattle.frame.specs.declared.Verdict.TheVariants as J
-use Rattle.frame.specs.Refusals.{and_then}
+use Rattle.frame.specs.Refusals.{and_then, Verdict, fine}
 use Rattle.frame.specs.Params.{Bounded, entry_length, params_test}
 use Rattle.frame.specs.Stamps.{last_client}
 use Rattle.frame.specs.Messages.{Body, Message, message, number_in, from_server, Judged, bad, judged_by, after}
@@ -44,10 +42,10 @@ use Rattle.client_deliver.specs.Needs.{Admitted}
 
 -- ---- what the tests leave
 
-pub bounded_of_call : (g : Params) (me : ℕ) (v w : Verdict) → v ≡ and_then (params_test g me last_client) w → v ≡ J.Fine → Bounded g
+pub bounded_of_call : (g : Params) (me : ℕ) (v w : Verdict) → v ≡ and_then (params_test g me last_client) w → v ≡ fine → Bounded g
 bounded_of_call g me v w e f = (admitted_of g me last_client (fine_both (params_test g me last_client) w (sym e ∙ f)).0).bounded
 
-lent_of : (g : Params) (area result out to : ℕ) → Bounded g → room_test g area result out to ≡ J.Fine → Lent g area result out to
+lent_of : (g : Params) (area result out to : ℕ) → Bounded g → room_test g area result out to ≡ fine → Lent g area result out to
 unfolding room_test
 lent_of g area result out to B e =
     let a = fine_not (ltb area rows_bytes) R.Room _ e in
@@ -55,8 +53,8 @@ lent_of g area result out to B e =
     record { bounded = B; whole = ltb-false _ _ a.0; value_room = ltb-false _ _ b.0; room = room_of_send g out to b.1 }
 
 pub admitted_by : (g : Params) (me : ℕ) (s : Client) (h : Header) (f : List ℕ) (value area result out to : ℕ) (v w : Verdict) (o : Opened)
-    → v ≡ and_then (params_test g me last_client) (value_test g s.phase value) → v ≡ J.Fine
-    → o ≡ opened g f → o ≡ O.Frame h → w ≡ room_test g area result out to → w ≡ J.Fine
+    → v ≡ and_then (params_test g me last_client) (value_test g s.phase value) → v ≡ fine
+    → o ≡ opened g f → o ≡ Ok h → w ≡ room_test g area result out to → w ≡ fine
     → Admitted g s h.kind value (length f) area result out to
 admitted_by g me s h f value area result out to v w o e e' q q' r r' =
     let a = fine_both (params_test g me last_client) _ (sym e ∙ e') in
@@ -77,8 +75,8 @@ module _ (g : Params) (me : ℕ) (s : Client) (a v : List ℕ) (from : Party) (f
   by_verdict : (w : Verdict) (m : Message) → outcome_of (judged_by w m) (effect_by digest_of g me (judged_by w m) s a v from) l out to
       ≡ answered w s a (effect digest_of g me s a v from m) l out to
   unfolding outcome_of effect_by answer_of result_of answered stepped frames receivers
-  by_verdict J.Fine m = refl
-  by_verdict (J.Bad r) m = refl
+  by_verdict (Ok _) m = refl
+  by_verdict (Err r) m = refl
 
   by_judged : (j : Judged) → judge digest_of g me s a v from f l out to ≡ j
       → outcome_of j (effect_by digest_of g me j s a v from) l out to ≡ delivery digest_of g me s a v from f l out to
@@ -91,14 +89,14 @@ module _ (g : Params) (me : ℕ) (s : Client) (a v : List ℕ) (from : Party) (f
   bad_judged r e = by_judged (bad r) e
 
   module _ (c : Verdict) (call : c ≡ and_then (params_test g me last_client) (value_test g s.phase (length v))) where
-    pub call_refused : (r : Refusal) → c ≡ J.Bad r
+    pub call_refused : (r : Refusal) → c ≡ Err r
         → outcome (record { answer = Y.Refused r; client = s }) a l out to ≡ delivery digest_of g me s a v from f l out to
     unfolding judge
     call_refused r e =
         bad_judged r
         (ap (λ z. after z (judge_opened digest_of g me (opened g f) (room_test g (length a) (length l) (length out) (length to)) s from f)) (sym call ∙ e))
 
-    module _ (fine : c ≡ J.Fine) (o : Opened) (open_is : o ≡ opened g f) where
+    module _ (fine : c ≡ fine) (o : Opened) (open_is : o ≡ opened g f) where
       judged_opened : judge digest_of g me s a v from f l out to
           ≡ judge_opened digest_of g me o (room_test g (length a) (length l) (length out) (length to)) s from f
       unfolding judge
@@ -106,25 +104,25 @@ module _ (g : Params) (me : ℕ) (s : Client) (a v : List ℕ) (from : Party) (f
           ap (λ z. after z (judge_opened digest_of g me (opened g f) (room_test g (length a) (length l) (length out) (length to)) s from f)) (sym call ∙ fine)
           ∙ ap (λ z. judge_opened digest_of g me z (room_test g (length a) (length l) (length out) (length to)) s from f) (sym open_is)
 
-      pub not_opened : (r : Refusal) → o ≡ O.Refused r
+      pub not_opened : (r : Refusal) → o ≡ Err r
           → outcome (record { answer = Y.Refused r; client = s }) a l out to ≡ delivery digest_of g me s a v from f l out to
       unfolding judge_opened
       not_opened r q =
           bad_judged r (judged_opened ∙ ap (λ z. judge_opened digest_of g me z (room_test g (length a) (length l) (length out) (length to)) s from f) q)
 
-      module _ (h : Header) (frame_is : o ≡ O.Frame h) (w : Verdict) (room : w ≡ room_test g (length a) (length l) (length out) (length to)) where
+      module _ (h : Header) (frame_is : o ≡ Ok h) (w : Verdict) (room : w ≡ room_test g (length a) (length l) (length out) (length to)) where
         judged_frame : judge digest_of g me s a v from f l out to ≡ judged_by (and_then w (message_test digest_of g me s from (message_in g h f))) (message_in g h f)
         unfolding judge_opened
         judged_frame =
             judged_opened ∙ ap (λ z. judge_opened digest_of g me z (room_test g (length a) (length l) (length out) (length to)) s from f) frame_is
             ∙ ap (λ z. judged_by (and_then z (message_test digest_of g me s from (message_in g h f))) (message_in g h f)) (sym room)
 
-        pub room_refused : (r : Refusal) → w ≡ J.Bad r
+        pub room_refused : (r : Refusal) → w ≡ Err r
             → outcome (record { answer = Y.Refused r; client = s }) a l out to ≡ delivery digest_of g me s a v from f l out to
         room_refused r e =
             bad_judged r (judged_frame ∙ ap (λ z. judged_by (and_then z (message_test digest_of g me s from (message_in g h f))) (message_in g h f)) e)
 
-        pub frame_answered : (x : Outcome) → w ≡ J.Fine
+        pub frame_answered : (x : Outcome) → w ≡ fine
             → x ≡ answered (message_test digest_of g me s from (message_in g h f)) s a (effect digest_of g me s a v from (message_in g h f)) l out to
             → x ≡ delivery digest_of g me s a v from f l out to
         frame_answered x e q =
@@ -228,8 +226,8 @@ module _ (g : Params) (me : ℕ) (s : Client) (a v : List ℕ) (from : Party) (f
       let b = body_in g h.kind f in
       let d = and_false (from_server g from) (answers b) (owner_right me h.client b) (not_answers i j k n low high used) in
       let o = order_test digest_of g me s (number_in from) h.sequence b in
-      let e : pick (from_server g from && (answers b && owner_right me h.client b)) o (J.Bad R.Sender) ≡ J.Bad R.Sender =
-      sym (pick_no _ o (J.Bad R.Sender) refl d refl) in
+      let e : pick (from_server g from && (answers b && owner_right me h.client b)) o (Err R.Sender) ≡ Err R.Sender =
+      sym (pick_no _ o (Err R.Sender) refl d refl) in
       ap (λ (z : Verdict). answered z s a (effect digest_of g me s a v from (message_in g h f)) l out to) (sym e)
 
 -- ---- how long the frame is

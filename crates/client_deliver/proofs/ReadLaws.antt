@@ -12,8 +12,7 @@ use Rattle.blocks.specs.declared.Params.{Params}
 use Rattle.frame.specs.declared.Stamp.{Stamp}
 use Rattle.frame.specs.declared.Party.{Party}
 use Rattle.frame.specs.declared.Header.{Header}
-use Rattle.frame.specs.declared.Verdict.{Verdict}
-use Rattle.frame.specs.Refusals.{refused}
+use Rattle.frame.specs.Refusals.{refused, Verdict}
 use Rattle.frame.specs.Messages.{Entry, message, value_is, from_server, number_in}
 use Rattle.frame.specs.Chunks.{store_entry, place_at}
 use Rattle.client_rules.specs.declared.Row.{Row}

@@ -1,4 +1,6 @@
 -- Who sent a frame, and what the tests of a frame say of it. Assumes nothing.
+use Rattle.std.specs.Prelude.{Err}
+use Rattle.frame.specs.Refusals.{Verdict, fine}
 use Prim.Native.Nat.{ℕ, ◌+◌, ◌*◌, ◌-◌, ◌≤◌, ◌<◌}
 use native.Mathlib.Omega.{arith}
 use mathlib.Core.Path.{◌≡◌, refl, ap, sym, ◌∙◌}
@@ -13,8 +15,6 @@ use Rattle.blocks.specs.declared.Params.{Params}
 use Rattle.frame.specs.declared.Party.{Party}
 use Rattle.frame.specs.declared.Refusal.TheVariants as R
 use Rattle.frame.specs.declared.Stamp.{Stamp}
-use Rattle.frame.specs.declared.Verdict.{Verdict}
-use Rattle.frame.specs.declared.Verdict.TheVariants as J
 use Rattle.frame.specs.Params.{width}
 use Rattle.frame.specs.Messages.{entry, number_in, from_server}
 use Rattle.frame.specs.Frames.{entry_in}
@@ -34,7 +34,7 @@ sender_facts g from c me b i e q k =
     (omega (arith, n.0, k), omega (arith, n.1, k))
 
 -- the same where all tests did
-pub fine_sender : (g : Params) (from : Party) (c me : ℕ) (w v : Verdict) (i : ℕ) → v ≡ pick (from_server g from && eqb c me) w (J.Bad R.Sender) → v ≡ J.Fine
+pub fine_sender : (g : Params) (from : Party) (c me : ℕ) (w v : Verdict) (i : ℕ) → v ≡ pick (from_server g from && eqb c me) w (Err R.Sender) → v ≡ fine
     → i ≡ number_in from → (1 ≤ i) × (i ≤ g.n)
 fine_sender g from c me w v i e f k =
     let a = fine_is (from_server g from && eqb c me) R.Sender w (sym e ∙ f) in
@@ -48,7 +48,7 @@ report_place g from b i e q k =
     (omega (arith, n.0, k), omega (arith, n.1, k))
 
 -- and where all tests did
-pub report_sender : (g : Params) (from : Party) (w v : Verdict) (i : ℕ) → v ≡ pick (from_server g from) w (J.Bad R.Sender) → v ≡ J.Fine → i ≡ number_in from
+pub report_sender : (g : Params) (from : Party) (w v : Verdict) (i : ℕ) → v ≡ pick (from_server g from) w (Err R.Sender) → v ≡ fine → i ≡ number_in from
     → (1 ≤ i) × (i ≤ g.n)
 report_sender g from w v i e f k =
     let n = server_number g from (fine_is (from_server g from) R.Sender w (sym e ∙ f)).0 in
@@ -76,18 +76,18 @@ awaited_new v fit again q last phase l m n x e p a k =
 
 -- a report that is not higher, and one that is
 module _ (rs : List ℕ) (i j T : ℕ) (k : i ≡ j) where
-  pub report_old : T ≤ get_or rs i 0 → J.Bad R.Stale ≡ awaited (ltb (get_or rs j 0) T)
+  pub report_old : T ≤ get_or rs i 0 → Err R.Stale ≡ awaited (ltb (get_or rs j 0) T)
   unfolding awaited pick
   report_old h = let e : ltb (get_or rs j 0) T ≡ false = ap (λ m. ltb (get_or rs m 0) T) (sym k) ∙ le-ltb (get_or rs i 0) T h in rw e
 
-  pub report_new : get_or rs i 0 < T → J.Fine ≡ awaited (ltb (get_or rs j 0) T)
+  pub report_new : get_or rs i 0 < T → fine ≡ awaited (ltb (get_or rs j 0) T)
   unfolding awaited pick
   report_new h = let e : ltb (get_or rs j 0) T ≡ true = ap (λ m. ltb (get_or rs m 0) T) (sym k) ∙ lt-ltb (get_or rs i 0) T h in rw e
 
 -- the phase is right where nothing is found
-pub awaited_fit : (fit x : Bool) → awaited (fit && x) ≡ J.Fine → fit ≡ true
+pub awaited_fit : (fit x : Bool) → awaited (fit && x) ≡ fine → fit ≡ true
 unfolding awaited
-awaited_fit fit x e = and_left fit x (fine_is (fit && x) R.Stale J.Fine e).0
+awaited_fit fit x e = and_left fit x (fine_is (fit && x) R.Stale fine e).0
 
 -- ---- refusal 14
 

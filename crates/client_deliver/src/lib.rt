@@ -26,18 +26,15 @@ use client_rules::{Answer, Answered, Client, Phase};
 use frame::bounds::params_test;
 use frame::opener::open_frame;
 use frame::places::CLIENTS;
-use frame::{Opened, Party, Refusal, Verdict};
+use frame::{Party, Refusal};
 use reading::on_value;
 use writing::{on_ack, on_report, on_stamp};
 
 // Refusals 1 to 3: the parameters, the own number, and the value's length, which must be L where a write is open.
-fn call_test(g: Params, me: usize, p: Phase, value: usize) -> Verdict
+fn call_test(g: Params, me: usize, p: Phase, value: usize) -> Result<(), Refusal>
     ensures { result ≡ and_then (params_test g me last_client) (value_test g p value) }
 {
-    let params = params_test(g, me, CLIENTS);
-    if let Verdict::Bad(r) = params {
-        return Verdict::Bad(r);
-    }
+    params_test(g, me, CLIENTS)?;
     value_test(g, p, value)
 }
 
@@ -96,7 +93,7 @@ pub fn deliver(
 {
     let p = s.phase;
     let call = call_test(g, me as usize, p, value.len());
-    if let Verdict::Bad(r) = call {
+    if let Err(r) = call {
         return Answered {
             answer: Answer::Refused(r),
             client: s,
@@ -104,13 +101,13 @@ pub fn deliver(
     }
     let opened = open_frame(g, f);
     match opened {
-        Opened::Refused(r) => Answered {
+        Err(r) => Answered {
             answer: Answer::Refused(r),
             client: s,
         },
-        Opened::Frame(header) => {
+        Ok(header) => {
             let room = room_test(g, area.len(), res.len(), out.len(), to.len());
-            if let Verdict::Bad(r) = room {
+            if let Err(r) = room {
                 return Answered {
                     answer: Answer::Refused(r),
                     client: s,

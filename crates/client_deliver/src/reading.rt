@@ -19,7 +19,7 @@ use frame::entries::keep_entry;
 use frame::opener::stamp_in;
 use frame::parties::number_in;
 use frame::places::VALUE_AT;
-use frame::{Stamp, Verdict};
+use frame::Stamp;
 
 // A value from server j with stamp x is kept, if there is a place for it; then the rows are searched.
 fn keep(
@@ -73,7 +73,7 @@ pub fn on_value(
     let h = k.header;
     let x = stamp_in(f);
     let v = entry_test(s, k.params, k.me, from, h, x, f);
-    if let Verdict::Bad(r) = v {
+    if let Err(r) = v {
         return Answered {
             answer: Answer::Refused(r),
             client: s,

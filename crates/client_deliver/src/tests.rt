@@ -17,7 +17,7 @@ use client_rules::Client;
 use frame::bounds::width;
 use frame::parties::{from_server, number_in};
 use frame::places::VALUE_AT;
-use frame::{Header, Party, Refusal, Stamp, Verdict};
+use frame::{Header, Party, Refusal, Stamp};
 use group::fitting::fit_test;
 
 // Refusal 11: whether the sender is one of servers 1 to n, and the client that the frame names is this one.
@@ -40,35 +40,35 @@ pub fn reply_test(
     fit: bool,
     last: u32,
     heard: [bool; 11],
-) -> Verdict
+) -> Result<(), Refusal>
     requires { Bounded g }
     ensures { result ≡ pick (from_server g from && eqb h.client me)
         (awaited (fit && (eqb h.sequence last && not (get_or heard (number_in from) false)))) (refused 11) }
 {
     if !sender_right(g, from, h.client, me) {
-        return Verdict::Bad(Refusal::Sender);
+        return Err(Refusal::Sender);
     }
     let j = number_in(from) as usize;
     awaited_test(fit, h.sequence, last, heard[j])
 }
 
 // Refusals 11 and 12 of a report of a time, whatever client it names; server j's highest report is at place j.
-pub fn report_test(g: Params, from: Party, time: u64, reports: [u64; 11]) -> Verdict
+pub fn report_test(g: Params, from: Party, time: u64, reports: [u64; 11]) -> Result<(), Refusal>
     requires { Bounded g }
     ensures { result ≡ pick (from_server g from) (awaited (ltb (get_or reports (number_in from) 0) time)) (refused 11) }
 {
     if !from_server(g, from) {
-        return Verdict::Bad(Refusal::Sender);
+        return Err(Refusal::Sender);
     }
     let j = number_in(from) as usize;
     if time <= reports[j] {
-        return Verdict::Bad(Refusal::Stale);
+        return Err(Refusal::Stale);
     }
-    Verdict::Fine
+    Ok(())
 }
 
 // Refusal 14 of a value from server j.
-fn entry_fit(g: Params, f: &[u8], j: usize) -> Verdict
+fn entry_fit(g: Params, f: &[u8], j: usize) -> Result<(), Refusal>
     requires { Bounded g × (1 ≤ j) × (j ≤ g.n) × (value_at + entry_length g ≤ length f.now) }
     ensures { result ≡ fit_test digest_of (entry_in g f.now value_at) j }
 {
@@ -78,7 +78,7 @@ fn entry_fit(g: Params, f: &[u8], j: usize) -> Verdict
 }
 
 // Refusals 12 and 14 of a value from server j with stamp x.
-fn kept_test(s: Client, g: Params, j: usize, q: u32, x: Stamp, f: &[u8]) -> Verdict
+fn kept_test(s: Client, g: Params, j: usize, q: u32, x: Stamp, f: &[u8]) -> Result<(), Refusal>
     requires { Bounded g × (1 ≤ j) × (j ≤ g.n) × (value_at + entry_length g ≤ length f.now) }
     ensures { result ≡ kept_test digest_of s j q x (entry_in g f.now value_at) }
 {
@@ -86,10 +86,7 @@ fn kept_test(s: Client, g: Params, j: usize, q: u32, x: Stamp, f: &[u8]) -> Verd
     let row = s.rows[j];
     let stamps = row.stamps;
     let again = has_stamp(stamps, used_places(row), x);
-    let order = awaited_test(is_reading(p), q, s.reads, again);
-    if let Verdict::Bad(r) = order {
-        return Verdict::Bad(r);
-    }
+    awaited_test(is_reading(p), q, s.reads, again)?;
     entry_fit(g, f, j)
 }
 
@@ -102,13 +99,13 @@ pub fn entry_test(
     h: Header,
     x: Stamp,
     f: &[u8],
-) -> Verdict
+) -> Result<(), Refusal>
     requires { Bounded g × (value_at + entry_length g ≤ length f.now) }
     ensures { result ≡ pick (from_server g from && eqb h.client me)
         (kept_test digest_of s (number_in from) h.sequence x (entry_in g f.now value_at)) (refused 11) }
 {
     if !sender_right(g, from, h.client, me) {
-        return Verdict::Bad(Refusal::Sender);
+        return Err(Refusal::Sender);
     }
     let j = number_in(from) as usize;
     kept_test(s, g, j, h.sequence, x, f)

@@ -23,7 +23,7 @@ use client::record::{in_phase, shut, with_report};
 use client_rules::{Answer, Answered, Client, Phase};
 use frame::parties::number_in;
 use frame::places::{BODY_AT, LAST_TIME};
-use frame::{Verdict, WriteTime};
+use frame::WriteTime;
 
 // "the largest counted time is taken": it goes out with the blocks, or the write closes as out of stamps.
 fn send_largest(
@@ -99,7 +99,7 @@ pub fn on_stamp(
     let mut heard = s.heard;
     let mut times = s.times;
     let v = reply_test(k.params, k.me, from, h, is_asking(p), s.writes, heard);
-    if let Verdict::Bad(r) = v {
+    if let Err(r) = v {
         return Answered {
             answer: Answer::Refused(r),
             client: s,
@@ -135,7 +135,7 @@ pub fn on_report(
     let reports = s.reports;
     let time = area::read8(f, BODY_AT);
     let v = report_test(k.params, from, time, reports);
-    if let Verdict::Bad(r) = v {
+    if let Err(r) = v {
         return Answered {
             answer: Answer::Refused(r),
             client: s,
@@ -165,7 +165,7 @@ pub fn on_ack(s: Client, k: Call) -> Answered
     let mut heard = s.heard;
     let times = s.times;
     let v = reply_test(k.params, k.me, from, h, is_acking(p), s.writes, heard);
-    if let Verdict::Bad(r) = v {
+    if let Err(r) = v {
         return Answered {
             answer: Answer::Refused(r),
             client: s,

@@ -1,5 +1,7 @@
 -- What one call does to a client: what it has counted, sent and ended, as the record ClientFacts, which is all that runs need of a call here.
 -- Assumes nothing.
+use Rattle.std.specs.Prelude.{Ok, Err}
+use Rattle.frame.specs.Refusals.{Verdict, fine}
 use Prim.Native.Nat.{ℕ, zero, suc, ◌+◌, ◌-◌, ◌≤◌, ◌<◌, max, min}
 use native.Mathlib.Omega.{arith}
 use native.Mathlib.Decide.{ℕ_discrete, dec_le}
@@ -22,9 +24,7 @@ use Rattle.area.proofs.Sets.{of_copies}
 use Rattle.blocks.specs.declared.Params.{Params}
 use Rattle.frame.specs.declared.Stamp.{Stamp}
 use Rattle.frame.specs.declared.Party.{Party}
-use Rattle.frame.specs.declared.Verdict.{Verdict}
 use Rattle.frame.specs.declared.Party.TheVariants as A
-use Rattle.frame.specs.declared.Verdict.TheVariants as J
 use Rattle.frame.specs.Chunks.{rows_bytes}
 use Rattle.frame.specs.Messages.{Entry, Offer, offer, send, Body, get_stamp, ack, ask_read, read_complete, stamp_is}
 use Rattle.frame.specs.Messages.{block_is, value_is, report, Message, message, Sending, sending, to_all, Sized, FormedBody}
@@ -53,13 +53,13 @@ use Rattle.client_rules.proofs.Agreed.{finds}
 
 -- ---- small laws
 
-pub awaited_true : (H : List ℕ → List ℕ) (g : Params) (me : ℕ) (b : Bool) → CT.awaited b ≡ J.Fine → b ≡ true
+pub awaited_true : (H : List ℕ → List ℕ) (g : Params) (me : ℕ) (b : Bool) → CT.awaited b ≡ fine → b ≡ true
 unfolding CT.awaited pick
 awaited_true H g me true e = refl
 awaited_true H g me false e = impossible (cc)
 
 -- the lent value of an open write is whole
-pub value_whole : (g : Params) (p : Phase) (v : ℕ) → CT.value_test g p v ≡ J.Fine → CS.writing p ≡ true → v ≡ g.size
+pub value_whole : (g : Params) (p : Phase) (v : ℕ) → CT.value_test g p v ≡ fine → CS.writing p ≡ true → v ≡ g.size
 unfolding CT.value_test
 value_whole g p v e w = go (CS.writing p) w (fine_not _ _ _ e).0
   where
@@ -486,19 +486,19 @@ module _ (H : List ℕ → List ℕ) (g : Params) (M : Small g) (few : g.n ≤ 1
   Brought j m i m' = (j ≡ i) × (m ≡ m')
 
   -- what each kind's test has shown: the phase, and that the frame is of the open operation
-  ack_open : (s : Client) (j q : ℕ) → CT.order_test H g me s j q ack ≡ J.Fine → (s.phase ≡ F.Acking) × (q ≡ s.writes)
+  ack_open : (s : Client) (j q : ℕ) → CT.order_test H g me s j q ack ≡ fine → (s.phase ≡ F.Acking) × (q ≡ s.writes)
   unfolding CT.order_test
   ack_open s j q o =
       let w = and_split (CS.acking s.phase) _ (awaited_true H g me _ o) in
       (acking_is s.phase w.0, eqb-true q s.writes (and_split (eqb q s.writes) _ w.1).0)
 
-  stamp_open : (s : Client) (j q T : ℕ) → CT.order_test H g me s j q (stamp_is T) ≡ J.Fine → (s.phase ≡ F.Asking) × (q ≡ s.writes)
+  stamp_open : (s : Client) (j q T : ℕ) → CT.order_test H g me s j q (stamp_is T) ≡ fine → (s.phase ≡ F.Asking) × (q ≡ s.writes)
   unfolding CT.order_test
   stamp_open s j q T o =
       let w = and_split (CS.asking s.phase) _ (awaited_true H g me _ o) in
       (asking_is s.phase w.0, eqb-true q s.writes (and_split (eqb q s.writes) _ w.1).0)
 
-  value_open : (s : Client) (j q : ℕ) (x : Stamp) (e : Entry) → CT.order_test H g me s j q (value_is x e) ≡ J.Fine → (s.phase ≡ F.Reading) × (q ≡ s.reads)
+  value_open : (s : Client) (j q : ℕ) (x : Stamp) (e : Entry) → CT.order_test H g me s j q (value_is x e) ≡ fine → (s.phase ≡ F.Reading) × (q ≡ s.reads)
   unfolding CT.order_test
   value_open s j q x e o =
       let w = and_split (CS.reading s.phase) _ (awaited_true H g me _ (fine_both _ _ o).0) in
@@ -538,14 +538,14 @@ module _ (H : List ℕ → List ℕ) (g : Params) (M : Small g) (few : g.n ≤ 1
     its : {d' q' : ℕ} (b : Body) → d ≡ d' → q ≡ q' → Brought j (message d q b) j (message d' q' b)
     its b e f = (refl, λ i. message (e i) (f i) b)
 
-    learned : {b : Body} {s' : Client} → CT.owner_right me d b ≡ true → CT.order_test H g me s j q b ≡ J.Fine → Learns H g me s a v j b s'
+    learned : {b : Body} {s' : Client} → CT.owner_right me d b ≡ true → CT.order_test H g me s j q b ≡ fine → Learns H g me s a v j b s'
         → Learned s a (Brought j (message d q b)) s'
     learned w o (replies T) =
         let (p, e) = stamp_open s j q T o in
         stamp_learned s a _ X v p j T ij (its (stamp_is T) (stamp_owner d T w) e)
     learned w o (reports T p) = report_learned s a _ X (asking_is s.phase p) j T d q ij (its (report T) refl refl)
 
-    shape_facts : {b : Body} {r : C.Effect} → FormedBody g b → CT.owner_right me d b ≡ true → CT.order_test H g me s j q b ≡ J.Fine
+    shape_facts : {b : Body} {r : C.Effect} → FormedBody g b → CT.owner_right me d b ≡ true → CT.order_test H g me s j q b ≡ fine
         → Shape H g me s a v j b r → Of b r
     shape_facts f w o (idle b) = quiet_facts s a _ X
     shape_facts f w o (notes T p) = note_facts s a _ X j T d q ij (its (report T) refl refl) (shape_after (notes T p))
@@ -569,7 +569,7 @@ module _ (H : List ℕ → List ℕ) (g : Params) (M : Small g) (few : g.n ≤ 1
         (shape_after (completes x e k y z)) y z
 
   pub effect_facts : (s : Client) (a v : List ℕ) → ClientShape s a → (j d q : ℕ) (b : Body) → Among g.n j → FormedBody g b
-      → CT.owner_right me d b ≡ true → CT.order_test H g me s j q b ≡ J.Fine
+      → CT.owner_right me d b ≡ true → CT.order_test H g me s j q b ≡ fine
       → ClientFacts s a (Brought j (message d q b)) (C.effect H g me s a v (A.Server j) (message d q b)).client
       (C.effect H g me s a v (A.Server j) (message d q b)).area
       (C.effect H g me s a v (A.Server j) (message d q b)).sends (C.effect H g me s a v (A.Server j) (message d q b)).event
@@ -588,8 +588,8 @@ module _ (H : List ℕ → List ℕ) (g : Params) (M : Small g) (few : g.n ≤ 1
       go : (y : Verdict)
           → ClientFacts s a Nought (CB.begin_by g me y s (CB.open_read g me s)).client a (CB.begin_by g me y s (CB.open_read g me s)).sends
           (CB.begin_by g me y s (CB.open_read g me s)).event
-      go (J.Bad r) = quiet_facts s a _ X
-      go J.Fine = record {
+      go (Err r) = quiet_facts s a _ X
+      go (Ok _) = record {
         client_shape = record { within = read_within CV.shapes shapes_empty g me s X.within tt; room = X.room };
         writes_up = omega arith;
         reads_up = omega arith;
@@ -617,8 +617,8 @@ module _ (H : List ℕ → List ℕ) (g : Params) (M : Small g) (few : g.n ≤ 1
       go : (y : Verdict)
           → ClientFacts s a Nought (CB.begin_by g me y s (CB.open_write g me s)).client a (CB.begin_by g me y s (CB.open_write g me s)).sends
           (CB.begin_by g me y s (CB.open_write g me s)).event
-      go (J.Bad r) = quiet_facts s a _ X
-      go J.Fine = record {
+      go (Err r) = quiet_facts s a _ X
+      go (Ok _) = record {
         client_shape = record { within = write_within CV.shapes shapes_empty g me s X.within tt; room = X.room };
         writes_up = omega arith;
         reads_up = omega arith;

@@ -1,4 +1,5 @@
 -- What is enough, so that nobody waits for a false server (request F-6): n - t stamps or acks, and n - t rows. Assumes nothing.
+use Rattle.frame.specs.Refusals.{fine}
 use Prim.Native.Nat.{ℕ, ◌+◌, ◌≤◌, ◌<◌}
 use mathlib.Core.Bool.{Bool, true, false}
 use mathlib.Core.Path.{◌≡◌, refl}
@@ -11,7 +12,6 @@ use Rattle.area.specs.Area.{pick}
 use Rattle.quorum.proofs.Logic.{and_true}
 use Rattle.blocks.specs.declared.Params.{Params}
 use Rattle.frame.specs.declared.Party.TheVariants as P
-use Rattle.frame.specs.declared.Verdict.TheVariants as J
 use Rattle.frame.specs.Messages.{report, message}
 use Rattle.group_rules.specs.Coded.{has_list}
 use Rattle.group_rules.specs.Vouching.{backed}
@@ -45,6 +45,6 @@ backed_of g rs T l = le-leb _ _ l
 
 -- a report is taken from any server 1 to n whose report is higher, whatever client it names and whatever the client does
 pub report_taken : (H : List ℕ → List ℕ) (g : Params) (me : ℕ) (s : Client) (j c q T : ℕ) → Among g.n j → report_of s j < T
-    → CT.message_test H g me s (P.Server j) (message c q (report T)) ≡ J.Fine
+    → CT.message_test H g me s (P.Server j) (message c q (report T)) ≡ fine
 unfolding CT.message_test CT.answers CT.owner_right CT.order_test CT.awaited pick
 report_taken H g me s j c q T is l = rw (le-leb 1 j is.0, le-leb j g.n is.1, lt-ltb (report_of s j) T l) refl

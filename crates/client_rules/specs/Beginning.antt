@@ -1,13 +1,11 @@
 -- A client begins a read or a write: the tests in the order of their numbers (1, 2, 3, 10, 15, 16, 17), and the whole outcome. g are the
 -- parameters, me the client's number. These are definitions.
-use Rattle.std.specs.Prelude.{ℕ, ◌+◌, Bool, false, not, List, [], length, replicate, leb, eqb}
+use Rattle.std.specs.Prelude.{ℕ, ◌+◌, Bool, false, not, List, [], length, replicate, leb, eqb, Ok, Err}
 use Rattle.std.proofs.lemmas.List.Edits.{sets}
 use Rattle.area.specs.Area.{pick}
 use Rattle.area.specs.Responses.{Response}
 use Rattle.blocks.specs.declared.Params.{Params}
-use Rattle.frame.specs.declared.Verdict.{Verdict}
-use Rattle.frame.specs.declared.Verdict.TheVariants as J
-use Rattle.frame.specs.Refusals.{refused, answered_by, and_then}
+use Rattle.frame.specs.Refusals.{refused, answered_by, and_then, Verdict, fine}
 use Rattle.frame.specs.Params.{params_test}
 use Rattle.frame.specs.Stamps.{last_sequence, last_client}
 use Rattle.frame.specs.Messages.{get_stamp, ask_read, message, to_all}
@@ -38,15 +36,15 @@ abbrev pub idle_test : Phase → ℕ → Verdict
 idle_test p last =
     pick (not (idle p)) (refused 15)
     (pick (leb last_sequence last) (refused 16)
-    J.Fine)
+    fine)
 
 -- refusal 17: "a write by a client whose earlier write closed as out of stamps"
 abbrev pub closed_test : Bool → Verdict
-closed_test closed = pick closed (refused 17) J.Fine
+closed_test closed = pick closed (refused 17) fine
 
 -- refusal 3: "value not L long"
 unfoldable pub length_test : Params → ℕ → Verdict
-length_test g v = pick (eqb v g.size) J.Fine (refused 3)
+length_test g v = pick (eqb v g.size) fine (refused 3)
 
 module _ (g : Params) (me : ℕ) where
   unfoldable pub read_test : Client → List ℕ → List ℕ → Verdict
@@ -99,8 +97,8 @@ module _ (g : Params) (me : ℕ) where
   }
 
   unfoldable pub begin_by : Verdict → Client → Effect → Effect
-  begin_by J.Fine s x = x
-  begin_by (J.Bad r) s x = quiet s []
+  begin_by (Ok _) s x = x
+  begin_by (Err r) s x = quiet s []
 
   unfoldable pub read_begun : Client → List ℕ → List ℕ → Effect
   read_begun s out to = begin_by (read_test s out to) s (open_read s)

@@ -1,15 +1,12 @@
 -- Whether a frame handed to a client is turned down: the tests of document 01's numbers 3 and 10 to 14, and all tests in the order of
 -- their numbers. H is the digest, g the parameters, me the client's number. These are definitions.
-use Rattle.std.specs.Prelude.{ℕ, Bool, true, false, not, ◌&&◌, List, length, ltb, eqb}
+use Rattle.std.specs.Prelude.{ℕ, Bool, true, false, not, ◌&&◌, List, length, ltb, eqb, Ok, Err}
 use Rattle.area.specs.Area.{pick}
 use Rattle.blocks.specs.declared.Params.{Params}
 use Rattle.frame.specs.declared.Party.{Party}
 use Rattle.frame.specs.declared.Stamp.{Stamp}
-use Rattle.frame.specs.declared.Verdict.{Verdict}
-use Rattle.frame.specs.declared.Opened.{Opened}
-use Rattle.frame.specs.declared.Verdict.TheVariants as J
-use Rattle.frame.specs.declared.Opened.TheVariants as O
-use Rattle.frame.specs.Refusals.{and_then, refused}
+use Rattle.frame.specs.Frames.{Opened}
+use Rattle.frame.specs.Refusals.{and_then, refused, Verdict, fine}
 use Rattle.frame.specs.Params.{client_frames, out_room, to_room, params_test}
 use Rattle.frame.specs.Stamps.{last_client}
 use Rattle.frame.specs.Messages.{Entry, Body, get_stamp, ack, ask_read, read_complete, stamp_is, block_is}
@@ -27,7 +24,7 @@ unfoldable pub send_room : Params → ℕ → ℕ → Verdict
 send_room g out to =
     pick (ltb out (out_room g (client_frames g))) (refused 10)
     (pick (ltb to (to_room (client_frames g))) (refused 10)
-    J.Fine)
+    fine)
 
 -- refusal 10, of all lent areas: "others their full content"
 unfoldable pub room_test : Params → ℕ → ℕ → ℕ → ℕ → Verdict
@@ -38,7 +35,7 @@ room_test g area result out to =
 
 -- refusal 3: the lent value of an open write is L long; with no write open it is not looked at
 unfoldable pub value_test : Params → Phase → ℕ → Verdict
-value_test g p v = pick (writing p && not (eqb v g.size)) (refused 3) J.Fine
+value_test g p v = pick (writing p && not (eqb v g.size)) (refused 3) fine
 
 -- refusal 11: only stamps, acks, values and reports go to clients
 unfoldable pub answers : Body → Bool
@@ -64,7 +61,7 @@ owner_right me c (report T) = true
 
 -- refusal 12: "old, repeated or not awaited"
 unfoldable pub awaited : Bool → Verdict
-awaited b = pick b J.Fine (refused 12)
+awaited b = pick b fine (refused 12)
 
 -- refusals 12 and 14, of a value for read q from server j: "of kind 11, each whose stamp is not kept from that server"
 abbrev pub kept_test : (List ℕ → List ℕ) → Client → ℕ → ℕ → Stamp → Entry → Verdict
@@ -76,12 +73,12 @@ module _ (H : List ℕ → List ℕ) (g : Params) (me : ℕ) where
   -- refusals 12 and 14, of a frame of operation q from server j. Stamps count only in a write's first part, acks only in its second, each server's
   -- first. "A kind 13 that isn't higher is 12."
   unfoldable pub order_test : Client → ℕ → ℕ → Body → Verdict
-  order_test s j q get_stamp = J.Fine
+  order_test s j q get_stamp = fine
   order_test s j q ack = awaited (acking s.phase && (eqb q s.writes && not (heard_of s j)))
-  order_test s j q ask_read = J.Fine
-  order_test s j q read_complete = J.Fine
+  order_test s j q ask_read = fine
+  order_test s j q read_complete = fine
   order_test s j q (stamp_is T) = awaited (asking s.phase && (eqb q s.writes && not (heard_of s j)))
-  order_test s j q (block_is z o) = J.Fine
+  order_test s j q (block_is z o) = fine
   order_test s j q (value_is x e) = kept_test H s j q x e
   order_test s j q (report T) = awaited (ltb (report_of s j) T)
 
@@ -92,8 +89,8 @@ module _ (H : List ℕ → List ℕ) (g : Params) (me : ℕ) where
 
   -- all of them: the lowest number, or what the frame says
   unfoldable pub judge_opened : Opened → Verdict → Client → Party → List ℕ → Judged
-  judge_opened (O.Refused r) room s from f = bad r
-  judge_opened (O.Frame h) room s from f = judged_by (and_then room (message_test s from (message_in g h f))) (message_in g h f)
+  judge_opened (Err r) room s from f = bad r
+  judge_opened (Ok h) room s from f = judged_by (and_then room (message_test s from (message_in g h f))) (message_in g h f)
 
   unfoldable pub judge : Client → List ℕ → List ℕ → Party → List ℕ → List ℕ → List ℕ → List ℕ → Judged
   judge s area v from f result out to =

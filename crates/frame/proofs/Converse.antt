@@ -1,4 +1,5 @@
 -- Only written forms are read: a frame that opens is the frame of the message that it says. Assumes nothing.
+use Rattle.std.specs.Prelude.{Ok}
 use Prim.Native.Nat.{ℕ, zero, suc, ◌+◌, ◌≤◌, ◌<◌}
 use native.Mathlib.Omega.{arith}
 use mathlib.Core.Bool.{false}
@@ -13,7 +14,6 @@ use Rattle.area.proofs.Sets.{length_part}
 use Rattle.area.proofs.Numbers.{part_part, bytes2_be2, bytes4_be4, bytes8_be8, be4_range, be8_range}
 use Rattle.blocks.specs.declared.Params.{Params}
 use Rattle.frame.specs.declared.Header.{Header}
-use Rattle.frame.specs.declared.Opened.TheVariants as O
 use Rattle.frame.specs.Params.{width, listed, entry_length}
 use Rattle.frame.specs.Messages.{value_is, Sized, FormedBody, Formed}
 use Rattle.frame.specs.Frames.{version, version_at, kind_at, client_at, sequence_at, body_at, offer_at, writer_at, write_at, value_at}
@@ -125,7 +125,7 @@ unfolding header_in
 whole f p h v = rw (header_left f p h v) (take-append-drop body_at f)
 
 -- a frame that opens is the frame of what it says
-pub build_opened : (g : Params) (f : List ℕ) (h : Header) → Bytes f → opened g f ≡ O.Frame h → build (message_in g h f) ≡ f
+pub build_opened : (g : Params) (f : List ℕ) (h : Header) → Bytes f → opened g f ≡ Ok h → build (message_in g h f) ≡ f
 unfolding build message_in frame_of
 build_opened g f h p q =
     let o = opens_facts g f h q in
@@ -173,7 +173,7 @@ unfolding header_in
 sequence_range f p = be4_range f sequence_at p
 
 -- a frame that opens says a message within its bounds
-pub formed_opened : (g : Params) (f : List ℕ) (h : Header) → Bytes f → opened g f ≡ O.Frame h → Formed g (message_in g h f)
+pub formed_opened : (g : Params) (f : List ℕ) (h : Header) → Bytes f → opened g f ≡ Ok h → Formed g (message_in g h f)
 unfolding message_in
 formed_opened g f h p q =
     let o = opens_facts g f h q in

@@ -1,4 +1,6 @@
 -- What is known of a frame that opens, and that nothing more is asked of it. Assumes nothing.
+use Rattle.frame.specs.Refusals.{fine}
+use Rattle.std.specs.Prelude.{Ok}
 use Prim.Native.Nat.{ℕ, ◌+◌, ◌≤◌}
 use native.Mathlib.Omega.{arith}
 use mathlib.Core.Bool.{Bool, true, false}
@@ -13,8 +15,6 @@ use Rattle.blocks.specs.declared.Params.{Params}
 use Rattle.frame.specs.declared.Stamp.{Stamp}
 use Rattle.frame.specs.declared.Header.{Header}
 use Rattle.frame.specs.declared.Refusal.TheVariants as R
-use Rattle.frame.specs.declared.Verdict.TheVariants as J
-use Rattle.frame.specs.declared.Opened.TheVariants as O
 use Rattle.frame.specs.Stamps.{parts_agree}
 use Rattle.frame.specs.Frames.{version, version_at, kind_at, body_at, retired, body_length, header_in, stamp_in}
 use Rattle.frame.specs.Frames.{framing_test, header_test, body_test, stamp_test, content_test, frame_test, opened}
@@ -44,7 +44,7 @@ kind_is : (f : List ℕ) (h : Header) → header_in f ≡ h → get_or f kind_at
 unfolding header_in
 kind_is f h e = ap (λ x. x.kind) e
 
-pub framing_facts : (f : List ℕ) → framing_test f ≡ J.Fine → (body_at ≤ length f) × (be2 f 0 + 2 ≡ length f)
+pub framing_facts : (f : List ℕ) → framing_test f ≡ fine → (body_at ≤ length f) × (be2 f 0 + 2 ≡ length f)
 unfolding framing_test
 framing_facts f e =
     let a = fine_not (ltb (length f) body_at) R.Framing _ e in
@@ -60,7 +60,7 @@ pub record HeaderFine (v : ℕ) (h : Header) : Type 0 where
   pub client_high : h.client ≤ 8
   pub sequence_low : 1 ≤ h.sequence
 
-pub header_facts : (v : ℕ) (h : Header) → header_test v h ≡ J.Fine → HeaderFine v h
+pub header_facts : (v : ℕ) (h : Header) → header_test v h ≡ fine → HeaderFine v h
 unfolding header_test
 header_facts v h e =
     let a = fine_is (eqb v version) R.Version _ e in
@@ -80,23 +80,23 @@ header_facts v h e =
       sequence_low = omega (arith, eqb-false h.sequence 0 s.0);
     }
 
-stamp_facts : (s : Stamp) → stamp_test s ≡ J.Fine → StampFine s
+stamp_facts : (s : Stamp) → stamp_test s ≡ fine → StampFine s
 unfolding stamp_test
 stamp_facts s e =
     let a = fine_is (parts_agree s.time s.writer s.sequence) R.Content _ e in
     let b = fine_not (ltb 8 s.writer) R.Content _ a.1 in
     record { parts = a.0; writer = ltb-false _ _ b.0 }
 
-pub content_facts : (kind : ℕ) (f : List ℕ) → content_test kind f ≡ J.Fine → kind ≡ 11 → StampFine (stamp_in f)
+pub content_facts : (kind : ℕ) (f : List ℕ) → content_test kind f ≡ fine → kind ≡ 11 → StampFine (stamp_in f)
 unfolding content_test pick
 content_facts kind f e k = stamp_facts (stamp_in f) (rw (eq-eqb kind 11 k) at e)
 
-pub body_facts : (g : Params) (kind l : ℕ) → body_test g kind l ≡ J.Fine → l ≡ body_at + body_length g kind
+pub body_facts : (g : Params) (kind l : ℕ) → body_test g kind l ≡ fine → l ≡ body_at + body_length g kind
 unfolding body_test
-body_facts g kind l e = eqb-true _ _ (fine_is (eqb l (body_at + body_length g kind)) R.Body J.Fine e).0
+body_facts g kind l e = eqb-true _ _ (fine_is (eqb l (body_at + body_length g kind)) R.Body fine e).0
 
 -- what is known of a frame that opens
-pub opens_facts : (g : Params) (f : List ℕ) (h : Header) → opened g f ≡ O.Frame h → Opens g f h
+pub opens_facts : (g : Params) (f : List ℕ) (h : Header) → opened g f ≡ Ok h → Opens g f h
 unfolding opened frame_test
 opens_facts g f h e =
     let o = fine_opened (frame_test g f) (header_in f) h e in
@@ -121,7 +121,7 @@ opens_facts g f h e =
       stamp = λ w. content_facts (get_or f kind_at 0) f c.1 (k ∙ w);
     }
 
-header_fine : (v : ℕ) (h : Header) → HeaderFine v h → header_test v h ≡ J.Fine
+header_fine : (v : ℕ) (h : Header) → HeaderFine v h → header_test v h ≡ fine
 unfolding header_test pick
 header_fine v h n =
     let s : h.sequence ≡ 0 → ⊥ = λ q. omega (arith, n.sequence_low, q) in
@@ -135,20 +135,20 @@ header_fine v h n =
       ne_eqb _ _ s,
     )
 
-stamp_fine : (s : Stamp) → StampFine s → stamp_test s ≡ J.Fine
+stamp_fine : (s : Stamp) → StampFine s → stamp_test s ≡ fine
 unfolding stamp_test pick
 stamp_fine s n = rw (n.parts, le-ltb _ _ n.writer)
 
-content_fine : (kind : ℕ) (f : List ℕ) → (kind ≡ 11 → StampFine (stamp_in f)) → content_test kind f ≡ J.Fine
+content_fine : (kind : ℕ) (f : List ℕ) → (kind ≡ 11 → StampFine (stamp_in f)) → content_test kind f ≡ fine
 unfolding content_test pick
 content_fine kind f n = go (eqb kind 11) refl
   where
-    go : (b : Bool) → eqb kind 11 ≡ b → pick b (stamp_test (stamp_in f)) J.Fine ≡ J.Fine
+    go : (b : Bool) → eqb kind 11 ≡ b → pick b (stamp_test (stamp_in f)) fine ≡ fine
     go true e = stamp_fine (stamp_in f) (n (eqb-true kind 11 e))
     go false e = refl
 
 -- a frame of which all that is known opens
-pub opens : (g : Params) (f : List ℕ) (h : Header) → Opens g f h → opened g f ≡ O.Frame h
+pub opens : (g : Params) (f : List ℕ) (h : Header) → Opens g f h → opened g f ≡ Ok h
 unfolding opened frame_test framing_test body_test pick
 opens g f h o =
     let k = kind_is f h o.header in
@@ -161,5 +161,5 @@ opens g f h o =
       client_high = o.client_high;
       sequence_low = o.sequence_low;
     } in
-    let c : content_test h.kind f ≡ J.Fine = content_fine h.kind f o.stamp in
+    let c : content_test h.kind f ≡ fine = content_fine h.kind f o.stamp in
     rw (k, o.header, le-ltb _ _ o.long, eq-eqb _ _ o.length_field, header_fine _ _ n, eq-eqb _ _ o.length_is, c)

@@ -1,12 +1,12 @@
 -- A refusal's number gives the refusal back, and what an opening says the opening, so that no two say the same. Assumes nothing.
+use Rattle.std.specs.Prelude.{Ok, Err}
 use mathlib.Core.Path.{◌≡◌, refl, ap}
 use Rattle.area.specs.Responses.{Response, turned_down, gives}
 use Rattle.frame.specs.declared.Refusal.{Refusal}
 use Rattle.frame.specs.declared.Refusal.TheVariants.{Parties, Threshold, Length, Framing, Version, Kind, Owner, Body, Content, Room}
 use Rattle.frame.specs.declared.Refusal.TheVariants.{Sender, Stale, Ahead, Digest, Busy, Exhausted, Closed, Record, Unlisted}
 use Rattle.frame.specs.declared.Header.{Header}
-use Rattle.frame.specs.declared.Opened.{Opened}
-use Rattle.frame.specs.declared.Opened.TheVariants as O
+use Rattle.frame.specs.Frames.{Opened}
 use Rattle.frame.specs.Refusals.{number_of, refusal}
 use Rattle.frame.specs.Frames.{opening_response}
 
@@ -32,9 +32,9 @@ one_each Record = refl
 one_each Unlisted = refl
 
 abbrev opened_in : Response Header → Opened
-opened_in (gives h) = O.Frame h
-opened_in (turned_down n) = O.Refused (refusal n)
+opened_in (gives h) = Ok h
+opened_in (turned_down n) = Err (refusal n)
 
 pub opened_back : (o : Opened) → opened_in (opening_response o) ≡ o
-opened_back (O.Frame h) = refl
-opened_back (O.Refused r) = ap O.Refused (one_each r)
+opened_back (Ok h) = refl
+opened_back (Err r) = ap Err (one_each r)

@@ -1,17 +1,14 @@
 -- Frames: "Length (2 bytes, big-endian, counting what follows it), version 1, kind, client (1), sequence (4), body." The bytes of a
 -- message's frame, and what opening a frame of any length and content finds. Assumes nothing: these are definitions.
-use Rattle.std.specs.Prelude.{ℕ, ◌+◌, Bool, ◌&&◌, List, [], ◌∷◌, ◌++◌, length, get_or, eqb, ltb, leb}
+use Rattle.std.specs.Prelude.{ℕ, ◌+◌, Bool, ◌&&◌, List, [], ◌∷◌, ◌++◌, length, get_or, eqb, ltb, leb, Result, Ok, Err}
 use Rattle.area.specs.Area.{pick, part}
 use Rattle.area.specs.Responses.{Response, turned_down, gives}
 use Rattle.area.specs.Numbers.{be2, be4, be8, bytes2, bytes4, bytes8}
 use Rattle.blocks.specs.declared.Params.{Params}
 use Rattle.frame.specs.declared.Stamp.{Stamp}
 use Rattle.frame.specs.declared.Header.{Header}
-use Rattle.frame.specs.declared.Verdict.{Verdict}
-use Rattle.frame.specs.declared.Verdict.TheVariants as J
-use Rattle.frame.specs.declared.Opened.{Opened}
-use Rattle.frame.specs.declared.Opened.TheVariants as O
-use Rattle.frame.specs.Refusals.{number_of, refused, answered_by, and_then}
+use Rattle.frame.specs.declared.Refusal.{Refusal}
+use Rattle.frame.specs.Refusals.{number_of, Verdict, fine, refused, answered_by, and_then}
 use Rattle.frame.specs.Params.{width, listed, entry_length, bounds_test}
 use Rattle.frame.specs.Stamps.{parts_agree, last_client}
 use Rattle.frame.specs.Messages.{Entry, entry, Offer, offer, send, echo, ready, Body, get_stamp, ack}
@@ -120,7 +117,7 @@ build m = frame_of (kind_of m.body) m.client m.sequence (body_bytes m.body)
 
 -- refusal 4: the length field counts what follows it
 unfoldable pub framing_test : List ℕ → Verdict
-framing_test f = pick (ltb (length f) body_at) (refused 4) (pick (eqb (be2 f 0 + 2) (length f)) J.Fine (refused 4))
+framing_test f = pick (ltb (length f) body_at) (refused 4) (pick (eqb (be2 f 0 + 2) (length f)) fine (refused 4))
 
 unfoldable pub header_in : List ℕ → Header
 header_in f = record { kind = get_or f kind_at 0; client = get_or f client_at 0; sequence = be4 f sequence_at }
@@ -135,12 +132,12 @@ header_test v h =
     (pick (ltb h.client 1) (refused 7)
     (pick (ltb last_client h.client) (refused 7)
     (pick (eqb h.sequence 0) (refused 7)
-    J.Fine))))))
+    fine))))))
     (refused 5)
 
 -- refusal 8, of a frame of size bytes
 unfoldable pub body_test : Params → ℕ → ℕ → Verdict
-body_test g kind size = pick (eqb size (body_at + body_length g kind)) J.Fine (refused 8)
+body_test g kind size = pick (eqb size (body_at + body_length g kind)) fine (refused 8)
 
 -- a value's stamp
 unfoldable pub stamp_in : List ℕ → Stamp
@@ -149,11 +146,11 @@ stamp_in f = record { time = be8 f body_at; writer = get_or f writer_at 0; seque
 -- refusal 9, of a value's stamp
 unfoldable pub stamp_test : Stamp → Verdict
 stamp_test s =
-    pick (parts_agree s.time s.writer s.sequence) (pick (ltb last_client s.writer) (refused 9) J.Fine) (refused 9)
+    pick (parts_agree s.time s.writer s.sequence) (pick (ltb last_client s.writer) (refused 9) fine) (refused 9)
 
 -- refusal 9
 unfoldable pub content_test : ℕ → List ℕ → Verdict
-content_test kind f = pick (eqb kind 11) (stamp_test (stamp_in f)) J.Fine
+content_test kind f = pick (eqb kind 11) (stamp_test (stamp_in f)) fine
 
 unfoldable pub frame_test : Params → List ℕ → Verdict
 frame_test g f =
@@ -162,9 +159,13 @@ frame_test g f =
     (and_then (body_test g (get_or f kind_at 0) (length f))
     (content_test (get_or f kind_at 0) f)))
 
+-- what opening a frame finds; the parts of the body lie at fixed places after the header
+abbrev pub Opened : Type 0
+Opened = Result Header Refusal
+
 abbrev pub opened_by : Verdict → Header → Opened
-opened_by J.Fine h = O.Frame h
-opened_by (J.Bad r) h = O.Refused r
+opened_by (Ok _) h = Ok h
+opened_by (Err r) h = Err r
 
 -- what opening a frame finds, the parameters within their bounds
 unfoldable pub opened : Params → List ℕ → Opened
@@ -172,8 +173,8 @@ opened g f = opened_by (frame_test g f) (header_in f)
 
 -- what an opening says: the number, or the header
 abbrev pub opening_response : Opened → Response Header
-opening_response (O.Frame h) = gives h
-opening_response (O.Refused r) = turned_down (number_of r)
+opening_response (Ok h) = gives h
+opening_response (Err r) = turned_down (number_of r)
 
 -- the same for any parameters: refusals 1 to 3 come first
 unfoldable pub opened_under : Params → List ℕ → Response Header

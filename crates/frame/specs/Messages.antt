@@ -1,12 +1,11 @@
 -- Messages: what frames say, to whom they go, and what is left of a frame after the tests. Assumes nothing: these are definitions.
-use Rattle.std.specs.Prelude.{ℕ, zero, suc, ◌≤◌, ◌<◌, Bool, true, false, ◌&&◌, ◌≡◌, List, [], ◌∷◌, length, leb}
+use Rattle.frame.specs.Refusals.{Verdict}
+use Rattle.std.specs.Prelude.{ℕ, zero, suc, ◌≤◌, ◌<◌, Bool, true, false, ◌&&◌, ◌≡◌, List, [], ◌∷◌, length, leb, Ok, Err}
 use Rattle.blocks.specs.declared.Params.{Params}
 use Rattle.frame.specs.declared.Stamp.{Stamp}
 use Rattle.frame.specs.declared.Party.{Party}
 use Rattle.frame.specs.declared.Party.TheVariants as P
 use Rattle.frame.specs.declared.Refusal.{Refusal}
-use Rattle.frame.specs.declared.Verdict.{Verdict}
-use Rattle.frame.specs.declared.Verdict.TheVariants as J
 use Rattle.frame.specs.Params.{listed, width}
 use Rattle.frame.specs.Stamps.{parts_agree, last_client}
 
@@ -136,9 +135,9 @@ pub data Judged : Type 0 where
   good : Message → Judged
 
 abbrev pub judged_by : Verdict → Message → Judged
-judged_by J.Fine m = good m
-judged_by (J.Bad r) m = bad r
+judged_by (Ok _) m = good m
+judged_by (Err r) m = bad r
 
 abbrev pub after : Verdict → Judged → Judged
-after J.Fine x = x
-after (J.Bad r) x = bad r
+after (Ok _) x = x
+after (Err r) x = bad r

@@ -5,9 +5,7 @@ use Rattle.blocks.specs.declared.Params.{Params}
 use Rattle.blocks.specs.Code.{block_length}
 use Rattle.blocks.specs.Params.{parties_fit, threshold_fits, length_fits}
 pub use Rattle.blocks.specs.Params.{Bounded}
-use Rattle.frame.specs.declared.Verdict.{Verdict}
-use Rattle.frame.specs.declared.Verdict.TheVariants as J
-use Rattle.frame.specs.Refusals.{and_then, refused}
+use Rattle.frame.specs.Refusals.{and_then, refused, Verdict, fine}
 
 -- ---- sizes
 
@@ -50,12 +48,12 @@ to_room m = 2 * m
 
 -- refusal 1, of the own number: me is not one of parties 1 to most
 unfoldable pub own_test : ℕ → ℕ → Verdict
-own_test me most = pick (ltb me 1) (refused 1) (pick (ltb most me) (refused 1) J.Fine)
+own_test me most = pick (ltb me 1) (refused 1) (pick (ltb most me) (refused 1) fine)
 
 -- refusals 2 and 3, but for a value's length
 unfoldable pub code_test : Params → Verdict
 code_test g =
-    pick (threshold_fits g.n g.t g.k) (pick (length_fits g.size) J.Fine (refused 3)) (refused 2)
+    pick (threshold_fits g.n g.t g.k) (pick (length_fits g.size) fine (refused 3)) (refused 2)
 
 -- refusals 1 to 3, without an own number
 unfoldable pub bounds_test : Params → Verdict

@@ -1,13 +1,11 @@
 -- Refusals: document 01's number of each, "When a frame or call is turned down", and tests one after the other.
 -- Assumes nothing: these are definitions.
-use Rattle.std.specs.Prelude.{ℕ, List, [], ◌∷◌}
+use Rattle.std.specs.Prelude.{ℕ, List, [], ◌∷◌, Result, Ok, Err}
 use Rattle.area.specs.Area.{numbered}
 use Rattle.area.specs.Responses.{Response, turned_down, gives}
 use Rattle.frame.specs.declared.Refusal.{Refusal}
 use Rattle.frame.specs.declared.Refusal.TheVariants.{Parties, Threshold, Length, Framing, Version, Kind, Owner, Body, Content, Room}
 use Rattle.frame.specs.declared.Refusal.TheVariants.{Sender, Stale, Ahead, Digest, Busy, Exhausted, Closed, Record, Unlisted}
-use Rattle.frame.specs.declared.Verdict.{Verdict}
-use Rattle.frame.specs.declared.Verdict.TheVariants.{Fine, Bad}
 
 -- document 01's number
 abbrev pub number_of : Refusal → ℕ
@@ -60,16 +58,23 @@ refusals =
 abbrev pub refusal : ℕ → Refusal
 refusal n = numbered number_of Parties refusals n
 
+-- what a test says: nothing against it, or the reason to turn it down
+abbrev pub Verdict : Type 0
+Verdict = Result (Unit {0}) Refusal
+
+abbrev pub fine : Verdict
+fine = Ok tt
+
 -- turned down with number n
 abbrev pub refused : ℕ → Verdict
-refused n = Bad (refusal n)
+refused n = Err (refusal n)
 
 -- what a call answers by its tests: the number, or x
 abbrev pub answered_by : {A : Type 0} → Verdict → A → Response A
-answered_by Fine x = gives x
-answered_by (Bad r) x = turned_down (number_of r)
+answered_by (Ok _) x = gives x
+answered_by (Err r) x = turned_down (number_of r)
 
 -- two tests one after the other: the first refusal counts
 abbrev pub and_then : Verdict → Verdict → Verdict
-and_then Fine b = b
-and_then (Bad r) b = Bad r
+and_then (Ok _) b = b
+and_then (Err r) b = Err r

@@ -3,25 +3,25 @@ ghost use Rattle.std.specs.Prelude.{◌≡◌, ◌≤◌};
 ghost use Rattle.frame.specs.Params.{Bounded, width, own_test, code_test, bounds_test, params_test, largest_frame, out_room, to_room, quota};
 
 use crate::places::VALUE_AT;
-use crate::{Refusal, Verdict};
+use crate::Refusal;
 use blocks::Params;
 use blocks::bounds::{length_fits, parties_fit, threshold_fits};
 
 // Refusal 1, of the own number: me is not one of parties 1 to most.
-pub fn own_test(me: usize, most: usize) -> Verdict
+pub fn own_test(me: usize, most: usize) -> Result<(), Refusal>
     ensures { result ≡ own_test me most }
 {
     if me < 1 {
-        return Verdict::Bad(Refusal::Parties);
+        return Err(Refusal::Parties);
     }
     if most < me {
-        return Verdict::Bad(Refusal::Parties);
+        return Err(Refusal::Parties);
     }
-    Verdict::Fine
+    Ok(())
 }
 
 // Refusals 2 and 3, but for a value's length.
-pub fn code_test(g: Params) -> Verdict
+pub fn code_test(g: Params) -> Result<(), Refusal>
     ensures { result ≡ code_test g }
 {
     let n = g.n;
@@ -29,39 +29,36 @@ pub fn code_test(g: Params) -> Verdict
     let k = g.k;
     let size = g.size;
     if !threshold_fits(n, t, k) {
-        return Verdict::Bad(Refusal::Threshold);
+        return Err(Refusal::Threshold);
     }
     if !length_fits(size) {
-        return Verdict::Bad(Refusal::Length);
+        return Err(Refusal::Length);
     }
-    Verdict::Fine
+    Ok(())
 }
 
 // Refusals 1 to 3, without an own number.
-pub fn bounds_test(g: Params) -> Verdict
+pub fn bounds_test(g: Params) -> Result<(), Refusal>
     ensures { result ≡ bounds_test g }
 {
     let n = g.n;
     let t = g.t;
     if !parties_fit(n, t) {
-        return Verdict::Bad(Refusal::Parties);
+        return Err(Refusal::Parties);
     }
     code_test(g)
 }
 
 // Refusals 1 to 3, of party me of parties 1 to most.
-pub fn params_test(g: Params, me: usize, most: usize) -> Verdict
+pub fn params_test(g: Params, me: usize, most: usize) -> Result<(), Refusal>
     ensures { result ≡ params_test g me most }
 {
     let n = g.n;
     let t = g.t;
     if !parties_fit(n, t) {
-        return Verdict::Bad(Refusal::Parties);
+        return Err(Refusal::Parties);
     }
-    let own = own_test(me, most);
-    if let Verdict::Bad(r) = own {
-        return Verdict::Bad(r);
-    }
+    own_test(me, most)?;
     code_test(g)
 }
 

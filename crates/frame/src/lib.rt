@@ -49,26 +49,12 @@ pub enum Refusal {
     Unlisted,
 }
 
-// What a test says: nothing against it, or the reason to turn it down.
-#[derive(Clone, Copy)]
-pub enum Verdict {
-    Fine,
-    Bad(Refusal),
-}
-
 // What comes before a frame's body, without length and version. The client is the operation's owner.
 #[derive(Clone, Copy)]
 pub struct Header {
     pub kind: u8,
     pub client: u8,
     pub sequence: u32,
-}
-
-// What opening a frame finds. The parts of the body lie at fixed places after the header.
-#[derive(Clone, Copy)]
-pub enum Opened {
-    Frame(Header),
-    Refused(Refusal),
 }
 
 // Where the next frame goes in the out area, and how many are there already.

@@ -10,20 +10,20 @@ use crate::places::{
     WRITE_AT, WRITER_AT,
 };
 use crate::stamps::parts_agree;
-use crate::{Header, Opened, Refusal, Stamp, Verdict};
+use crate::{Header, Refusal, Stamp};
 use blocks::Params;
 
 // Refusal 4: under 9 bytes, or length field wrong.
-pub fn framing_test(f: &[u8]) -> Verdict
+pub fn framing_test(f: &[u8]) -> Result<(), Refusal>
     ensures { result ≡ framing_test f.now }
 {
     if f.len() < BODY_AT {
-        return Verdict::Bad(Refusal::Framing);
+        return Err(Refusal::Framing);
     }
     if area::read2(f, LENGTH_AT) as usize + 2 != f.len() {
-        return Verdict::Bad(Refusal::Framing);
+        return Err(Refusal::Framing);
     }
-    Verdict::Fine
+    Ok(())
 }
 
 // The header of a frame of 9 bytes or more.
@@ -50,31 +50,31 @@ fn is_retired(kind: u8) -> bool
 }
 
 // Refusals 5 to 7: version not 1, kind not 1 to 13 or retired, client not 1 to 8 or sequence 0.
-pub fn header_test(version: u8, h: Header) -> Verdict
+pub fn header_test(version: u8, h: Header) -> Result<(), Refusal>
     ensures { result ≡ header_test version h }
 {
     if version != VERSION {
-        return Verdict::Bad(Refusal::Version);
+        return Err(Refusal::Version);
     }
     if h.kind < 1 {
-        return Verdict::Bad(Refusal::Kind);
+        return Err(Refusal::Kind);
     }
     if 13 < h.kind {
-        return Verdict::Bad(Refusal::Kind);
+        return Err(Refusal::Kind);
     }
     if is_retired(h.kind) {
-        return Verdict::Bad(Refusal::Kind);
+        return Err(Refusal::Kind);
     }
     if h.client < 1 {
-        return Verdict::Bad(Refusal::Owner);
+        return Err(Refusal::Owner);
     }
     if LAST_CLIENT < h.client {
-        return Verdict::Bad(Refusal::Owner);
+        return Err(Refusal::Owner);
     }
     if h.sequence == 0 {
-        return Verdict::Bad(Refusal::Owner);
+        return Err(Refusal::Owner);
     }
-    Verdict::Fine
+    Ok(())
 }
 
 // The length of the body of a kind; entry is the length of a digest list and a block.
@@ -112,14 +112,14 @@ pub fn body_length(g: Params, kind: u8) -> usize
 }
 
 // Refusal 8: body length wrong for kind.
-pub fn body_test(g: Params, kind: u8, len: usize) -> Verdict
+pub fn body_test(g: Params, kind: u8, len: usize) -> Result<(), Refusal>
     requires { Bounded g }
     ensures { result ≡ body_test g kind len }
 {
     if len != BODY_AT + body_length(g, kind) {
-        return Verdict::Bad(Refusal::Body);
+        return Err(Refusal::Body);
     }
-    Verdict::Fine
+    Ok(())
 }
 
 // The stamp of a value.
@@ -137,61 +137,46 @@ pub fn stamp_in(f: &[u8]) -> Stamp
 }
 
 // Refusal 9: stamp parts mixed, or writer above 8.
-pub fn stamp_test(s: Stamp) -> Verdict
+pub fn stamp_test(s: Stamp) -> Result<(), Refusal>
     ensures { result ≡ stamp_test s }
 {
     if !parts_agree(s) {
-        return Verdict::Bad(Refusal::Content);
+        return Err(Refusal::Content);
     }
     if LAST_CLIENT < s.writer {
-        return Verdict::Bad(Refusal::Content);
+        return Err(Refusal::Content);
     }
-    Verdict::Fine
+    Ok(())
 }
 
 // Refusal 9, of a frame whose body has its kind's length.
-pub fn content_test(kind: u8, f: &[u8]) -> Verdict
+pub fn content_test(kind: u8, f: &[u8]) -> Result<(), Refusal>
     requires { kind ≡ 11 → 22 ≤ length f.now }
     ensures { result ≡ content_test kind f.now }
 {
     if kind != 11 {
-        return Verdict::Fine;
+        return Ok(());
     }
     stamp_test(stamp_in(f))
 }
 
 // What opening a frame finds, the parameters within their bounds.
-pub fn open_frame(g: Params, f: &[u8]) -> Opened
+pub fn open_frame(g: Params, f: &[u8]) -> Result<Header, Refusal>
     requires { Bounded g }
     ensures { result ≡ opened g f.now }
 {
-    let framing = framing_test(f);
-    if let Verdict::Bad(r) = framing {
-        return Opened::Refused(r);
-    }
+    framing_test(f)?;
     let h = header_in(f);
-    let fields = header_test(f[VERSION_AT], h);
-    if let Verdict::Bad(r) = fields {
-        return Opened::Refused(r);
-    }
-    let body = body_test(g, h.kind, f.len());
-    if let Verdict::Bad(r) = body {
-        return Opened::Refused(r);
-    }
-    let content = content_test(h.kind, f);
-    if let Verdict::Bad(r) = content {
-        return Opened::Refused(r);
-    }
-    Opened::Frame(h)
+    header_test(f[VERSION_AT], h)?;
+    body_test(g, h.kind, f.len())?;
+    content_test(h.kind, f)?;
+    Ok(h)
 }
 
 // What opening a frame finds, for any parameters: refusals 1 to 9 in the order of the numbers.
-pub fn opened_under(g: Params, f: &[u8]) -> Opened
+pub fn opened_under(g: Params, f: &[u8]) -> Result<Header, Refusal>
     ensures { opening_response result ≡ opened_under g f.now }
 {
-    let bounds = bounds_test(g);
-    if let Verdict::Bad(r) = bounds {
-        return Opened::Refused(r);
-    }
+    bounds_test(g)?;
     open_frame(g, f)
 }

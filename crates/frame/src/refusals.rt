@@ -2,7 +2,7 @@
 ghost use Rattle.std.specs.Prelude.{◌≡◌};
 ghost use Rattle.frame.specs.Refusals.{number_of, and_then};
 
-use crate::{Refusal, Verdict};
+use crate::Refusal;
 
 // Document 01's number of a refusal.
 pub fn number_of(r: Refusal) -> u8
@@ -32,11 +32,8 @@ pub fn number_of(r: Refusal) -> u8
 }
 
 // The outcome of the second test, unless the first has a refusal.
-pub fn and_then(a: Verdict, b: Verdict) -> Verdict
+pub fn and_then(a: Result<(), Refusal>, b: Result<(), Refusal>) -> Result<(), Refusal>
     ensures { result ≡ and_then a b }
 {
-    let Verdict::Bad(r) = a else {
-        return b;
-    };
-    Verdict::Bad(r)
+    a.and(b)
 }

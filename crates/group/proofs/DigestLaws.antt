@@ -11,8 +11,7 @@ use Rattle.area.specs.Area.{pick, part, same}
 use Rattle.area.proofs.Sets.{part_sets_same}
 use Rattle.blocks.specs.Code.{block_length, block_of}
 use Rattle.blocks.proofs.Stripes.{length_block_of}
-use Rattle.frame.specs.declared.Verdict.TheVariants as J
-use Rattle.frame.specs.Refusals.{refused}
+use Rattle.frame.specs.Refusals.{refused, fine}
 use Rattle.frame.specs.Messages.{Entry, entry}
 use Rattle.group_rules.specs.Coded.{fits, fit_test}
 use Rattle.frame.proofs.Writing.{part_at}
@@ -26,7 +25,7 @@ pub fit_bad : (H : List ℕ → List ℕ) (e : Entry) (j : ℕ) (b : Bool) → b
 unfolding fit_test pick
 fit_bad H e j b p q = let d : fits H e j ≡ false = sym p ∙ not-true b q in rw d
 
-pub fit_fine : (H : List ℕ → List ℕ) (e : Entry) (j : ℕ) (b : Bool) → b ≡ fits H e j → not b ≡ false → J.Fine ≡ fit_test H e j
+pub fit_fine : (H : List ℕ → List ℕ) (e : Entry) (j : ℕ) (b : Bool) → b ≡ fits H e j → not b ≡ false → fine ≡ fit_test H e j
 unfolding fit_test pick
 fit_fine H e j b p q = let d : fits H e j ≡ true = sym p ∙ not-false b q in rw d
 

@@ -4,7 +4,7 @@ ghost use Rattle.sha256.specs.Hash.{digest_of};
 ghost use Rattle.frame.specs.Messages.{entry};
 ghost use Rattle.group_rules.specs.Coded.{fits, fit_test};
 
-use frame::{Refusal, Verdict};
+use frame::Refusal;
 
 // Whether a block has the digest at place j of a digest list.
 pub fn block_fits(digests: &[u8], block: &[u8], j: usize) -> bool
@@ -18,12 +18,12 @@ pub fn block_fits(digests: &[u8], block: &[u8], j: usize) -> bool
 }
 
 // Refusal 14: a block against the digest at place j of a digest list.
-pub fn fit_test(digests: &[u8], block: &[u8], j: usize) -> Verdict
+pub fn fit_test(digests: &[u8], block: &[u8], j: usize) -> Result<(), Refusal>
     requires { (1 ≤ j) × (32 * j ≤ length digests.now) × (length block.now ≤ 256) }
     ensures { result ≡ fit_test digest_of (entry digests.now block.now) j }
 {
     if !block_fits(digests, block, j) {
-        return Verdict::Bad(Refusal::Digest);
+        return Err(Refusal::Digest);
     }
-    Verdict::Fine
+    Ok(())
 }

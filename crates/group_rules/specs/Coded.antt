@@ -4,9 +4,7 @@ use Rattle.std.proofs.Math.Option.{Option, none, some}
 use Rattle.area.specs.Area.{pick, part, same, joined}
 use Rattle.blocks.specs.declared.Params.{Params}
 use Rattle.blocks.specs.Code.{block_of, candidate, agree, decoded_all}
-use Rattle.frame.specs.declared.Verdict.{Verdict}
-use Rattle.frame.specs.declared.Verdict.TheVariants as J
-use Rattle.frame.specs.Refusals.{refused}
+use Rattle.frame.specs.Refusals.{refused, Verdict, fine}
 use Rattle.frame.specs.Messages.{Entry, entry}
 
 -- a block with its number
@@ -74,4 +72,4 @@ fits H e j = same (H e.block) (part e.digests (32 * j - 32) 32)
 
 -- refusal 14: "block against its digest"
 unfoldable pub fit_test : (List ℕ → List ℕ) → Entry → ℕ → Verdict
-fit_test H e j = pick (fits H e j) J.Fine (refused 14)
+fit_test H e j = pick (fits H e j) fine (refused 14)

@@ -9,7 +9,6 @@ use crate::print::{put_ready, put_refused};
 use blocks::Params;
 use console::failure::Failure;
 use console::output::put_what;
-use server_rules::Reply;
 use std::io::Write;
 
 // All parties afresh, or the refusal.
@@ -26,7 +25,7 @@ fn begin<W: Write>(
     ensures failed { IfErr result IsWriting }
 {
     let r = fresh_servers(g, value, areas, initials, records);
-    if let Reply::Refused(x) = r {
+    if let Err(x) = r {
         return put_refused(out, x);
     }
     h.ready = true;

@@ -13,12 +13,12 @@ use client::fresh::fresh_client;
 use client_rules::{Answer, Client};
 use console::counts::count_of;
 use console::failure::Failure;
-use frame::Party;
+use frame::{Refusal, Party};
 use frame::places::{AREA_BYTES, ROWS_BYTES};
 use layout::servers::SERVER_SIZE;
 use server_deliver::deliver;
 use server_deliver::fresh::fresh;
-use server_rules::{Reply, Server};
+use server_rules::Server;
 use std::io::Write;
 
 // The areas of all parties, with a place 0 for nobody: state areas, initial blocks and records of servers 1 to 10, rows areas and values of clients 1 to 8.
@@ -83,7 +83,7 @@ pub fn fresh_servers(
     areas: &mut [u8],
     initials: &mut [u8],
     records: &mut [u8],
-) -> Reply
+) -> Result<usize, Refusal>
     requires { Servers areas.old initials.old records.old }
 {
     for j in 1..11 {
@@ -98,22 +98,22 @@ pub fn fresh_servers(
             &mut initials[first..first + 256],
             &mut records[own..own + SERVER_SIZE],
         );
-        if let Reply::Refused(x) = reply {
-            return Reply::Refused(x);
+        if let Err(x) = reply {
+            return Err(x);
         }
         if g.n <= j {
             break;
         }
     }
-    Reply::Step(0)
+    Ok(0)
 }
 
-fn put_served<W: Write>(out: &mut W, r: Reply, frames: &[u8], to: &[u8]) -> Result<(), Failure>
+fn put_served<W: Write>(out: &mut W, r: Result<usize, Refusal>, frames: &[u8], to: &[u8]) -> Result<(), Failure>
     ensures failed { IfErr result IsWriting }
 {
     match r {
-        Reply::Step(count) => put_step(out, frames, to, count),
-        Reply::Refused(x) => put_refused(out, x),
+        Ok(count) => put_step(out, frames, to, count),
+        Err(x) => put_refused(out, x),
     }
 }
 

@@ -1,4 +1,5 @@
 -- What a host is answered when it asks about a frame, from the promises of the functions that the code calls. Assumes nothing.
+use Rattle.std.specs.Prelude.{Ok, Err}
 use Prim.Native.Nat.{ℕ, zero, suc, ◌+◌, ◌≤◌, ◌<◌}
 use native.Mathlib.Omega.{arith}
 use mathlib.Core.Path.{◌≡◌, refl, sym, ap, ◌∙◌}
@@ -16,11 +17,8 @@ use Rattle.area.proofs.Tests.{impossible}
 use Rattle.blocks.specs.declared.Params.{Params}
 use Rattle.frame.specs.declared.Header.{Header}
 use Rattle.frame.specs.declared.Refusal.{Refusal}
-use Rattle.frame.specs.declared.Verdict.{Verdict}
-use Rattle.frame.specs.declared.Verdict.TheVariants as J
-use Rattle.frame.specs.declared.Opened.{Opened}
-use Rattle.frame.specs.declared.Opened.TheVariants as O
-use Rattle.frame.specs.Refusals.{number_of}
+use Rattle.frame.specs.Frames.{Opened}
+use Rattle.frame.specs.Refusals.{number_of, Verdict, fine}
 use Rattle.frame.specs.Params.{bounds_test}
 use Rattle.frame.specs.Frames.{retired, body_at, length_of, body_length, opened, opening_response, opened_under, stamp_in, body_in}
 use Rattle.frame.proofs.Chain.{stop_bounds, within_bounds}
@@ -77,29 +75,29 @@ timed_by g f (suc (suc (suc (suc (suc (suc (suc (suc (suc (suc (suc (suc (suc (s
 
 -- ---- the time that a frame carries
 
-timed_of : (g : Params) (f : List ℕ) (h : Header) → opened g f ≡ O.Frame h → Timed g f h.kind
+timed_of : (g : Params) (f : List ℕ) (h : Header) → opened g f ≡ Ok h → Timed g f h.kind
 timed_of g f h e = let o = opens_facts g f h e in timed_by g f h.kind o.kind_low o.kind_high o.kind_used
 
-pub time_long : (g : Params) (f : List ℕ) (h : Header) → opened g f ≡ O.Frame h → carries_time h.kind ≡ true → 17 ≤ length f
+pub time_long : (g : Params) (f : List ℕ) (h : Header) → opened g f ≡ Ok h → carries_time h.kind ≡ true → 17 ≤ length f
 time_long g f h e c =
     let l = (opens_facts g f h e).length_is in
     let b = (timed_of g f h e).long c in
     omega (arith, l, b)
 
 module _ (g : Params) (f time : List ℕ) (v : Verdict) (p : v ≡ bounds_test g) where
-  pub time_bounds : (r : Refusal) (x : ℕ) → v ≡ J.Bad r → x ≡ number_of r → wrote x time ≡ time_call g f time
+  pub time_bounds : (r : Refusal) (x : ℕ) → v ≡ Err r → x ≡ number_of r → wrote x time ≡ time_call g f time
   unfolding time_call time_given
   time_bounds r x q e = ap (λ z. wrote z time) e ∙ ap (λ z. time_given g f z time) (stop_bounds g f v r p q)
 
-  module _ (fine : v ≡ J.Fine) (o : Opened) (e : o ≡ opened g f) where
-    pub time_refused : (r : Refusal) (x : ℕ) → o ≡ O.Refused r → x ≡ header_answer (opening_response o) → wrote x time ≡ time_call g f time
+  module _ (fine : v ≡ fine) (o : Opened) (e : o ≡ opened g f) where
+    pub time_refused : (r : Refusal) (x : ℕ) → o ≡ Err r → x ≡ header_answer (opening_response o) → wrote x time ≡ time_call g f time
     unfolding time_call time_given header_answer
     time_refused r x q a =
         ap (λ z. wrote z time) (a ∙ ap (λ z. header_answer (opening_response z)) q)
         ∙ ap (λ z. time_given g f (opening_response z) time) (sym q)
         ∙ ap (λ z. time_given g f z time) (within_bounds g f v o p fine e)
 
-    module _ (h : Header) (q : o ≡ O.Frame h) where
+    module _ (h : Header) (q : o ≡ Ok h) where
       -- the frame opens
       by_header : time_given g f (gives h) time ≡ time_call g f time
       unfolding time_call

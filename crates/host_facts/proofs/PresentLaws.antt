@@ -1,4 +1,5 @@
 -- What a host is answered when it asks for a server's present block, from the promises of the functions that the code calls. Assumes nothing.
+use Rattle.std.specs.Prelude.{Err}
 use Prim.Native.Nat.{ℕ, ◌≤◌, ◌<◌}
 use mathlib.Core.Path.{◌≡◌, sym, ap, ◌∙◌}
 use mathlib.Core.List.{List}
@@ -9,9 +10,7 @@ use Rattle.area.specs.Area.{pick}
 use Rattle.blocks.specs.declared.Params.{Params}
 use Rattle.frame.specs.declared.Stamp.{Stamp}
 use Rattle.frame.specs.declared.Refusal.{Refusal}
-use Rattle.frame.specs.declared.Verdict.{Verdict}
-use Rattle.frame.specs.declared.Verdict.TheVariants as J
-use Rattle.frame.specs.Refusals.{number_of}
+use Rattle.frame.specs.Refusals.{number_of, Verdict, fine}
 use Rattle.frame.specs.Params.{width, bounds_test}
 use Rattle.frame.specs.Chunks.{area_bytes}
 use Rattle.server_rules.specs.State.{present_block}
@@ -21,11 +20,11 @@ use Rattle.host_facts.specs.Outcomes.{Wrote, wrote}
 use Rattle.host_facts.specs.Present.{block_given, block_by, block_call}
 
 module _ (g : Params) (area initial state block : List ℕ) (v : Verdict) (p : v ≡ bounds_test g) where
-  pub block_bounds : (r : Refusal) (x : ℕ) → v ≡ J.Bad r → x ≡ number_of r → wrote x block ≡ block_call g area initial state block
+  pub block_bounds : (r : Refusal) (x : ℕ) → v ≡ Err r → x ≡ number_of r → wrote x block ≡ block_call g area initial state block
   unfolding block_call block_by
   block_bounds r x q e = ap (λ z. wrote z block) e ∙ ap (λ z. block_by z (block_given g area initial state block) block) (sym q ∙ p)
 
-  module _ (fine : v ≡ J.Fine) where
+  module _ (fine : v ≡ fine) where
     by_bounds : (x : Wrote) → x ≡ block_given g area initial state block → x ≡ block_call g area initial state block
     unfolding block_call block_by
     by_bounds x e = e ∙ ap (λ z. block_by z (block_given g area initial state block) block) (sym fine ∙ p)

@@ -1,4 +1,5 @@
 -- A host that asks about a frame that a party sent is told what the frame says: its kind, client and sequence, and its time. Assumes nothing.
+use Rattle.frame.specs.Refusals.{fine}
 use Prim.Native.Nat.{ℕ, ◌+◌, ◌*◌, ◌≤◌}
 use mathlib.Core.Path.{◌≡◌, refl, sym, ap, ◌∙◌}
 use mathlib.Core.List.{List}
@@ -7,7 +8,6 @@ use borrow.Author.Tests.{le-ltb}
 use Rattle.area.specs.Area.{pick}
 use Rattle.area.specs.Responses.{gives}
 use Rattle.blocks.specs.declared.Params.{Params}
-use Rattle.frame.specs.declared.Verdict.TheVariants as J
 use Rattle.frame.specs.Params.{bounds_test}
 use Rattle.frame.specs.Messages.{Message, Formed}
 use Rattle.frame.specs.Frames.{kind_of, build, opened, opening_response, opened_under, message_in, header_for}
@@ -17,10 +17,10 @@ use Rattle.frame.proofs.Within.{bounded_of}
 use Rattle.host_facts.specs.Outcomes.{wrote}
 use Rattle.host_facts.specs.Frames.{header_answer, header_call, time_of, timed, time_given, time_call}
 
-module _ (g : Params) (p : bounds_test g ≡ J.Fine) (m : Message) (F : Formed g m) where
+module _ (g : Params) (p : bounds_test g ≡ fine) (m : Message) (F : Formed g m) where
   given : opened_under g (build m) ≡ gives (header_for m)
   given =
-      sym (within_bounds g (build m) J.Fine (opened g (build m)) (sym p) refl refl) ∙ ap opening_response (opened_build g (bounded_of g p) m F).opens
+      sym (within_bounds g (build m) fine (opened g (build m)) (sym p) refl refl) ∙ ap opening_response (opened_build g (bounded_of g p) m F).opens
 
   pub header_told : header_call g (build m) ≡ 256 * kind_of m.body + 65536 * m.client + 16777216 * m.sequence
   unfolding header_call header_answer

@@ -1,11 +1,9 @@
 -- What a host is answered when it asks for a server's present block: this server's block of the value that it holds. These are definitions.
-use Rattle.std.specs.Prelude.{ℕ, List, length, ltb}
+use Rattle.std.specs.Prelude.{ℕ, List, length, ltb, Ok, Err}
 use Rattle.std.proofs.lemmas.List.Edits.{sets}
 use Rattle.area.specs.Area.{pick}
 use Rattle.blocks.specs.declared.Params.{Params}
-use Rattle.frame.specs.declared.Verdict.{Verdict}
-use Rattle.frame.specs.declared.Verdict.TheVariants as J
-use Rattle.frame.specs.Refusals.{number_of}
+use Rattle.frame.specs.Refusals.{number_of, Verdict}
 use Rattle.frame.specs.Params.{width, bounds_test}
 use Rattle.frame.specs.Chunks.{area_bytes}
 use Rattle.server_rules.specs.State.{present_block}
@@ -23,8 +21,8 @@ block_given g area initial state block =
 
 -- refusals 1 to 3 come first
 unfoldable pub block_by : Verdict → Wrote → List ℕ → Wrote
-block_by J.Fine x block = x
-block_by (J.Bad r) x block = wrote (number_of r) block
+block_by (Ok _) x block = x
+block_by (Err r) x block = wrote (number_of r) block
 
 unfoldable pub block_call : Params → List ℕ → List ℕ → List ℕ → List ℕ → Wrote
 block_call g area initial state block = block_by (bounds_test g) (block_given g area initial state block) block

@@ -10,20 +10,20 @@ use frame::bounds::bounds_test;
 use frame::opener::{open_frame, opened_under};
 use frame::places::BODY_AT;
 use frame::refusals::number_of;
-use frame::{Opened, Verdict};
+use frame::{Header, Refusal};
 
 // The bytes of a time.
 pub const TIME_BYTES: usize = 8;
 
 // The answer for a frame: the header's fields in the bytes from the second on, or the refusal's number.
-fn header_answer(o: Opened) -> u64
+fn header_answer(o: Result<Header, Refusal>) -> u64
     ensures { result ≡ header_answer (opening_response o) }
 {
     match o {
-        Opened::Frame(h) => 256 * h.kind as u64
+        Ok(h) => 256 * h.kind as u64
             + 65536 * h.client as u64
             + 16777216 * h.sequence as u64,
-        Opened::Refused(r) => number_of(r) as u64,
+        Err(r) => number_of(r) as u64,
     }
 }
 
@@ -56,11 +56,11 @@ pub fn frame_time(g: Params, f: &[u8], time: &mut [u8]) -> u64
     ensures { wrote result time.new ≡ time_call g f.now time.old }
 {
     let bounds = bounds_test(g);
-    if let Verdict::Bad(r) = bounds {
+    if let Err(r) = bounds {
         return number_of(r) as u64;
     }
     let opened = open_frame(g, f);
-    let Opened::Frame(h) = opened else {
+    let Ok(h) = opened else {
         return header_answer(opened);
     };
     if time.len() < TIME_BYTES {

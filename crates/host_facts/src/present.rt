@@ -4,7 +4,6 @@ ghost use Rattle.host_facts.specs.Outcomes.{wrote};
 ghost use Rattle.host_facts.specs.Present.{block_call};
 
 use blocks::Params;
-use frame::Verdict;
 use frame::bounds::{bounds_test, width};
 use frame::places::AREA_BYTES;
 use frame::refusals::number_of;
@@ -24,7 +23,7 @@ pub fn server_block<'a>(
         ≡ block_call g area.now initial.now state.now block.old }
 {
     let bounds = bounds_test(g);
-    if let Verdict::Bad(r) = bounds {
+    if let Err(r) = bounds {
         return number_of(r) as u64;
     }
     let w = width(g);

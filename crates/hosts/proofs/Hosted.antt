@@ -1,4 +1,5 @@
 -- A list of exported calls makes a run: the bytes that hosts keep say the parties of its world. Assumes nothing.
+use Rattle.std.specs.Prelude.{Ok, Err}
 use Prim.Native.Nat.{ℕ, ◌+◌, ◌*◌, ◌%◌, ◌≤◌, ◌<◌}
 use native.Mathlib.Omega.{arith}
 use native.Mathlib.Decide.{ℕ_discrete}
@@ -18,10 +19,8 @@ use Rattle.sha256.specs.Hash.{digest_of}
 use Rattle.blocks.specs.declared.Params.{Params}
 use Rattle.frame.specs.declared.Party.{Party}
 use Rattle.frame.specs.declared.Party.TheVariants as P
-use Rattle.frame.specs.declared.Verdict.{Verdict}
-use Rattle.frame.specs.declared.Verdict.TheVariants as J
 use Rattle.frame.specs.declared.Refusal.{Refusal}
-use Rattle.frame.specs.Refusals.{number_of, answered_by}
+use Rattle.frame.specs.Refusals.{number_of, answered_by, Verdict, fine}
 use Rattle.frame.specs.declared.Stamp.{Stamp}
 use Rattle.frame.specs.Frames.{header_in, stamp_bytes}
 use Rattle.frame.specs.Messages.{number_in}
@@ -118,7 +117,7 @@ fresh_long state h =
 
 -- ---- a fresh server
 
-made_fine : (H : List ℕ → List ℕ) (g : Params) (i : ℕ) (v a b : List ℕ) → SD.construct_test H g i v (length a) (length b) ≡ J.Fine
+made_fine : (H : List ℕ → List ℕ) (g : Params) (i : ℕ) (v a b : List ℕ) → SD.construct_test H g i v (length a) (length b) ≡ fine
     → is_turned_down (SD.construction H g i v a b).reply ≡ false
 unfolding SD.construction SD.construct_by is_turned_down
 made_fine H g i v a b e = ap (λ t. is_turned_down (SD.construct_by H g i t v a b).reply) e
@@ -160,8 +159,8 @@ refused_low r = let h = number_bounds r in ne_eqb (number_of r % 65536) 0 (λ e.
 kept_by_lem : (Z : Setup) (w : World) (n m : ℕ) (b : Verdict) (v old : List ℕ)
     → kept_by (client_answer n (answered_by b (goes_on m))) v old ≡ value_by Z w (answered_by b (goes_on m)) v old
 unfolding client_answer pick
-kept_by_lem Z w n m J.Fine v old = let h : 65536 * (m % 65536) % 65536 ≡ 0 = omega arith in ap (λ x. pick (eqb x 0) v old) h
-kept_by_lem Z w n m (J.Bad r) v old = ap (λ b. pick b v old) (refused_low r)
+kept_by_lem Z w n m (Ok _) v old = let h : 65536 * (m % 65536) % 65536 ≡ 0 = omega arith in ap (λ x. pick (eqb x 0) v old) h
+kept_by_lem Z w n m (Err r) v old = ap (λ b. pick b v old) (refused_low r)
 
 kept_is : (Z : Setup) (w : World) (c : ℕ) (s : Client) (v out to old : List ℕ)
     → let a = (CB.write_beginning Z.g c s v out to).answer in kept_by (client_answer Z.g.n a) v old ≡ value_by Z w a v old

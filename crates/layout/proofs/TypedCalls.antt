@@ -1,4 +1,5 @@
 -- A client's record that bytes say has its numbers within their widths, and a client's calls keep them there. Assumes nothing.
+use Rattle.std.specs.Prelude.{Ok, Err}
 use Prim.Native.Nat.{ℕ, zero, suc, ◌+◌, max}
 use native.Mathlib.Omega.{arith}
 use borrow.Author.Tests.{ltb-true, leb-false}
@@ -15,9 +16,7 @@ use Rattle.blocks.specs.declared.Params.{Params}
 use Rattle.frame.specs.declared.Stamp.{Stamp}
 use Rattle.frame.specs.declared.Party.{Party}
 use Rattle.frame.specs.declared.Refusal.TheVariants as R
-use Rattle.frame.specs.declared.Verdict.{Verdict}
-use Rattle.frame.specs.declared.Verdict.TheVariants as J
-use Rattle.frame.specs.Refusals.{and_then}
+use Rattle.frame.specs.Refusals.{and_then, Verdict, fine}
 use Rattle.frame.specs.Params.{params_test}
 use Rattle.frame.specs.Stamps.{zero_stamp, last_sequence, last_client}
 use Rattle.frame.specs.Messages.{Body, stamp_is, value_is, report, FormedBody, Message, number_in, judged_by, after}
@@ -86,29 +85,29 @@ typed_client_fresh = fresh_within client_widths fresh_parts (omega arith)
 -- ---- an operation begins
 
 -- an operation begins only if a number is left for it
-number_left : (p : Phase) (last : ℕ) → idle_test p last ≡ J.Fine → Word (last + 1)
+number_left : (p : Phase) (last : ℕ) → idle_test p last ≡ fine → Word (last + 1)
 number_left p last e =
     let u = (fine_not (not (idle p)) R.Busy _ e).1 in
-    let h = leb-false last_sequence last (fine_not (leb last_sequence last) R.Exhausted J.Fine u).0 in
+    let h = leb-false last_sequence last (fine_not (leb last_sequence last) R.Exhausted fine u).0 in
     omega (arith, h)
 
 module _ (g : Params) (me : ℕ) (s : Client) (t : TypedClient s) where
-  typed_begun : (v : Verdict) (x : Effect) → (v ≡ J.Fine → TypedClient x.client) → TypedClient (begin_by g me v s x).client
+  typed_begun : (v : Verdict) (x : Effect) → (v ≡ fine → TypedClient x.client) → TypedClient (begin_by g me v s x).client
   unfolding begin_by
-  typed_begun J.Fine x h = h refl
-  typed_begun (J.Bad r) x h = t
+  typed_begun (Ok _) x h = h refl
+  typed_begun (Err r) x h = t
 
-  read_open : idle_test s.phase s.reads ≡ J.Fine → TypedClient (open_read g me s).client
+  read_open : idle_test s.phase s.reads ≡ fine → TypedClient (open_read g me s).client
   read_open e = read_within client_widths fresh_parts g me s t (number_left s.phase s.reads e)
 
-  write_open_lem : idle_test s.phase s.writes ≡ J.Fine → TypedClient (open_write g me s).client
+  write_open_lem : idle_test s.phase s.writes ≡ fine → TypedClient (open_write g me s).client
   write_open_lem e = write_within client_widths fresh_parts g me s t (number_left s.phase s.writes e)
 
-  read_left : (out to : List ℕ) → read_test g me s out to ≡ J.Fine → idle_test s.phase s.reads ≡ J.Fine
+  read_left : (out to : List ℕ) → read_test g me s out to ≡ fine → idle_test s.phase s.reads ≡ fine
   unfolding read_test
   read_left out to e = (fine_both (send_room g (length out) (length to)) _ (fine_both (params_test g me last_client) _ e).1).1
 
-  write_left : (v out to : List ℕ) → write_test g me s v out to ≡ J.Fine → idle_test s.phase s.writes ≡ J.Fine
+  write_left : (v out to : List ℕ) → write_test g me s v out to ≡ fine → idle_test s.phase s.writes ≡ fine
   unfolding write_test
   write_left v out to e =
       let a = (fine_both (params_test g me last_client) _ e).1 in
@@ -172,17 +171,17 @@ module _ (H : List ℕ → List ℕ) (g : Params) (me : ℕ) where
     -- v is the verdict of refusals 10 to 14; a frame that is turned down changes nothing
     typed_judged : (v : Verdict) (m : Message) → FormedBody g m.body → TypedClient (effect_by H g me (judged_by v m) s a value from).client
     unfolding effect_by
-    typed_judged J.Fine m h =
+    typed_judged (Ok _) m h =
         step_within client_widths H g me s a value (number_in from) t (shape_of H g me s a value from m) (typed_grants (number_in from) m.body h)
-    typed_judged (J.Bad r) m h = t
+    typed_judged (Err r) m h = t
 
     -- p is the verdict of refusals 1 to 3, u of 4 to 9, v of 10
     typed_after : (f : List ℕ) (p u v : Verdict) → Bytes f → frame_test g f ≡ u
         → TypedClient (effect_by H g me (after p (judge_opened H g me (opened_by u (header_in f)) v s from f)) s a value from).client
     unfolding effect_by judge_opened opened
-    typed_after f (J.Bad r) u v i e = t
-    typed_after f J.Fine (J.Bad r) v i e = t
-    typed_after f J.Fine J.Fine v i e =
+    typed_after f (Err r) u v i e = t
+    typed_after f (Ok _) (Err r) v i e = t
+    typed_after f (Ok _) (Ok _) v i e =
         let o = formed_opened g f (header_in f) i (ap (λ (z : Verdict). opened_by z (header_in f)) e) in
         typed_judged (and_then v (message_test H g me s from (message_in g (header_in f) f))) (message_in g (header_in f) f) o.body
 

@@ -1,4 +1,5 @@
 -- A server's record read from bytes has its numbers within their widths, and the delivery of a frame of bytes keeps them there. Assumes nothing.
+use Rattle.std.specs.Prelude.{Ok, Err}
 use Prim.Native.Nat.{ℕ, zero, suc, ◌+◌, ◌*◌, ◌≤◌}
 use native.Mathlib.Omega.{arith}
 use mathlib.Core.Path.{◌≡◌, refl, ap, subst, ◌∙◌}
@@ -13,9 +14,7 @@ use Rattle.area.proofs.Fills.{length_table}
 use Rattle.blocks.specs.declared.Params.{Params}
 use Rattle.frame.specs.declared.Party.{Party}
 use Rattle.frame.specs.declared.Refusal.TheVariants as R
-use Rattle.frame.specs.declared.Verdict.{Verdict}
-use Rattle.frame.specs.declared.Verdict.TheVariants as J
-use Rattle.frame.specs.Refusals.{and_then}
+use Rattle.frame.specs.Refusals.{and_then, Verdict}
 use Rattle.frame.specs.Params.{params_test}
 use Rattle.frame.specs.Messages.{Body, Message, number_in, judged_by, after}
 use Rattle.frame.specs.Frames.{sequence_at, body_at, header_in, frame_test, opened_by, opened, body_in, message_in}
@@ -132,18 +131,18 @@ module _ (H : List ℕ → List ℕ) (g : Params) (me : ℕ) (s : Server) (t : T
   typed_judged : (v room : Verdict) (m : Message) → m.client ≤ 8 → Word m.sequence → TimeIn widths m.body
       → and_then room (message_test H g me s from m) ≡ v → TypedServer (effect_by H g me (judged_by v m) s a initial from).server
   unfolding effect_by message_test
-  typed_judged J.Fine room m few w h e =
+  typed_judged (Ok _) room m few w h e =
       step_within widths H g me s a initial (number_in from) m.client m.sequence t few (shape_of H g me s a initial from m)
       (granted (number_in from) m.client m.sequence m.body few w h)
-  typed_judged (J.Bad r) room m few w h e = t
+  typed_judged (Err r) room m few w h e = t
 
   -- p is the verdict of refusals 1 to 3, u of 4 to 9, v of 10
   typed_after : (f : List ℕ) (p u v : Verdict) → Bytes f → frame_test g f ≡ u
       → TypedServer (effect_by H g me (after p (judge_opened H g me (opened_by u (header_in f)) v s from f)) s a initial from).server
   unfolding effect_by judge_opened opened header_in message_in
-  typed_after f (J.Bad r) u v i e = t
-  typed_after f J.Fine (J.Bad r) v i e = t
-  typed_after f J.Fine J.Fine v i e =
+  typed_after f (Err r) u v i e = t
+  typed_after f (Ok _) (Err r) v i e = t
+  typed_after f (Ok _) (Ok _) v i e =
       let o = opens_facts g f (header_in f) (ap (λ (z : Verdict). opened_by z (header_in f)) e) in
       typed_judged (and_then v (message_test H g me s from (message_in g (header_in f) f))) v (message_in g (header_in f) f) o.client_high
       (be4_range f sequence_at i) (body_in_lem g (header_in f).kind f i) refl

@@ -1,6 +1,7 @@
 // A fresh server is made.
 ghost use Rattle.std.specs.Prelude.{◌≤◌, length};
 
+use frame::Refusal;
 use crate::shown::refused;
 use crate::trial::{Trial, at_most, told};
 use blocks::Params;
@@ -8,7 +9,6 @@ use case_text::report::result;
 use case_text::text::{bytes, put_bytes, word_at};
 use layout::servers::SERVER_SIZE;
 use server_deliver::fresh::fresh;
-use server_rules::Reply;
 use std::io;
 use std::io::Write;
 
@@ -17,13 +17,13 @@ fn stored<W: Write>(
     report: &mut W,
     line: &[u8],
     expected: usize,
-    reply: Reply,
+    reply: Result<usize, Refusal>,
     area: &[u8],
     initial: &[u8],
 ) -> io::Result<()>
     requires { expected ≤ length line.now }
 {
-    if let Reply::Refused(r) = reply {
+    if let Err(r) = reply {
         return refused(report, b"fresh ", line, expected, r);
     }
     let a = at_most(area.len(), 128);

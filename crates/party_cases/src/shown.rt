@@ -7,7 +7,6 @@ use case_text::report::result;
 use case_text::text::put_bytes;
 use frame::Refusal;
 use frame::refusals::number_of;
-use server_rules::Reply;
 use std::io;
 use std::io::Write;
 
@@ -98,7 +97,7 @@ pub fn replied<W: Write>(
     report: &mut W,
     line: &[u8],
     expected: usize,
-    reply: Reply,
+    reply: Result<usize, Refusal>,
     out: &[u8],
     to: &[u8],
     whole: bool,
@@ -106,8 +105,8 @@ pub fn replied<W: Write>(
     requires { expected ≤ length line.now }
 {
     match reply {
-        Reply::Refused(r) => refused(report, b"deliver ", line, expected, r),
-        Reply::Step(count) if count <= 32 => shown(report, line, expected, count, out, to, whole),
-        Reply::Step(_) => Ok(()),
+        Err(r) => refused(report, b"deliver ", line, expected, r),
+        Ok(count) if count <= 32 => shown(report, line, expected, count, out, to, whole),
+        Ok(_) => Ok(()),
     }
 }

@@ -1,4 +1,5 @@
 -- A step on the record's bytes is the step of the server that the bytes say; the same of making a fresh server. Assumes nothing.
+use Rattle.frame.specs.Refusals.{Verdict, fine}
 use Prim.Native.Nat.{ℕ, ◌≤◌}
 use native.Mathlib.Omega.{arith}
 use mathlib.Core.Path.{◌≡◌, refl, sym, ap, ◌∙◌}
@@ -11,8 +12,6 @@ use Rattle.area.specs.Responses.{Response, is_turned_down}
 use Rattle.sha256.specs.Hash.{digest_of}
 use Rattle.blocks.specs.declared.Params.{Params}
 use Rattle.frame.specs.declared.Party.{Party}
-use Rattle.frame.specs.declared.Verdict.{Verdict}
-use Rattle.frame.specs.declared.Verdict.TheVariants as J
 use Rattle.frame.specs.Frames.{client_at}
 use Rattle.server_rules.specs.declared.Server.{Server}
 use Rattle.server_rules.specs.State.{fresh_server}
@@ -45,7 +44,7 @@ module _ (g : Params) (me : ℕ) (from : Party) (f area initial state out to : L
       ∙ ap (λ (s : Server). sets l 0 (server_bytes s)) (sym says)
 
 module _ (g : Params) (me : ℕ) (v area initial state : List ℕ) (long : server_size ≤ length state)
-    (t : SD.construct_test digest_of g me v (length area) (length initial) ≡ J.Fine) (r : Response ℕ) (ar i st : List ℕ)
+    (t : SD.construct_test digest_of g me v (length area) (length initial) ≡ fine) (r : Response ℕ) (ar i st : List ℕ)
     (e : byte_constructed r ar i st ≡ byte_construction digest_of g me v area initial state) where
   fine : is_turned_down (SD.construction digest_of g me v area initial).reply ≡ false
   unfolding SD.construction SD.construct_by is_turned_down

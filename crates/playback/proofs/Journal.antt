@@ -10,7 +10,6 @@ use Rattle.area.specs.Area.{pick, Bytes}
 use Rattle.area.specs.Responses.{Response, gives, is_turned_down}
 use Rattle.sha256.specs.Hash.{digest_of}
 use Rattle.blocks.specs.declared.Params.{Params}
-use Rattle.frame.specs.declared.Verdict.TheVariants as J
 use Rattle.layout.specs.Left.{left_by}
 use Rattle.layout.specs.Servers.{server_size, server_bytes, server_in}
 use Rattle.server_rules.specs.declared.Server.{Server}

@@ -1,4 +1,6 @@
 -- The room that entries need. Assumes nothing.
+use Rattle.frame.specs.Refusals.{fine}
+use Rattle.std.specs.Prelude.{Err}
 use Prim.Native.Nat.{ℕ, ◌+◌, ◌*◌, ◌/◌, ◌≤◌, ◌<◌}
 use native.Mathlib.Omega.{arith}
 use native.Mathlib.Nat.{mul-le-mul, div-lt_iff_lt-mul}
@@ -8,7 +10,6 @@ use borrow.Author.Tests.{lt-ltb, le-ltb}
 use Rattle.area.specs.Area.{pick}
 use Rattle.blocks.specs.declared.Params.{Params}
 use Rattle.frame.specs.declared.Refusal.TheVariants as R
-use Rattle.frame.specs.declared.Verdict.TheVariants as J
 use Rattle.frame.specs.Params.{largest_frame}
 use Rattle.playback.specs.Playback.{entry_need, out_test}
 
@@ -22,14 +23,14 @@ need_is g f e = ap (λ x. 3 + (9 * g.n + 136) * (x + 2)) e
 
 -- a division in place of a product, which might not fit into a machine number
 module _ (g : Params) (need count out : ℕ) (e : need ≡ entry_need g) (some : 1 ≤ need) where
-  pub out_short : out / need < count → J.Bad R.Room ≡ out_test g count out
+  pub out_short : out / need < count → Err R.Room ≡ out_test g count out
   unfolding out_test pick
   out_short h =
       let w : out < count * need = (div-lt_iff_lt-mul some).0 h in
       let v : out < count * entry_need g = rw (← e) w in
       rw (lt-ltb _ _ v)
 
-  pub out_enough : count ≤ out / need → J.Fine ≡ out_test g count out
+  pub out_enough : count ≤ out / need → fine ≡ out_test g count out
   unfolding out_test pick
   out_enough h =
       let w : count * need ≤ out = go (dec_lt out (count * need)) in

@@ -1,4 +1,5 @@
 -- The outcome of a playback, from its stages. Assumes nothing.
+use Rattle.std.specs.Prelude.{Err}
 use Prim.Native.Nat.{ℕ, ◌≤◌, ◌<◌}
 use native.Mathlib.Omega.{arith}
 use native.Mathlib.Decide.{dec_lt}
@@ -12,13 +13,10 @@ use Rattle.area.specs.Responses.{turned_down, gives, is_turned_down}
 use Rattle.sha256.specs.Hash.{digest_of}
 use Rattle.blocks.specs.declared.Params.{Params}
 use Rattle.frame.specs.declared.Refusal.{Refusal}
-use Rattle.frame.specs.declared.Verdict.{Verdict}
-use Rattle.frame.specs.declared.Verdict.TheVariants as J
 use Rattle.frame.specs.Params.{Bounded}
-use Rattle.frame.specs.Refusals.{number_of, answered_by, and_then}
+use Rattle.frame.specs.Refusals.{number_of, answered_by, and_then, Verdict, fine}
 use Rattle.frame.proofs.Within.{stop_first, go_second}
-use Rattle.server_rules.specs.declared.Reply.{Reply}
-use Rattle.server_rules.specs.declared.Reply.TheVariants as Y
+use Rattle.server_rules.specs.Delivery.{Reply}
 use Rattle.server_rules.specs.Delivery.{reply_response, reply_number, construct_test}
 use Rattle.server.proofs.Constructing.{sound_of}
 use Rattle.layout.specs.Left.{left_by}
@@ -34,7 +32,7 @@ use Rattle.playback.specs.Playback.{End, whole, end_in, ending_of, Outcome, out_
 use Rattle.playback.specs.Records.{bytes_played, played_after, played_at, short_playback, byte_playback}
 use Rattle.playback.specs.Stages.{done, played_all}
 
-pub refused_number : (a : Reply) (r : Refusal) (x : ℕ) → a ≡ Y.Refused r → x ≡ number_of r → x ≡ reply_number (reply_response a)
+pub refused_number : (a : Reply) (r : Refusal) (x : ℕ) → a ≡ Err r → x ≡ number_of r → x ≡ reply_number (reply_response a)
 unfolding reply_number
 refused_number a r x e f = f ∙ sym (ap (λ z. reply_number (reply_response z)) e)
 
@@ -64,14 +62,14 @@ module _ (g : Params) (me : ℕ) (v trace a initial state out : List ℕ) where
   unfolding byte_playback pick
   whole_played h = rw (le-ltb _ _ h)
 
-  refused_by : server_size ≤ length state → (r : Refusal) → test ≡ J.Bad r
+  refused_by : server_size ≤ length state → (r : Refusal) → test ≡ Err r
       → bytes_played (turned_down (number_of r)) a initial state out ≡ byte_playback digest_of g me v trace a initial state out
   unfolding playback_by played_at played_after left_by is_turned_down pick
-  refused_by h r e = ap (λ (y : Outcome). played_at y state) (by_verdict (J.Bad r) e) ∙ whole_played h
+  refused_by h r e = ap (λ (y : Outcome). played_at y state) (by_verdict (Err r) e) ∙ whole_played h
 
   -- refusals 1 to 3, and 10 of the record's area
   module _ (w : Verdict) (i : w ≡ fresh_test g me (length v) (length state)) where
-    pub record_refused : (r : Refusal) → w ≡ J.Bad r
+    pub record_refused : (r : Refusal) → w ≡ Err r
         → bytes_played (turned_down (number_of r)) a initial state out ≡ byte_playback digest_of g me v trace a initial state out
     unfolding short_playback play_test
     record_refused r f = go (dec_lt (length state) server_size)
@@ -86,18 +84,18 @@ module _ (g : Params) (me : ℕ) (v trace a initial state out : List ℕ) where
             refused_by l r (ap (λ (y : Verdict). and_then y (out_test g (length t.entries) (length out)))
             (same_refusal g me v a initial state l r (sym i ∙ f)))
 
-    module _ (f : w ≡ J.Fine) where
+    module _ (f : w ≡ fine) where
       long : server_size ≤ length state
       long = (fine_fresh g me (length v) (length state) w i f).1
 
       module _ (u : Verdict) (e : u ≡ construct_test digest_of g me v (length a) (length initial)) where
         -- refusal 10 of the state area and of the initial block's area
-        pub play_refused : (r : Refusal) → u ≡ J.Bad r
+        pub play_refused : (r : Refusal) → u ≡ Err r
             → bytes_played (turned_down (number_of r)) a initial state out ≡ byte_playback digest_of g me v trace a initial state out
         unfolding play_test
         play_refused r z = refused_by long r (sym (stop_first _ _ u r e z))
 
-        module _ (z : u ≡ J.Fine) (k : Survey) (s : surveyed k ≡ survey_of t) where
+        module _ (z : u ≡ fine) (k : Survey) (s : surveyed k ≡ survey_of t) where
           counted : k.count ≡ length t.entries
           unfolding survey_of
           counted = ap (λ (y : Surveyed). y.count) s
@@ -118,12 +116,12 @@ module _ (g : Params) (me : ℕ) (v trace a initial state out : List ℕ) where
             tested = go_second _ _ u x e z (o ∙ ap (λ (n : ℕ). out_test g n (length out)) counted)
 
             -- refusal 10 of the out area
-            pub out_refused : (r : Refusal) → x ≡ J.Bad r
+            pub out_refused : (r : Refusal) → x ≡ Err r
                 → bytes_played (turned_down (number_of r)) a initial state out ≡ byte_playback digest_of g me v trace a initial state out
             out_refused r h = refused_by long r (sym tested ∙ h)
 
-            module _ (h : x ≡ J.Fine) where
-              pub test_fine : (test ≡ J.Fine) × (server_size ≤ length state)
+            module _ (h : x ≡ fine) where
+              pub test_fine : (test ≡ fine) × (server_size ≤ length state)
               test_fine = (sym tested ∙ h, long)
 
               pub play_done : (used : ℕ) (a' i' s' o' : List ℕ) (y : Ending) → done used a' i' s' o' ≡ played_all digest_of g me v t a initial state out
@@ -135,5 +133,5 @@ module _ (g : Params) (me : ℕ) (v trace a initial state out : List ℕ) where
                   let w : end_in y ≡ ending_of t.closing (length t.entries) = j ∙ ap₂ ending_of closes counted in
                   (λ l. bytes_played (gives (record { entries = counted l; bytes = (q l).used; ending = w l }))
                   (q l).area (q l).initial (q l).state (q l).out)
-                  ∙ ap (λ (z : Outcome). played_at z state) (by_verdict J.Fine (sym tested ∙ h))
+                  ∙ ap (λ (z : Outcome). played_at z state) (by_verdict fine (sym tested ∙ h))
                   ∙ whole_played long

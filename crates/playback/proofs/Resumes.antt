@@ -1,4 +1,5 @@
 -- The loop that goes on with the entries of a trace, and the outcome of the call. Assumes nothing.
+use Rattle.std.specs.Prelude.{Err}
 use Prim.Native.Nat.{ℕ, ◌+◌, ◌-◌, ◌≤◌, ◌<◌}
 use native.Mathlib.Omega.{arith}
 use mathlib.Core.Path.{◌≡◌, refl, sym, ap, ap₂, ◌∙◌}
@@ -12,9 +13,7 @@ use Rattle.sha256.specs.Hash.{digest_of}
 use Rattle.blocks.specs.declared.Params.{Params}
 use Rattle.frame.specs.declared.Refusal.{Refusal}
 use Rattle.frame.specs.declared.Refusal.TheVariants as Refusals
-use Rattle.frame.specs.declared.Verdict.{Verdict}
-use Rattle.frame.specs.declared.Verdict.TheVariants as J
-use Rattle.frame.specs.Refusals.{number_of}
+use Rattle.frame.specs.Refusals.{number_of, Verdict, fine}
 use Rattle.frame.specs.Params.{params_test}
 use Rattle.frame.proofs.Within.{stop_first, go_second}
 use Rattle.server_rules.specs.Tests.{room_test}
@@ -34,15 +33,15 @@ use Rattle.playback.specs.Resume.{Areas, areas, areas_of, handed_to, resumed, re
 -- ---- the tests
 
 module _ (g : Params) (me state area initial out to : ℕ) (p : Verdict) (e : p ≡ params_test g me g.n) where
-  pub params_refused : (r : Refusal) → p ≡ J.Bad r → J.Bad r ≡ resume_test g me state area initial out to
+  pub params_refused : (r : Refusal) → p ≡ Err r → Err r ≡ resume_test g me state area initial out to
   unfolding resume_test
   params_refused r f = stop_first _ _ p r e f
 
-  pub record_refused : p ≡ J.Fine → state < server_size → J.Bad Refusals.Room ≡ resume_test g me state area initial out to
+  pub record_refused : p ≡ fine → state < server_size → Err Refusals.Room ≡ resume_test g me state area initial out to
   unfolding resume_test rooms_test pick
   record_refused f h = go_second _ _ p _ e f (rw (lt-ltb _ _ h))
 
-  pub rooms_tested : p ≡ J.Fine → server_size ≤ state → (v : Verdict) → v ≡ room_test g area initial out to → v ≡ resume_test g me state area initial out to
+  pub rooms_tested : p ≡ fine → server_size ≤ state → (v : Verdict) → v ≡ room_test g area initial out to → v ≡ resume_test g me state area initial out to
   unfolding resume_test rooms_test pick
   rooms_tested f h v i = go_second _ _ p _ e f (rw (le-ltb _ _ h) i)
 
@@ -91,11 +90,11 @@ module _ (g : Params) (me : ℕ) (initial trace : List ℕ) (whole : Areas) wher
 
 module _ (g : Params) (me : ℕ) (initial trace : List ℕ) (l : Areas) (t : Verdict)
     (e : t ≡ resume_test g me (length l.state) (length l.area) (length initial) (length l.out) (length l.to)) where
-  pub resume_refused : (r : Refusal) → t ≡ J.Bad r → resumption (turned_down (number_of r)) l ≡ byte_resumption digest_of g me initial trace l
+  pub resume_refused : (r : Refusal) → t ≡ Err r → resumption (turned_down (number_of r)) l ≡ byte_resumption digest_of g me initial trace l
   unfolding byte_resumption resumption_by
   resume_refused r f = ap (λ (v : Verdict). resumption_by digest_of g me initial v (trace_of trace) l) (sym f ∙ e)
 
-  module _ (f : t ≡ J.Fine) (k : Survey) (s : surveyed k ≡ survey_of (trace_of trace)) where
+  module _ (f : t ≡ fine) (k : Survey) (s : surveyed k ≡ survey_of (trace_of trace)) where
     counted : k.count ≡ length (trace_of trace).entries
     unfolding survey_of
     counted = ap (λ (y : Surveyed). y.count) s

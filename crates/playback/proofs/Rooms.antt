@@ -1,5 +1,7 @@
 -- A step with enough room does not depend on the areas that are lent to it: reply, server, state area and what is sent are those of a playback's step.
 -- Assumes nothing.
+use Rattle.std.specs.Prelude.{Ok, Err}
+use Rattle.frame.specs.Refusals.{Verdict, fine}
 use Prim.Native.Nat.{ℕ}
 use native.Mathlib.Omega.{arith}
 use mathlib.Core.Path.{◌≡◌, refl, sym, ap, ◌∙◌}
@@ -10,9 +12,7 @@ use lib.Dec.{ltb}
 use borrow.Author.Tests.{le-ltb}
 use Rattle.area.specs.Area.{pick}
 use Rattle.blocks.specs.declared.Params.{Params}
-use Rattle.frame.specs.declared.Verdict.{Verdict}
 use Rattle.frame.specs.declared.Refusal.TheVariants as R
-use Rattle.frame.specs.declared.Verdict.TheVariants as J
 use Rattle.frame.specs.Params.{width, server_frames, out_room, to_room, params_test}
 use Rattle.frame.specs.Messages.{Judged, bad, good, after}
 use Rattle.frame.specs.Frames.{opened}
@@ -31,7 +31,7 @@ use Rattle.playback.specs.Theorem.{Enough}
 
 -- refusal 10 without the tests of the out and to areas
 abbrev areas_test : Params → ℕ → ℕ → Verdict
-areas_test g area initial = pick (ltb area area_bytes) (J.Bad R.Room) (pick (ltb initial (width g)) (J.Bad R.Room) J.Fine)
+areas_test g area initial = pick (ltb area area_bytes) (Err R.Room) (pick (ltb initial (width g)) (Err R.Room) fine)
 
 roomy : (g : Params) (area initial : ℕ) (out to : List ℕ) → Enough g out to → ST.room_test g area initial (length out) (length to) ≡ areas_test g area initial
 unfolding ST.room_test pick
@@ -101,5 +101,5 @@ unfolding SD.construction SD.construct_by
 same_initial H g me v a initial = go (SD.construct_test H g me v (length a) (length initial))
   where
     go : (t : Verdict) → length (SD.construct_by H g me t v a initial).initial ≡ length initial
-    go (J.Bad r) = refl
-    go J.Fine = length-sets initial 0 (block_at H g v me)
+    go (Err r) = refl
+    go (Ok _) = length-sets initial 0 (block_at H g v me)

@@ -1,4 +1,6 @@
 -- A server that plays a trace stays well formed: what it sends can be written as frames, and has room. Assumes nothing.
+use Rattle.std.specs.Prelude.{Ok, Err}
+use Rattle.frame.specs.Refusals.{Verdict}
 use Prim.Native.Nat.{ℕ, ◌+◌, ◌≤◌}
 use native.Mathlib.Omega.{arith}
 use mathlib.Core.Path.{sym, subst}
@@ -6,8 +8,6 @@ use mathlib.Core.List.{List}
 use lib.ListN.{length}
 use Rattle.area.specs.Area.{Bytes}
 use Rattle.blocks.specs.declared.Params.{Params}
-use Rattle.frame.specs.declared.Verdict.{Verdict}
-use Rattle.frame.specs.declared.Verdict.TheVariants as J
 use Rattle.frame.specs.Params.{width, server_frames, Bounded}
 use Rattle.frame.specs.Chunks.{area_bytes}
 use Rattle.frame.specs.Messages.{Formed}
@@ -38,8 +38,8 @@ module _ (H : List ℕ → List ℕ) (g : Params) (B : Bounded g) (me : ℕ) whe
   }
     where
       go : (t : Verdict) → InBounds (SD.construct_by H g me t v a initial).server
-      go (J.Bad r) = in_bounds_fresh
-      go J.Fine = in_bounds_fresh
+      go (Err r) = in_bounds_fresh
+      go (Ok _) = in_bounds_fresh
 
   -- ---- a step
 

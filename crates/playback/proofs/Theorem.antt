@@ -1,4 +1,5 @@
 -- A playback is the steps one after the other, and its out area says what they answered and sent. Assumes nothing.
+use Rattle.std.specs.Prelude.{Ok, Err}
 use Prim.Native.Nat.{ℕ, ◌+◌, ◌*◌, ◌≤◌}
 use native.Mathlib.Omega.{arith}
 use native.Mathlib.Nat.{mul-le-mul_right}
@@ -16,9 +17,7 @@ use Rattle.area.proofs.Sets.{sets_append, part_sets_same, part_sets_before}
 use Rattle.quorum.proofs.Logic.{impossible}
 use Rattle.blocks.specs.declared.Params.{Params}
 use Rattle.frame.specs.declared.Refusal.TheVariants as Refusals
-use Rattle.frame.specs.declared.Verdict.{Verdict}
-use Rattle.frame.specs.declared.Verdict.TheVariants as J
-use Rattle.frame.specs.Refusals.{and_then}
+use Rattle.frame.specs.Refusals.{and_then, Verdict, fine}
 use Rattle.frame.specs.Params.{Bounded}
 use Rattle.frame.proofs.Verdicts.{fine_both, fine_not}
 use Rattle.server_rules.specs.Delivery as SD
@@ -37,12 +36,12 @@ use Rattle.playback.proofs.Telling.{AllReported, told_back, reports_few, all_rep
 
 -- ---- the answers
 
-room_by : (b : Bool) → pick b (J.Bad Refusals.Room) J.Fine ≡ J.Fine → b ≡ false
+room_by : (b : Bool) → pick b (Err Refusals.Room) fine ≡ fine → b ≡ false
 unfolding pick
-room_by b e = (fine_not b Refusals.Room J.Fine e).0
+room_by b e = (fine_not b Refusals.Room fine e).0
 
 module _ (H : List ℕ → List ℕ) (g : Params) (me : ℕ) where
-  room : (count out : ℕ) → (out_test g count out ≡ J.Fine → count * entry_need g ≤ out) × (count * entry_need g ≤ out → out_test g count out ≡ J.Fine)
+  room : (count out : ℕ) → (out_test g count out ≡ fine → count * entry_need g ≤ out) × (count * entry_need g ≤ out → out_test g count out ≡ fine)
   unfolding out_test pick
   room count out = (λ e. ltb-false out (count * entry_need g) (room_by (ltb out (count * entry_need g)) e), λ h. rw (le-ltb out (count * entry_need g) h))
 
@@ -62,8 +61,8 @@ module _ (H : List ℕ → List ℕ) (g : Params) (me : ℕ) where
     refused_by : (w : Verdict) (n : ℕ) → (playback_by H g me w v (trace_of trace) a initial out).answer ≡ turned_down n
         → Unchanged (playback_by H g me w v (trace_of trace) a initial out) a initial out
     unfolding playback_by
-    refused_by (J.Bad q) n e = record { area_as_lent = refl; initial_as_lent = refl; out_as_lent = refl }
-    refused_by J.Fine n e = impossible (cc)
+    refused_by (Err q) n e = record { area_as_lent = refl; initial_as_lent = refl; out_as_lent = refl }
+    refused_by (Ok _) n e = impossible (cc)
 
     refused : (n : ℕ) → (playback H g me v trace a initial out).answer ≡ turned_down n → Unchanged (playback H g me v trace a initial out) a initial out
     unfolding playback
@@ -71,21 +70,21 @@ module _ (H : List ℕ → List ℕ) (g : Params) (me : ℕ) where
 
     -- ---- a call that is not refused
 
-    fine_by : (w : Verdict) (y : Summed) → (playback_by H g me w v (trace_of trace) a initial out).answer ≡ gives y → w ≡ J.Fine
+    fine_by : (w : Verdict) (y : Summed) → (playback_by H g me w v (trace_of trace) a initial out).answer ≡ gives y → w ≡ fine
     unfolding playback_by
-    fine_by (J.Bad q) y e = impossible (cc)
-    fine_by J.Fine y e = refl
+    fine_by (Err q) y e = impossible (cc)
+    fine_by (Ok _) y e = refl
 
-    pub fine : (y : Summed) → (playback H g me v trace a initial out).answer ≡ gives y → test ≡ J.Fine
+    pub fine : (y : Summed) → (playback H g me v trace a initial out).answer ≡ gives y → test ≡ fine
     unfolding playback
     fine y e = fine_by test y e
 
-    module _ (f : test ≡ J.Fine) where
+    module _ (f : test ≡ fine) where
       is : playback H g me v trace a initial out ≡ outcome_of (trace_of trace) all x.initial out
       unfolding playback playback_by
       is = ap (λ (w : Verdict). playback_by H g me w v (trace_of trace) a initial out) f
 
-      tests : (SD.construct_test H g me v (length a) (length initial) ≡ J.Fine) × (out_test g (length es) (length out) ≡ J.Fine)
+      tests : (SD.construct_test H g me v (length a) (length initial) ≡ fine) × (out_test g (length es) (length out) ≡ fine)
       unfolding play_test
       tests = fine_both (SD.construct_test H g me v (length a) (length initial)) _ f
 
@@ -190,13 +189,13 @@ module _ (H : List ℕ → List ℕ) (g : Params) (me : ℕ) where
 
   -- ---- a restart
 
-  made_fine : (v a initial : List ℕ) → (SD.construction H g me v a initial).reply ≡ gives 0 → SD.construct_test H g me v (length a) (length initial) ≡ J.Fine
+  made_fine : (v a initial : List ℕ) → (SD.construction H g me v a initial).reply ≡ gives 0 → SD.construct_test H g me v (length a) (length initial) ≡ fine
   unfolding SD.construction SD.construct_by
   made_fine v a initial = go (SD.construct_test H g me v (length a) (length initial))
     where
-      go : (t : Verdict) → (SD.construct_by H g me t v a initial).reply ≡ gives 0 → t ≡ J.Fine
-      go (J.Bad r) e = impossible (cc)
-      go J.Fine e = refl
+      go : (t : Verdict) → (SD.construct_by H g me t v a initial).reply ≡ gives 0 → t ≡ fine
+      go (Err r) e = impossible (cc)
+      go (Ok _) e = refl
 
   journal : (hs : List Handed) → AllWritable (entries_of hs) → trace_of (trace_bytes (entries_of hs)) ≡ record { entries = entries_of hs; closing = 0 }
   unfolding before trace_of trace_from
@@ -219,9 +218,9 @@ module _ (H : List ℕ → List ℕ) (g : Params) (me : ℕ) where
       let t = journal hs W in
       let e : (trace_of u).entries ≡ entries_of hs = ap (λ (y : Trace). y.entries) t in
       let n : length (trace_of u).entries ≡ length hs = ap length e ∙ length_entries hs in
-      let o : out_test g (length (trace_of u).entries) (length out) ≡ J.Fine =
+      let o : out_test g (length (trace_of u).entries) (length out) ≡ fine =
       ap (λ (k : ℕ). out_test g k (length out)) n ∙ (room (length hs) (length out)).1 h in
-      let f : play_test H g me v (trace_of u) (length a) (length initial) (length out) ≡ J.Fine = ap₂ and_then (made_fine v a initial m) o in
+      let f : play_test H g me v (trace_of u) (length a) (length initial) (length out) ≡ fine = ap₂ and_then (made_fine v a initial m) o in
       let P = is v u a initial out f in
       let K = S.same_steps H g me x.initial x.server x.area hs E in
       let p : played H g me x.initial x.server x.area (trace_of u).entries ≡ played H g me x.initial x.server x.area (entries_of hs) =

@@ -1,4 +1,5 @@
 -- The loop over the entries: what is played so far, and then what is left, is the whole playback. Assumes nothing.
+use Rattle.frame.specs.Refusals.{fine}
 use Prim.Native.Nat.{ℕ, ◌+◌, ◌*◌, ◌-◌, ◌≤◌, ◌<◌}
 use native.Mathlib.Omega.{arith}
 use native.Mathlib.Nat.{suc-mul, mul-add}
@@ -17,7 +18,6 @@ use Rattle.area.proofs.Numbers.{Bytes-take, Bytes-drop, length_bytes2}
 use Rattle.blocks.specs.declared.Params.{Params}
 use Rattle.frame.specs.Params.{width, largest_frame, server_frames, out_room, to_room, Bounded}
 use Rattle.frame.specs.declared.Refusal.TheVariants as Refusals
-use Rattle.frame.specs.declared.Verdict.TheVariants as J
 use Rattle.frame.proofs.Verdicts.{fine_both, fine_not}
 use Rattle.frame.specs.Outbox.{frames, receivers}
 use Rattle.server_rules.specs.declared.Server.{Server}
@@ -256,8 +256,8 @@ module _ (H : List ℕ → List ℕ) (g : Params) (me : ℕ) (initial trace : Li
 -- ---- the first turn, and what is left after the last
 
 -- the constructor's tests are passed
-pub constructs : (H : List ℕ → List ℕ) (g : Params) (me : ℕ) (v trace : List ℕ) (a initial out : ℕ) → play_test H g me v (trace_of trace) a initial out ≡ J.Fine
-    → SD.construct_test H g me v a initial ≡ J.Fine
+pub constructs : (H : List ℕ → List ℕ) (g : Params) (me : ℕ) (v trace : List ℕ) (a initial out : ℕ) → play_test H g me v (trace_of trace) a initial out ≡ fine
+    → SD.construct_test H g me v a initial ≡ fine
 unfolding play_test
 constructs H g me v trace a initial out t = (fine_both (SD.construct_test H g me v a initial) _ t).0
 
@@ -267,7 +267,7 @@ module _ (H : List ℕ → List ℕ) (g : Params) (me : ℕ) (v a initial : List
   abbrev all : Played
   all = played H g me initial₁ s₁ a₁ (trace_of trace).entries
 
-  pub turn_start : (out : List ℕ) → play_test H g me v (trace_of trace) (length a) (length initial) (length out) ≡ J.Fine → Bytes trace
+  pub turn_start : (out : List ℕ) → play_test H g me v (trace_of trace) (length a) (length initial) (length out) ≡ fine → Bytes trace
       → Turn H g me initial₁ trace all out s₁ a₁ out 0 0
   unfolding play_test out_test
   turn_start out t b =
@@ -276,7 +276,7 @@ module _ (H : List ℕ → List ℕ) (g : Params) (me : ℕ) (v a initial : List
       let F = sound_fresh H g K.bounded me v a initial K.whole in
       let o : length (trace_of trace).entries * entry_need g ≤ length out =
       ltb-false (length out) (length (trace_of trace).entries * entry_need g)
-      (fine_not (ltb (length out) (length (trace_of trace).entries * entry_need g)) Refusals.Room J.Fine w.1).0 in
+      (fine_not (ltb (length out) (length (trace_of trace).entries * entry_need g)) Refusals.Room fine w.1).0 in
       record {
         bounded = K.bounded;
         initial_room = omega (arith, K.initial_whole, ap (λ y. length y.initial) c, same_initial H g me v a initial);

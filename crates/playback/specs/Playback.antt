@@ -1,13 +1,11 @@
 -- The playback of a trace. Document 02, F-8: "From a fresh server the playback gives every reply, every frame sent and the final state. They must
 -- equal the steps taken one after another, each with room enough." H is the digest, g the parameters, me the server's number. These are definitions.
-use Rattle.std.specs.Prelude.{ℕ, ◌+◌, ◌*◌, List, [], ◌∷◌, length, replicate, ltb, eqb}
+use Rattle.std.specs.Prelude.{ℕ, ◌+◌, ◌*◌, List, [], ◌∷◌, length, replicate, ltb, eqb, Ok, Err}
 use Rattle.std.proofs.lemmas.List.Edits.{sets}
 use Rattle.area.specs.Area.{pick}
 use Rattle.area.specs.Responses.{Response, turned_down, gives}
 use Rattle.blocks.specs.declared.Params.{Params}
-use Rattle.frame.specs.declared.Verdict.{Verdict}
-use Rattle.frame.specs.declared.Verdict.TheVariants as J
-use Rattle.frame.specs.Refusals.{number_of, refused, and_then}
+use Rattle.frame.specs.Refusals.{number_of, refused, and_then, Verdict, fine}
 use Rattle.frame.specs.Params.{largest_frame, server_frames, out_room, to_room}
 use Rattle.server_rules.specs.declared.Server.{Server}
 use Rattle.server_rules.specs.State.{fresh_server}
@@ -36,7 +34,7 @@ entry_need g = 3 + server_frames g * (largest_frame g + 2)
 
 -- refusal 10: "summed over them it must hold" this; count entries are played, and the one at which the trace closes is not counted
 unfoldable pub out_test : Params → ℕ → ℕ → Verdict
-out_test g count out = pick (ltb out (count * entry_need g)) (refused 10) J.Fine
+out_test g count out = pick (ltb out (count * entry_need g)) (refused 10) fine
 
 -- ---- the entries, one after the other
 
@@ -129,8 +127,8 @@ outcome_of t p initial out = record {
 module _ (H : List ℕ → List ℕ) (g : Params) (me : ℕ) where
   -- a refusal changes nothing
   unfoldable pub playback_by : Verdict → List ℕ → Trace → List ℕ → List ℕ → List ℕ → Outcome
-  playback_by (J.Bad r) v t a initial out = record { answer = turned_down (number_of r); server = fresh_server; area = a; initial = initial; out = out }
-  playback_by J.Fine v t a initial out =
+  playback_by (Err r) v t a initial out = record { answer = turned_down (number_of r); server = fresh_server; area = a; initial = initial; out = out }
+  playback_by (Ok _) v t a initial out =
       let x = construction H g me v a initial in
       outcome_of t (played_from H g me x t.entries) x.initial out
 

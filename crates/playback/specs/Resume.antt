@@ -1,12 +1,10 @@
 -- A server that goes on from a kept record: the entries of a trace are handed to it one after the other, and its record, its state area and the areas for
 -- frames and receivers are what the last one left. This is how a host that starts again plays its journal. H is the digest, g the parameters, me the
 -- server's number. These are definitions.
-use Rattle.std.specs.Prelude.{ℕ, List, [], ◌∷◌, length}
+use Rattle.std.specs.Prelude.{ℕ, List, [], ◌∷◌, length, Ok, Err}
 use Rattle.area.specs.Responses.{Response, turned_down, gives}
 use Rattle.blocks.specs.declared.Params.{Params}
-use Rattle.frame.specs.declared.Verdict.{Verdict}
-use Rattle.frame.specs.declared.Verdict.TheVariants as J
-use Rattle.frame.specs.Refusals.{number_of, and_then}
+use Rattle.frame.specs.Refusals.{number_of, and_then, Verdict}
 use Rattle.frame.specs.Params.{params_test}
 use Rattle.server_deliver.specs.Records.{ByteOutcome, rooms_test, byte_delivery}
 use Rattle.entries.specs.Entries.{TraceEntry, Trace, trace_of}
@@ -48,8 +46,8 @@ resumption a l = record { answer = a; areas = l }
 module _ (H : List ℕ → List ℕ) (g : Params) (me : ℕ) (initial : List ℕ) where
   -- a refusal changes nothing; else the answer says how many entries were played and, as a playback's, how the trace closed
   unfoldable pub resumption_by : Verdict → Trace → Areas → Resumption
-  resumption_by (J.Bad r) t l = resumption (turned_down (number_of r)) l
-  resumption_by J.Fine t l =
+  resumption_by (Err r) t l = resumption (turned_down (number_of r)) l
+  resumption_by (Ok _) t l =
       resumption (gives (record { entries = length t.entries; bytes = 0; ending = ending_of t.closing (length t.entries) }))
       (resumed H g me initial l t.entries)
 

@@ -1,6 +1,7 @@
 -- What is proved of a playback (`Theorem`; its proof is in proofs/Theorem.antt). Document 02, F-8: "From a fresh server the playback gives every
 -- reply, every frame sent and the final state. They must equal the steps taken one after another, each with room enough." H is the digest, g the
 -- parameters, me the server's number. Assumes nothing: these are definitions and statements.
+use Rattle.frame.specs.Refusals.{fine}
 use Rattle.std.specs.Prelude.{ℕ, zero, suc, ◌+◌, ◌*◌, ◌≤◌, ◌≡◌, List, [], ◌∷◌, ◌++◌, map, length, get_or, take, drop}
 use Rattle.std.proofs.lemmas.List.Edits.{sets}
 use Rattle.area.specs.Area.{part, Bytes}
@@ -8,7 +9,6 @@ use Rattle.area.specs.Responses.{turned_down, gives}
 use Rattle.area.specs.Numbers.{be2}
 use Rattle.blocks.specs.declared.Params.{Params}
 use Rattle.frame.specs.declared.Party.{Party}
-use Rattle.frame.specs.declared.Verdict.TheVariants as J
 use Rattle.frame.specs.Params.{server_frames, out_room, to_room}
 use Rattle.frame.specs.Frames.{build}
 use Rattle.frame.specs.Outbox.{frames, receivers, party_in}
@@ -151,8 +151,8 @@ pub record Theorem (H : List ℕ → List ℕ) (g : Params) (me : ℕ) : Type 0 
   pub refused : (v trace a initial out : List ℕ) (n : ℕ) → (playback H g me v trace a initial out).answer ≡ turned_down n
       → Unchanged (playback H g me v trace a initial out) a initial out
   -- refusal 10 of the out area exactly if it is shorter than the entries played need; so a trace that closes at its first entry needs none
-  pub room : (count out : ℕ) → (out_test g count out ≡ J.Fine → count * entry_need g ≤ out) × (count * entry_need g ≤ out → out_test g count out ≡ J.Fine)
-  pub no_room : out_test g 0 0 ≡ J.Fine
+  pub room : (count out : ℕ) → (out_test g count out ≡ fine → count * entry_need g ≤ out) × (count * entry_need g ≤ out → out_test g count out ≡ fine)
+  pub no_room : out_test g 0 0 ≡ fine
   -- "They must equal the steps taken one after another, each with room enough"
   pub steps : (v trace a initial out : List ℕ) → Bytes trace → (x : Summed) → (playback H g me v trace a initial out).answer ≡ gives x
       → (hs : List Handed) → entries_of hs ≡ (trace_of trace).entries → AllEnough g hs

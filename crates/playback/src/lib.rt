@@ -13,7 +13,7 @@ use blocks::Params;
 use entries::Closing;
 use entries::reader::survey;
 use frame::bounds::largest_frame;
-use frame::{Refusal, Verdict};
+use frame::Refusal;
 use server::setup::construct_test;
 use server_deliver::fresh::fresh_test;
 
@@ -53,15 +53,15 @@ fn entry_need(g: Params) -> usize
 }
 
 // Refusal 10, of an out area for count entries.
-fn out_test(g: Params, count: usize, out: usize) -> Verdict
+fn out_test(g: Params, count: usize, out: usize) -> Result<(), Refusal>
     requires { Bounded g }
     ensures { result ≡ out_test g count out }
 {
     let need = entry_need(g);
     if out / need < count {
-        return Verdict::Bad(Refusal::Room);
+        return Err(Refusal::Room);
     }
-    Verdict::Fine
+    Ok(())
 }
 
 // The end of a playback whose trace closes after count entries.
@@ -92,17 +92,17 @@ pub fn play(
         state.old out.old }
 {
     let fits = fresh_test(g, me, value.len(), state.len());
-    if let Verdict::Bad(r) = fits {
+    if let Err(r) = fits {
         return Answer::Refused(r);
     }
     let test = construct_test(g, me as u8, value, area.len(), initial.len());
-    if let Verdict::Bad(r) = test {
+    if let Err(r) = test {
         return Answer::Refused(r);
     }
     let found = survey(trace);
     let entries = found.count;
     let room = out_test(g, entries, out.len());
-    if let Verdict::Bad(r) = room {
+    if let Err(r) = room {
         return Answer::Refused(r);
     }
     let bytes = play_all(g, me, value, trace, area, initial, state, out);

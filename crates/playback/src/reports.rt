@@ -5,26 +5,26 @@ ghost use Rattle.area.specs.Area.{part};
 ghost use Rattle.server_rules.specs.Delivery.{reply_response, reply_number, reply_count};
 ghost use Rattle.playback.specs.Stages.{sent_in, Lie, report_in};
 
+use frame::Refusal;
 use frame::refusals::number_of;
-use server_rules::Reply;
 
 // 0 for a step, else the refusal's number.
-fn reply_number(a: Reply) -> u8
+fn reply_number(a: Result<usize, Refusal>) -> u8
     ensures { result ≡ reply_number (reply_response a) }
 {
     match a {
-        Reply::Step(_) => 0,
-        Reply::Refused(r) => number_of(r),
+        Ok(_) => 0,
+        Err(r) => number_of(r),
     }
 }
 
 // How many frames were sent.
-fn reply_count(a: Reply) -> usize
+fn reply_count(a: Result<usize, Refusal>) -> usize
     ensures { result ≡ reply_count (reply_response a) }
 {
     match a {
-        Reply::Step(m) => m,
-        Reply::Refused(_) => 0,
+        Ok(m) => m,
+        Err(_) => 0,
     }
 }
 
@@ -63,7 +63,7 @@ fn spread(out: &mut [u8], from: usize, at: usize, to: &[u8], i: usize, left: usi
 pub const REPORT_HEAD: usize = 3;
 
 // The report of a reply, whose frames lie in out after the place of its head, and its receivers in to. The answer is where it ends.
-pub fn put_report(a: Reply, to: &[u8], out: &mut [u8], at: usize) -> usize
+pub fn put_report(a: Result<usize, Refusal>, to: &[u8], out: &mut [u8], at: usize) -> usize
     requires { (at + 3 ≤ length out.old) × Lie (reply_count (reply_response a)) (drop (at + 3) out.old)
         × (2 * reply_count (reply_response a) ≤ length to.now) × (reply_count (reply_response a) < 65536)
         × (at + length (report_in (reply_response a) (drop (at + 3) out.old) to.now) ≤ length out.old) }

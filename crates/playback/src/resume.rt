@@ -10,7 +10,7 @@ use blocks::Params;
 use entries::reader::{read_entry, survey};
 use entries::{FRAME_AT, Reading};
 use frame::bounds::params_test;
-use frame::{Refusal, Verdict};
+use frame::Refusal;
 use layout::servers::SERVER_SIZE;
 use server::tests::room_test;
 use server_deliver::deliver;
@@ -24,15 +24,12 @@ fn resume_test(
     initial: usize,
     out: usize,
     to: usize,
-) -> Verdict
+) -> Result<(), Refusal>
     ensures { result ≡ resume_test g me state area initial out to }
 {
-    let params = params_test(g, me, g.n);
-    if let Verdict::Bad(r) = params {
-        return Verdict::Bad(r);
-    }
+    params_test(g, me, g.n)?;
     if state < SERVER_SIZE {
-        return Verdict::Bad(Refusal::Room);
+        return Err(Refusal::Room);
     }
     room_test(g, area, initial, out, to)
 }
@@ -100,7 +97,7 @@ pub fn resume(
         out.len(),
         to.len(),
     );
-    if let Verdict::Bad(r) = test {
+    if let Err(r) = test {
         return Answer::Refused(r);
     }
     let found = survey(trace);

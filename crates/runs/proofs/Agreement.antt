@@ -1,5 +1,7 @@
 -- Honest servers that accept a write agree on its stamp and its digest list, and what they accept of an honest client's is what it sent. That what
 -- honest parties send can be said in a frame is a hypothesis here, proved in Formation. Assumes nothing else.
+use Rattle.std.specs.Prelude.{Ok, Err}
+use Rattle.frame.specs.Refusals.{Verdict}
 use Prim.Native.Nat.{ℕ, ◌+◌}
 use native.Mathlib.Omega.{arith}
 use mathlib.Core.Bool.{false}
@@ -11,9 +13,7 @@ use Rattle.quorum.proofs.Logic.{impossible}
 use Rattle.broadcast.specs.Laws as BL
 use Rattle.broadcast.proofs.Agreement as BA
 use Rattle.frame.specs.declared.Party.{Party}
-use Rattle.frame.specs.declared.Verdict.{Verdict}
 use Rattle.frame.specs.declared.Party.TheVariants as A
-use Rattle.frame.specs.declared.Verdict.TheVariants as J
 use Rattle.frame.specs.Messages.{Offer, send, block_is, Message, message, Formed}
 use Rattle.frame.proofs.Sizes.{Small}
 use Rattle.frame.proofs.Sizes as Sizes
@@ -45,8 +45,8 @@ module _ (Z : Setup) (G : Assumed Z) where
   start_slot i c is = go (SD.construct_test H g i initial_value (length (state_areas i)) (length (initial_areas i)))
     where
       go : (b : Verdict) → slot_of (SD.construct_by H g i b initial_value (state_areas i) (initial_areas i)).server c ≡ fresh_slot 1
-      go J.Fine = get_or-replicate 9 c (fresh_slot 1) no_slot (omega arith)
-      go (J.Bad r) = get_or-replicate 9 c (fresh_slot 1) no_slot (omega arith)
+      go (Ok _) = get_or-replicate 9 c (fresh_slot 1) no_slot (omega arith)
+      go (Err r) = get_or-replicate 9 c (fresh_slot 1) no_slot (omega arith)
 
 module _ (Z : Setup) (G : Assumed Z)
     (formed : (ks : List Call) → Admissible Z ks → (a b : Party) (m : Message) → Honest Z a → SentMessage Z G (small Z G) ks a b m → Formed Z.g m) where

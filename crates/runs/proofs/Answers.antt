@@ -1,4 +1,5 @@
 -- What is read off an answer's out and to areas is exactly what the run takes as sent. Assumes nothing.
+use Rattle.std.specs.Prelude.{Ok, Err}
 use Prim.Native.Nat.{ℕ, ◌+◌, ◌≤◌}
 use native.Mathlib.Omega.{arith}
 use native.Mathlib.Nat.{mul-le-mul_right}
@@ -14,11 +15,8 @@ use Rattle.area.specs.Responses.{gives}
 use Rattle.area.specs.Numbers.{be2}
 use Rattle.blocks.specs.declared.Params.{Params}
 use Rattle.frame.specs.declared.Party.{Party}
-use Rattle.frame.specs.declared.Opened.{Opened}
-use Rattle.frame.specs.declared.Verdict.{Verdict}
-use Rattle.frame.specs.declared.Opened.TheVariants as O
-use Rattle.frame.specs.declared.Verdict.TheVariants as J
-use Rattle.frame.specs.Refusals.{answered_by}
+use Rattle.frame.specs.Frames.{Opened}
+use Rattle.frame.specs.Refusals.{answered_by, Verdict, fine}
 use Rattle.frame.specs.Params.{largest_frame, server_frames, client_frames, out_room, to_room, Bounded, params_test}
 use Rattle.frame.specs.Messages.{Message, Sending, Judged, bad, good}
 use Rattle.frame.specs.Frames.{build, opened, message_in}
@@ -98,11 +96,11 @@ written_back g B xs f m h out to o t =
 
 -- ---- a frame that is taken found room
 
-read_room : (g : Params) (me : ℕ) (s : Client) (out to : List ℕ) → CB.read_test g me s out to ≡ J.Fine → CT.send_room g (length out) (length to) ≡ J.Fine
+read_room : (g : Params) (me : ℕ) (s : Client) (out to : List ℕ) → CB.read_test g me s out to ≡ fine → CT.send_room g (length out) (length to) ≡ fine
 unfolding CB.read_test
 read_room g me s out to e = (fine_both (CT.send_room g (length out) (length to)) _ (fine_both (params_test g me last_client) _ e).1).0
 
-write_room : (g : Params) (me : ℕ) (s : Client) (v out to : List ℕ) → CB.write_test g me s v out to ≡ J.Fine → CT.send_room g (length out) (length to) ≡ J.Fine
+write_room : (g : Params) (me : ℕ) (s : Client) (v out to : List ℕ) → CB.write_test g me s v out to ≡ fine → CT.send_room g (length out) (length to) ≡ fine
 unfolding CB.write_test
 write_room g me s v out to e =
     let p₁ = (fine_both (params_test g me last_client) _ e).1 in
@@ -119,8 +117,8 @@ module _ (H : List ℕ → List ℕ) (g : Params) (me : ℕ) where
       room = ST.room_test g (length a) (length initial) (length out) (length to)
 
       go : (o : Opened) → ST.judge_opened H g me o room s from f ≡ good m → (out_room g (server_frames g) ≤ length out) × (to_room (server_frames g) ≤ length to)
-      go (O.Refused r) u = impossible (cc)
-      go (O.Frame h) u =
+      go (Err r) u = impossible (cc)
+      go (Ok h) u =
           let w = (fine_both room (ST.message_test H g me s from (message_in g h f)) (by_fine _ _ m u)).0 in
           let p₁ = fine_not _ _ _ w in
           let p₂ = fine_not _ _ _ p₁.1 in
@@ -220,8 +218,8 @@ module _ (Z : Setup) (G : Assumed Z) where
           → Back (answer_count g (answered_by b (goes_on (length (CB.begin_by g c b s (CB.open_read g c s)).sends))))
           (CB.begin_by g c b s (CB.open_read g c s)).sends
           (sets out 0 (frames (CB.begin_by g c b s (CB.open_read g c s)).sends)) (sets to 0 (receivers (CB.begin_by g c b s (CB.open_read g c s)).sends))
-      go (J.Bad r) e F = nothing_back _ _
-      go J.Fine e F =
+      go (Err r) e F = nothing_back _ _
+      go (Ok _) e F =
           let r = send_room_lem H g c out to (read_room g c s out to e) in
           written_back g G.bounded (CB.open_read g c s).sends F (client_frames g) (read_sends H g c s) out to r.0 r.1
 
@@ -236,8 +234,8 @@ module _ (Z : Setup) (G : Assumed Z) where
           → Back (answer_count g (answered_by b (goes_on (length (CB.begin_by g c b s (CB.open_write g c s)).sends))))
           (CB.begin_by g c b s (CB.open_write g c s)).sends
           (sets out 0 (frames (CB.begin_by g c b s (CB.open_write g c s)).sends)) (sets to 0 (receivers (CB.begin_by g c b s (CB.open_write g c s)).sends))
-      go (J.Bad r) e F = nothing_back _ _
-      go J.Fine e F =
+      go (Err r) e F = nothing_back _ _
+      go (Ok _) e F =
           let r = send_room_lem H g c out to (write_room g c s v out to e) in
           written_back g G.bounded (CB.open_write g c s).sends F (client_frames g) (write_sends H g c s) out to r.0 r.1
 

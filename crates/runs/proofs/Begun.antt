@@ -1,5 +1,7 @@
 -- An honest client's operation that is in the row was begun by it: a client's number rises where it begins an operation, and nowhere else, and it
 -- sends and ends only what has its number. Assumes nothing.
+use Rattle.std.specs.Prelude.{Ok, Err}
+use Rattle.frame.specs.Refusals.{Verdict}
 use Prim.Native.Nat.{ℕ, ◌+◌, ◌≤◌}
 use native.Mathlib.Omega.{arith}
 use native.Mathlib.Decide.{dec_le}
@@ -7,8 +9,6 @@ use mathlib.Core.Bool.{false}
 use mathlib.Core.Path.{◌≡◌, refl, ap, sym, ◌∙◌}
 use mathlib.Core.Logic.{◌⊎◌, inl, inr, ⊎_elim}
 use mathlib.Core.List.{List, [], ◌∷◌}
-use Rattle.frame.specs.declared.Verdict.{Verdict}
-use Rattle.frame.specs.declared.Verdict.TheVariants as J
 use Rattle.server_rules.specs.Steps.{Write}
 use Rattle.server_rules.proofs.Parts.{put_cases}
 use Rattle.client_rules.specs.declared.Client.{Client}
@@ -77,13 +77,13 @@ module _ (Z : Setup) where
 
   read_writes : (d : ℕ) (s : Client) (b : Verdict) → (CB.begin_by g d b s (CB.open_read g d s)).client.writes ≡ s.writes
   unfolding CB.begin_by CB.open_read
-  read_writes d s J.Fine = refl
-  read_writes d s (J.Bad r) = refl
+  read_writes d s (Ok _) = refl
+  read_writes d s (Err r) = refl
 
   write_reads : (d : ℕ) (s : Client) (b : Verdict) → (CB.begin_by g d b s (CB.open_write g d s)).client.reads ≡ s.reads
   unfolding CB.begin_by CB.open_write
-  write_reads d s J.Fine = refl
-  write_reads d s (J.Bad r) = refl
+  write_reads d s (Ok _) = refl
+  write_reads d s (Err r) = refl
 
   reads_rise : (c : ℕ) (ks : List Call) (k : Call) → Rises (reads c) (OpensRead Z c) ks k
   unfolding run step CB.read_begun CB.open_read CB.write_begun CB.begin_by
@@ -99,13 +99,13 @@ module _ (Z : Setup) where
       left b = client_left Z (CB.begin_by g d b (home ks d).client (CB.open_read g d (home ks d).client)) (home ks d).area (home ks d).value
 
       go : (b : Verdict) → CB.read_test g d (home ks d).client out to ≡ b → Rises (reads c) (OpensRead Z c) ks (begin_read d out to)
-      go J.Fine e = ⊎_elim
+      go (Ok _) e = ⊎_elim
           (λ w.
           let n : reads d ks + 1 ≡ reads c ks + 1 = ap (λ z. reads z ks + 1) (sym w.0) in
           inr (ap (λ h. h.client.reads) (w.1 ∙ ap left e) ∙ n, (w.0, n, e)))
           (λ w. inl (ap (λ h. h.client.reads) w))
           (put_cases (run Z ks).clients d (left (CB.read_test g d (home ks d).client out to)) c)
-      go (J.Bad r) e = ⊎_elim
+      go (Err r) e = ⊎_elim
           (λ w. inl (ap (λ h. h.client.reads) (w.1 ∙ ap left e) ∙ ap (λ z. reads z ks) (sym w.0)))
           (λ w. inl (ap (λ h. h.client.reads) w))
           (put_cases (run Z ks).clients d (left (CB.read_test g d (home ks d).client out to)) c)
@@ -125,13 +125,13 @@ module _ (Z : Setup) where
       left b = client_left Z (CB.begin_by g d b (home ks d).client (CB.open_write g d (home ks d).client)) (home ks d).area (lent_by Z b v (home ks d).value)
 
       go : (b : Verdict) → CB.write_test g d (home ks d).client v out to ≡ b → Rises (writes c) (Opens c) ks (begin_write d v out to)
-      go J.Fine e = ⊎_elim
+      go (Ok _) e = ⊎_elim
           (λ w.
           let n : writes d ks + 1 ≡ writes c ks + 1 = ap (λ z. writes z ks + 1) (sym w.0) in
           inr (ap (λ h. h.client.writes) (w.1 ∙ ap left e) ∙ n, (v, (w.0, n, refl, e))))
           (λ w. inl (ap (λ h. h.client.writes) w))
           (put_cases (run Z ks).clients d (left (CB.write_test g d (home ks d).client v out to)) c)
-      go (J.Bad r) e = ⊎_elim
+      go (Err r) e = ⊎_elim
           (λ w. inl (ap (λ h. h.client.writes) (w.1 ∙ ap left e) ∙ ap (λ z. writes z ks) (sym w.0)))
           (λ w. inl (ap (λ h. h.client.writes) w))
           (put_cases (run Z ks).clients d (left (CB.write_test g d (home ks d).client v out to)) c)

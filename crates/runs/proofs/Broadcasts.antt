@@ -1,5 +1,6 @@
 -- The runs of the register keep the laws of a broadcast: each call is lawful by the facts of its step. That what honest parties send can be said in a
 -- frame is a hypothesis here, proved in Formation. Assumes nothing else.
+use Rattle.std.specs.Prelude.{Ok}
 use Prim.Native.Nat.{ℕ, ◌-◌}
 use native.Mathlib.Omega.{arith}
 use mathlib.Core.Bool.{Bool, true, false, ◌&&◌}
@@ -17,7 +18,6 @@ use Rattle.quorum.proofs.Quorums as B
 use Rattle.broadcast.specs.Laws as BL
 use Rattle.frame.specs.declared.Party.{Party}
 use Rattle.frame.specs.declared.Party.TheVariants as A
-use Rattle.frame.specs.declared.Opened.TheVariants as O
 use Rattle.frame.specs.Frames.{build, opened, message_in, header_for}
 use Rattle.frame.specs.Messages.{Offer, Stage, send, echo, ready, Body, block_is, Message, message, Sending, sending, Formed}
 use Rattle.frame.proofs.RoundTrip.{opened_build}
@@ -179,7 +179,7 @@ module _ (Z : Setup) (G : Assumed Z) (M : Small Z.g) where
         let q : Proper Z ks (to_server j C.from C.f C.out C.to) = subst (Proper Z ks) C.is p in
         let w = sent_message ks C.from (A.Server j) C.f (q.2 C.took.header C.took.opens h) in
         let b = opened_build g G.bounded w.0 (formed ks adm C.from (A.Server j) w.0 h w.1) in
-        let o : opened g C.f ≡ O.Frame (header_for w.0) = ap (opened g) (sym w.2) ∙ b.opens in
+        let o : opened g C.f ≡ Ok (header_for w.0) = ap (opened g) (sym w.2) ∙ b.opens in
         let e : C.took.header ≡ header_for w.0 = cc (C.took.opens, o) in
         let same : w.0 ≡ C.m = sym b.says ∙ (λ i. message_in g (sym e i) (w.2 i)) ∙ C.took.says in
         subst (SentMessage ks C.from (A.Server j)) same w.1

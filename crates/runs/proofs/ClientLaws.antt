@@ -1,4 +1,6 @@
 -- The laws of precedence that concern clients, at each call of an admissible run. Assumes nothing.
+use Rattle.frame.specs.Refusals.{fine}
+use Rattle.std.specs.Prelude.{Ok}
 use Prim.Native.Nat.{ℕ, ◌-◌, ◌≤◌}
 use native.Mathlib.Omega.{arith}
 use mathlib.Core.Bool.{true, false}
@@ -13,8 +15,6 @@ use Rattle.quorum.proofs.Quorums.{AtLeast, at_least_map}
 use Rattle.precedence.specs.Laws as PL
 use Rattle.frame.specs.declared.Party.{Party}
 use Rattle.frame.specs.declared.Party.TheVariants as A
-use Rattle.frame.specs.declared.Opened.TheVariants as Op
-use Rattle.frame.specs.declared.Verdict.TheVariants as J
 use Rattle.frame.specs.Frames.{opened, message_in, header_for}
 use Rattle.frame.specs.Messages.{value_is, Message, message, number_in, Formed}
 use Rattle.frame.proofs.Converse.{formed_opened}
@@ -82,7 +82,7 @@ module _ (Z : Setup) (G : Assumed Z) (M : Small Z.g) where
   frame_from ks adm c from f q s v m T h =
       let w = sent_message Z G M ks from (A.Client c) f (q T.header T.opens h) in
       let b = opened_build g G.bounded w.0 (formed Z G M ks adm from (A.Client c) w.0 h w.1) in
-      let o : opened g f ≡ Op.Frame (header_for w.0) = ap (opened g) (sym w.2) ∙ b.opens in
+      let o : opened g f ≡ Ok (header_for w.0) = ap (opened g) (sym w.2) ∙ b.opens in
       let e : T.header ≡ header_for w.0 = cc (T.opens, o) in
       let same : w.0 ≡ m = sym b.says ∙ (λ i. message_in g (sym e i) (w.2 i)) ∙ T.says in
       subst (SentMessage Z G M ks from (A.Client c)) same w.1
@@ -126,7 +126,7 @@ module _ (Z : Setup) (G : Assumed Z) (M : Small Z.g) where
               (sym (roomy_same b.area (omega (arith, room, lb))))
               (effect_facts H g M G.bounded.servers_high c s a v (subst (ClientShape s) (roomy_same a room) X) j.0 m.client m.sequence
               m.body j.2 fm.body P.owner
-              (subst (λ y. CT.order_test H g c s y m.sequence m.body ≡ J.Fine) nb P.order))));
+              (subst (λ y. CT.order_test H g c s y m.sequence m.body ≡ fine) nb P.order))));
           brought = λ i m' is ok n.
               let ef : from ≡ A.Server i = j.1 ∙ ap A.Server n.0 in
               let h : Honest Z from = subst (Honest Z) (sym ef) (is, ok) in

@@ -1,4 +1,6 @@
 -- Every message that an honest party sends can be said in a frame; so agreement and validity hold outright. Assumes nothing.
+use Rattle.std.specs.Prelude.{Ok, Err}
+use Rattle.frame.specs.Refusals.{Verdict}
 use Prim.Native.Nat.{ℕ, ◌≤◌}
 use native.Mathlib.Omega.{arith}
 use mathlib.Core.Bool.{false}
@@ -10,9 +12,7 @@ use lib.Seq.{length-sets}
 use Rattle.quorum.specs.Quorum.{Among}
 use Rattle.quorum.proofs.Logic.{impossible}
 use Rattle.frame.specs.declared.Party.{Party}
-use Rattle.frame.specs.declared.Verdict.{Verdict}
 use Rattle.frame.specs.declared.Party.TheVariants as A
-use Rattle.frame.specs.declared.Verdict.TheVariants as J
 use Rattle.frame.specs.Messages.{Offer, send, block_is, Message, message, sending, Formed}
 use Rattle.frame.specs.Params.{width}
 use Rattle.frame.proofs.Converse.{formed_opened}
@@ -41,8 +41,8 @@ module _ (Z : Setup) (G : Assumed Z) (M : Small Z.g) where
   initial_long i = go (SD.construct_test H g i initial_value (length (state_areas i)) (length (initial_areas i)))
     where
       go : (b : Verdict) → width g ≤ length (SD.construct_by H g i b initial_value (state_areas i) (initial_areas i)).initial
-      go (J.Bad r) = G.initial_room i
-      go J.Fine = rw length-sets (G.initial_room i)
+      go (Err r) = G.initial_room i
+      go (Ok _) = rw length-sets (G.initial_room i)
 
   -- a taken message is formed, and so is what follows
   pub heard : {ks : List Call} {k : Call} {j : ℕ} → Proper Z ks k → (C : Takes Z G M ks k j) → Formed g C.m
@@ -60,8 +60,8 @@ module _ (Z : Setup) (G : Assumed Z) (M : Small Z.g) where
   in_bounds [] a i = go (SD.construct_test H g i initial_value (length (state_areas i)) (length (initial_areas i)))
     where
       go : (b : Verdict) → InBounds (SD.construct_by H g i b initial_value (state_areas i) (initial_areas i)).server
-      go (J.Bad r) = in_bounds_fresh
-      go J.Fine = in_bounds_fresh
+      go (Err r) = in_bounds_fresh
+      go (Ok _) = in_bounds_fresh
   in_bounds (k ∷ ks) a i = ⊎_elim
       (λ e. subst (λ h. InBounds h.server) (sym e) (in_bounds ks a.1 i))
       (λ N. subst (λ h. InBounds h.server) (sym N.1) (good_by (in_bounds ks a.1 i) a.0 N.0).in_bounds)

@@ -1,5 +1,7 @@
 -- The times of writes that took effect have no gap (request F-9). What an honest server reports is a time that it has, what it has is that of a write that it
 -- accepted, and what it accepts is vouched: its own time, or that of one of t + 1 servers, of which one is honest, reaches it. Assumes nothing.
+use Rattle.std.specs.Prelude.{Ok, Err}
+use Rattle.frame.specs.Refusals.{Verdict}
 use Prim.Native.Nat.{ℕ, zero, suc, ◌+◌, ◌≤◌}
 use native.Mathlib.Omega.{arith}
 use native.Mathlib.Decide.{dec_le}
@@ -14,8 +16,6 @@ use Rattle.quorum.proofs.Quorums.{AtLeast, at_least_fewer, honest_member}
 use Rattle.area.proofs.Sets.{of_copies}
 use Rattle.frame.specs.declared.Party.{Party}
 use Rattle.frame.specs.declared.Party.TheVariants as A
-use Rattle.frame.specs.declared.Verdict.{Verdict}
-use Rattle.frame.specs.declared.Verdict.TheVariants as J
 use Rattle.frame.specs.Messages.{report, message}
 use Rattle.frame.proofs.Sizes.{Small}
 use Rattle.server_rules.specs.State.{fresh_server, report_of}
@@ -67,8 +67,8 @@ module _ (Z : Setup) (G : Assumed Z) (M : Small Z.g) where
   start_fresh i = go (SD.construct_test H g i initial_value (length (state_areas i)) (length (initial_areas i)))
     where
       go : (b : Verdict) → (SD.construct_by H g i b initial_value (state_areas i) (initial_areas i)).server ≡ fresh_server
-      go (J.Bad r) = refl
-      go J.Fine = refl
+      go (Err r) = refl
+      go (Ok _) = refl
 
   -- ---- a call
 

@@ -1,4 +1,6 @@
 -- Each entry in a client's rows has the digest at its server's place, and its block came in a frame. Assumes nothing.
+use Rattle.std.specs.Prelude.{Ok, Err}
+use Rattle.frame.specs.Refusals.{Verdict, fine}
 use Prim.Native.Nat.{ℕ, ◌≤◌}
 use native.Mathlib.Omega.{arith}
 use mathlib.Core.Bool.{true, not, ◌&&◌}
@@ -13,10 +15,7 @@ use Rattle.blocks.specs.declared.Params.{Params}
 use Rattle.frame.specs.declared.Stamp.{Stamp}
 use Rattle.frame.specs.declared.Party.{Party}
 use Rattle.frame.specs.declared.Header.{Header}
-use Rattle.frame.specs.declared.Verdict.{Verdict}
 use Rattle.frame.specs.declared.Refusal.TheVariants as R
-use Rattle.frame.specs.declared.Verdict.TheVariants as J
-use Rattle.frame.specs.declared.Opened.TheVariants as O
 use Rattle.frame.specs.Chunks.{store_entry, rows_bytes, place_at}
 use Rattle.group_rules.specs.Coded.{fits, fit_test}
 use Rattle.frame.specs.Frames.{message_in, opened}
@@ -111,7 +110,7 @@ module _ (H : List ℕ → List ℕ) (g : Params) (me : ℕ) where
     shape_holds s a v R j z new (waits x e k o) X = let w = new x e refl in keeps_holds s a v R j w.0 x e z w.1 k X
     shape_holds s a v R j z new (completes x e k y o) X = let w = new x e refl in same_rows g Q _ _ _ refl (keeps_holds s a v R j w.0 x e z w.1 k X)
 
-    value_fits : (s : Client) (from : Party) (m : Message) → CT.message_test H g me s from m ≡ J.Fine → (x : Stamp) (e : Entry) → m.body ≡ value_is x e
+    value_fits : (s : Client) (from : Party) (m : Message) → CT.message_test H g me s from m ≡ fine → (x : Stamp) (e : Entry) → m.body ≡ value_is x e
         → Among 10 (number_in from) × (fits H e (number_in from) ≡ true)
     unfolding fit_test CT.order_test
     value_fits s from m t x e p =
@@ -121,10 +120,10 @@ module _ (H : List ℕ → List ℕ) (g : Params) (me : ℕ) where
         let y = CT.awaited (CS.reading s.phase
         && (eqb m.sequence s.reads && not (has_stamp (row_of s (number_in from)).stamps (used (row_of s (number_in from))) x))) in
         let o = ap (CT.order_test H g me s (number_in from) m.sequence) (sym p) ∙ w.order in
-        ((at.0, omega (arith, at.1, few)), (fine_is (fits H e (number_in from)) R.Digest J.Fine (fine_both y (fit_test H e (number_in from)) o).1).0)
+        ((at.0, omega (arith, at.1, few)), (fine_is (fits H e (number_in from)) R.Digest fine (fine_both y (fit_test H e (number_in from)) o).1).0)
 
     delivered_holds : (s : Client) (a v : List ℕ) (from : Party) (f result out to : List ℕ)
-        → ((j : ℕ) (h : Header) (x : Stamp) (e : Entry) → opened g f ≡ O.Frame h → (message_in g h f).body ≡ value_is x e → fits H e j ≡ true → Q j e)
+        → ((j : ℕ) (h : Header) (x : Stamp) (e : Entry) → opened g f ≡ Ok h → (message_in g h f).body ≡ value_is x e → fits H e j ≡ true → Q j e)
         → Holds g Q s a → Held g Q (CD.delivered H g me s a v from f result out to)
     delivered_holds s a v from f result out to new X = go (shape_delivered H g me s a v from f result out to)
       where
@@ -142,16 +141,16 @@ module _ (H : List ℕ → List ℕ) (g : Params) (me : ℕ) where
   read_holds Q s a out to X = go (CB.read_test g me s out to)
     where
       go : (y : Verdict) → Holds g Q (CB.begin_by g me y s (CB.open_read g me s)).client a
-      go (J.Bad r) = X
-      go J.Fine = fresh_holds g Q _ a refl
+      go (Err r) = X
+      go (Ok _) = fresh_holds g Q _ a refl
 
   write_holds : (Q : ℕ → Entry → Type 0) (s : Client) (a v out to : List ℕ) → Holds g Q s a → Holds g Q (CB.write_begun g me s v out to).client a
   unfolding CB.write_begun CB.open_write CB.begin_by
   write_holds Q s a v out to X = go (CB.write_test g me s v out to)
     where
       go : (y : Verdict) → Holds g Q (CB.begin_by g me y s (CB.open_write g me s)).client a
-      go (J.Bad r) = X
-      go J.Fine = same_rows g Q s _ a refl X
+      go (Err r) = X
+      go (Ok _) = same_rows g Q s _ a refl X
 
 -- ---- in a run
 

@@ -1,4 +1,6 @@
 -- Every call of an admissible run keeps the laws that precedence by stamps asks for. Assumes nothing.
+use Rattle.std.specs.Prelude.{Ok, Err}
+use Rattle.frame.specs.Refusals.{Verdict, fine}
 use Prim.Native.Nat.{ℕ}
 use native.Mathlib.Omega.{arith}
 use mathlib.Core.Bool.{false}
@@ -15,8 +17,6 @@ use Rattle.area.specs.Area.{pick}
 use Rattle.area.proofs.Sets.{of_copies, take_front}
 use Rattle.blocks.specs.declared.Params.{Params}
 use Rattle.blocks.proofs.Parameters.{parties_yes, threshold_yes, length_yes}
-use Rattle.frame.specs.declared.Verdict.{Verdict}
-use Rattle.frame.specs.declared.Verdict.TheVariants as J
 use Rattle.frame.specs.Chunks.{area_bytes}
 use Rattle.group_rules.specs.Coded.{digests_of}
 use Rattle.frame.specs.Params.{listed, Bounded, params_test, own_test, code_test}
@@ -39,7 +39,7 @@ unfolding fresh_reader
 silent = of_copies (λ r. r.listening) fresh_reader no_reader false refl refl
 
 -- parameters within their bounds pass
-pub params_fine : (g : Params) → Bounded g → (me most : ℕ) → Among most me → params_test g me most ≡ J.Fine
+pub params_fine : (g : Params) → Bounded g → (me most : ℕ) → Among most me → params_test g me most ≡ fine
 unfolding params_test own_test code_test pick
 params_fine g B me most is = rw (
   ← parties_yes g.n g.t B.servers_low B.servers_high B.faults_low (omega (arith, B.faults_high)),
@@ -51,7 +51,7 @@ params_fine g B me most is = rw (
 
 -- the constructor's tests pass
 pub fresh_fine : (Z : Setup) → Assumed Z → (j : ℕ) → Among Z.g.n j
-    → SD.construct_test Z.H Z.g j Z.initial_value (length (Z.state_areas j)) (length (Z.initial_areas j)) ≡ J.Fine
+    → SD.construct_test Z.H Z.g j Z.initial_value (length (Z.state_areas j)) (length (Z.initial_areas j)) ≡ fine
 unfolding SD.construct_test pick
 fresh_fine Z G j is = rw (
   params_fine Z.g G.bounded j Z.g.n is,
@@ -68,21 +68,21 @@ module _ (Z : Setup) (G : Assumed Z) (M : Small Z.g) where
   first_silent j c = go (SD.construct_test H g j initial_value (length (state_areas j)) (length (initial_areas j)))
     where
       go : (b : Verdict) → (reader_of (SD.construct_by H g j b initial_value (state_areas j) (initial_areas j)).server c).listening ≡ false
-      go (J.Bad r) = silent 9 c
-      go J.Fine = silent 9 c
+      go (Err r) = silent 9 c
+      go (Ok _) = silent 9 c
 
   first_shown : (j : ℕ) → Among g.n j → shown Z G M [] j ≡ (stamps Z G M).initial
   unfolding run start SD.construction present_entry fresh_server SD.construct_by
   first_shown j is = go (SD.construct_test H g j initial_value (length (state_areas j)) (length (initial_areas j))) (fresh_fine Z G j is)
     where
-      go : (b : Verdict) → b ≡ J.Fine → ◌≡◌ {A = Stamped Z G M} (
+      go : (b : Verdict) → b ≡ fine → ◌≡◌ {A = Stamped Z G M} (
         (SD.construct_by H g j b initial_value (state_areas j) (initial_areas j)).server.stamp,
         (present_entry g (SD.construct_by H g j b initial_value (state_areas j) (initial_areas j)).server.stamp
             (SD.construct_by H g j b initial_value (state_areas j) (initial_areas j)).area
             (SD.construct_by H g j b initial_value (state_areas j) (initial_areas j)).initial).digests,
       ) (zero_stamp, digests_of H g initial_value)
-      go (J.Bad r) e = impossible (cc)
-      go J.Fine e = λ i. (
+      go (Err r) e = impossible (cc)
+      go (Ok _) e = λ i. (
         zero_stamp,
         take_front (state_areas j) (digests_of H g initial_value) (listed g) (digests_size H g j G.digest_size initial_value)
             (omega (arith, G.state_room j, M.list_room)) i,

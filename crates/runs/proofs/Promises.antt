@@ -1,4 +1,5 @@
 -- A run goes by the promises of the entry points. Assumes nothing.
+use Rattle.std.specs.Prelude.{Ok, Err}
 use Prim.Native.Nat.{ℕ}
 use mathlib.Core.Path.{◌≡◌, refl, ap, sym, ◌∙◌, subst}
 use mathlib.Core.Logic.{⊎_elim}
@@ -9,9 +10,7 @@ use Rattle.quorum.proofs.Logic.{impossible}
 use Rattle.blocks.specs.declared.Params.{Params}
 use Rattle.frame.specs.declared.Party.{Party}
 use Rattle.frame.specs.declared.Party.TheVariants as P
-use Rattle.frame.specs.declared.Verdict.{Verdict}
-use Rattle.frame.specs.declared.Verdict.TheVariants as J
-use Rattle.frame.specs.Refusals.{answered_by}
+use Rattle.frame.specs.Refusals.{answered_by, Verdict}
 use Rattle.frame.specs.Messages.{Body, ack, message, sending}
 use Rattle.server_rules.specs.declared.Server.{Server}
 use Rattle.server_rules.specs.Steps as S
@@ -38,8 +37,8 @@ other_put f i v j ne = ⊎_elim (λ w. absurd (ne (sym w.0))) (λ w. w) (put_cas
 -- the answer says whether the write was begun
 value_told : (Z : Setup) (w : World) (c : ℕ) (s : Client) (b : Verdict) (v old : List ℕ)
     → lent_by Z b v old ≡ value_by Z w (answered_by b (goes_on (length (CB.begin_by Z.g c b s (CB.open_write Z.g c s)).sends))) v old
-value_told Z w c s J.Fine v old = refl
-value_told Z w c s (J.Bad r) v old = refl
+value_told Z w c s (Ok _) v old = refl
+value_told Z w c s (Err r) v old = refl
 
 pub runs_go_on : RunsGoOn
 unfolding RunsGoOn step SD.delivery SD.outcome_of CD.delivery CD.outcome_of CB.read_beginning CB.write_beginning CB.begun_of CB.write_begun
@@ -126,8 +125,8 @@ accepted_where_acked Z w i from f out to = delivery_acks Z.H Z.g i (w.servers i)
 -- ---- where an operation begins
 
 begins : (b : Verdict) (m : ℕ) → Begins b (answered_by b (goes_on m))
-begins J.Fine m = record { sent = λ e. (_, refl); sent_only = λ m e. refl }
-begins (J.Bad r) m = record { sent = λ e. impossible (cc); sent_only = λ m e. impossible (cc) }
+begins (Ok _) m = record { sent = λ e. (_, refl); sent_only = λ m e. refl }
+begins (Err r) m = record { sent = λ e. impossible (cc); sent_only = λ m e. impossible (cc) }
 
 pub begun_where_answered : BegunWhereAnswered
 unfolding BegunWhereAnswered CB.read_beginning CB.write_beginning CB.begun_of

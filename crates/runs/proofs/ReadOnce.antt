@@ -1,4 +1,6 @@
 -- A client's read completes once; a write that was opened has the right size. Assumes nothing.
+use Rattle.std.specs.Prelude.{Ok, Err}
+use Rattle.frame.specs.Refusals.{Verdict, fine}
 use Prim.Native.Nat.{ℕ, ◌≤◌, ◌<◌}
 use native.Mathlib.Omega.{arith}
 use native.Mathlib.Decide.{dec_le}
@@ -15,8 +17,6 @@ use Rattle.area.specs.Area.{Bytes}
 use Rattle.blocks.specs.declared.Params.{Params}
 use Rattle.frame.specs.declared.Stamp.{Stamp}
 use Rattle.frame.specs.declared.Party.{Party}
-use Rattle.frame.specs.declared.Verdict.{Verdict}
-use Rattle.frame.specs.declared.Verdict.TheVariants as J
 use Rattle.frame.specs.Messages.{Entry, Body, value_is, number_in}
 use Rattle.frame.specs.Params.{params_test}
 use Rattle.frame.proofs.Verdicts.{fine_both, fine_is}
@@ -40,7 +40,7 @@ use Rattle.runs.specs.World.{lent_by, start, run, step, put, lent_to, client_eff
 
 module _ (H : List ℕ → List ℕ) (g : Params) (me : ℕ) where
   value_awaited : (s : Client) (from : Party) (c q : ℕ) (x : Stamp) (e : Entry)
-      → CT.message_test H g me s from (record { client = c; sequence = q; body = value_is x e }) ≡ J.Fine → CS.reading s.phase ≡ true
+      → CT.message_test H g me s from (record { client = c; sequence = q; body = value_is x e }) ≡ fine → CS.reading s.phase ≡ true
   unfolding CT.order_test
   value_awaited s from c q x e h =
       let w = (fine_both _ (fit_test H e (number_in from)) (Passing.passed H g me s from _ h).order).0 in
@@ -62,7 +62,7 @@ module _ (H : List ℕ → List ℕ) (g : Params) (me : ℕ) where
   none_does s r e p n = record { number = e; still = λ h. impossible (cc (p, h)); gives = λ x z. absurd (n x z); found = λ x z. absurd (n x z) }
 
   shape_does : (s : Client) (a v : List ℕ) (from : Party) (c q : ℕ) {b : Body} {r : C.Effect}
-      → CT.message_test H g me s from (record { client = c; sequence = q; body = b }) ≡ J.Fine → Shape H g me s a v (number_in from) b r → Does s r
+      → CT.message_test H g me s from (record { client = c; sequence = q; body = b }) ≡ fine → Shape H g me s a v (number_in from) b r → Does s r
   unfolding row_view
   shape_does s a v from c q h (idle b) = quiet_does s a
   shape_does s a v from c q h (notes T p) = record { number = refl; still = λ h. h; gives = λ x e. impossible (cc e); found = λ x e. impossible (cc e) }
@@ -97,8 +97,8 @@ module _ (H : List ℕ → List ℕ) (g : Params) (me : ℕ) where
 begin_by_lem : (H : List ℕ → List ℕ) (g : Params) (me : ℕ) (b : Verdict) (s : Client) (r : C.Effect)
     → ((CB.begin_by g me b s r).client ≡ r.client) ⊎ ((CB.begin_by g me b s r).client ≡ s)
 unfolding CB.begin_by
-begin_by_lem H g me J.Fine s r = inl refl
-begin_by_lem H g me (J.Bad x) s r = inr refl
+begin_by_lem H g me (Ok _) s r = inl refl
+begin_by_lem H g me (Err x) s r = inr refl
 
 module _ (Z : Setup) where
   open Z use {H, g}
@@ -237,7 +237,7 @@ module _ (Z : Setup) where
 
   -- ---- a write that was opened
 
-  write_sized : (d : ℕ) (s : Client) (v out to : List ℕ) → CB.write_test g d s v out to ≡ J.Fine → length v ≡ g.size
+  write_sized : (d : ℕ) (s : Client) (v out to : List ℕ) → CB.write_test g d s v out to ≡ fine → length v ≡ g.size
   unfolding CB.write_test CB.length_test
   write_sized d s v out to e =
       let w = (fine_both (params_test g d 8) _ e).1 in

@@ -1,5 +1,7 @@
 -- What reads give: equal bytes where the stamps are equal, or two different blocks of the run with one digest. By the facts of Known.antt
 -- and OneValue.antt. Assumes nothing.
+use Rattle.std.specs.Prelude.{Ok, Err}
+use Rattle.frame.specs.Refusals.{Verdict}
 use Prim.Native.Nat.{ℕ, zero, ◌+◌, ◌≤◌}
 use native.Mathlib.Omega.{arith}
 use mathlib.Core.Path.{◌≡◌, refl, ap, sym, ◌∙◌}
@@ -9,8 +11,6 @@ use mathlib.Core.List.{List, [], ◌∷◌}
 use lib.ListN.{length}
 use Rattle.quorum.proofs.Logic.{impossible}
 use Rattle.frame.specs.declared.Stamp.{Stamp}
-use Rattle.frame.specs.declared.Verdict.{Verdict}
-use Rattle.frame.specs.declared.Verdict.TheVariants as J
 use Rattle.group_rules.specs.Coded.{digests_of}
 use Rattle.frame.specs.Stamps.{zero_stamp}
 use Rattle.frame.proofs.StampOrder.{three, total, less_not}
@@ -74,8 +74,8 @@ fold_writes Z Q C' (k ∷ ks) f = go (fold_writes Z Q C' ks (λ c q p x u. f c q
     go (inl h) (begin_write d v out to) f = by (CB.write_test Z.g d ((run Z ks).clients d).client v out to) refl
       where
         by : (o : Verdict) → CB.write_test Z.g d ((run Z ks).clients d).client v out to ≡ o → AllWrites Z Q C' (begin_write d v out to ∷ ks)
-        by (J.Bad r) e = inl (λ c q p x u. ⊎_elim (λ w. impossible (cc (w.1.3, e))) (λ w. h c q p x w) u)
-        by J.Fine e = ⊎_elim
+        by (Err r) e = inl (λ c q p x u. ⊎_elim (λ w. impossible (cc (w.1.3, e))) (λ w. h c q p x w) u)
+        by (Ok _) e = ⊎_elim
             (λ z. inl (λ c q p x u. ⊎_elim (λ w. rw (w.1.0, sym w.1.1, w.1.2) z) (λ w. h c q p x w) u))
             (λ z. inr z)
             (f d (((run Z ks).clients d).client.writes + 1) (length ks) v (inl (refl, (refl, refl, refl, e))))

@@ -1,4 +1,6 @@
 -- What is accepted of an honest client's write has the digests of the value that it opened. Assumes nothing.
+use Rattle.std.specs.Prelude.{Ok, Err}
+use Rattle.frame.specs.Refusals.{Verdict, fine}
 use Prim.Native.Nat.{ℕ, ◌+◌, ◌≤◌}
 use native.Mathlib.Omega.{arith}
 use mathlib.Core.Bool.{true}
@@ -11,9 +13,7 @@ use Rattle.area.specs.Area.{pick}
 use Rattle.blocks.specs.declared.Params.{Params}
 use Rattle.frame.specs.declared.Stamp.{Stamp}
 use Rattle.frame.specs.declared.Party.{Party}
-use Rattle.frame.specs.declared.Verdict.{Verdict}
 use Rattle.frame.specs.declared.Party.TheVariants as A
-use Rattle.frame.specs.declared.Verdict.TheVariants as J
 use Rattle.group_rules.specs.Coded.{digests_of, entry_of}
 use Rattle.frame.specs.Messages.{Entry, Offer, offer, send, Body, get_stamp, ask_read, read_complete, block_is, Message, message, Sending, sending, to_all, number_in}
 use Rattle.frame.proofs.Sizes.{Small}
@@ -72,7 +72,7 @@ module _ (H : List ℕ → List ℕ) (g : Params) (me : ℕ) where
 
   -- the lent value v is that of the open write, o, while one is open
   module _ (s : Client) (a v o : List ℕ) (own : writing s.phase ≡ true → v ≡ o) where
-    shape_tells : (j q : ℕ) {b : Body} {r : C.Effect} → CT.order_test H g me s j q b ≡ J.Fine → Shape H g me s a v j b r → Tells s o r
+    shape_tells : (j q : ℕ) {b : Body} {r : C.Effect} → CT.order_test H g me s j q b ≡ fine → Shape H g me s a v j b r → Tells s o r
     unfolding CT.order_test
     shape_tells j q t (idle b) = quiet_tells s a o
     shape_tells j q t (notes T p) = record { number = refl; own = none_own s.writes o }
@@ -108,8 +108,8 @@ module _ (H : List ℕ → List ℕ) (g : Params) (me : ℕ) where
   read_tells s v out to = go (CB.read_test g me s out to)
     where
       go : (b : Verdict) → Tells s v (CB.begin_by g me b s (CB.open_read g me s))
-      go (J.Bad r) = quiet_tells s [] v
-      go J.Fine = record {
+      go (Err r) = quiet_tells s [] v
+      go (Ok _) = record {
         number = refl;
         own = λ b d q y u. let w = from_all (λ j. message me (s.reads + 1) ask_read) b _ u in impossible (cc (ap (λ z. z.body) w.1));
       }
@@ -119,8 +119,8 @@ module _ (H : List ℕ → List ℕ) (g : Params) (me : ℕ) where
   write_own s w v out to = go (CB.write_test g me s v out to)
     where
       go : (b : Verdict) → SendsOwn s.writes w (CB.begin_by g me b s (CB.open_write g me s)).sends
-      go (J.Bad r) = none_own s.writes w
-      go J.Fine = λ b d q y u. let z = from_all (λ j. message me (s.writes + 1) get_stamp) b _ u in impossible (cc (ap (λ z. z.body) z.1))
+      go (Err r) = none_own s.writes w
+      go (Ok _) = λ b d q y u. let z = from_all (λ j. message me (s.writes + 1) get_stamp) b _ u in impossible (cc (ap (λ z. z.body) z.1))
 
 -- ---- in a run
 
@@ -151,8 +151,8 @@ module _ (Z : Setup) where
   by_test : (h : ClientSide) (d : ℕ) (v : List ℕ) (b : Verdict)
       → Next h (client_left Z (CB.begin_by g d b h.client (CB.open_write g d h.client)) h.area (lent_by Z b v h.value))
   unfolding CB.open_write CB.begin_by
-  by_test h d v J.Fine = inr refl
-  by_test h d v (J.Bad r) = inl (refl, refl)
+  by_test h d v (Ok _) = inr refl
+  by_test h d v (Err r) = inl (refl, refl)
 
   next : (ks : List Call) (k : Call) (c : ℕ) → Next (home ks c) (home (k ∷ ks) c)
   unfolding run step CB.write_begun CB.begin_by
@@ -185,7 +185,7 @@ module _ (Z : Setup) where
       left : Verdict → ClientSide
       left b = client_left Z (CB.begin_by g d b (home ks d).client (CB.open_write g d (home ks d).client)) (home ks d).area (lent_by Z b w (home ks d).value)
 
-      is : home (begin_write d w out to ∷ ks) d ≡ left J.Fine
+      is : home (begin_write d w out to ∷ ks) d ≡ left fine
       is = put_same (run Z ks).clients d _ ∙ ap left u.3
 
       here : Opened ks (begin_write d w out to) d q v

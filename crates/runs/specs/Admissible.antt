@@ -1,12 +1,11 @@
 -- Which lists of calls are runs, document 01: "a list of calls on the honest rest". These are definitions.
-use Rattle.std.specs.Prelude.{ℕ, false, ◌≡◌, ◌⊎◌}
+use Rattle.std.specs.Prelude.{ℕ, false, ◌≡◌, ◌⊎◌, Ok}
 use mathlib.Core.List.{List, [], ◌∷◌, Memᴰ}
 use Rattle.quorum.specs.Quorum.{Among}
 use Rattle.area.specs.Area.{Bytes}
 use Rattle.frame.specs.declared.Party.{Party}
 use Rattle.frame.specs.declared.Header.{Header}
 use Rattle.frame.specs.declared.Party.TheVariants as P
-use Rattle.frame.specs.declared.Opened.TheVariants as O
 use Rattle.frame.specs.Messages.{Sending}
 use Rattle.frame.specs.Frames.{build, opened}
 use Rattle.runs.specs.World.{Setup, Call, to_server, to_client, begin_read, begin_write, caller, run, sends}
@@ -28,7 +27,7 @@ module _ (Z : Setup) where
   -- "A frame named as an honest party's was sent to this receiver in an earlier answer of that party; it may come often, in any order or never. Any
   -- other frame may be anything", as long as it is bytes; so may one that does not open, whoever is named.
   abbrev pub Named : List Call → Party → Party → List ℕ → Type 0
-  Named ks from b f = (h : Header) → opened g f ≡ O.Frame h → Honest from → Sent ks from b f
+  Named ks from b f = (h : Header) → opened g f ≡ Ok h → Honest from → Sent ks from b f
 
   abbrev pub Proper : List Call → Call → Type 0
   Proper ks (to_server i from f out to) = Honest (P.Server i) × Bytes f × Named ks from (P.Server i) f

@@ -1,9 +1,8 @@
 -- Two different blocks with one digest, document 01, "Blocks": "Both come from the run at hand: each was in a frame, or belongs to the encoding of
 -- the initial value, of a value written, or of one that an honest party decoded there." These are definitions.
-use Rattle.std.specs.Prelude.{ℕ, ◌≡◌, List}
+use Rattle.std.specs.Prelude.{ℕ, ◌≡◌, List, Ok}
 use Rattle.quorum.specs.Quorum.{Among}
 use Rattle.frame.specs.declared.Header.{Header}
-use Rattle.frame.specs.declared.Opened.TheVariants as O
 use Rattle.frame.specs.Messages.{Carries}
 use Rattle.frame.specs.Frames.{opened, message_in}
 use Rattle.group_rules.specs.Coded.{block_at}
@@ -15,7 +14,7 @@ module _ (Z : Setup) where
 
   -- the frame f opens, and b is its block
   abbrev pub Carried : List ℕ → List ℕ → Type 0
-  Carried f b = (h : Header) × (opened g f ≡ O.Frame h) × Carries (message_in g h f).body b
+  Carried f b = (h : Header) × (opened g f ≡ Ok h) × Carries (message_in g h f).body b
 
   -- b was in a frame that was handed in
   abbrev pub InFrame : List ℕ → Event

@@ -1,8 +1,8 @@
 -- What happens in a run, and when: "Acceptance, ends and stamps follow from the calls by the steps above." These are definitions.
+use Rattle.frame.specs.Refusals.{fine}
 use Rattle.std.specs.Prelude.{ℕ, ◌+◌, ◌≡◌, ◌⊎◌, length}
 use Rattle.std.proofs.Math.Option.{none, some}
 use mathlib.Core.List.{List, [], ◌∷◌, Memᴰ}
-use Rattle.frame.specs.declared.Verdict.TheVariants as J
 use Rattle.server_rules.specs.Steps.{Write}
 use Rattle.client_rules.specs.Rows.{Found}
 use Rattle.client_rules.specs.Steps as C
@@ -57,7 +57,7 @@ module _ (Z : Setup) where
   OpensRead c q ks (to_server j from f out to) = ⊥
   OpensRead c q ks (to_client d from f lent result out to) = ⊥
   OpensRead c q ks (begin_read d out to) =
-      (c ≡ d) × (((run Z ks).clients d).client.reads + 1 ≡ q) × (CB.read_test g d ((run Z ks).clients d).client out to ≡ J.Fine)
+      (c ≡ d) × (((run Z ks).clients d).client.reads + 1 ≡ q) × (CB.read_test g d ((run Z ks).clients d).client out to ≡ fine)
   OpensRead c q ks (begin_write d v out to) = ⊥
 
   abbrev pub OpensWrite : ℕ → ℕ → List ℕ → Event
@@ -65,7 +65,7 @@ module _ (Z : Setup) where
   OpensWrite c q u ks (to_client d from f lent result out to) = ⊥
   OpensWrite c q u ks (begin_read d out to) = ⊥
   OpensWrite c q u ks (begin_write d v out to) =
-      (c ≡ d) × (((run Z ks).clients d).client.writes + 1 ≡ q) × (u ≡ v) × (CB.write_test g d ((run Z ks).clients d).client v out to ≡ J.Fine)
+      (c ≡ d) × (((run Z ks).clients d).client.writes + 1 ≡ q) × (u ≡ v) × (CB.write_test g d ((run Z ks).clients d).client v out to ≡ fine)
 
   -- an honest party decodes v: a server as it compares digests, a client as its read ends
   abbrev pub Decodes : List ℕ → Event

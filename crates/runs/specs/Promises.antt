@@ -2,13 +2,12 @@
 -- definitions that are cited here. The party that is called goes on with the state that its call returns; what its answer sends is in
 -- Answers.antt. A write is accepted exactly where its ack goes out, and an operation begins exactly where the call answers that frames were sent.
 -- These are definitions.
+use Rattle.frame.specs.Refusals.{Verdict, fine}
 use Rattle.std.specs.Prelude.{ℕ, ◌≡◌}
 use mathlib.Core.List.{List, Memᴰ}
 use Rattle.area.specs.Responses.{Response, turned_down, gives}
 use Rattle.frame.specs.declared.Party.{Party}
 use Rattle.frame.specs.declared.Party.TheVariants as P
-use Rattle.frame.specs.declared.Verdict.{Verdict}
-use Rattle.frame.specs.declared.Verdict.TheVariants as J
 use Rattle.frame.specs.Messages.{ack, message, sending}
 use Rattle.server_rules.specs.Steps as S
 use Rattle.server_rules.specs.Delivery as SD
@@ -84,8 +83,8 @@ AcceptedWhereAcked = (Z : Setup) (w : World) (i : ℕ) (from : Party) (f out to 
 
 -- the tests of a beginning pass, and its answer is that frames were sent
 pub record Begins (b : Verdict) (answer : Response Progress) : Type 0 where
-  pub sent : b ≡ J.Fine → (m : ℕ) × (answer ≡ gives (goes_on m))
-  pub sent_only : (m : ℕ) → answer ≡ gives (goes_on m) → b ≡ J.Fine
+  pub sent : b ≡ fine → (m : ℕ) × (answer ≡ gives (goes_on m))
+  pub sent_only : (m : ℕ) → answer ≡ gives (goes_on m) → b ≡ fine
 
 pub record BeginningsTell (Z : Setup) (w : World) : Type 0 where
   pub read : (c : ℕ) (out to : List ℕ)

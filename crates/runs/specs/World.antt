@@ -1,13 +1,12 @@
 -- Runs, document 01: what is given, the calls on honest parties, and the world that they make. A call does what the definitions say
 -- that the entry points' promises cite: `delivered`, `read_begun`, `write_begun`, and `construction` at the start. These are definitions.
-use Rattle.std.specs.Prelude.{ℕ, ◌≤◌, Bool, cond, ◌≡◌, List, [], ◌∷◌, length, eqb}
+use Rattle.frame.specs.Refusals.{Verdict}
+use Rattle.std.specs.Prelude.{ℕ, ◌≤◌, Bool, cond, ◌≡◌, List, [], ◌∷◌, length, eqb, Ok, Err}
 use Rattle.quorum.specs.Quorum.{Faults}
 use Rattle.area.specs.Area.{Bytes, pick}
 use Rattle.blocks.specs.declared.Params.{Params}
 use Rattle.frame.specs.declared.Party.{Party}
-use Rattle.frame.specs.declared.Verdict.{Verdict}
 use Rattle.frame.specs.declared.Party.TheVariants as P
-use Rattle.frame.specs.declared.Verdict.TheVariants as J
 use Rattle.frame.specs.Params.{width, Bounded}
 use Rattle.frame.specs.Messages.{Sending}
 use Rattle.frame.specs.Chunks.{area_bytes}
@@ -121,8 +120,8 @@ module _ (Z : Setup) where
 
   -- the value of the last write that was begun
   abbrev pub lent_by : Verdict → List ℕ → List ℕ → List ℕ
-  lent_by J.Fine v old = v
-  lent_by (J.Bad r) v old = old
+  lent_by (Ok _) v old = v
+  lent_by (Err r) v old = old
 
   abbrev pub server_left : S.Effect → ServerSide
   server_left m = record { server = m.server; area = m.area }

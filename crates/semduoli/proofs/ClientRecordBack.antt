@@ -1,4 +1,5 @@
 -- After a host's call on a client the record's bytes say the client that the call's definition leaves. Assumes nothing.
+use Rattle.std.specs.Prelude.{Ok, Err}
 use Prim.Native.Nat.{ℕ, ◌≤◌, ◌<◌}
 use mathlib.Core.Path.{◌≡◌, refl, sym, ap, ◌∙◌}
 use mathlib.Core.Bool.{Bool, true, false}
@@ -13,9 +14,7 @@ use Rattle.sha256.specs.Hash.{digest_of}
 use Rattle.blocks.specs.declared.Params.{Params}
 use Rattle.frame.specs.declared.Party.{Party}
 use Rattle.frame.specs.declared.Stamp.{Stamp}
-use Rattle.frame.specs.declared.Verdict.{Verdict}
-use Rattle.frame.specs.declared.Verdict.TheVariants as J
-use Rattle.frame.specs.Refusals.{answered_by}
+use Rattle.frame.specs.Refusals.{answered_by, Verdict}
 use Rattle.frame.specs.Stamps.{last_client}
 use Rattle.frame.specs.Frames.{stamp_bytes}
 use Rattle.frame.specs.Messages.{Judged, bad, good}
@@ -69,8 +68,8 @@ module _ (a : Response Progress) (s : Client) (state : List ℕ) where
 module _ (g : Params) (me : ℕ) (s : Client) where
   begun_stays : (v : Verdict) (x : Effect) (y : Progress) → is_turned_down (answered_by v y) ≡ true → (begin_by g me v s x).client ≡ s
   unfolding is_turned_down begin_by
-  begun_stays J.Fine x y e = impossible (cc e)
-  begun_stays (J.Bad r) x y e = refl
+  begun_stays (Ok _) x y e = impossible (cc e)
+  begun_stays (Err r) x y e = refl
 
   -- a beginning that is turned down leaves the client as it was
   read_stays : (out to : List ℕ) → is_turned_down (read_beginning g me s out to).answer ≡ true → (read_beginning g me s out to).client ≡ s

@@ -1,4 +1,5 @@
 -- The outcome of a frame handed to a client by a host, from what the code's calls promise. Assumes nothing.
+use Rattle.frame.specs.Refusals.{Verdict}
 use Prim.Native.Nat.{ℕ, ◌<◌, ◌≤◌}
 use mathlib.Core.Path.{◌≡◌, sym, ap, ap₂, ◌∙◌}
 use mathlib.Core.List.{List}
@@ -9,7 +10,6 @@ use Rattle.area.specs.Area.{pick}
 use Rattle.sha256.specs.Hash.{digest_of}
 use Rattle.blocks.specs.declared.Params.{Params}
 use Rattle.frame.specs.declared.Party.{Party}
-use Rattle.frame.specs.declared.Verdict.{Verdict}
 use Rattle.frame.specs.Stamps.{last_client}
 use Rattle.client_rules.specs.declared.Answer.{Answer}
 use Rattle.client_rules.specs.Answers.{Progress, answer_response}

@@ -1,4 +1,5 @@
 -- The outcome of each exported call, from the promises of the functions that its code calls. Assumes nothing.
+use Rattle.frame.specs.Refusals.{Verdict}
 use Prim.Native.Nat.{ℕ, ◌<◌, ◌≤◌}
 use mathlib.Core.Path.{◌≡◌, refl, sym, ap, ap₂, subst, ◌∙◌}
 use mathlib.Core.Bool.{Bool, true, false}
@@ -14,7 +15,6 @@ use Rattle.area.proofs.Tests.{by_pick}
 use Rattle.blocks.specs.declared.Params.{Params}
 use Rattle.blocks.specs.Calls.{Outcome, told as coded}
 use Rattle.sha256.specs.Hash.{digest_of}
-use Rattle.frame.specs.declared.Verdict.{Verdict}
 use Rattle.frame.specs.Stamps.{last_client}
 use Rattle.client_rules.specs.Answers.{Progress}
 use Rattle.client_rules.specs.declared.Client.{Client}

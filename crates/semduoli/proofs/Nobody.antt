@@ -1,4 +1,5 @@
 -- No client has an own number above 8: the call answers 1, and every lent byte stays. Assumes nothing.
+use Rattle.std.specs.Prelude.{Err}
 use Prim.Native.Nat.{ℕ, ◌<◌}
 use native.Mathlib.Omega.{arith}
 use mathlib.Core.Path.{◌≡◌, refl, sym, ap, ◌∙◌}
@@ -12,10 +13,8 @@ use Rattle.area.specs.Area.{pick}
 use Rattle.sha256.specs.Hash.{digest_of}
 use Rattle.blocks.specs.declared.Params.{Params}
 use Rattle.frame.specs.declared.Party.{Party}
-use Rattle.frame.specs.declared.Verdict.{Verdict}
 use Rattle.frame.specs.declared.Refusal.TheVariants as R
-use Rattle.frame.specs.declared.Verdict.TheVariants as J
-use Rattle.frame.specs.Refusals.{and_then}
+use Rattle.frame.specs.Refusals.{and_then, Verdict, fine}
 use Rattle.blocks.specs.Params.{parties_fit}
 use Rattle.frame.specs.Params.{own_test, code_test, params_test}
 use Rattle.frame.specs.Stamps.{last_client}
@@ -34,32 +33,32 @@ use Rattle.semduoli.specs.Handed.{stamp_after, client_got, client_got_of, client
 
 -- ---- 1 is answered
 
-own_out : (me most : ℕ) → most < me → own_test me most ≡ J.Bad R.Parties
+own_out : (me most : ℕ) → most < me → own_test me most ≡ Err R.Parties
 unfolding own_test pick
 own_out me most h =
-    ap (λ b. pick b (J.Bad R.Parties) (pick (ltb most me) (J.Bad R.Parties) J.Fine)) (le-ltb me 1 (omega (arith, h)))
-    ∙ ap (λ b. pick b (J.Bad R.Parties) J.Fine) (lt-ltb most me h)
+    ap (λ b. pick b (Err R.Parties) (pick (ltb most me) (Err R.Parties) fine)) (le-ltb me 1 (omega (arith, h)))
+    ∙ ap (λ b. pick b (Err R.Parties) fine) (lt-ltb most me h)
 
 module _ (g : Params) (me most : ℕ) where
-  out_by : (b : Bool) → (b ≡ true → most < me) → pick b (and_then (own_test me most) (code_test g)) (J.Bad R.Parties) ≡ J.Bad R.Parties
+  out_by : (b : Bool) → (b ≡ true → most < me) → pick b (and_then (own_test me most) (code_test g)) (Err R.Parties) ≡ Err R.Parties
   unfolding pick
   out_by true h = ap (λ v. and_then v (code_test g)) (own_out me most (h refl))
   out_by false h = refl
 
-  params_out : (parties_fit g.n g.t ≡ true → most < me) → params_test g me most ≡ J.Bad R.Parties
+  params_out : (parties_fit g.n g.t ≡ true → most < me) → params_test g me most ≡ Err R.Parties
   unfolding params_test
   params_out h = out_by (parties_fit g.n g.t) h
 
 module _ (g : Params) (me : ℕ) (h : last_client < me) where
-  no_client : params_test g me last_client ≡ J.Bad R.Parties
+  no_client : params_test g me last_client ≡ Err R.Parties
   no_client = params_out g me last_client (λ e. omega (arith, h))
 
 -- a test of which the test of the parameters is the first part
-stops : (p : Verdict) (v : Verdict) → p ≡ J.Bad R.Parties → and_then p v ≡ J.Bad R.Parties
+stops : (p : Verdict) (v : Verdict) → p ≡ Err R.Parties → and_then p v ≡ Err R.Parties
 stops p v e = ap (λ z. and_then z v) e
 
 -- and its number
-told : (p : Verdict) (v : Verdict) → p ≡ J.Bad R.Parties → 1 ≡ test_answer (and_then p v)
+told : (p : Verdict) (v : Verdict) → p ≡ Err R.Parties → 1 ≡ test_answer (and_then p v)
 unfolding test_answer
 told p v e = sym (ap test_answer (stops p v e))
 
@@ -78,7 +77,7 @@ module _ (g : Params) (me : ℕ) (h : last_client < me) where
         either (λ z. began 1 state out to ≡ z) (ltb (length state) client_size) _ _
         (ap (λ x. began x state out to) (told (params_test g me last_client) _ (no_client g me h)))
         (begins_none (read_beginning g me (client_in state) out to)
-        (begin_refused g me (client_in state) (read_test g me (client_in state) out to) (open_read g me (client_in state)) out to (J.Bad R.Parties)
+        (begin_refused g me (client_in state) (read_test g me (client_in state) out to) (open_read g me (client_in state)) out to (Err R.Parties)
         (sym (stops (params_test g me last_client) _ (no_client g me h))) R.Parties refl))
 
     pub write_none : (v : List ℕ) → began 1 state out to ≡ write_call g me v state out to
@@ -87,7 +86,7 @@ module _ (g : Params) (me : ℕ) (h : last_client < me) where
         either (λ z. began 1 state out to ≡ z) (ltb (length state) client_size) _ _
         (ap (λ x. began x state out to) (told (params_test g me last_client) _ (no_client g me h)))
         (begins_none (write_beginning g me (client_in state) v out to)
-        (begin_refused g me (client_in state) (write_test g me (client_in state) v out to) (open_write g me (client_in state)) out to (J.Bad R.Parties)
+        (begin_refused g me (client_in state) (write_test g me (client_in state) v out to) (open_write g me (client_in state)) out to (Err R.Parties)
         (sym (stops (params_test g me last_client) _ (no_client g me h))) R.Parties refl))
 
   module _ (from : Party) (value f rows result stamp state out to : List ℕ) where
@@ -106,5 +105,5 @@ module _ (g : Params) (me : ℕ) (h : last_client < me) where
         (either (λ z. client_got 1 rows result stamp state out to ≡ z) _ _ _
         (ap (λ x. client_got x rows result stamp state out to) (told (params_test g me last_client) _ p))
         (done_none (delivery digest_of g me (client_in state) rows value from f result out to)
-        (call_refused g me (client_in state) rows value from f result out to (J.Bad R.Parties)
+        (call_refused g me (client_in state) rows value from f result out to (Err R.Parties)
         (sym (stops (params_test g me last_client) (value_test g (client_in state).phase (length value)) p)) R.Parties refl)))

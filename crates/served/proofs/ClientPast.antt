@@ -1,4 +1,5 @@
 -- A client does not go back: the answer of a server that it has counted, or has gone beyond, stays past. Assumes nothing.
+use Rattle.std.specs.Prelude.{Err}
 use Prim.Native.Nat.{ℕ, max, ◌≤◌, ◌<◌}
 use native.Mathlib.Omega.{arith}
 use native.Mathlib.Decide.{ℕ_discrete}
@@ -17,10 +18,9 @@ use Rattle.area.specs.Area.{pick}
 use Rattle.group_rules.specs.Coded.{fits, fit_test}
 use Rattle.frame.specs.declared.Stamp.{Stamp}
 use Rattle.frame.specs.declared.Refusal.TheVariants as X
-use Rattle.frame.specs.declared.Verdict.TheVariants as J
 use Rattle.frame.specs.Chunks.{store_entry, place_at}
 use Rattle.frame.specs.Messages.{Entry, Body, get_stamp, ack, ask_read, read_complete, stamp_is, block_is, value_is, report}
-use Rattle.frame.specs.Refusals.{and_then}
+use Rattle.frame.specs.Refusals.{and_then, fine}
 use Rattle.frame.specs.Stamps.{last_time}
 use Rattle.frame.proofs.Sizes.{Small}
 use Rattle.frame.proofs.Verdicts.{fine_both}
@@ -206,14 +206,14 @@ module _ (Z : Setup) (G : Assumed Z) where
       learned_up (replies T) j i = noted_up T j
       learned_up (reports T p) j i = noted_up T j
 
-      unheard : (p : Bool) → CT.awaited (p && (eqb t.m.sequence s.writes && not (heard_of s t.j))) ≡ J.Fine
+      unheard : (p : Bool) → CT.awaited (p && (eqb t.m.sequence s.writes && not (heard_of s t.j))) ≡ fine
           → (p ≡ true) × (t.m.sequence ≡ s.writes) × (heard_of s t.j ≡ false)
       unheard p o =
           let w = and_split p _ (awaited_true H g c _ o) in
           let y = and_split (eqb t.m.sequence s.writes) _ w.1 in
           (w.0, eqb-true t.m.sequence s.writes y.0, not-true (heard_of s t.j) y.1)
 
-      learned : {b : Body} {s' : Client} → CT.order_test H g c s t.j t.m.sequence b ≡ J.Fine → Learns H g c s a t.v t.j b s' → Onward g.n s s'
+      learned : {b : Body} {s' : Client} → CT.order_test H g c s t.j t.m.sequence b ≡ fine → Learns H g c s a t.v t.j b s' → Onward g.n s s'
       unfolding CT.order_test
       learned o (replies T) =
           let (p, e, f) = unheard (asking s.phase) o in
@@ -221,7 +221,7 @@ module _ (Z : Setup) (G : Assumed Z) where
           same_stage s _ refl refl (ap write_stage z) (ap read_stage z) (heard_set t.j f) (λ j i x p. p) (λ j i. noted_up T j)
       learned o (reports T p) = same_stage s _ refl refl refl refl (λ j e. e) (λ j i x p. p) (λ j i. noted_up T j)
 
-      by_shape : {b : Body} {r : C.Effect} → CT.order_test H g c s t.j t.m.sequence b ≡ J.Fine → Shape H g c s a t.v t.j b r
+      by_shape : {b : Body} {r : C.Effect} → CT.order_test H g c s t.j t.m.sequence b ≡ fine → Shape H g c s a t.v t.j b r
           → Onward g.n s r.client
       unfolding CT.order_test
       by_shape o (idles b) = same_stage s s refl refl refl refl (λ j e. e) (λ j i x p. p) (λ j i. omega arith)
@@ -354,7 +354,7 @@ module _ (Z : Setup) (G : Assumed Z) where
           go true = gathered (C.gathered g s₁)
           go false = high
 
-      body_taken : (b : Body) → CT.order_test H g c s t.j t.m.sequence b ≡ J.Fine
+      body_taken : (b : Body) → CT.order_test H g c s t.j t.m.sequence b ≡ fine
           → AnswerPast (C.on_body H g c s a t.v t.j b).client t.j t.m.sequence b
       unfolding C.on_body CT.order_test
       body_taken get_stamp o = tt
@@ -386,7 +386,7 @@ module _ (Z : Setup) (G : Assumed Z) where
   Begun s q (value_is x e) = q ≤ s.reads
   Begun s q (report T) = Unit {0}
 
-  stale : (b : Bool) → CT.awaited b ≡ J.Bad X.Stale → b ≡ false
+  stale : (b : Bool) → CT.awaited b ≡ Err X.Stale → b ≡ false
   unfolding CT.awaited pick
   stale true e = impossible (cc e)
   stale false e = refl
@@ -430,7 +430,7 @@ module _ (Z : Setup) (G : Assumed Z) where
       go (yes z) = inr z
       go (no z) = inl (omega (arith, l, z))
 
-  pub stale_past : (c : ℕ) (s : Client) (j q : ℕ) (b : Body) → Begun s q b → CT.order_test H g c s j q b ≡ J.Bad X.Stale → AnswerPast s j q b
+  pub stale_past : (c : ℕ) (s : Client) (j q : ℕ) (b : Body) → Begun s q b → CT.order_test H g c s j q b ≡ Err X.Stale → AnswerPast s j q b
   unfolding CT.order_test fit_test CT.awaited pick
   stale_past c s j q get_stamp u e = tt
   stale_past c s j q ack (inl l) e = inl l
@@ -448,12 +448,12 @@ module _ (Z : Setup) (G : Assumed Z) where
   stale_past c s j q (report T) u e = ltb-false (report_of s j) T (stale _ e)
   stale_past c s j q (value_is x y) l e = go (reading s.phase && (eqb q s.reads && not (has_stamp (row_of s j).stamps (used (row_of s j)) x))) refl e
     where
-      fit_stale : (b : Bool) → pick b J.Fine (J.Bad X.Digest) ≡ J.Bad X.Stale → AnswerPast s j q (value_is x y)
+      fit_stale : (b : Bool) → pick b fine (Err X.Digest) ≡ Err X.Stale → AnswerPast s j q (value_is x y)
       fit_stale true e = impossible (cc e)
       fit_stale false e = impossible (cc e)
 
       go : (b : Bool) → (reading s.phase && (eqb q s.reads && not (has_stamp (row_of s j).stamps (used (row_of s j)) x))) ≡ b
-          → and_then (CT.awaited b) (fit_test H y j) ≡ J.Bad X.Stale → AnswerPast s j q (value_is x y)
+          → and_then (CT.awaited b) (fit_test H y j) ≡ Err X.Stale → AnswerPast s j q (value_is x y)
       go true p e = fit_stale (fits H y j) e
       go false p e = ⊎_elim
           (λ n. ⊎_elim (λ b. inl b) (λ z. inr (z, inl (not_reading s.phase n))) (at_or_below q s.reads l))

@@ -1,5 +1,6 @@
 -- In a finished run each answer that an honest server sent to an honest client is past there: the only place where a client's refusals occur. Of such an answer
 -- only 10, 12 and a step are possible, and 12 says that it is past. Assumes nothing.
+use Rattle.std.specs.Prelude.{Ok, Err}
 use Prim.Native.Nat.{ℕ, ◌≤◌}
 use native.Mathlib.Omega.{arith}
 use mathlib.Core.Bool.{Bool, true, false, not, ◌&&◌}
@@ -16,17 +17,14 @@ use Rattle.area.specs.Area.{pick}
 use Rattle.area.specs.Responses.{refusal_number}
 use Rattle.blocks.specs.declared.Params.{Params}
 use Rattle.group_rules.specs.Coded.{fits, fit_test}
-use Rattle.frame.specs.declared.Verdict.{Verdict}
 use Rattle.frame.specs.declared.Party.TheVariants as A
-use Rattle.frame.specs.declared.Opened.TheVariants as O
 use Rattle.frame.specs.declared.Refusal.TheVariants as X
-use Rattle.frame.specs.declared.Verdict.TheVariants as J
 use Rattle.frame.specs.Chunks.{rows_bytes}
 use Rattle.frame.specs.Frames.{build, opened, message_in, header_for}
 use Rattle.frame.specs.Messages.{send, echo, ready, Body, get_stamp, ack, ask_read, read_complete, stamp_is}
 use Rattle.frame.specs.Messages.{block_is, value_is, report, Message, message, good, judged_by, Formed}
 use Rattle.frame.specs.Params.{client_frames, out_room, to_room}
-use Rattle.frame.specs.Refusals.{and_then}
+use Rattle.frame.specs.Refusals.{and_then, Verdict, fine}
 use Rattle.frame.proofs.RoundTrip.{opened_build}
 use Rattle.frame.proofs.Sizes.{Small}
 use Rattle.client_rules.specs.declared.Phase.{Phase}
@@ -57,13 +55,13 @@ use Rattle.served.proofs.ServerPast.{refusal_in, rooms_cases, sent_frame}
 use Rattle.served.proofs.ServerWords.{Fitting, server_word}
 
 -- the test of the lent areas says nothing or 10
-room_cases : (g : Params) (area result out to : ℕ) → (CT.room_test g area result out to ≡ J.Fine) ⊎ (CT.room_test g area result out to ≡ J.Bad X.Room)
+room_cases : (g : Params) (area result out to : ℕ) → (CT.room_test g area result out to ≡ fine) ⊎ (CT.room_test g area result out to ≡ Err X.Room)
 unfolding CT.room_test CT.send_room
 room_cases g area result out to =
     rooms_cases (ltb area rows_bytes) (ltb result g.size) (ltb out (out_room g (client_frames g))) (ltb to (to_room (client_frames g)))
 
 room_fine : (g : Params) (area result out to : ℕ) → rows_bytes ≤ area → g.size ≤ result → out_room g (client_frames g) ≤ out → to_room (client_frames g) ≤ to
-    → CT.room_test g area result out to ≡ J.Fine
+    → CT.room_test g area result out to ≡ fine
 unfolding CT.room_test CT.send_room pick
 room_fine g area result out to a b c d =
     rw (le-ltb area rows_bytes a, le-ltb result g.size b, le-ltb out (out_room g (client_frames g)) c, le-ltb to (to_room (client_frames g)) d)
@@ -146,7 +144,7 @@ module _ (Z : Setup) (G : Assumed Z) where
   working ks c F.Reading e d = impossible (cc e)
 
   value_fine : (ks : List Call) → Admissible Z ks → (c : ℕ) (lent : List ℕ)
-      → CT.value_test g (home Z ks c).client.phase (length (lent_to Z (run Z ks) c lent)) ≡ J.Fine
+      → CT.value_test g (home Z ks c).client.phase (length (lent_to Z (run Z ks) c lent)) ≡ fine
   unfolding CT.value_test pick
   value_fine ks adm c lent = go (writing (home Z ks c).client.phase) refl
     where
@@ -157,24 +155,24 @@ module _ (Z : Setup) (G : Assumed Z) where
           ap length (lent_own Z (run Z ks) c lent e) ∙ (written_sized Z ks adm c (home Z ks c).client.writes p (home Z ks c).value u).0
 
       go : (b : Bool) → writing (home Z ks c).client.phase ≡ b
-          → pick (b && not (eqb (length (lent_to Z (run Z ks) c lent)) g.size)) (J.Bad X.Length) J.Fine ≡ J.Fine
-      go true e = ap (λ t. pick (not t) (J.Bad X.Length) J.Fine) (eq-eqb _ _ (long e))
+          → pick (b && not (eqb (length (lent_to Z (run Z ks) c lent)) g.size)) (Err X.Length) fine ≡ fine
+      go true e = ap (λ t. pick (not t) (Err X.Length) fine) (eq-eqb _ _ (long e))
       go false e = refl
 
   -- ---- what the client answers
 
   -- taken, or 12
-  pass_or_stale : (b : Bool) → (CT.awaited b ≡ J.Fine) ⊎ (CT.awaited b ≡ J.Bad X.Stale)
+  pass_or_stale : (b : Bool) → (CT.awaited b ≡ fine) ⊎ (CT.awaited b ≡ Err X.Stale)
   unfolding CT.awaited pick
   pass_or_stale true = inl refl
   pass_or_stale false = inr refl
 
-  fit_fine : (b : Bool) → b ≡ true → pick b J.Fine (J.Bad X.Digest) ≡ J.Fine
+  fit_fine : (b : Bool) → b ≡ true → pick b fine (Err X.Digest) ≡ fine
   unfolding pick
   fit_fine true e = refl
   fit_fine false e = impossible (cc e)
 
-  order : (c : ℕ) (s : Client) (j q : ℕ) (b : Body) → Fitting Z G j b → (CT.order_test H g c s j q b ≡ J.Fine) ⊎ (CT.order_test H g c s j q b ≡ J.Bad X.Stale)
+  order : (c : ℕ) (s : Client) (j q : ℕ) (b : Body) → Fitting Z G j b → (CT.order_test H g c s j q b ≡ fine) ⊎ (CT.order_test H g c s j q b ≡ Err X.Stale)
   unfolding CT.order_test fit_test
   order c s j q get_stamp f = inl refl
   order c s j q ack f = pass_or_stale _
@@ -217,8 +215,8 @@ module _ (Z : Setup) (G : Assumed Z) where
 
     answer_by_lem : (v : Verdict) (x : C.Effect) → refusal_number (CD.answer_of (judged_by v m) x) ≡ refusal_in v
     unfolding CD.answer_of
-    answer_by_lem J.Fine x = refl
-    answer_by_lem (J.Bad r) x = refl
+    answer_by_lem (Ok _) x = refl
+    answer_by_lem (Err r) x = refl
 
     answer_is : (rows lent result out to : List ℕ) (v : Verdict) → and_then (room rows result out to) ordered ≡ v
         → client_answer Z (run Z ks) c rows (A.Server j) (build m) lent result out to ≡ refusal_in v
@@ -231,7 +229,7 @@ module _ (Z : Setup) (G : Assumed Z) where
     abbrev Past : List Call → Type 0
     Past ks = AnswerPast (home Z ks c).client j m.sequence m.body
 
-    stale_here : SentBy Z G ks (A.Server j) (A.Client c) m → ordered ≡ J.Bad X.Stale → Past ks
+    stale_here : SentBy Z G ks (A.Server j) (A.Client c) m → ordered ≡ Err X.Stale → Past ks
     stale_here u o = stale_past Z G c s j m.sequence m.body
         (begun_by ks adm j c W.fair_client m.client m.sequence m.body W.right u) o
 
@@ -263,9 +261,9 @@ module _ (Z : Setup) (G : Assumed Z) where
         final : (v : Verdict) → and_then (room area result out to) ordered ≡ v → Final (refusal_in v)
         final v e = subst Final (answer_is area lent result out to v e) N
 
-        go : (room area result out to ≡ J.Fine) ⊎ (room area result out to ≡ J.Bad X.Room) → (ordered ≡ J.Fine) ⊎ (ordered ≡ J.Bad X.Stale)
+        go : (room area result out to ≡ fine) ⊎ (room area result out to ≡ Err X.Room) → (ordered ≡ fine) ⊎ (ordered ≡ Err X.Stale)
             → Past (to_client c (A.Server j) (build m) lent result out to ∷ ks)
-        go (inr z) o = absurd ((final (J.Bad X.Room) (ap (λ r. and_then r ordered) z)).0 refl)
+        go (inr z) o = absurd ((final (Err X.Room) (ap (λ r. and_then r ordered) z)).0 refl)
         go (inl z) (inl o) = taken_here lent result out to
             (judge_is area lent result out to ∙ ap (λ v. judged_by v m) (ap (λ r. and_then r ordered) z ∙ o))
         go (inl z) (inr o) = onward _ (stale_here u o)
@@ -292,13 +290,13 @@ module _ (Z : Setup) (G : Assumed Z) where
         to : List ℕ
         to = wide (to_room (client_frames g))
 
-        go : (ordered ≡ J.Fine) ⊎ (ordered ≡ J.Bad X.Stale) → Past ks
+        go : (ordered ≡ fine) ⊎ (ordered ≡ Err X.Stale) → Past ks
         go (inr o) = stale_here u o
         go (inl o) =
             let (r, e) = N rows [] result out to (long rows_bytes) (long g.size) (long (out_room g (client_frames g))) (long (to_room (client_frames g))) in
             let f = room_fine g (length rows) (length result) (length out) (length to) (long rows_bytes) (long g.size) (long (out_room g (client_frames g)))
             (long (to_room (client_frames g))) in
-            impossible (cc (e, answer_is rows [] result out to J.Fine (ap (λ r. and_then r ordered) f ∙ o)))
+            impossible (cc (e, answer_is rows [] result out to fine (ap (λ r. and_then r ordered) f ∙ o)))
 
   -- a frame that is handed in as an honest server's was sent by it before
   sent_before : (ks : List Call) → Admissible Z ks → (j c : ℕ) (m : Message) → Fair j c m → (f lent result out to : List ℕ) → f ≡ build m
@@ -306,7 +304,7 @@ module _ (Z : Setup) (G : Assumed Z) where
   sent_before ks adm j c m W f lent result out to ef pr =
       let hj : Honest Z (A.Server j) = (W.server, W.honest) in
       let b = opened_build g G.bounded m W.said in
-      let o : opened g f ≡ O.Frame (header_for m) = ap (opened g) ef ∙ b.opens in
+      let o : opened g f ≡ Ok (header_for m) = ap (opened g) ef ∙ b.opens in
       let (m', u, e) = sent_message Z G M ks (A.Server j) (A.Client c) f (pr.2 (header_for m) o hj) in
       let b' = opened_build g G.bounded m' (formed Z G M ks adm (A.Server j) (A.Client c) m' hj u) in
       let h : header_for m' ≡ header_for m = cc (o, ap (opened g) (sym e) ∙ b'.opens) in

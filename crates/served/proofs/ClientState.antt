@@ -1,5 +1,6 @@
 -- An honest client after any calls: what it has sent for its open operation, that what it has counted is not enough yet, and that its earlier writes
 -- ended. Assumes nothing.
+use Rattle.frame.specs.Refusals.{fine}
 use Prim.Native.Nat.{ℕ, zero, suc, ◌+◌, ◌≤◌, ◌<◌, min}
 use native.Mathlib.Omega.{arith}
 use native.Mathlib.Decide.{ℕ_discrete}
@@ -19,7 +20,6 @@ use Rattle.group_rules.specs.Coded.{entry_of}
 use Rattle.frame.specs.declared.Stamp.{Stamp}
 use Rattle.frame.specs.declared.Party.{Party}
 use Rattle.frame.specs.declared.Party.TheVariants as A
-use Rattle.frame.specs.declared.Verdict.TheVariants as J
 use Rattle.frame.specs.Params.{params_test, Bounded}
 use Rattle.frame.specs.Stamps.{last_time, last_client}
 use Rattle.frame.specs.Messages.{Entry, offer, send, Body, get_stamp, ask_read, block_is, Message, message, Sending, sending, to_all}
@@ -198,7 +198,7 @@ module _ (Z : Setup) (G : Assumed Z) where
       noted T F.Acking p (l, q, N, b, f) = (l, q, N, b, λ j i. inr (f j i))
       noted T F.Reading p (l, q, f, e) = (l, q, (λ j i. inr (f j i)), λ z l. let (p, u) = e z l in (p, inr u))
 
-      by_shape : {b : Body} {r : C.Effect} → CT.order_test H g c s t.j t.m.sequence b ≡ J.Fine → t.r ≡ r
+      by_shape : {b : Body} {r : C.Effect} → CT.order_test H g c s t.j t.m.sequence b ≡ fine → t.r ≡ r
           → Shape H g c s a t.v t.j b r → Stands (k ∷ ks) c (client_done Z r value)
       unfolding CT.order_test to_all
       by_shape o e (idles b) = same_write _ refl refl (later_doing ks k c (home Z ks c) s.phase S.doing)
@@ -252,15 +252,15 @@ module _ (Z : Setup) (G : Assumed Z) where
           same_write _ ew refl (λ q n. let (y, u) = d (sym ec ∙ q) (omega (arith, n, ew)) in (y, inr (subst (λ n. At (EndsWrite Z c n) ks y) (sym ew) u)))
 
     -- the tests of a beginning: no operation is open, and a write only where none closed as out of stamps
-    began_idle : (last : ℕ) → CB.idle_test s.phase last ≡ J.Fine → s.phase ≡ F.Idle
+    began_idle : (last : ℕ) → CB.idle_test s.phase last ≡ fine → s.phase ≡ F.Idle
     began_idle last e = phase_idle s.phase (not-false (idle s.phase) (fine_not _ _ _ e).0)
 
-    pub read_begun_idle : (out to : List ℕ) → CB.read_test g c s out to ≡ J.Fine → s.phase ≡ F.Idle
+    pub read_begun_idle : (out to : List ℕ) → CB.read_test g c s out to ≡ fine → s.phase ≡ F.Idle
     unfolding CB.read_test
     read_begun_idle out to e = began_idle s.reads
         (fine_both (CT.send_room g (length out) (length to)) (CB.idle_test s.phase s.reads) (fine_both (params_test g c last_client) _ e).1).1
 
-    pub write_begun_lem : (v out to : List ℕ) → CB.write_test g c s v out to ≡ J.Fine → (s.phase ≡ F.Idle) × (s.closed ≡ false)
+    pub write_begun_lem : (v out to : List ℕ) → CB.write_test g c s v out to ≡ fine → (s.phase ≡ F.Idle) × (s.closed ≡ false)
     unfolding CB.write_test
     write_begun_lem v out to e =
         let p₁ = (fine_both (params_test g c last_client) _ e).1 in
@@ -269,7 +269,7 @@ module _ (Z : Setup) (G : Assumed Z) where
         let p₄ = fine_both (CB.idle_test s.phase s.writes) _ p₃ in
         (began_idle s.writes p₄.0, (fine_not _ _ _ p₄.1).0)
 
-    read_stands : (out to : List ℕ) → caller k ≡ A.Client c → CB.read_test g c s out to ≡ J.Fine → sends Z (run Z ks) k ≡ (CB.open_read g c s).sends
+    read_stands : (out to : List ℕ) → caller k ≡ A.Client c → CB.read_test g c s out to ≡ fine → sends Z (run Z ks) k ≡ (CB.open_read g c s).sends
         → Stands (k ∷ ks) c (client_left Z (CB.open_read g c s) (home Z ks c).area (home Z ks c).value)
     unfolding CB.open_read to_all
     read_stands out to e t l = same_write _ refl refl (
@@ -279,7 +279,7 @@ module _ (Z : Setup) (G : Assumed Z) where
       λ q n. let (y, u) = was F.Idle (read_begun_idle out to t) q n in (y, inr u),
     )
 
-    write_stands : (v out to : List ℕ) → caller k ≡ A.Client c → CB.write_test g c s v out to ≡ J.Fine → sends Z (run Z ks) k ≡ (CB.open_write g c s).sends
+    write_stands : (v out to : List ℕ) → caller k ≡ A.Client c → CB.write_test g c s v out to ≡ fine → sends Z (run Z ks) k ≡ (CB.open_write g c s).sends
         → OpensWrite Z c (s.writes + 1) v ks k → Stands (k ∷ ks) c (client_left Z (CB.open_write g c s) (home Z ks c).area v)
     unfolding CB.open_write to_all
     write_stands v out to e t l o =

@@ -1,4 +1,5 @@
 -- What an honest client has sent: to whom, of which number, and its blocks of a write once only, with one time and one value. Assumes nothing.
+use Rattle.frame.specs.Refusals.{fine}
 use Prim.Native.Nat.{ℕ, ◌+◌, ◌≤◌, ◌<◌}
 use native.Mathlib.Omega.{arith}
 use mathlib.Core.Path.{◌≡◌, refl, ap, sym, ◌∙◌, subst}
@@ -10,7 +11,6 @@ use Rattle.quorum.proofs.Logic.{impossible, and_split}
 use Rattle.group_rules.specs.Coded.{entry_of}
 use Rattle.frame.specs.declared.Party.{Party}
 use Rattle.frame.specs.declared.Party.TheVariants as A
-use Rattle.frame.specs.declared.Verdict.TheVariants as J
 use Rattle.frame.specs.Messages.{Offer, offer, send, echo, ready, Body, get_stamp, ack, ask_read, read_complete}
 use Rattle.frame.specs.Messages.{stamp_is, block_is, value_is, report, Message, message, Sending, sending, to_all}
 use Rattle.server_rules.proofs.Thresholds.{agreed}
@@ -129,7 +129,7 @@ module _ (Z : Setup) (G : Assumed Z) where
     One l = (b b' : Party) (d q d' q' : ℕ) (o o' : Offer) → Memᴰ (sending b (message d q (block_is send o))) l
         → Memᴰ (sending b' (message d' q' (block_is send o'))) l → agreed o ≡ agreed o'
 
-    shape_offers : {x : Body} {r : C.Effect} → CT.order_test H g c s t.j t.m.sequence x ≡ J.Fine → Shape H g c s a t.v t.j x r
+    shape_offers : {x : Body} {r : C.Effect} → CT.order_test H g c s t.j t.m.sequence x ≡ fine → Shape H g c s a t.v t.j x r
         → Offers r.sends × One r.sends
     unfolding CT.order_test entry_of
     shape_offers o (idles x) = ((λ b d q y u. absurd (Memᴰ.not-nil u)), λ b b' d q d' q' y y' u w. absurd (Memᴰ.not-nil u))

@@ -1,4 +1,6 @@
 -- What a call does to a client, whole: nothing, a frame is taken, a read begins, a write begins. Assumes nothing.
+use Rattle.std.specs.Prelude.{Ok, Err}
+use Rattle.frame.specs.Refusals.{Verdict, fine}
 use Prim.Native.Nat.{ℕ, ◌+◌, ◌≤◌}
 use native.Mathlib.Decide.{ℕ_discrete}
 use mathlib.Core.Bool.{true}
@@ -10,9 +12,7 @@ use lib.ListN.{length}
 use Rattle.quorum.specs.Quorum.{Among}
 use Rattle.quorum.proofs.Logic.{impossible}
 use Rattle.frame.specs.declared.Party.{Party}
-use Rattle.frame.specs.declared.Verdict.{Verdict}
 use Rattle.frame.specs.declared.Party.TheVariants as A
-use Rattle.frame.specs.declared.Verdict.TheVariants as J
 use Rattle.frame.specs.Chunks.{rows_bytes}
 use Rattle.frame.specs.Messages.{Message, sending, number_in, good}
 use Rattle.server_rules.proofs.Parts.{put_same, put_cases}
@@ -44,8 +44,8 @@ module _ (Z : Setup) where
     pub owner : CT.owner_right c m.client m.body ≡ true
     pub v : List ℕ
     pub own : writing (home ks c).client.phase ≡ true → v ≡ (home ks c).value
-    pub order : CT.order_test H g c (home ks c).client j m.sequence m.body ≡ J.Fine
-    pub value : CT.value_test g (home ks c).client.phase (length v) ≡ J.Fine
+    pub order : CT.order_test H g c (home ks c).client j m.sequence m.body ≡ fine
+    pub value : CT.value_test g (home ks c).client.phase (length v) ≡ fine
     pub room : rows_bytes ≤ length (home ks c).area
     pub r : C.Effect
     pub did : r ≡ C.on_body H g c (home ks c).client (home ks c).area v j m.body
@@ -59,10 +59,10 @@ module _ (Z : Setup) where
     rests : home (k ∷ ks) c ≡ home ks c → ((b : Party) (m : Message) → caller k ≡ A.Client c → Memᴰ (sending b m) (sends Z (run Z ks) k) → ⊥)
         → ClientTurn ks k c
     takes : TakesFrame ks k c → ClientTurn ks k c
-    begins_read : (out to : List ℕ) → caller k ≡ A.Client c → CB.read_test g c (home ks c).client out to ≡ J.Fine
+    begins_read : (out to : List ℕ) → caller k ≡ A.Client c → CB.read_test g c (home ks c).client out to ≡ fine
         → home (k ∷ ks) c ≡ client_left Z (CB.open_read g c (home ks c).client) (home ks c).area (home ks c).value
         → sends Z (run Z ks) k ≡ (CB.open_read g c (home ks c).client).sends → ClientTurn ks k c
-    begins_write : (v out to : List ℕ) → caller k ≡ A.Client c → CB.write_test g c (home ks c).client v out to ≡ J.Fine
+    begins_write : (v out to : List ℕ) → caller k ≡ A.Client c → CB.write_test g c (home ks c).client v out to ≡ fine
         → home (k ∷ ks) c ≡ client_left Z (CB.open_write g c (home ks c).client) (home ks c).area v
         → sends Z (run Z ks) k ≡ (CB.open_write g c (home ks c).client).sends → OpensWrite Z c ((home ks c).client.writes + 1) v ks k → ClientTurn ks k c
 
@@ -92,7 +92,7 @@ module _ (Z : Setup) where
           owner = P.owner;
           v = lent_to Z (run Z ks) c lent;
           own = lent_own Z (run Z ks) c lent;
-          order = subst (λ y. CT.order_test H g c (home ks c).client y m.sequence m.body ≡ J.Fine) n P.order;
+          order = subst (λ y. CT.order_test H g c (home ks c).client y m.sequence m.body ≡ fine) n P.order;
           value = T.value;
           room = room;
           r = C.effect H g c (home ks c).client (home ks c).area (lent_to Z (run Z ks) c lent) from m;
@@ -137,8 +137,8 @@ module _ (Z : Setup) where
       left b = CB.begin_by g c b (home ks c).client (CB.open_read g c (home ks c).client)
 
       go : (b : Verdict) → CB.read_test g c (home ks c).client out to ≡ b → ClientTurn ks (begin_read c out to) c
-      go J.Fine e = begins_read out to refl e (h ∙ ap (λ b. client_left Z (left b) (home ks c).area (home ks c).value) e) (ap (λ b. (left b).sends) e)
-      go (J.Bad x) e = rests (h ∙ ap (λ b. client_left Z (left b) (home ks c).area (home ks c).value) e)
+      go (Ok _) e = begins_read out to refl e (h ∙ ap (λ b. client_left Z (left b) (home ks c).area (home ks c).value) e) (ap (λ b. (left b).sends) e)
+      go (Err x) e = rests (h ∙ ap (λ b. client_left Z (left b) (home ks c).area (home ks c).value) e)
           (λ y m _ u. Memᴰ.not-nil (subst (λ b. Memᴰ (sending y m) (left b).sends) e u))
 
   write_turn : (ks : List Call) (c : ℕ) (v out to : List ℕ)
@@ -152,10 +152,10 @@ module _ (Z : Setup) where
       left b = CB.begin_by g c b (home ks c).client (CB.open_write g c (home ks c).client)
 
       go : (b : Verdict) → CB.write_test g c (home ks c).client v out to ≡ b → ClientTurn ks (begin_write c v out to) c
-      go J.Fine e =
+      go (Ok _) e =
           begins_write v out to refl e (h ∙ ap (λ b. client_left Z (left b) (home ks c).area (lent_by Z b v (home ks c).value)) e) (ap (λ b. (left b).sends) e)
           (refl, refl, refl, e)
-      go (J.Bad x) e = rests (h ∙ ap (λ b. client_left Z (left b) (home ks c).area (lent_by Z b v (home ks c).value)) e)
+      go (Err x) e = rests (h ∙ ap (λ b. client_left Z (left b) (home ks c).area (lent_by Z b v (home ks c).value)) e)
           (λ y m _ u. Memᴰ.not-nil (subst (λ b. Memᴰ (sending y m) (left b).sends) e u))
 
   -- client d is called, and v is what it is left with

@@ -1,5 +1,7 @@
 -- What an honest server has done for an honest client's read: who listens asked for it and was told of the present value, and who does not has completed it.
 -- Assumes nothing.
+use Rattle.std.specs.Prelude.{Ok, Err}
+use Rattle.frame.specs.Refusals.{Verdict}
 use Prim.Native.Nat.{ℕ, ◌≤◌}
 use native.Mathlib.Omega.{arith}
 use mathlib.Core.Bool.{true, false}
@@ -11,9 +13,7 @@ use Rattle.quorum.specs.Quorum.{Among}
 use Rattle.quorum.proofs.Logic.{impossible}
 use Rattle.area.proofs.Sets.{of_copies}
 use Rattle.frame.specs.declared.Stamp.{Stamp}
-use Rattle.frame.specs.declared.Verdict.{Verdict}
 use Rattle.frame.specs.declared.Party.TheVariants as A
-use Rattle.frame.specs.declared.Verdict.TheVariants as J
 use Rattle.frame.specs.Chunks.{entry_at, present_at}
 use Rattle.frame.specs.Messages.{Entry, ask_read, read_complete, value_is, Message, message, sending}
 use Rattle.frame.proofs.Sizes.{Small}
@@ -70,8 +70,8 @@ module _ (Z : Setup) (G : Assumed Z) where
     where
       go : (b : Verdict) → ((reader_of (SD.construct_by H g j b initial_value (state_areas j) (initial_areas j)).server c).sequence ≡ 0)
           × ((reader_of (SD.construct_by H g j b initial_value (state_areas j) (initial_areas j)).server c).listening ≡ false)
-      go (J.Bad r) = (fresh_number 9 c, silent 9 c)
-      go J.Fine = (fresh_number 9 c, silent 9 c)
+      go (Err r) = (fresh_number 9 c, silent 9 c)
+      go (Ok _) = (fresh_number 9 c, silent 9 c)
 
   same : (ks : List Call) (k : Call) (j c : ℕ) → server_at Z G M (k ∷ ks) j ≡ server_at Z G M ks j → ReaderStands ks j c → ReaderStands (k ∷ ks) j c
   same ks k j c e S =

@@ -1,5 +1,6 @@
 -- A server does not go back: a frame that it has counted, answered or gone beyond stays past. In a finished run each frame that an honest party sent to an
 -- honest server is past there, or its write is ahead. Assumes nothing.
+use Rattle.std.specs.Prelude.{Ok, Err}
 use Prim.Native.Nat.{ℕ, ◌≤◌, ◌<◌}
 use native.Mathlib.Omega.{arith}
 use mathlib.Core.Bool.{Bool, true, false, not, ◌&&◌}
@@ -17,17 +18,15 @@ use Rattle.area.specs.Responses.{refusal_number}
 use Rattle.blocks.specs.declared.Params.{Params}
 use Rattle.group_rules.specs.Coded.{entry_of, fits, fit_test}
 use Rattle.frame.specs.declared.Party.{Party}
-use Rattle.frame.specs.declared.Verdict.{Verdict}
 use Rattle.frame.specs.declared.Party.TheVariants as A
 use Rattle.frame.specs.declared.Refusal.TheVariants as X
-use Rattle.frame.specs.declared.Verdict.TheVariants as J
 use Rattle.frame.specs.Chunks.{area_bytes}
 use Rattle.frame.specs.Frames.{build}
 use Rattle.frame.specs.Messages.{Offer, Stage, send, echo, ready, Body}
 use Rattle.frame.specs.Messages.{get_stamp, ack, ask_read, read_complete, stamp_is, block_is, value_is, report}
 use Rattle.frame.specs.Messages.{Message, message, sending, number_in, Judged, good, judged_by, Formed}
 use Rattle.frame.specs.Params.{width, server_frames, out_room, to_room}
-use Rattle.frame.specs.Refusals.{number_of, and_then}
+use Rattle.frame.specs.Refusals.{number_of, and_then, Verdict, fine}
 use Rattle.frame.proofs.RoundTrip.{opened_build}
 use Rattle.frame.proofs.Sizes.{Small}
 use Rattle.server_rules.specs.declared.Slot.{Slot}
@@ -56,14 +55,14 @@ use Rattle.served.proofs.ServerWords.{entry_fits, Fitting, server_word}
 
 -- with what number a verdict turns down
 abbrev pub refusal_in : Verdict → Option ℕ
-refusal_in J.Fine = none
-refusal_in (J.Bad r) = some (number_of r)
+refusal_in (Ok _) = none
+refusal_in (Err r) = some (number_of r)
 
 -- four areas that may be too short: the test says nothing or 10
 abbrev pub rooms : Bool → Bool → Bool → Bool → Verdict
-rooms a b c d = pick a (J.Bad X.Room) (pick b (J.Bad X.Room) (pick c (J.Bad X.Room) (pick d (J.Bad X.Room) J.Fine)))
+rooms a b c d = pick a (Err X.Room) (pick b (Err X.Room) (pick c (Err X.Room) (pick d (Err X.Room) fine)))
 
-pub rooms_cases : (a b c d : Bool) → (rooms a b c d ≡ J.Fine) ⊎ (rooms a b c d ≡ J.Bad X.Room)
+pub rooms_cases : (a b c d : Bool) → (rooms a b c d ≡ fine) ⊎ (rooms a b c d ≡ Err X.Room)
 unfolding pick
 rooms_cases true b c d = inr refl
 rooms_cases false true c d = inr refl
@@ -71,13 +70,13 @@ rooms_cases false false true d = inr refl
 rooms_cases false false false true = inr refl
 rooms_cases false false false false = inl refl
 
-room_cases : (g : Params) (area initial out to : ℕ) → (ST.room_test g area initial out to ≡ J.Fine) ⊎ (ST.room_test g area initial out to ≡ J.Bad X.Room)
+room_cases : (g : Params) (area initial out to : ℕ) → (ST.room_test g area initial out to ≡ fine) ⊎ (ST.room_test g area initial out to ≡ Err X.Room)
 unfolding ST.room_test
 room_cases g area initial out to =
     rooms_cases (ltb area area_bytes) (ltb initial (width g)) (ltb out (out_room g (server_frames g))) (ltb to (to_room (server_frames g)))
 
 room_fine : (g : Params) (area initial out to : ℕ) → area_bytes ≤ area → width g ≤ initial → out_room g (server_frames g) ≤ out → to_room (server_frames g) ≤ to
-    → ST.room_test g area initial out to ≡ J.Fine
+    → ST.room_test g area initial out to ≡ fine
 unfolding ST.room_test pick
 room_fine g area initial out to a b c d =
     rw (le-ltb area area_bytes a, le-ltb initial (width g) b, le-ltb out (out_room g (server_frames g)) c, le-ltb to (to_room (server_frames g)) d)
@@ -202,7 +201,7 @@ module _ (Z : Setup) (G : Assumed Z) where
 
   -- it passes, it is old and past, or it is ahead
   abbrev Order : List Call → ℕ → Party → ℕ → ℕ → Body → Verdict → Type 0
-  Order ks j a c q b v = (v ≡ J.Fine) ⊎ (((v ≡ J.Bad X.Stale) × ServerPast ks j a c q b) ⊎ ((v ≡ J.Bad X.Ahead) × Ahead ks j c q b))
+  Order ks j a c q b v = (v ≡ fine) ⊎ (((v ≡ Err X.Stale) × ServerPast ks j a c q b) ⊎ ((v ≡ Err X.Ahead) × Ahead ks j c q b))
 
   module _ (ks : List Call) (j : ℕ) (a : Party) (c q : ℕ) where
     abbrev slot : Slot
@@ -214,10 +213,10 @@ module _ (Z : Setup) (G : Assumed Z) where
     block_order z o f = go (ltb q slot.sequence) (ltb slot.sequence q) (ST.counted slot (number_in a) (block_is z o)) refl refl refl
       where
         fit : Verdict
-        fit = pick (fits H o.entry (ST.place_in j z (number_in a))) J.Fine (J.Bad X.Digest)
+        fit = pick (fits H o.entry (ST.place_in j z (number_in a))) fine (Err X.Digest)
 
         go : (l b d : Bool) → ltb q slot.sequence ≡ l → ltb slot.sequence q ≡ b → ST.counted slot (number_in a) (block_is z o) ≡ d
-            → Order ks j a c q (block_is z o) (and_then (pick l (J.Bad X.Stale) (pick b (J.Bad X.Ahead) (pick d (J.Bad X.Stale) J.Fine))) fit)
+            → Order ks j a c q (block_is z o) (and_then (pick l (Err X.Stale) (pick b (Err X.Ahead) (pick d (Err X.Stale) fine))) fit)
         go true b d el eb ed = inr (inl (refl, inl (ltb-true q slot.sequence el)))
         go false true d el eb ed = inr (inr (refl, ltb-true slot.sequence q eb))
         go false false true el eb ed = inr (inl (
@@ -227,13 +226,13 @@ module _ (Z : Setup) (G : Assumed Z) where
             counted_got g (server_at Z G M ks j).area c slot (number_in a) z o ed,
           ),
         ))
-        go false false false el eb ed = inl (ap (λ b. pick b J.Fine (J.Bad X.Digest)) f)
+        go false false false el eb ed = inl (ap (λ b. pick b fine (Err X.Digest)) f)
 
     read_order : Order ks j a c q ask_read (ST.read_test (reader Z G ks j c) q)
     unfolding ST.read_test pick
     read_order = go (leb q (reader Z G ks j c).sequence) refl
       where
-        go : (b : Bool) → leb q (reader Z G ks j c).sequence ≡ b → Order ks j a c q ask_read (pick b (J.Bad X.Stale) J.Fine)
+        go : (b : Bool) → leb q (reader Z G ks j c).sequence ≡ b → Order ks j a c q ask_read (pick b (Err X.Stale) fine)
         go true e = inr (inl (refl, leb-true q (reader Z G ks j c).sequence e))
         go false e = inl refl
 
@@ -241,7 +240,7 @@ module _ (Z : Setup) (G : Assumed Z) where
     unfolding ST.done_test pick
     done_order = go (ltb q (reader Z G ks j c).sequence) (eqb q (reader Z G ks j c).sequence && not (reader Z G ks j c).listening)
       where
-        go : (l b : Bool) → Order ks j a c q read_complete (pick l (J.Bad X.Stale) (pick b (J.Bad X.Stale) J.Fine))
+        go : (l b : Bool) → Order ks j a c q read_complete (pick l (Err X.Stale) (pick b (Err X.Stale) fine))
         go true b = inr (inl (refl, tt))
         go false true = inr (inl (refl, tt))
         go false false = inl refl
@@ -250,7 +249,7 @@ module _ (Z : Setup) (G : Assumed Z) where
     unfolding ST.report_test pick
     report_order T = go (ltb (report_of (server_at Z G M ks j).server (number_in a)) T)
       where
-        go : (b : Bool) → Order ks j a c q (report T) (pick b J.Fine (J.Bad X.Stale))
+        go : (b : Bool) → Order ks j a c q (report T) (pick b fine (Err X.Stale))
         go true = inl refl
         go false = inr (inl (refl, tt))
 
@@ -293,8 +292,8 @@ module _ (Z : Setup) (G : Assumed Z) where
 
     reply_by_lem : (v : Verdict) (n : ℕ) → refusal_number (SD.reply_of H g j (judged_by v m) n) ≡ refusal_in v
     unfolding SD.reply_of
-    reply_by_lem J.Fine n = refl
-    reply_by_lem (J.Bad r) n = refl
+    reply_by_lem (Ok _) n = refl
+    reply_by_lem (Err r) n = refl
 
     answer_is : (out to : List ℕ) (v : Verdict) → and_then (room out to) ordered ≡ v → server_answer Z (run Z ks) j a (build m) out to ≡ refusal_in v
     unfolding SD.delivery SD.outcome_of
@@ -331,15 +330,15 @@ module _ (Z : Setup) (G : Assumed Z) where
         final : (v : Verdict) → and_then (room out to) ordered ≡ v → Final (refusal_in v)
         final v e = subst Final (answer_is out to v e) F
 
-        go : (r : Verdict) → (r ≡ J.Fine) ⊎ (r ≡ J.Bad X.Room) → room out to ≡ r → Order ks j a m.client m.sequence m.body ordered
+        go : (r : Verdict) → (r ≡ fine) ⊎ (r ≡ Err X.Room) → room out to ≡ r → Order ks j a m.client m.sequence m.body ordered
             → Past (to_server j a (build m) out to ∷ ks)
-        go r (inr z) e o = absurd ((final (J.Bad X.Room) (ap (λ r. and_then r ordered) (e ∙ z))).0 refl)
+        go r (inr z) e o = absurd ((final (Err X.Room) (ap (λ r. and_then r ordered) (e ∙ z))).0 refl)
         go r (inl z) e (inl o) =
-            let d : and_then (room out to) ordered ≡ J.Fine = ap (λ r. and_then r ordered) (e ∙ z) ∙ o in
+            let d : and_then (room out to) ordered ≡ fine = ap (λ r. and_then r ordered) (e ∙ z) ∙ o in
             taken_past ks (to_server j a (build m) out to) j (takes out to (judge_is out to ∙ ap (λ v. judged_by v m) d)) m.client m.sequence m.body refl
         go r (inl z) e (inr (inl (o, p))) =
             past_later ks (to_server j a (build m) out to) j a m.client m.sequence (W.said.client_low, W.said.client_high) m.body p
-        go r (inl z) e (inr (inr (o, p))) = absurd ((final (J.Bad X.Ahead) (ap (λ r. and_then r ordered) (e ∙ z) ∙ o)).1 refl)
+        go r (inl z) e (inr (inr (o, p))) = absurd ((final (Err X.Ahead) (ap (λ r. and_then r ordered) (e ∙ z) ∙ o)).1 refl)
 
     -- with room it gives no step now: it is past, or ahead
     past_or_ahead : NoStep Z (run Z ks) a (A.Server j) (build m) → Past ks ⊎ Ahead ks j m.client m.sequence m.body
@@ -357,14 +356,14 @@ module _ (Z : Setup) (G : Assumed Z) where
         named : to_room (server_frames g) ≤ length to
         named = omega (arith, length-replicate {A = ℕ} (to_room (server_frames g)) 0)
 
-        fine : room out to ≡ J.Fine
+        fine : room out to ≡ fine
         fine = room_fine g (length sv.area) (length (initial_of Z j)) (length out) (length to) (shape Z G M ks j).room (initial_long Z G M j)
             many named
 
         go : Order ks j a m.client m.sequence m.body ordered → Past ks ⊎ Ahead ks j m.client m.sequence m.body
         go (inl o) =
             let (r, e) = N out to many named in
-            impossible (cc (e, answer_is out to J.Fine (ap (λ r. and_then r ordered) fine ∙ o)))
+            impossible (cc (e, answer_is out to fine (ap (λ r. and_then r ordered) fine ∙ o)))
         go (inr (inl (o, p))) = inl p
         go (inr (inr (o, p))) = inr p
 

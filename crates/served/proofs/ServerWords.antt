@@ -1,4 +1,6 @@
 -- What a server has sent: to whom, that its blocks fit at its own place, and that its readies are of values that it decoded. Assumes nothing.
+use Rattle.std.specs.Prelude.{Ok, Err}
+use Rattle.frame.specs.Refusals.{Verdict, fine}
 use Prim.Native.Nat.{ℕ, ◌+◌}
 use native.Mathlib.Omega.{arith}
 use mathlib.Core.Bool.{true, false}
@@ -15,9 +17,7 @@ use Rattle.area.proofs.Same.{same_refl}
 use Rattle.area.proofs.Sets.{take_front}
 use Rattle.frame.specs.declared.Stamp.{Stamp}
 use Rattle.frame.specs.declared.Party.{Party}
-use Rattle.frame.specs.declared.Verdict.{Verdict}
 use Rattle.frame.specs.declared.Party.TheVariants as A
-use Rattle.frame.specs.declared.Verdict.TheVariants as J
 use Rattle.frame.specs.Chunks.{entry_at, present_at}
 use Rattle.frame.specs.Messages.{Entry, entry, Offer, send, echo, ready, Body}
 use Rattle.frame.specs.Messages.{get_stamp, ack, ask_read, read_complete, stamp_is, block_is, value_is, report, Message, message, sending}
@@ -93,10 +93,10 @@ module _ (Z : Setup) (G : Assumed Z) where
   unfolding SD.construction SD.construct_by
   initial_block j is = go (SD.construct_test H g j initial_value (length (state_areas j)) (length (initial_areas j))) (OL.fresh_fine Z G j is)
     where
-      go : (b : Verdict) → b ≡ J.Fine
+      go : (b : Verdict) → b ≡ fine
           → take (width g) (SD.construct_by H g j b initial_value (state_areas j) (initial_areas j)).initial ≡ block_at H g initial_value j
-      go (J.Bad r) e = impossible (cc e)
-      go J.Fine e = take_front (initial_areas j) (block_at H g initial_value j) (width g) (block_width g initial_value j G.initial_size) (G.initial_room j)
+      go (Err r) e = impossible (cc e)
+      go (Ok _) e = take_front (initial_areas j) (block_at H g initial_value j) (width g) (block_width g initial_value j G.initial_size) (G.initial_room j)
 
   start_coded : (j : ℕ) → Among g.n j → Encodes H g j (present_of j (server_at Z G M [] j))
   unfolding present_entry entry_of pick

@@ -1,5 +1,6 @@
 -- The run of AllDelivered.antt, computed: it is admissible and finished, a write and a read begin and end in it, and up to the second ack it is not finished.
 -- Assumes nothing.
+use Rattle.frame.specs.Refusals.{fine}
 use Prim.Native.Nat.{ℕ, ◌+◌, ◌≤◌}
 use mathlib.Core.Bool.{true, false, ◌&&◌}
 use mathlib.Core.Path.{◌≡◌, refl, ap, sym, ◌∙◌}
@@ -10,7 +11,6 @@ use lib.ListN.{length, length-replicate}
 use native.Mathlib.Omega.{arith}
 use Rattle.quorum.proofs.Logic.{and_split}
 use Rattle.frame.specs.declared.Party.TheVariants as P
-use Rattle.frame.specs.declared.Verdict.TheVariants as J
 use Rattle.frame.specs.Params.{server_frames, client_frames, out_room, to_room, Bounded}
 use Rattle.frame.specs.Messages.{echo, ready}
 use Rattle.frame.specs.Frames.{build}
@@ -100,9 +100,9 @@ record Computed : Type 0 where
       × (((image Z waiting).clients 1).client.phase ≡ F.Acking)
   -- the write and the read can begin
   pub write_opens : (((image Z []).clients 1).client.writes + 1 ≡ 1)
-      × (CB.write_test g 1 ((image Z []).clients 1).client value (Toy.zeros (out_room g (client_frames g))) (Toy.zeros (to_room (client_frames g))) ≡ J.Fine)
+      × (CB.write_test g 1 ((image Z []).clients 1).client value (Toy.zeros (out_room g (client_frames g))) (Toy.zeros (to_room (client_frames g))) ≡ fine)
   pub read_opens : (((image Z asking).clients 2).client.reads + 1 ≡ 1)
-      × (CB.read_test g 2 ((image Z asking).clients 2).client (Toy.zeros (out_room g (client_frames g))) (Toy.zeros (to_room (client_frames g))) ≡ J.Fine)
+      × (CB.read_test g 2 ((image Z asking).clients 2).client (Toy.zeros (out_room g (client_frames g))) (Toy.zeros (to_room (client_frames g))) ≡ fine)
   -- one frame finds no room
   pub no_room : refused_in Z (image Z (block echo 2 1 ∷ block echo 1 1 ∷ block_to 3 ∷ block_to 2 ∷ block_to 1 ∷ opening)) no_room_hand ≡ some 10
   -- they end

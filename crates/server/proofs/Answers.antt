@@ -1,4 +1,6 @@
 -- From a test's verdict and a step's stages to the outcome of a frame. Assumes nothing.
+use Rattle.std.specs.Prelude.{Ok, Err}
+use Rattle.frame.specs.Refusals.{Verdict, fine}
 use Prim.Native.Nat.{ℕ, ◌≤◌}
 use native.Mathlib.Omega.{arith}
 use native.Mathlib.Nat.{zero-add}
@@ -14,8 +16,6 @@ use Rattle.blocks.specs.declared.Params.{Params}
 use Rattle.frame.specs.declared.Party.{Party}
 use Rattle.frame.specs.declared.Refusal.{Refusal}
 use Rattle.frame.specs.declared.Refusal.TheVariants as R
-use Rattle.frame.specs.declared.Verdict.{Verdict}
-use Rattle.frame.specs.declared.Verdict.TheVariants as J
 use Rattle.frame.specs.Messages.{from_server, number_in, Sending}
 use Rattle.frame.specs.Outbox.{Outbox, outbox, sent, first_place}
 use Rattle.frame.proofs.Outbox.{sent_none}
@@ -25,7 +25,6 @@ use Rattle.server_rules.specs.declared.Server.{Server}
 use Rattle.server_rules.specs.declared.Scope.{Scope}
 use Rattle.server.specs.declared.Taken.{Taken}
 use Rattle.frame.specs.declared.Place.{Place}
-use Rattle.server_rules.specs.declared.Reply.TheVariants as Y
 use Rattle.server_rules.specs.Scopes.{scope_of, with_scope}
 use Rattle.server_rules.specs.Tests.{from_owner, open_test}
 use Rattle.server_rules.specs.Steps.{Effect, send_only}
@@ -36,15 +35,15 @@ use Rattle.server.proofs.Scopes.{as_it_was}
 
 -- turned down
 pub refused_is : (v u : Verdict) (r : Refusal) (w : Server) (c : ℕ) (s : Scope) (a : List ℕ) (x : Effect) (out to : List ℕ) → s ≡ scope_of w c → v ≡ u
-    → v ≡ J.Bad r → outcome_in w c (record { reply = Y.Refused r; scope = s }) a out to ≡ answered u w a x out to
+    → v ≡ Err r → outcome_in w c (record { reply = Err r; scope = s }) a out to ≡ answered u w a x out to
 unfolding answered
 refused_is v u r w c s a x out to h e f =
-    ap (λ (z : Server). answered (J.Bad r) z a x out to) (as_it_was w c s h) ∙ ap (λ (z : Verdict). answered z w a x out to) (sym f ∙ e)
+    ap (λ (z : Server). answered (Err r) z a x out to) (as_it_was w c s h) ∙ ap (λ (z : Verdict). answered z w a x out to) (sym f ∙ e)
 
 -- a step
 pub step_is : (v u : Verdict) (s : Server) (a a' : List ℕ) (x : Effect) (out to out' to' : List ℕ) (c : ℕ) (y : Scope) (p : Place) (r : Taken) → v ≡ u
-    → v ≡ J.Fine → progress (with_scope s c y) a' (outbox out' to' p) ≡ moved x (outbox out to first_place)
-    → r.reply ≡ Y.Step p.count → r.scope ≡ y
+    → v ≡ fine → progress (with_scope s c y) a' (outbox out' to' p) ≡ moved x (outbox out to first_place)
+    → r.reply ≡ Ok p.count → r.scope ≡ y
     → outcome_in s c r a' out' to' ≡ answered u s a x out to
 unfolding answered stepped moved sent
 step_is v u s a a' x out to out' to' c y p r e f h i j =
@@ -58,7 +57,7 @@ step_is v u s a a' x out to out' to' c y p r e f h i j =
     z ∙ ap (λ (w : Verdict). answered w s a x out to) (sym f ∙ e)
 
 -- the open write
-pub open_fine : (x : Slot) (q : ℕ) (again : Bool) → open_test x q again ≡ J.Fine → x.sequence ≡ q
+pub open_fine : (x : Slot) (q : ℕ) (again : Bool) → open_test x q again ≡ fine → x.sequence ≡ q
 unfolding open_test
 open_fine x q again e =
     let a = fine_not (ltb q x.sequence) R.Stale _ e in
@@ -72,7 +71,7 @@ pub record Voted (g : Params) (from : Party) (x : Slot) (q : ℕ) : Type 0 where
 
 -- a server's frame of the open write
 pub voted : (g : Params) (from : Party) (x : Slot) (q : ℕ) (again : Bool) (v : Verdict)
-    → v ≡ pick (from_server g from) (open_test x q again) (J.Bad R.Sender) → v ≡ J.Fine → Voted g from x q
+    → v ≡ pick (from_server g from) (open_test x q again) (Err R.Sender) → v ≡ fine → Voted g from x q
 voted g from x q again v e f =
     let a = fine_is (from_server g from) R.Sender (open_test x q again) (sym e ∙ f) in
     let n = server_number g from a.0 in
@@ -80,7 +79,7 @@ voted g from x q again v e f =
 
 -- the owner's frame of the open write
 pub owned : (from : Party) (c : ℕ) (x : Slot) (q : ℕ) (again : Bool) (v : Verdict)
-    → v ≡ pick (from_owner from c) (open_test x q again) (J.Bad R.Sender) → v ≡ J.Fine → x.sequence ≡ q
+    → v ≡ pick (from_owner from c) (open_test x q again) (Err R.Sender) → v ≡ fine → x.sequence ≡ q
 owned from c x q again v e f = open_fine x q again (fine_is (from_owner from c) R.Sender (open_test x q again) (sym e ∙ f)).1
 
 -- a step that changes the server and sends

@@ -1,14 +1,12 @@
 -- How the code takes a step: stage by stage, each with what it leaves and its outbox. The entry points' promises (Delivery.antt of server_rules) do not speak
 -- of stages. These are definitions.
-use Rattle.std.specs.Prelude.{ℕ, ◌≤◌, ◌≡◌, List, length}
+use Rattle.std.specs.Prelude.{ℕ, ◌≤◌, ◌≡◌, List, length, Ok, Err}
 use Rattle.std.proofs.lemmas.List.Edits.{sets}
 use Rattle.area.specs.Area.{pick}
 use Rattle.area.specs.Responses.{turned_down, gives}
 use Rattle.blocks.specs.declared.Params.{Params}
 use Rattle.frame.specs.declared.Place.{Place}
-use Rattle.frame.specs.declared.Verdict.{Verdict}
-use Rattle.frame.specs.declared.Verdict.TheVariants as J
-use Rattle.frame.specs.Refusals.{number_of, refused}
+use Rattle.frame.specs.Refusals.{number_of, refused, Verdict, fine}
 use Rattle.frame.specs.Params.{Bounded, largest_frame}
 use Rattle.frame.specs.Messages.{Offer, Stage, Body, block_is, number_in}
 use Rattle.frame.specs.Outbox.{frames, receivers, Outbox, outbox, sent, Room}
@@ -65,8 +63,8 @@ abbrev pub handled : Counted → List ℕ → List ℕ → List ℕ → Handled
 handled r a out to = record { verdict = r.verdict; slot = r.slot; area = a; box = outbox out to r.place }
 
 unfoldable pub handled_by : Verdict → Slot → List ℕ → Counting → Outbox → Handled
-handled_by (J.Bad r) x a p q = record { verdict = J.Bad r; slot = x; area = a; box = q }
-handled_by J.Fine x a p q = record { verdict = J.Fine; slot = p.slot; area = p.area; box = sent q p.sends }
+handled_by (Err r) x a p q = record { verdict = Err r; slot = x; area = a; box = q }
+handled_by (Ok _) x a p q = record { verdict = fine; slot = p.slot; area = p.area; box = sent q p.sends }
 
 -- refusal 11, or what v says, of a frame with the body b
 unfoldable pub sent_by : Call → Body → Verdict → Verdict
@@ -119,5 +117,5 @@ stepped x out to = record {
 
 -- turned down by one of the tests 11 to 14, or a step
 unfoldable pub answered : Verdict → Server → List ℕ → Effect → List ℕ → List ℕ → Outcome
-answered (J.Bad r) s a x out to = record { reply = turned_down (number_of r); server = s; area = a; out = out; to = to }
-answered J.Fine s a x out to = stepped x out to
+answered (Err r) s a x out to = record { reply = turned_down (number_of r); server = s; area = a; out = out; to = to }
+answered (Ok _) s a x out to = stepped x out to

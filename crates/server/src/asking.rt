@@ -20,25 +20,25 @@ use crate::state::reader_in;
 use crate::tests::{done_test, from_owner, read_test};
 use blocks::Params;
 use frame::send::send_stamp;
-use frame::{Header, Party, Place, Refusal, Verdict};
-use server_rules::{Reader, Reply, Scope, Server};
+use frame::{Header, Party, Place, Refusal};
+use server_rules::{Reader, Scope, Server};
 
 // Refusals 11 and 12 of a read.
-fn ask_test(from: Party, h: Header, r: Reader) -> Verdict
+fn ask_test(from: Party, h: Header, r: Reader) -> Result<(), Refusal>
     ensures { result ≡ pick (from_owner from h.client) (read_test r h.sequence) (refused 11) }
 {
     if !from_owner(from, h.client) {
-        return Verdict::Bad(Refusal::Sender);
+        return Err(Refusal::Sender);
     }
     read_test(r, h.sequence)
 }
 
 // Refusals 11 and 12 of a read-complete.
-fn end_test(from: Party, h: Header, r: Reader) -> Verdict
+fn end_test(from: Party, h: Header, r: Reader) -> Result<(), Refusal>
     ensures { result ≡ pick (from_owner from h.client) (done_test r h.sequence) (refused 11) }
 {
     if !from_owner(from, h.client) {
-        return Verdict::Bad(Refusal::Sender);
+        return Err(Refusal::Sender);
     }
     done_test(r, h.sequence)
 }
@@ -61,7 +61,7 @@ pub fn on_get_stamp(
 {
     if !from_owner(from, h.client) {
         return Taken {
-            reply: Reply::Refused(Refusal::Sender),
+            reply: Err(Refusal::Sender),
             scope: s,
         };
     }
@@ -91,9 +91,9 @@ pub fn on_read<'a>(
 {
     let old = s.reader;
     let v = ask_test(from, h, old);
-    if let Verdict::Bad(r) = v {
+    if let Err(r) = v {
         return Taken {
-            reply: Reply::Refused(r),
+            reply: Err(r),
             scope: s,
         };
     }
@@ -118,9 +118,9 @@ pub fn on_read_complete(s: Scope, g: Params, from: Party, h: Header) -> Taken
 {
     let old = s.reader;
     let v = end_test(from, h, old);
-    if let Verdict::Bad(r) = v {
+    if let Err(r) = v {
         return Taken {
-            reply: Reply::Refused(r),
+            reply: Err(r),
             scope: s,
         };
     }

@@ -2,8 +2,8 @@
 #![tactic(auto)]
 
 use blocks::Params;
-use frame::{Header, Party, Place, Verdict};
-use server_rules::{Reply, Scope, Slot};
+use frame::{Header, Party, Place, Refusal};
+use server_rules::{Scope, Slot};
 
 pub mod asking;
 pub mod reads;
@@ -24,7 +24,7 @@ pub struct Call {
 // A frame of a write: why it is turned down, or Fine; its client's slot afterwards; where the next frame of the step goes.
 #[derive(Clone, Copy)]
 pub struct Counted {
-    pub verdict: Verdict,
+    pub verdict: Result<(), Refusal>,
     pub slot: Slot,
     pub place: Place,
 }
@@ -39,6 +39,6 @@ pub struct Moved {
 // A reply, and what a step leaves of its scope.
 #[derive(Clone, Copy)]
 pub struct Taken {
-    pub reply: Reply,
+    pub reply: Result<usize, Refusal>,
     pub scope: Scope,
 }

@@ -11,28 +11,25 @@ use blocks::Params;
 use blocks::encoder::encode_block;
 use frame::bounds::{params_test, width};
 use frame::places::AREA_BYTES;
-use frame::{Refusal, Verdict};
+use frame::Refusal;
 use group::digesting::digests;
-use server_rules::{Reply, Served, Server};
+use server_rules::{Served, Server};
 
 // Refusals 1, 2, 3 and 10; the lent areas are given by their lengths.
-pub fn construct_test(g: Params, me: u8, value: &[u8], area: usize, initial: usize) -> Verdict
+pub fn construct_test(g: Params, me: u8, value: &[u8], area: usize, initial: usize) -> Result<(), Refusal>
     ensures { result ≡ construct_test digest_of g me value.now area initial }
 {
-    let params = params_test(g, me as usize, g.n);
-    if let Verdict::Bad(r) = params {
-        return Verdict::Bad(r);
-    }
+    params_test(g, me as usize, g.n)?;
     if value.len() != g.size {
-        return Verdict::Bad(Refusal::Length);
+        return Err(Refusal::Length);
     }
     if area < AREA_BYTES {
-        return Verdict::Bad(Refusal::Room);
+        return Err(Refusal::Room);
     }
     if initial < width(g) {
-        return Verdict::Bad(Refusal::Room);
+        return Err(Refusal::Room);
     }
-    Verdict::Fine
+    Ok(())
 }
 
 // The digests of a value's blocks go to the state area, the own block to the initial area.
@@ -54,15 +51,15 @@ pub fn construct(g: Params, me: u8, value: &[u8], area: &mut [u8], initial: &mut
 {
     let server = Server::fresh();
     let v = construct_test(g, me, value, area.len(), initial.len());
-    if let Verdict::Bad(r) = v {
+    if let Err(r) = v {
         return Served {
-            reply: Reply::Refused(r),
+            reply: Err(r),
             server,
         };
     }
     store_initial(g, me, value, area, initial);
     Served {
-        reply: Reply::Step(0),
+        reply: Ok(0),
         server,
     }
 }

@@ -10,27 +10,27 @@ use blocks::Params;
 use frame::bounds::{out_room, to_room, width};
 use frame::parties::{from_server, number_in};
 use frame::places::AREA_BYTES;
-use frame::{Party, Refusal, Verdict};
+use frame::{Party, Refusal};
 use server_rules::{Reader, Slot};
 
 // Refusal 10: whether the lent areas, given by their lengths, are long enough.
-pub fn room_test(g: Params, area: usize, initial: usize, out: usize, to: usize) -> Verdict
+pub fn room_test(g: Params, area: usize, initial: usize, out: usize, to: usize) -> Result<(), Refusal>
     requires { Bounded g }
     ensures { result ≡ room_test g area initial out to }
 {
     if area < AREA_BYTES {
-        return Verdict::Bad(Refusal::Room);
+        return Err(Refusal::Room);
     }
     if initial < width(g) {
-        return Verdict::Bad(Refusal::Room);
+        return Err(Refusal::Room);
     }
     if out < out_room(g, 9 * g.n + 136) {
-        return Verdict::Bad(Refusal::Room);
+        return Err(Refusal::Room);
     }
     if to < to_room(9 * g.n + 136) {
-        return Verdict::Bad(Refusal::Room);
+        return Err(Refusal::Room);
     }
-    Verdict::Fine
+    Ok(())
 }
 
 // Whether the sender is client c.
@@ -44,65 +44,65 @@ pub fn from_owner(from: Party, c: u8) -> bool
 }
 
 // Refusals 12 and 13 of a frame of the write q; again says that one like it was counted already.
-pub fn open_test(x: Slot, q: u32, again: bool) -> Verdict
+pub fn open_test(x: Slot, q: u32, again: bool) -> Result<(), Refusal>
     ensures { result ≡ open_test x q again }
 {
     let w = q as u64;
     if w < x.sequence {
-        return Verdict::Bad(Refusal::Stale);
+        return Err(Refusal::Stale);
     }
     if x.sequence < w {
-        return Verdict::Bad(Refusal::Ahead);
+        return Err(Refusal::Ahead);
     }
     if again {
-        return Verdict::Bad(Refusal::Stale);
+        return Err(Refusal::Stale);
     }
-    Verdict::Fine
+    Ok(())
 }
 
 // Refusal 12 of a read.
-pub fn read_test(r: Reader, q: u32) -> Verdict
+pub fn read_test(r: Reader, q: u32) -> Result<(), Refusal>
     ensures { result ≡ read_test r q }
 {
     if q <= r.sequence {
-        return Verdict::Bad(Refusal::Stale);
+        return Err(Refusal::Stale);
     }
-    Verdict::Fine
+    Ok(())
 }
 
 // Refusal 12 of a read-complete.
-pub fn done_test(r: Reader, q: u32) -> Verdict
+pub fn done_test(r: Reader, q: u32) -> Result<(), Refusal>
     ensures { result ≡ done_test r q }
 {
     if q < r.sequence {
-        return Verdict::Bad(Refusal::Stale);
+        return Err(Refusal::Stale);
     }
     if q != r.sequence {
-        return Verdict::Fine;
+        return Ok(());
     }
     if r.listening {
-        return Verdict::Fine;
+        return Ok(());
     }
-    Verdict::Bad(Refusal::Stale)
+    Err(Refusal::Stale)
 }
 
 // Refusals 11 to 13 of a frame of the write q that only its owner c sends.
-pub fn owner_test(from: Party, c: u8, x: Slot, q: u32, again: bool) -> Verdict
+pub fn owner_test(from: Party, c: u8, x: Slot, q: u32, again: bool) -> Result<(), Refusal>
     ensures { result ≡ pick (from_owner from c) (open_test x q again) (refused 11) }
 {
     if !from_owner(from, c) {
-        return Verdict::Bad(Refusal::Sender);
+        return Err(Refusal::Sender);
     }
     open_test(x, q, again)
 }
 
 // Refusals 11 to 13 of a frame of the write q that only servers send; on says from which servers one was counted already.
-pub fn server_test(g: Params, from: Party, x: Slot, q: u32, on: [bool; 11]) -> Verdict
+pub fn server_test(g: Params, from: Party, x: Slot, q: u32, on: [bool; 11]) -> Result<(), Refusal>
     requires { Bounded g }
     ensures { result ≡ pick (from_server g from) (open_test x q (get_or on (number_in from) false)) (refused 11) }
 {
     if !from_server(g, from) {
-        return Verdict::Bad(Refusal::Sender);
+        return Err(Refusal::Sender);
     }
     let j = number_in(from) as usize;
     open_test(x, q, on[j])

@@ -1,4 +1,5 @@
 -- The tests of a write's frames, and what a counted one leaves. Assumes nothing.
+use Rattle.std.specs.Prelude.{Err}
 use Prim.Native.Nat.{ℕ, ◌+◌}
 use mathlib.Core.Path.{◌≡◌, refl, ap, sym, ◌∙◌}
 use mathlib.Core.Bool.{Bool, true, false}
@@ -10,9 +11,7 @@ use Rattle.sha256.specs.Hash.{digest_of}
 use Rattle.frame.specs.declared.Place.{Place}
 use Rattle.frame.specs.declared.Refusal.{Refusal}
 use Rattle.frame.specs.declared.Refusal.TheVariants as R
-use Rattle.frame.specs.declared.Verdict.{Verdict}
-use Rattle.frame.specs.declared.Verdict.TheVariants as J
-use Rattle.frame.specs.Refusals.{and_then}
+use Rattle.frame.specs.Refusals.{and_then, Verdict, fine}
 use Rattle.frame.specs.Messages.{Entry, Offer, Stage, message, send, echo, ready, block_is, to_all, number_in, from_server}
 use Rattle.group_rules.specs.Coded.{fit_test}
 use Rattle.frame.specs.Chunks.{store_entry}
@@ -32,71 +31,71 @@ use Rattle.server_blocks.specs.Stage.{vote_stage, vote_counted, votes_from, verd
 -- ---- the tests
 
 -- the sender is tested first, by b, and then u and w in that order
-split : (b : Bool) (u w : Verdict) → and_then (pick b u (J.Bad R.Sender)) w ≡ pick b (and_then u w) (J.Bad R.Sender)
+split : (b : Bool) (u w : Verdict) → and_then (pick b u (Err R.Sender)) w ≡ pick b (and_then u w) (Err R.Sender)
 unfolding pick
 split true u w = refl
 split false u w = refl
 
-bad_then : (b : Bool) (u w v : Verdict) (r : Refusal) → v ≡ pick b u (J.Bad R.Sender) → v ≡ J.Bad r → J.Bad r ≡ pick b (and_then u w) (J.Bad R.Sender)
-bad_then b u w v r h f = stop_first (pick b u (J.Bad R.Sender)) w v r h f ∙ split b u w
+bad_then : (b : Bool) (u w v : Verdict) (r : Refusal) → v ≡ pick b u (Err R.Sender) → v ≡ Err r → Err r ≡ pick b (and_then u w) (Err R.Sender)
+bad_then b u w v r h f = stop_first (pick b u (Err R.Sender)) w v r h f ∙ split b u w
 
-fine_then : (b : Bool) (u w v z : Verdict) → v ≡ pick b u (J.Bad R.Sender) → v ≡ J.Fine → z ≡ w → z ≡ pick b (and_then u w) (J.Bad R.Sender)
-fine_then b u w v z h f m = go_second (pick b u (J.Bad R.Sender)) w v z h f m ∙ split b u w
+fine_then : (b : Bool) (u w v z : Verdict) → v ≡ pick b u (Err R.Sender) → v ≡ fine → z ≡ w → z ≡ pick b (and_then u w) (Err R.Sender)
+fine_then b u w v z h f m = go_second (pick b u (Err R.Sender)) w v z h f m ∙ split b u w
 
-fine_first : (b : Bool) (u w v : Verdict) → v ≡ pick b (and_then u w) (J.Bad R.Sender) → v ≡ J.Fine → pick b u (J.Bad R.Sender) ≡ J.Fine
-fine_first b u w v h f = (fine_both (pick b u (J.Bad R.Sender)) w (split b u w ∙ sym h ∙ f)).0
+fine_first : (b : Bool) (u w v : Verdict) → v ≡ pick b (and_then u w) (Err R.Sender) → v ≡ fine → pick b u (Err R.Sender) ≡ fine
+fine_first b u w v h f = (fine_both (pick b u (Err R.Sender)) w (split b u w ∙ sym h ∙ f)).0
 
 module _ (k : Call) (x : Slot) (v : Verdict) where
   module _ (e : Entry) where
-    module _ (h : v ≡ pick (from_owner k.from k.header.client) (open_test x k.header.sequence x.blocks.sent) (J.Bad R.Sender)) where
-      pub send_bad : (r : Refusal) → v ≡ J.Bad r → J.Bad r ≡ send_verdict k x e
+    module _ (h : v ≡ pick (from_owner k.from k.header.client) (open_test x k.header.sequence x.blocks.sent) (Err R.Sender)) where
+      pub send_bad : (r : Refusal) → v ≡ Err r → Err r ≡ send_verdict k x e
       unfolding send_verdict
       send_bad r f =
           bad_then (from_owner k.from k.header.client) (open_test x k.header.sequence x.blocks.sent) (fit_test digest_of e k.me) v r h f
 
-      pub send_fine : (w : Verdict) → v ≡ J.Fine → w ≡ fit_test digest_of e k.me → w ≡ send_verdict k x e
+      pub send_fine : (w : Verdict) → v ≡ fine → w ≡ fit_test digest_of e k.me → w ≡ send_verdict k x e
       unfolding send_verdict
       send_fine w f m =
           fine_then (from_owner k.from k.header.client) (open_test x k.header.sequence x.blocks.sent) (fit_test digest_of e k.me) v w h f m
 
     -- on is what the code looks the sender up in
     module _ (on : List Bool) (i : on ≡ pick (eqb k.header.kind 4) x.blocks.echoes x.blocks.readies)
-        (h : v ≡ pick (from_server k.params k.from) (open_test x k.header.sequence (get_or on (number_in k.from) false)) (J.Bad R.Sender)) where
-      tested : v ≡ pick (from_server k.params k.from) (open_test x k.header.sequence (voted_before k x)) (J.Bad R.Sender)
+        (h : v ≡ pick (from_server k.params k.from) (open_test x k.header.sequence (get_or on (number_in k.from) false)) (Err R.Sender)) where
+      tested : v ≡ pick (from_server k.params k.from) (open_test x k.header.sequence (voted_before k x)) (Err R.Sender)
       unfolding voted_before
       tested =
           h
           ∙ ap
-          (λ (l : List Bool). pick (from_server k.params k.from) (open_test x k.header.sequence (get_or l (number_in k.from) false)) (J.Bad R.Sender))
+          (λ (l : List Bool). pick (from_server k.params k.from) (open_test x k.header.sequence (get_or l (number_in k.from) false)) (Err R.Sender))
           i
 
-      pub vote_bad : (r : Refusal) → v ≡ J.Bad r → J.Bad r ≡ vote_verdict k x e
+      pub vote_bad : (r : Refusal) → v ≡ Err r → Err r ≡ vote_verdict k x e
       unfolding vote_verdict
       vote_bad r f =
           bad_then (from_server k.params k.from) (open_test x k.header.sequence (voted_before k x)) (fit_test digest_of e (number_in k.from)) v r
           tested f
 
-      pub vote_fine : (w : Verdict) (j : ℕ) → v ≡ J.Fine → w ≡ fit_test digest_of e j → j ≡ number_in k.from → w ≡ vote_verdict k x e
+      pub vote_fine : (w : Verdict) (j : ℕ) → v ≡ fine → w ≡ fit_test digest_of e j → j ≡ number_in k.from → w ≡ vote_verdict k x e
       unfolding vote_verdict
       vote_fine w j f m n =
           fine_then (from_server k.params k.from) (open_test x k.header.sequence (voted_before k x)) (fit_test digest_of e (number_in k.from)) v w
           tested f (m ∙ ap (fit_test digest_of e) n)
 
     -- what is known where no test refused a frame
-    pub sent_open : v ≡ send_verdict k x e → v ≡ J.Fine → x.sequence ≡ k.header.sequence
+    pub sent_open : v ≡ send_verdict k x e → v ≡ fine → x.sequence ≡ k.header.sequence
     unfolding send_verdict
     sent_open h f =
         let b = from_owner k.from k.header.client in
         let u = open_test x k.header.sequence x.blocks.sent in
-        owned k.from k.header.client x k.header.sequence x.blocks.sent (pick b u (J.Bad R.Sender)) refl
+        owned k.from k.header.client x k.header.sequence x.blocks.sent (pick b u (Err R.Sender)) refl
         (fine_first b u (fit_test digest_of e k.me) v h f)
 
-    pub vote_open : v ≡ vote_verdict k x e → v ≡ J.Fine → Voted k.params k.from x k.header.sequence
+    pub vote_open : v ≡ vote_verdict k x e → v ≡ fine → Voted k.params k.from x k.header.sequence
     unfolding vote_verdict
     vote_open h f =
         let b = from_server k.params k.from in
         let u = open_test x k.header.sequence (voted_before k x) in
-        voted k.params k.from x k.header.sequence (voted_before k x) (pick b u (J.Bad R.Sender)) refl
+        voted k.params k.from x k.header.sequence (voted_before k x) (pick b u (Err R.Sender)) refl
         (fine_first b u (fit_test digest_of e (number_in k.from)) v h f)
 
   module _ (o : Offer) where
@@ -111,7 +110,7 @@ module _ (k : Call) (x : Slot) (v : Verdict) where
         go : (b : Bool)
             → v ≡ pick (from_server k.params k.from)
             (and_then (open_test x k.header.sequence (get_or (pick b x.blocks.echoes x.blocks.readies) (number_in k.from) false))
-            (fit_test digest_of o.entry (number_in k.from))) (J.Bad R.Sender)
+            (fit_test digest_of o.entry (number_in k.from))) (Err R.Sender)
             → v ≡ verdict_of k x (pick b echo ready) o
         go true h = h
         go false h = h
@@ -119,16 +118,16 @@ module _ (k : Call) (x : Slot) (v : Verdict) where
     -- ---- the steps
 
     module _ (z : Stage) (a out to : List ℕ) (p : Place) (h : v ≡ verdict_of k x z o) where
-      pub turned_down_lem : (r : Refusal) → v ≡ J.Bad r
-          → handled (record { verdict = J.Bad r; slot = x; place = p }) a out to ≡ block_frame digest_of k x a z o (outbox out to p)
+      pub turned_down_lem : (r : Refusal) → v ≡ Err r
+          → handled (record { verdict = Err r; slot = x; place = p }) a out to ≡ block_frame digest_of k x a z o (outbox out to p)
       unfolding block_frame verdict_of
-      turned_down_lem r f = refused_frame (J.Bad r) (verdict_of k x z o) r x a out to _ p (sym f ∙ h) refl
+      turned_down_lem r f = refused_frame (Err r) (verdict_of k x z o) r x a out to _ p (sym f ∙ h) refl
 
-      pub let_in : (y : Slot) (a' : List ℕ) (q : Outbox) → v ≡ J.Fine
+      pub let_in : (y : Slot) (a' : List ℕ) (q : Outbox) → v ≡ fine
           → left y a' (outbox out to p) ≡ counts (on_block digest_of k.params k.me a k.header.client x (number_in k.from) z o) q
-          → handled (record { verdict = J.Fine; slot = y; place = p }) a' out to ≡ block_frame digest_of k x a z o q
+          → handled (record { verdict = fine; slot = y; place = p }) a' out to ≡ block_frame digest_of k x a z o q
       unfolding block_frame verdict_of
-      let_in y a' q f l = counted_frame J.Fine (verdict_of k x z o) x y a a' out to _ p q (sym f ∙ h) refl l
+      let_in y a' q f l = counted_frame fine (verdict_of k x z o) x y a a' out to _ p q (sym f ∙ h) refl l
 
 -- the owner's offer is echoed
 pub block_echoed : (k : Call) (a : List ℕ) (j : ℕ) (o : Offer) (x y : Slot) (q q' : Outbox)

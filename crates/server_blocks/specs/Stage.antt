@@ -3,8 +3,7 @@ use Rattle.std.specs.Prelude.{ℕ, ◌+◌, ◌*◌, ◌-◌, ◌≤◌, ◌≡�
 use Rattle.area.specs.Area.{pick}
 use Rattle.blocks.specs.declared.Params.{Params}
 use Rattle.sha256.specs.Hash.{digest_of}
-use Rattle.frame.specs.declared.Verdict.{Verdict}
-use Rattle.frame.specs.Refusals.{and_then, refused}
+use Rattle.frame.specs.Refusals.{and_then, refused, Verdict}
 use Rattle.frame.specs.Params.{Bounded, width, listed, largest_frame, server_frames}
 use Rattle.frame.specs.Messages.{Entry, entry, Offer, offer, Stage, echo, ready, message, Sending, to_all, block_is, number_in, from_server}
 use Rattle.frame.specs.Outbox.{outbox, first_place, Room}

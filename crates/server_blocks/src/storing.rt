@@ -12,7 +12,7 @@ use frame::entries::put_entry;
 use frame::parties::number_in;
 use frame::places::{CLIENT_CHUNKS, ECHOES_BACK, READIES_BACK};
 use frame::send::block_all;
-use frame::{Broadcast, Place, Verdict, WriteTime};
+use frame::{Broadcast, Place, Refusal, WriteTime};
 use group::fitting::fit_test;
 use server::state::{block_echo, block_ready, block_sent};
 use server::tests::{owner_test, server_test};
@@ -20,17 +20,14 @@ use server::{Call, Counted};
 use server_rules::Slot;
 
 // Refusals 11 to 14 of the owner's frame.
-fn send_test(x: Slot, k: Call, list: &[u8], block: &[u8]) -> Verdict
+fn send_test(x: Slot, k: Call, list: &[u8], block: &[u8]) -> Result<(), Refusal>
     requires { Own k.params k.me × Carried k.params (length list.now) (length block.now) }
     ensures { result ≡ send_verdict k x (entry list.now block.now) }
 {
     let b = x.blocks;
     let h = k.header;
     let from = k.from;
-    let v = owner_test(from, h.client, x, h.sequence, b.sent);
-    if let Verdict::Bad(r) = v {
-        return Verdict::Bad(r);
-    }
+    owner_test(from, h.client, x, h.sequence, b.sent)?;
     fit_test(list, block, k.me as usize)
 }
 
@@ -45,7 +42,7 @@ fn flags_of(echo: bool, echoes: [bool; 11], readies: [bool; 11]) -> [bool; 11]
 }
 
 // Refusals 11 to 14 of a server's echo or ready.
-fn vote_test(x: Slot, k: Call, list: &[u8], block: &[u8]) -> Verdict
+fn vote_test(x: Slot, k: Call, list: &[u8], block: &[u8]) -> Result<(), Refusal>
     requires { Bounded k.params × Carried k.params (length list.now) (length block.now) }
     ensures { result ≡ vote_verdict k x (entry list.now block.now) }
 {
@@ -56,10 +53,7 @@ fn vote_test(x: Slot, k: Call, list: &[u8], block: &[u8]) -> Verdict
     let echoes = b.echoes;
     let readies = b.readies;
     let on = flags_of(h.kind == 4, echoes, readies);
-    let v = server_test(g, from, x, h.sequence, on);
-    if let Verdict::Bad(r) = v {
-        return Verdict::Bad(r);
-    }
+    server_test(g, from, x, h.sequence, on)?;
     let j = number_in(from) as usize;
     fit_test(list, block, j)
 }
@@ -80,9 +74,9 @@ pub fn on_block_send(
 {
     let p = Place { at: 0, count: 0 };
     let v = send_test(x, k, list, block);
-    if let Verdict::Bad(r) = v {
+    if let Err(r) = v {
         return Counted {
-            verdict: Verdict::Bad(r),
+            verdict: Err(r),
             slot: x,
             place: p,
         };
@@ -97,7 +91,7 @@ pub fn on_block_send(
     let place = block_all(out, to, p, g, Broadcast::Echo, w, list, block);
     let slot = block_sent(x);
     Counted {
-        verdict: Verdict::Fine,
+        verdict: Ok(()),
         slot,
         place,
     }
@@ -142,10 +136,10 @@ pub fn on_block_vote(
         area.old out.old to.old result area.new out.new to.new }
 {
     let v = vote_test(x, k, list, block);
-    if let Verdict::Bad(r) = v {
+    if let Err(r) = v {
         let place = Place { at: 0, count: 0 };
         return Counted {
-            verdict: Verdict::Bad(r),
+            verdict: Err(r),
             slot: x,
             place,
         };
@@ -161,7 +155,7 @@ pub fn on_block_vote(
     let slot = m.slot;
     let place = m.place;
     Counted {
-        verdict: Verdict::Fine,
+        verdict: Ok(()),
         slot,
         place,
     }

@@ -1,4 +1,5 @@
 -- From the stages of a step in a record's bytes to its outcome. Assumes nothing.
+use Rattle.std.specs.Prelude.{Ok, Err}
 use Prim.Native.Nat.{ℕ, ◌+◌, ◌*◌, ◌≤◌, ◌<◌}
 use native.Mathlib.Omega.{arith}
 use native.Mathlib.Nat.{zero-add}
@@ -17,9 +18,7 @@ use Rattle.blocks.specs.declared.Params.{Params}
 use Rattle.frame.specs.declared.Place.{Place}
 use Rattle.frame.specs.declared.Refusal.{Refusal}
 use Rattle.frame.specs.declared.Refusal.TheVariants as R
-use Rattle.frame.specs.declared.Verdict.{Verdict}
-use Rattle.frame.specs.declared.Verdict.TheVariants as J
-use Rattle.frame.specs.Refusals.{number_of}
+use Rattle.frame.specs.Refusals.{number_of, Verdict, fine}
 use Rattle.frame.specs.Messages.{Offer, Stage, Message, Body, message, number_in, from_server, block_is, report}
 use Rattle.frame.specs.Frames.{body_at, offer_in, body_in, message_in}
 use Rattle.frame.specs.Outbox.{Outbox, outbox, sent, first_place}
@@ -82,17 +81,17 @@ module _ (H : List ℕ → List ℕ) (k : Call) (f a initial st out to : List �
   abbrev by : Verdict → Effect → ByteOutcome
   by v x = outcome_at (answered v s a x out to) x k.header k.from st
 
-  pub byte_refused : (r : Refusal) → test ≡ J.Bad r → byte_outcome (turned_down (number_of r)) a st out to ≡ byte_step H k f a initial st out to
+  pub byte_refused : (r : Refusal) → test ≡ Err r → byte_outcome (turned_down (number_of r)) a st out to ≡ byte_step H k f a initial st out to
   unfolding byte_step step_for outcome_at answered left_by is_turned_down pick
   byte_refused r e = sym (ap (λ v. by v does) e)
 
-  byte_taken : test ≡ J.Fine → (x : Effect) → does ≡ x → (l b o t : List ℕ) (p : Place)
+  byte_taken : test ≡ fine → (x : Effect) → does ≡ x → (l b o t : List ℕ) (p : Place)
       → settled l b (outbox o t p) ≡ settled (effect_sets x k.header k.from st) x.area (sent (outbox out to first_place) x.sends)
       → byte_outcome (gives p.count) b l o t ≡ byte_step H k f a initial st out to
   unfolding byte_step step_for outcome_at answered stepped left_by is_turned_down pick sent
   byte_taken e x d l b o t p h =
       let n : p.count ≡ length x.sends = ap (λ (y : Settled). y.box.place.count) h ∙ zero-add (length x.sends) in
-      (λ i. byte_outcome (gives (n i)) (h i).area (h i).state (h i).box.out (h i).box.to) ∙ sym (ap (λ v. by v does) e ∙ ap (by J.Fine) d)
+      (λ i. byte_outcome (gives (n i)) (h i).area (h i).state (h i).box.out (h i).box.to) ∙ sym (ap (λ v. by v does) e ∙ ap (by fine) d)
 
   module _ (long : server_size ≤ length st) (B : Bytes st) (few : c ≤ 8) where
     typed : TypedServer s
@@ -172,14 +171,14 @@ module _ (H : List ℕ → List ℕ) (k : Call) (f a initial st out to : List �
         handles : handled n a₁ o₁ t₁ ≡ handled_by (message_test H g k.me s k.from voted) (slot_of s c) a p (outbox out to first_place)
         handles = h ∙ vote_handled H k a s z (offer_in g f) (slot_of s c) (outbox out to first_place) refl
 
-        pub vote_refused : (r : Refusal) → n.verdict ≡ J.Bad r → byte_outcome (turned_down (number_of r)) a₁ st o₁ t₁ ≡ byte_step H k f a initial st out to
+        pub vote_refused : (r : Refusal) → n.verdict ≡ Err r → byte_outcome (turned_down (number_of r)) a₁ st o₁ t₁ ≡ byte_step H k f a initial st out to
         vote_refused r e =
             let (u, x, y, v) = turned_down_lem n (slot_of s c) a a₁ out o₁ to t₁ p _ r handles e in
             (λ i. byte_outcome (turned_down (number_of r)) (x i) st (y i) (v i)) ∙ byte_refused r (ap (message_test H g k.me s k.from) is_voted ∙ u)
 
-        module _ (e : n.verdict ≡ J.Fine) (y : Scope) (q : y ≡ slot_in (scope_of s c) n.slot) (F : Bytes f) (l₁ : List ℕ)
+        module _ (e : n.verdict ≡ fine) (y : Scope) (q : y ≡ slot_in (scope_of s c) n.slot) (F : Bytes f) (l₁ : List ℕ)
             (w : l₁ ≡ scope_sets st c y.stamp y.slot y.reader) where
-          fine : message_test H g k.me s k.from voted ≡ J.Fine
+          fine : message_test H g k.me s k.from voted ≡ fine
           fine = (counted n (slot_of s c) a a₁ out o₁ to t₁ p _ handles e).0
 
           count : left n.slot a₁ (outbox o₁ t₁ n.place) ≡ counts p (outbox out to first_place)
@@ -252,7 +251,7 @@ module _ (H : List ℕ → List ℕ) (k : Call) (f a initial st out to : List �
             (scope_sets st c y.server.stamp (slot_of y.server c) (reader_of y.server c)))) (sym (eq-eqb k.header.kind 13 K))
 
       abbrev tests : Bool → Bool → Verdict
-      tests b d = pick b (pick d J.Fine (J.Bad R.Stale)) (J.Bad R.Sender)
+      tests b d = pick b (pick d fine (Err R.Stale)) (Err R.Sender)
 
       tested : test ≡ tests (from_server g k.from) (ltb (report_of s j) T)
       unfolding message_test sender_right order_test report_test
@@ -268,7 +267,7 @@ module _ (H : List ℕ → List ℕ) (k : Call) (f a initial st out to : List �
         report_stale l = byte_refused R.Stale (tested ∙ ap₂ tests (sym e ∙ h) (le-ltb (report_of s j) T (omega (arith, l, u, v))))
 
         module _ (l : x < U) (F : Bytes f) (high : j ≤ 10) (i : ℕ) (p : i ≡ j) (l₁ : List ℕ) (w : l₁ ≡ report_sets st i U) where
-          fine_report : test ≡ J.Fine
+          fine_report : test ≡ fine
           unfolding pick
           fine_report = tested ∙ ap₂ tests (sym e ∙ h) (lt-ltb (report_of s j) T (omega (arith, l, u, v)))
 
@@ -302,10 +301,10 @@ module _ (H : List ℕ → List ℕ) (k : Call) (f a initial st out to : List �
       scope_step r a₁ o₁ t₁ l₁ e w = go test e
         where
           go : (v : Verdict) → outcome_in s c r a₁ o₁ t₁ ≡ answered v s a does out to → byte_outcome (reply_response r.reply) a₁ l₁ o₁ t₁ ≡ by v does
-          go (J.Bad x) e =
+          go (Err x) e =
               let z : l₁ ≡ st = w ∙ ap (λ (o : Outcome). left_by o.reply st (scope_sets st c r.scope.stamp r.scope.slot r.scope.reader)) e in
               λ i. byte_outcome (e i).reply (e i).area (z i) (e i).out (e i).to
-          go J.Fine e =
+          go (Ok _) e =
               let d = ap (λ (o : Outcome). scope_of o.server c) e in
               let z : l₁ ≡ effect_sets does k.header k.from st =
               w

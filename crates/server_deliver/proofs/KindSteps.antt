@@ -1,4 +1,5 @@
 -- The step of each kind is that of what the frame says. Assumes nothing.
+use Rattle.std.specs.Prelude.{Err}
 use Prim.Native.Nat.{ℕ, zero, suc, ◌+◌, ◌*◌, ◌-◌, ◌≤◌, ◌<◌}
 use native.Mathlib.Omega.{arith}
 use mathlib.Core.Path.{◌≡◌, refl, ap, sym, ◌∙◌}
@@ -29,7 +30,6 @@ use Rattle.server_rules.specs.declared.Slot.{Slot}
 use Rattle.server_rules.specs.declared.Reader.{Reader}
 use Rattle.server_rules.specs.State.{no_slot, no_reader, slot_of, reader_of, with_slot, with_reader}
 use Rattle.server_rules.specs.declared.Scope.{Scope}
-use Rattle.server_rules.specs.declared.Reply.TheVariants as Y
 use Rattle.server_rules.specs.Scopes.{scope_of}
 use Rattle.server_rules.specs.Tests.{sender_right, order_test, message_test}
 use Rattle.server_rules.specs.Steps.{send_only, freed, settle, on_read, on_read_complete, on_body, effect}
@@ -139,7 +139,7 @@ refusing a out to s = record { reply = turned_down 11; server = s; area = a; out
 
 module _ (H : List ℕ → List ℕ) (k : Call) (s : Server) (a initial f out to : List ℕ) (x : Scope) (q : x ≡ scope_of s k.header.client) where
   abbrev Refuses : Type 0
-  Refuses = outcome_in s k.header.client (record { reply = Y.Refused R.Sender; scope = x }) a out to ≡ step_for H k s a initial f out to
+  Refuses = outcome_in s k.header.client (record { reply = Err R.Sender; scope = x }) a out to ≡ step_for H k s a initial f out to
 
   none_sends : (n : ℕ) (b : Body) → k.header.kind ≡ n → body_in k.params n f ≡ b → sender_right k.params k.from k.header.client b ≡ false → Refuses
   unfolding message_test answered pick

@@ -1,4 +1,5 @@
 -- From the tests for refusals 1 to 10 to the outcome of a delivery. Assumes nothing.
+use Rattle.std.specs.Prelude.{Ok, Err}
 use Prim.Native.Nat.{ℕ, ◌+◌, ◌*◌, ◌≤◌, ◌<◌}
 use native.Mathlib.Omega.{arith}
 use mathlib.Core.Path.{◌≡◌, refl, ap, sym, ◌∙◌}
@@ -9,14 +10,11 @@ use borrow.Author.Tests.{ltb-false, lt-ltb, le-ltb}
 use Rattle.area.specs.Area.{pick}
 use Rattle.blocks.specs.declared.Params.{Params}
 use Rattle.frame.specs.declared.Header.{Header}
-use Rattle.frame.specs.declared.Opened.{Opened}
-use Rattle.frame.specs.declared.Opened.TheVariants as O
+use Rattle.frame.specs.Frames.{Opened}
 use Rattle.frame.specs.declared.Party.{Party}
 use Rattle.frame.specs.declared.Refusal.{Refusal}
 use Rattle.frame.specs.declared.Refusal.TheVariants as R
-use Rattle.frame.specs.declared.Verdict.{Verdict}
-use Rattle.frame.specs.declared.Verdict.TheVariants as J
-use Rattle.frame.specs.Refusals.{and_then}
+use Rattle.frame.specs.Refusals.{and_then, Verdict, fine}
 use Rattle.frame.specs.Params.{width, largest_frame, server_frames, out_room, to_room, params_test}
 use Rattle.frame.specs.Messages.{Message, Judged, bad, judged_by, after}
 use Rattle.frame.specs.Frames.{header_in, frame_test, opened_by, opened, message_in}
@@ -27,7 +25,6 @@ use Rattle.frame.proofs.Within.{Admitted, admitted_of}
 use Rattle.frame.proofs.Opening.{opens_facts}
 use Rattle.quorum.proofs.Logic.{impossible}
 use Rattle.server_rules.specs.declared.Server.{Server}
-use Rattle.server_rules.specs.declared.Reply.TheVariants as Y
 use Rattle.server_rules.specs.Tests.{room_test, message_test, judge_opened, judge}
 use Rattle.server_rules.specs.Delivery.{Outcome, outcome, effect_by, delivered, reply_of, outcome_of, delivery}
 use Rattle.server.specs.declared.Call.{Call}
@@ -37,13 +34,13 @@ use Rattle.server_deliver.specs.Records.{rooms_test}
 
 -- ---- the tests one after the other: p is the verdict of refusals 1 to 3, t of 4 to 9, v of 10
 
-bad_opened : (v : Verdict) (h : Header) (r : Refusal) → opened_by v h ≡ O.Refused r → v ≡ J.Bad r
-bad_opened J.Fine h r e = impossible (cc e)
-bad_opened (J.Bad s) h r e = let q : s ≡ r = cc in ap J.Bad q
+bad_opened : (v : Verdict) (h : Header) (r : Refusal) → opened_by v h ≡ Err r → v ≡ Err r
+bad_opened (Ok _) h r e = impossible (cc e)
+bad_opened (Err s) h r e = let q : s ≡ r = cc in ap Err q
 
 module _ (g : Params) (me : ℕ) (f : List ℕ) (state area initial out to : ℕ) where
   -- the record's area is short, or long enough
-  room_short : state < server_size → J.Bad R.Room ≡ rooms_test g state area initial out to
+  room_short : state < server_size → Err R.Room ≡ rooms_test g state area initial out to
   unfolding rooms_test pick
   room_short h = rw (lt-ltb _ _ h)
 
@@ -57,29 +54,29 @@ module _ (g : Params) (me : ℕ) (f : List ℕ) (state area initial out to : ℕ
   all_said p t v e h i = λ l. opened_by (and_then (e l) (and_then (h l) (i l))) (header_in f)
 
   module _ (p : Verdict) (e : p ≡ params_test g me g.n) where
-    pub out_of_bounds : (r : Refusal) → p ≡ J.Bad r → O.Refused r ≡ admitted g me f state area initial out to
-    out_of_bounds r h = all_said (J.Bad r) (frame_test g f) (rooms_test g state area initial out to) (sym h ∙ e) refl refl
+    pub out_of_bounds : (r : Refusal) → p ≡ Err r → Err r ≡ admitted g me f state area initial out to
+    out_of_bounds r h = all_said (Err r) (frame_test g f) (rooms_test g state area initial out to) (sym h ∙ e) refl refl
 
-    module _ (h : p ≡ J.Fine) (q : Opened) (i : q ≡ opened g f) where
-      pub not_opened : (r : Refusal) → q ≡ O.Refused r → q ≡ admitted g me f state area initial out to
+    module _ (h : p ≡ fine) (q : Opened) (i : q ≡ opened g f) where
+      pub not_opened : (r : Refusal) → q ≡ Err r → q ≡ admitted g me f state area initial out to
       unfolding opened
       not_opened r j =
-          j ∙ all_said J.Fine (J.Bad r) (rooms_test g state area initial out to) (sym h ∙ e) (sym (bad_opened (frame_test g f) (header_in f) r (sym i ∙ j))) refl
+          j ∙ all_said fine (Err r) (rooms_test g state area initial out to) (sym h ∙ e) (sym (bad_opened (frame_test g f) (header_in f) r (sym i ∙ j))) refl
 
-      module _ (k : Header) (j : q ≡ O.Frame k) where
-        frame_fine : (frame_test g f ≡ J.Fine) × (header_in f ≡ k)
+      module _ (k : Header) (j : q ≡ Ok k) where
+        frame_fine : (frame_test g f ≡ fine) × (header_in f ≡ k)
         unfolding opened
         frame_fine = fine_opened (frame_test g f) (header_in f) k (sym i ∙ j)
 
-        pub no_record : state < server_size → O.Refused R.Room ≡ admitted g me f state area initial out to
-        no_record l = all_said J.Fine J.Fine (J.Bad R.Room) (sym h ∙ e) (sym frame_fine.0) (room_short l)
+        pub no_record : state < server_size → Err R.Room ≡ admitted g me f state area initial out to
+        no_record l = all_said fine fine (Err R.Room) (sym h ∙ e) (sym frame_fine.0) (room_short l)
 
         module _ (v : Verdict) (l : v ≡ room_test g area initial out to) (n : server_size ≤ state) where
-          pub no_room : (r : Refusal) → v ≡ J.Bad r → O.Refused r ≡ admitted g me f state area initial out to
-          no_room r m = all_said J.Fine J.Fine (J.Bad r) (sym h ∙ e) (sym frame_fine.0) (sym m ∙ l ∙ room_long n)
+          pub no_room : (r : Refusal) → v ≡ Err r → Err r ≡ admitted g me f state area initial out to
+          no_room r m = all_said fine fine (Err r) (sym h ∙ e) (sym frame_fine.0) (sym m ∙ l ∙ room_long n)
 
-          pub has_room : v ≡ J.Fine → O.Frame k ≡ admitted g me f state area initial out to
-          has_room m = ap O.Frame (sym frame_fine.1) ∙ all_said J.Fine J.Fine J.Fine (sym h ∙ e) (sym frame_fine.0) (sym m ∙ l ∙ room_long n)
+          pub has_room : v ≡ fine → Ok k ≡ admitted g me f state area initial out to
+          has_room m = ap Ok (sym frame_fine.1) ∙ all_said fine fine fine (sym h ∙ e) (sym frame_fine.0) (sym m ∙ l ∙ room_long n)
 
 -- ---- what holds of a frame that passes them
 
@@ -88,7 +85,7 @@ record Rooms (g : Params) (area initial out to : ℕ) : Type 0 where
   initial_whole : width g ≤ initial
   room : Room first_place (server_frames g) (largest_frame g) out to
 
-rooms_of : (g : Params) (area initial out to : ℕ) → room_test g area initial out to ≡ J.Fine → Rooms g area initial out to
+rooms_of : (g : Params) (area initial out to : ℕ) → room_test g area initial out to ≡ fine → Rooms g area initial out to
 unfolding room_test out_room to_room
 rooms_of g area initial out to e =
     let a = fine_not (ltb area area_bytes) R.Room _ e in
@@ -105,20 +102,20 @@ rooms_of g area initial out to e =
     }
 
 -- the record's area is long enough, and so are the others
-rooms_fine : (g : Params) (state area initial out to : ℕ) → rooms_test g state area initial out to ≡ J.Fine
-    → (server_size ≤ state) × (room_test g area initial out to ≡ J.Fine)
+rooms_fine : (g : Params) (state area initial out to : ℕ) → rooms_test g state area initial out to ≡ fine
+    → (server_size ≤ state) × (room_test g area initial out to ≡ fine)
 unfolding rooms_test
 rooms_fine g state area initial out to e = let a = fine_not (ltb state server_size) R.Room _ e in (ltb-false _ _ a.0, a.1)
 
 record LetIn (g : Params) (me : ℕ) (f : List ℕ) (state area initial out to : ℕ) (h : Header) : Type 0 where
   params : Admitted g me g.n
-  frame : frame_test g f ≡ J.Fine
+  frame : frame_test g f ≡ fine
   whole : server_size ≤ state
   rooms : Rooms g area initial out to
   header : header_in f ≡ h
 
 module _ (g : Params) (me : ℕ) (f : List ℕ) (state area initial out to : ℕ) (q : Opened) (e : q ≡ admitted g me f state area initial out to)
-    (h : Header) (p : q ≡ O.Frame h) where
+    (h : Header) (p : q ≡ Ok h) where
   let_in : LetIn g me f state area initial out to h
   unfolding admitted
   let_in =
@@ -136,11 +133,11 @@ module _ (g : Params) (me : ℕ) (f : List ℕ) (state area initial out to : ℕ
 
 -- what its step may ask for
 pub handed : (k : Call) (f : List ℕ) (state area initial out to : ℕ) (q : Opened) → q ≡ admitted k.params k.me f state area initial out to
-    → q ≡ O.Frame k.header → Handed k (length f) area out to × (width k.params ≤ initial) × (server_size ≤ state)
+    → q ≡ Ok k.header → Handed k (length f) area out to × (width k.params ≤ initial) × (server_size ≤ state)
 unfolding opened
 handed k f state area initial out to q e p =
     let L = let_in k.params k.me f state area initial out to q e k.header p in
-    let F = opens_facts k.params f k.header (ap (λ (z : Verdict). opened_by z (header_in f)) L.frame ∙ ap O.Frame L.header) in
+    let F = opens_facts k.params f k.header (ap (λ (z : Verdict). opened_by z (header_in f)) L.frame ∙ ap Ok L.header) in
     let A = L.params in
     let S = L.rooms in (
       record {
@@ -164,10 +161,10 @@ module _ (H : List ℕ → List ℕ) (g : Params) (me : ℕ) (s : Server) (a ini
       → after p (judge_opened H g me (opened_by t h) v s from f)
       ≡ judged_by (and_then (and_then p (and_then t v)) (message_test H g me s from (message_in g h f))) (message_in g h f)
   unfolding judge_opened
-  judged_after (J.Bad r) t v h = refl
-  judged_after J.Fine (J.Bad r) v h = refl
-  judged_after J.Fine J.Fine (J.Bad r) h = refl
-  judged_after J.Fine J.Fine J.Fine h = refl
+  judged_after (Err r) t v h = refl
+  judged_after (Ok _) (Err r) v h = refl
+  judged_after (Ok _) (Ok _) (Err r) h = refl
+  judged_after (Ok _) (Ok _) (Ok _) h = refl
 
   -- the verdict of the tests for refusals 1 to 10
   abbrev before : Verdict
@@ -189,17 +186,17 @@ module _ (H : List ℕ → List ℕ) (g : Params) (me : ℕ) (s : Server) (a ini
   unfolding delivery delivered
   delivery_by v e = sym (ap by judged ∙ ap (λ (z : Verdict). by (judged_by (and_then z (message_test H g me s from said)) said)) e)
 
-  refused_by : (r : Refusal) → outcome (record { reply = Y.Refused r; server = s }) a out to ≡ by (bad r)
+  refused_by : (r : Refusal) → outcome (record { reply = Err r; server = s }) a out to ≡ by (bad r)
   unfolding outcome_of effect_by reply_of frames receivers
   refused_by r = refl
 
   -- 1 to 10: nothing is changed
-  pub refused_delivery : (r : Refusal) → before ≡ J.Bad r
-      → outcome (record { reply = Y.Refused r; server = s }) a out to ≡ delivery H g me s a initial from f out to
-  refused_delivery r e = refused_by r ∙ delivery_by (J.Bad r) e
+  pub refused_delivery : (r : Refusal) → before ≡ Err r
+      → outcome (record { reply = Err r; server = s }) a out to ≡ delivery H g me s a initial from f out to
+  refused_delivery r e = refused_by r ∙ delivery_by (Err r) e
 
   -- and where they find nothing
-  pub judged_fine : before ≡ J.Fine → judge H g me s a initial from f out to ≡ judged_by (message_test H g me s from said) said
+  pub judged_fine : before ≡ fine → judge H g me s a initial from f out to ≡ judged_by (message_test H g me s from said) said
   judged_fine e = judged ∙ ap (λ (v : Verdict). judged_by (and_then v (message_test H g me s from said)) said) e
 
 -- ---- the tests of a frame handed to a server whose record is lent as bytes, where these are long enough
@@ -212,17 +209,17 @@ module _ (g : Params) (me : ℕ) (f : List ℕ) (state area initial out to : ℕ
   same_tests : server_size ≤ state → and_then (params_test g me g.n) (and_then (frame_test g f) (rooms_test g state area initial out to)) ≡ tests
   same_tests h = ap (λ (v : Verdict). and_then (params_test g me g.n) (and_then (frame_test g f) v)) (sym (room_long g me f state area initial out to h))
 
-  pub refused_tests : server_size ≤ state → (r : Refusal) → q ≡ O.Refused r → tests ≡ J.Bad r
+  pub refused_tests : server_size ≤ state → (r : Refusal) → q ≡ Err r → tests ≡ Err r
   unfolding admitted
   refused_tests h r p = sym (same_tests h) ∙ bad_opened _ (header_in f) r (sym e ∙ p)
 
   -- and where they are short
-  pub short_tests : state < server_size → (r : Refusal) → q ≡ O.Refused r → and_then (params_test g me g.n) (and_then (frame_test g f) (J.Bad R.Room)) ≡ J.Bad r
+  pub short_tests : state < server_size → (r : Refusal) → q ≡ Err r → and_then (params_test g me g.n) (and_then (frame_test g f) (Err R.Room)) ≡ Err r
   unfolding admitted
   short_tests h r p =
       ap (λ (v : Verdict). and_then (params_test g me g.n) (and_then (frame_test g f) v)) (room_short g me f state area initial out to h)
       ∙ bad_opened _ (header_in f) r (sym e ∙ p)
 
-  pub fine_tests : server_size ≤ state → (h : Header) → q ≡ O.Frame h → (tests ≡ J.Fine) × (header_in f ≡ h)
+  pub fine_tests : server_size ≤ state → (h : Header) → q ≡ Ok h → (tests ≡ fine) × (header_in f ≡ h)
   unfolding admitted
   fine_tests l h p = let A = fine_opened _ (header_in f) h (sym e ∙ p) in (sym (same_tests l) ∙ A.0, A.1)

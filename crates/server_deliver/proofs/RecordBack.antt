@@ -1,5 +1,7 @@
 -- After a delivery the record's bytes say the server that it leaves; their number stays the same, and they stay bytes. The same of a fresh server.
 -- Assumes nothing.
+use Rattle.std.specs.Prelude.{Ok, Err}
+use Rattle.frame.specs.Refusals.{Verdict, fine}
 use Prim.Native.Nat.{ℕ, zero, suc, ◌+◌, ◌*◌, ◌≤◌, ◌<◌}
 use native.Mathlib.Omega.{arith}
 use mathlib.Core.Path.{◌≡◌, refl, sym, ap, subst, ◌∙◌}
@@ -19,8 +21,6 @@ use Rattle.frame.specs.declared.Header.{Header}
 use Rattle.frame.specs.declared.Party.{Party}
 use Rattle.frame.specs.declared.Refusal.{Refusal}
 use Rattle.frame.specs.declared.Refusal.TheVariants as R
-use Rattle.frame.specs.declared.Verdict.{Verdict}
-use Rattle.frame.specs.declared.Verdict.TheVariants as J
 use Rattle.frame.specs.Params.{params_test}
 use Rattle.frame.specs.Stamps.{zero_stamp}
 use Rattle.frame.specs.Messages.{Message, number_in, Judged, bad, good, judged_by, after}
@@ -113,9 +113,9 @@ module _ (H : List ℕ → List ℕ) (g : Params) (me : ℕ) (s : Server) (a ini
 
   -- what a frame that is not turned down is
   record Fair : Type 0 where
-    open_facts : frame_test g f ≡ J.Fine
-    test : message_test H g me s from (message_in g (header_in f) f) ≡ J.Fine
-    bounds : params_test g me g.n ≡ J.Fine
+    open_facts : frame_test g f ≡ fine
+    test : message_test H g me s from (message_in g (header_in f) f) ≡ fine
+    bounds : params_test g me g.n ≡ fine
     does_is : delivered H g me s a initial from f out to ≡ effect H g me s a initial from (message_in g (header_in f) f)
 
   fair_by : (p t v : Verdict) → params_test g me g.n ≡ p → frame_test g f ≡ t → room_test g (length a) (length initial) (length out) (length to) ≡ v
@@ -134,14 +134,14 @@ module _ (H : List ℕ → List ℕ) (g : Params) (me : ℕ) (s : Server) (a ini
 
       go : (p t v w : Verdict) → params_test g me g.n ≡ p → frame_test g f ≡ t → room_test g (length a) (length initial) (length out) (length to) ≡ v
           → message_test H g me s from m ≡ w → Fair
-      go (J.Bad r) t v w ep et ev ew = down r (λ i. after (ep i)
+      go (Err r) t v w ep et ev ew = down r (λ i. after (ep i)
           (judge_opened H g me (opened_by (frame_test g f) (header_in f)) (room_test g (length a) (length initial) (length out) (length to)) s from f))
-      go J.Fine (J.Bad r) v w ep et ev ew =
+      go (Ok _) (Err r) v w ep et ev ew =
           down r (λ i. after (ep i) (judge_opened H g me (opened_by (et i) (header_in f))
           (room_test g (length a) (length initial) (length out) (length to)) s from f))
-      go J.Fine J.Fine (J.Bad r) w ep et ev ew = down r (λ i. by (ep i) (et i) (ev i))
-      go J.Fine J.Fine J.Fine (J.Bad r) ep et ev ew = down r ((λ i. by (ep i) (et i) (ev i)) ∙ ap (λ (w : Verdict). judged_by w m) ew)
-      go J.Fine J.Fine J.Fine J.Fine ep et ev ew = record {
+      go (Ok _) (Ok _) (Err r) w ep et ev ew = down r (λ i. by (ep i) (et i) (ev i))
+      go (Ok _) (Ok _) (Ok _) (Err r) ep et ev ew = down r ((λ i. by (ep i) (et i) (ev i)) ∙ ap (λ (w : Verdict). judged_by w m) ew)
+      go (Ok _) (Ok _) (Ok _) (Ok _) ep et ev ew = record {
         open_facts = et;
         test = ew;
         bounds = ep;
@@ -284,8 +284,8 @@ typed_fresh =
 module _ (g : Params) (me : ℕ) (value area initial : List ℕ) where
   fresh_by : (v : Verdict) → (construct_by digest_of g me v value area initial).server ≡ fresh_server
   unfolding construct_by
-  fresh_by J.Fine = refl
-  fresh_by (J.Bad r) = refl
+  fresh_by (Ok _) = refl
+  fresh_by (Err r) = refl
 
   -- what the constructor answers and leaves
   abbrev constructs : Constructed

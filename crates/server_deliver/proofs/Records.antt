@@ -1,4 +1,5 @@
 -- From the outcome of a frame that was let in, or was not, to the outcome at the record's bytes. Assumes nothing.
+use Rattle.std.specs.Prelude.{Ok, Err}
 use Prim.Native.Nat.{ℕ, ◌≤◌, ◌<◌}
 use native.Mathlib.Omega.{arith}
 use native.Mathlib.Decide.{dec_lt}
@@ -14,13 +15,10 @@ use Rattle.area.proofs.Fills.{length_table_from}
 use Rattle.sha256.specs.Hash.{digest_of}
 use Rattle.blocks.specs.declared.Params.{Params}
 use Rattle.frame.specs.declared.Header.{Header}
-use Rattle.frame.specs.declared.Opened.{Opened}
-use Rattle.frame.specs.declared.Opened.TheVariants as O
+use Rattle.frame.specs.Frames.{Opened}
 use Rattle.frame.specs.declared.Party.{Party}
 use Rattle.frame.specs.declared.Refusal.{Refusal}
-use Rattle.frame.specs.declared.Verdict.{Verdict}
-use Rattle.frame.specs.declared.Verdict.TheVariants as J
-use Rattle.frame.specs.Refusals.{number_of, answered_by}
+use Rattle.frame.specs.Refusals.{number_of, answered_by, Verdict}
 use Rattle.frame.specs.Messages.{Message, Judged, judged_by}
 use Rattle.frame.specs.Frames.{header_in, message_in}
 use Rattle.frame.specs.Outbox.{frames, receivers}
@@ -82,7 +80,7 @@ module _ (g : Params) (me : ℕ) (from : Party) (f area initial state out to : L
 
   module _ (q : Opened) (e : q ≡ admitted g me f (length state) (length area) (length initial) (length out) (length to)) where
     -- refusals 1 to 10
-    pub refused_bytes : (r : Refusal) → q ≡ O.Refused r
+    pub refused_bytes : (r : Refusal) → q ≡ Err r
         → byte_outcome (turned_down (number_of r)) area state out to ≡ byte_delivery digest_of g me from f area initial state out to
     unfolding outcome_at left_by is_turned_down pick short_reply
     refused_bytes r p = go (dec_lt (length state) server_size)
@@ -109,10 +107,10 @@ module _ (g : Params) (me : ℕ) (from : Party) (f area initial state out to : L
         (effect digest_of g me (server_in state) area initial from m) (header_in f) from state
         ≡ by (judged_by v m)
     unfolding outcome_at answered stepped outcome_of effect_by reply_of left_by is_turned_down pick frames receivers
-    answered_by_lem (J.Bad r) m = refl
-    answered_by_lem J.Fine m = refl
+    answered_by_lem (Err r) m = refl
+    answered_by_lem (Ok _) m = refl
 
-    pub taken_bytes : (d : Header) → q ≡ O.Frame d
+    pub taken_bytes : (d : Header) → q ≡ Ok d
         → byte_step digest_of (record { params = g; me = me; from = from; header = d }) f area initial state out to
         ≡ byte_delivery digest_of g me from f area initial state out to
     unfolding byte_step step_for delivery delivered

@@ -1,11 +1,11 @@
 -- From a counted frame of a write to what the step leaves of the server. Assumes nothing.
+use Rattle.std.specs.Prelude.{Ok, Err}
+use Rattle.frame.specs.Refusals.{Verdict, fine}
 use Prim.Native.Nat.{ℕ}
 use mathlib.Core.Path.{◌≡◌, refl, ap, sym, ◌∙◌}
 use mathlib.Core.List.{List, []}
 use Rattle.blocks.specs.declared.Params.{Params}
 use Rattle.frame.specs.declared.Refusal.{Refusal}
-use Rattle.frame.specs.declared.Verdict.{Verdict}
-use Rattle.frame.specs.declared.Verdict.TheVariants as J
 use Rattle.frame.specs.Messages.{send}
 use Rattle.frame.specs.Outbox.{Outbox, outbox, sent, first_place}
 use Rattle.frame.proofs.Outbox.{sent_append}
@@ -14,7 +14,6 @@ use Rattle.server_rules.specs.declared.Slot.{Slot}
 use Rattle.server_rules.specs.declared.Reader.{Reader}
 use Rattle.server_rules.specs.declared.Scope.{Scope}
 use Rattle.server_rules.specs.declared.Server.{Server}
-use Rattle.server_rules.specs.declared.Reply.TheVariants as Y
 use Rattle.server_rules.specs.State.{with_slot}
 use Rattle.server_rules.specs.Scopes.{with_scope}
 use Rattle.server_rules.specs.Steps.{Effect, send_only, Counting, behind, freed, settle}
@@ -28,23 +27,23 @@ use Rattle.server.proofs.Answers.{refused_is, step_is, none_sent}
 
 module _ (n : Counted) (x : Slot) (a a' out out' to to' : List ℕ) (p : Counting) where
   -- it was turned down, and all is as it was
-  pub turned_down_lem : (v : Verdict) (r : Refusal) → handled n a' out' to' ≡ handled_by v x a p (outbox out to first_place) → n.verdict ≡ J.Bad r
-      → (v ≡ J.Bad r) × (a' ≡ a) × (out' ≡ out) × (to' ≡ to)
+  pub turned_down_lem : (v : Verdict) (r : Refusal) → handled n a' out' to' ≡ handled_by v x a p (outbox out to first_place) → n.verdict ≡ Err r
+      → (v ≡ Err r) × (a' ≡ a) × (out' ≡ out) × (to' ≡ to)
   unfolding handled_by
-  turned_down_lem (J.Bad s) r h e = (
+  turned_down_lem (Err s) r h e = (
     sym (ap (λ (z : Handled). z.verdict) h) ∙ e,
     ap (λ (z : Handled). z.area) h,
     ap (λ (z : Handled). z.box.out) h,
     ap (λ (z : Handled). z.box.to) h,
   )
-  turned_down_lem J.Fine r h e = absurd (bad_fine r (sym e ∙ ap (λ (z : Handled). z.verdict) h))
+  turned_down_lem (Ok _) r h e = absurd (bad_fine r (sym e ∙ ap (λ (z : Handled). z.verdict) h))
 
   -- it was counted
-  pub counted : (v : Verdict) → handled n a' out' to' ≡ handled_by v x a p (outbox out to first_place) → n.verdict ≡ J.Fine
-      → (v ≡ J.Fine) × (left n.slot a' (outbox out' to' n.place) ≡ counts p (outbox out to first_place))
+  pub counted : (v : Verdict) → handled n a' out' to' ≡ handled_by v x a p (outbox out to first_place) → n.verdict ≡ fine
+      → (v ≡ fine) × (left n.slot a' (outbox out' to' n.place) ≡ counts p (outbox out to first_place))
   unfolding handled_by counts
-  counted (J.Bad s) h e = absurd (bad_fine s (sym (ap (λ (z : Handled). z.verdict) h) ∙ e))
-  counted J.Fine h e = (refl, (λ i. left (h i).slot (h i).area (h i).box))
+  counted (Err s) h e = absurd (bad_fine s (sym (ap (λ (z : Handled). z.verdict) h) ∙ e))
+  counted (Ok _) h e = (refl, (λ i. left (h i).slot (h i).area (h i).box))
 
 -- ---- the slot is stored, and then the write is accepted if it can be
 
@@ -56,15 +55,15 @@ behind_moved p r q = ap (progress r.server r.area) (sent_append q p.sends r.send
 module _ (g : Params) (w : Server) (c : ℕ) (s : Scope) (rs : List Reader) (k : Holds w c s rs) where
   module _ (n : Counted) (a a' out out' to to' : List ℕ) (p : Counting) (v : Verdict)
       (h : handled n a' out' to' ≡ handled_by v s.slot a p (outbox out to first_place)) where
-    pub refused_write : (x : Effect) (r : Refusal) → n.verdict ≡ J.Bad r
-        → outcome_in w c (record { reply = Y.Refused r; scope = s }) a' out' to' ≡ answered v w a x out to
+    pub refused_write : (x : Effect) (r : Refusal) → n.verdict ≡ Err r
+        → outcome_in w c (record { reply = Err r; scope = s }) a' out' to' ≡ answered v w a x out to
     refused_write x r e =
         let (u, i, j, l) = turned_down_lem n s.slot a a' out out' to to' p v r h e in
-        (λ d. outcome_in w c (record { reply = Y.Refused r; scope = s }) (i d) (j d) (l d)) ∙ refused_is v v r w c s a x out to k.scope refl u
+        (λ d. outcome_in w c (record { reply = Err r; scope = s }) (i d) (j d) (l d)) ∙ refused_is v v r w c s a x out to k.scope refl u
 
-    module _ (e : n.verdict ≡ J.Fine) (y : Scope) (f : y ≡ slot_in s n.slot) where
+    module _ (e : n.verdict ≡ fine) (y : Scope) (f : y ≡ slot_in s n.slot) where
       -- after the client's own frame
-      pub stored_write : (r : Taken) → r.reply ≡ Y.Step n.place.count → r.scope ≡ y
+      pub stored_write : (r : Taken) → r.reply ≡ Ok n.place.count → r.scope ≡ y
           → outcome_in w c r a' out' to' ≡ answered v w a (settle g w c send p) out to
       unfolding settle freed counts
       stored_write r i j =

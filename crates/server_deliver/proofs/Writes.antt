@@ -1,11 +1,11 @@
 -- The step of a client's own frame of its write: turned down, or its slot stored. Assumes nothing.
+use Rattle.std.specs.Prelude.{Ok, Err}
+use Rattle.frame.specs.Refusals.{Verdict, fine}
 use Prim.Native.Nat.{ℕ}
 use mathlib.Core.Path.{◌≡◌, refl, ap, sym, ◌∙◌}
 use mathlib.Core.List.{List}
 use Rattle.frame.specs.declared.Place.{Place}
 use Rattle.frame.specs.declared.Refusal.{Refusal}
-use Rattle.frame.specs.declared.Verdict.{Verdict}
-use Rattle.frame.specs.declared.Verdict.TheVariants as J
 use Rattle.frame.specs.Messages.{Offer, Stage, send, message, block_is}
 use Rattle.frame.specs.Frames.{body_in}
 use Rattle.frame.specs.Outbox.{outbox, first_place}
@@ -13,7 +13,6 @@ use Rattle.server_rules.specs.declared.Slot.{Slot}
 use Rattle.server_rules.specs.declared.Reader.{Reader}
 use Rattle.server_rules.specs.declared.Scope.{Scope}
 use Rattle.server_rules.specs.declared.Server.{Server}
-use Rattle.server_rules.specs.declared.Reply.TheVariants as Y
 use Rattle.server_rules.specs.Tests.{message_test}
 use Rattle.server_rules.specs.Steps.{Effect, effect, settle}
 use Rattle.server_rules.specs.Delivery.{Outcome}
@@ -29,15 +28,15 @@ use Rattle.server_deliver.proofs.KindSteps.{says}
 -- ---- a slot is stored, unless its frame was turned down
 
 module _ (v : Verdict) (s : Scope) (x : Slot) (p : Place) where
-  pub stored_refused : (r : Refusal) → v ≡ J.Bad r → stored_by v s x p ≡ record { reply = Y.Refused r; scope = s }
+  pub stored_refused : (r : Refusal) → v ≡ Err r → stored_by v s x p ≡ record { reply = Err r; scope = s }
   unfolding stored_by
   stored_refused r e = ap (λ (z : Verdict). stored_by z s x p) e
 
-  pub stored_fine : (r : Taken) (y : Scope) → v ≡ J.Fine → r.reply ≡ Y.Step p.count → r.scope ≡ y → y ≡ slot_in s x → r ≡ stored_by v s x p
+  pub stored_fine : (r : Taken) (y : Scope) → v ≡ fine → r.reply ≡ Ok p.count → r.scope ≡ y → y ≡ slot_in s x → r ≡ stored_by v s x p
   unfolding stored_by
   stored_fine r y e a b d =
       let f = b ∙ d in
-      let z : r ≡ stored_by J.Fine s x p = λ i. record { reply = a i; scope = f i } in
+      let z : r ≡ stored_by fine s x p = λ i. record { reply = a i; scope = f i } in
       z ∙ sym (ap (λ (z : Verdict). stored_by z s x p) e)
 
 -- ---- the step
@@ -59,14 +58,14 @@ module _ (H : List ℕ → List ℕ) (k : Call) (s : Scope) (rs : List Reader) (
       → u ≡ answered test w a x out to → u ≡ step_for H k w a i f out to
   says_it u x e p = says H k w a i f out to u (block_is z o) m (p ∙ ap (λ (y : Effect). answered test w a y out to) (sym e))
 
-  write_refused : (r : Refusal) → n.verdict ≡ J.Bad r
-      → outcome_in w c (record { reply = Y.Refused r; scope = s }) a' out' to' ≡ step_for H k w a i f out to
+  write_refused : (r : Refusal) → n.verdict ≡ Err r
+      → outcome_in w c (record { reply = Err r; scope = s }) a' out' to' ≡ step_for H k w a i f out to
   write_refused r e =
       says_it _ _ (vote_effect H k a w z o i)
       (refused_write k.params w c s rs K n a a' out out' to to' (counting H k a w z o) test on_server _ r e)
 
-  module _ (e : n.verdict ≡ J.Fine) (y : Scope) (q : y ≡ slot_in s n.slot) where
-    write_stored : z ≡ send → (r : Taken) → r.reply ≡ Y.Step n.place.count → r.scope ≡ y → outcome_in w c r a' out' to' ≡ step_for H k w a i f out to
+  module _ (e : n.verdict ≡ fine) (y : Scope) (q : y ≡ slot_in s n.slot) where
+    write_stored : z ≡ send → (r : Taken) → r.reply ≡ Ok n.place.count → r.scope ≡ y → outcome_in w c r a' out' to' ≡ step_for H k w a i f out to
     write_stored v r j p =
         says_it _ _ (vote_effect H k a w z o i ∙ ap (λ (u : Stage). settle k.params w c u (counting H k a w z o)) v)
         (stored_write k.params w c s rs K n a a' out out' to to' (counting H k a w z o) test on_server e y q r j p)
@@ -77,5 +76,5 @@ module _ (H : List ℕ → List ℕ) (k : Call) (s : Scope) (rs : List Reader) (
   write_own v r e = go n.verdict refl e
     where
       go : (d : Verdict) → n.verdict ≡ d → r ≡ stored_by d s n.slot n.place → outcome_in w c r a' out' to' ≡ step_for H k w a i f out to
-      go (J.Bad y) d e = ap (λ (u : Taken). outcome_in w c u a' out' to') e ∙ write_refused y d
-      go J.Fine d e = write_stored d (slot_in s n.slot) refl v r (ap (λ (u : Taken). u.reply) e) (ap (λ (u : Taken). u.scope) e)
+      go (Err y) d e = ap (λ (u : Taken). outcome_in w c u a' out' to') e ∙ write_refused y d
+      go (Ok _) d e = write_stored d (slot_in s n.slot) refl v r (ap (λ (u : Taken). u.reply) e) (ap (λ (u : Taken). u.scope) e)

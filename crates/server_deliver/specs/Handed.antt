@@ -1,15 +1,13 @@
 -- A frame that is handed in, stage by stage: what the stages require, and what they promise. The entry point's promise (Records.antt) does not speak of
 -- stages. These are definitions.
-use Rattle.std.specs.Prelude.{ℕ, ◌+◌, ◌≤◌, ◌≡◌, List, false, ltb}
+use Rattle.std.specs.Prelude.{ℕ, ◌+◌, ◌≤◌, ◌≡◌, List, false, ltb, Ok, Err}
 use Rattle.area.specs.Area.{pick}
 use Rattle.area.specs.Responses.{Response}
 use Rattle.blocks.specs.declared.Params.{Params}
 use Rattle.sha256.specs.Hash.{digest_of}
-use Rattle.frame.specs.declared.Opened.{Opened}
-use Rattle.frame.specs.Refusals.{and_then, refused}
+use Rattle.frame.specs.Frames.{Opened}
+use Rattle.frame.specs.Refusals.{and_then, refused, Verdict, fine}
 use Rattle.frame.specs.declared.Place.{Place}
-use Rattle.frame.specs.declared.Verdict.{Verdict}
-use Rattle.frame.specs.declared.Verdict.TheVariants as J
 use Rattle.frame.specs.Params.{Bounded, largest_frame, server_frames, params_test}
 use Rattle.frame.specs.Frames.{body_at, retired, body_length, header_in, frame_test, opened_by, message_in}
 use Rattle.frame.specs.Outbox.{first_place, Room}
@@ -17,7 +15,6 @@ use Rattle.server_rules.specs.declared.Slot.{Slot}
 use Rattle.server_rules.specs.declared.Reader.{Reader}
 use Rattle.server_rules.specs.declared.Scope.{Scope}
 use Rattle.server_rules.specs.declared.Server.{Server}
-use Rattle.server_rules.specs.declared.Reply.TheVariants as Y
 use Rattle.server_rules.specs.Tests.{message_test}
 use Rattle.server_rules.specs.Steps.{effect}
 use Rattle.server_rules.specs.Delivery.{Outcome}
@@ -70,8 +67,8 @@ Stepping s rs k a₀ initial f out₀ to₀ r a out to =
 
 -- what a counted frame leaves of its scope where nothing can be accepted after it: s itself, or its slot is x
 unfoldable pub stored_by : Verdict → Scope → Slot → Place → Taken
-stored_by (J.Bad r) s x p = record { reply = Y.Refused r; scope = s }
-stored_by J.Fine s x p = record { reply = Y.Step p.count; scope = slot_in s x }
+stored_by (Err r) s x p = record { reply = Err r; scope = s }
+stored_by (Ok _) s x p = record { reply = Ok p.count; scope = slot_in s x }
 
 -- ---- the record's bytes
 
@@ -96,4 +93,4 @@ byte_step H k f a initial state out to =
 -- refusals 1 to 3, and 10 of the record's area: the initial value has length v
 unfoldable pub fresh_test : Params → ℕ → ℕ → ℕ → Verdict
 fresh_test g me v state =
-    and_then (params_test g me g.n) (and_then (length_test g v) (pick (ltb state server_size) (refused 10) J.Fine))
+    and_then (params_test g me g.n) (and_then (length_test g v) (pick (ltb state server_size) (refused 10) fine))

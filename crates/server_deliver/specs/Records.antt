@@ -7,8 +7,7 @@ use Rattle.area.specs.Responses.{Response}
 use Rattle.blocks.specs.declared.Params.{Params}
 use Rattle.frame.specs.declared.Header.{Header}
 use Rattle.frame.specs.declared.Party.{Party}
-use Rattle.frame.specs.declared.Verdict.{Verdict}
-use Rattle.frame.specs.Refusals.{refused, answered_by, and_then}
+use Rattle.frame.specs.Refusals.{refused, answered_by, and_then, Verdict}
 use Rattle.frame.specs.Params.{params_test}
 use Rattle.frame.specs.Frames.{header_in, frame_test}
 use Rattle.frame.specs.Messages.{number_in}

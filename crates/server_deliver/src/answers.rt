@@ -4,24 +4,24 @@ ghost use Rattle.area.specs.Responses.{is_turned_down};
 ghost use Rattle.server_rules.specs.Delivery.{reply_response};
 ghost use Rattle.server_deliver.specs.Answers.{server_answer};
 
+use frame::Refusal;
 use frame::refusals::number_of;
-use server_rules::Reply;
 
 // Whether the call was turned down.
-pub fn is_turned_down(a: Reply) -> bool
+pub fn is_turned_down(a: Result<usize, Refusal>) -> bool
     ensures { result ≡ is_turned_down (reply_response a) }
 {
     match a {
-        Reply::Step(m) => false,
-        Reply::Refused(r) => true,
+        Ok(m) => false,
+        Err(r) => true,
     }
 }
 
-pub fn server_answer(a: Reply) -> u64
+pub fn server_answer(a: Result<usize, Refusal>) -> u64
     ensures { result ≡ server_answer (reply_response a) }
 {
     match a {
-        Reply::Step(m) => 65536 * (m as u64 % 65536),
-        Reply::Refused(r) => number_of(r) as u64,
+        Ok(m) => 65536 * (m as u64 % 65536),
+        Err(r) => number_of(r) as u64,
     }
 }

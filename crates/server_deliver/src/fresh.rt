@@ -9,30 +9,27 @@ ghost use Rattle.server_deliver.specs.Records.{fresh_after, byte_constructed, by
 use crate::answers::is_turned_down;
 use blocks::Params;
 use frame::bounds::params_test;
-use frame::{Refusal, Verdict};
+use frame::Refusal;
 use layout::servers::{SERVER_SIZE, put_server};
 use server::setup::construct;
-use server_rules::{Reply, Server};
+use server_rules::Server;
 
 // Refusals 1 to 3, and 10 of the record's area; the initial value has length len.
-pub fn fresh_test(g: Params, me: usize, len: usize, state: usize) -> Verdict
+pub fn fresh_test(g: Params, me: usize, len: usize, state: usize) -> Result<(), Refusal>
     ensures { result ≡ fresh_test g me len state }
 {
-    let params = params_test(g, me, g.n);
-    if let Verdict::Bad(r) = params {
-        return Verdict::Bad(r);
-    }
+    params_test(g, me, g.n)?;
     if len != g.size {
-        return Verdict::Bad(Refusal::Length);
+        return Err(Refusal::Length);
     }
     if state < SERVER_SIZE {
-        return Verdict::Bad(Refusal::Room);
+        return Err(Refusal::Room);
     }
-    Verdict::Fine
+    Ok(())
 }
 
 // Writes a fresh record, unless the call was turned down.
-fn keep_fresh(a: Reply, s: Server, state: &mut [u8])
+fn keep_fresh(a: Result<usize, Refusal>, s: Server, state: &mut [u8])
     requires { server_size ≤ length state.old }
     ensures { state.new ≡ fresh_after (reply_response a) s state.old }
 {
@@ -50,13 +47,13 @@ pub fn fresh(
     area: &mut [u8],
     initial: &mut [u8],
     state: &mut [u8],
-) -> Reply
+) -> Result<usize, Refusal>
     ensures { byte_constructed (reply_response result) area.new initial.new state.new
         ≡ byte_construction digest_of g me value.now area.old initial.old state.old }
 {
     let test = fresh_test(g, me, value.len(), state.len());
-    if let Verdict::Bad(r) = test {
-        return Reply::Refused(r);
+    if let Err(r) = test {
+        return Err(r);
     }
     let done = construct(g, me as u8, value, area, initial);
     let reply = done.reply;

@@ -15,14 +15,14 @@ use crate::rounds::settle;
 use frame::bounds::width;
 use frame::parties::{from_server, number_in};
 use frame::places::{BODY_AT, OFFER_AT};
-use frame::{Place, Refusal, Verdict};
+use frame::{Place, Refusal};
 use layout::servers::{put_report, put_scope, report_at, scope_at};
 use server::asking::{on_get_stamp, on_read, on_read_complete};
 use server::replies::taken;
 use server::state::slot_in;
 use server::{Call, Counted, Taken};
 use server_blocks::storing::{on_block_send, on_block_vote};
-use server_rules::{Reply, Scope, Server, Slot};
+use server_rules::{Scope, Server, Slot};
 
 // ---- the client's own frame of its write: kind 3
 
@@ -31,9 +31,9 @@ fn stored(s: Scope, n: Counted) -> Taken
     ensures { result ≡ stored_by n.verdict s n.slot n.place }
 {
     let v = n.verdict;
-    if let Verdict::Bad(r) = v {
+    if let Err(r) = v {
         return Taken {
-            reply: Reply::Refused(r),
+            reply: Err(r),
             scope: s,
         };
     }
@@ -115,13 +115,13 @@ fn step_of_kind(
         return step_of_send(s, k, f, out, to);
     }
     Taken {
-        reply: Reply::Refused(Refusal::Sender),
+        reply: Err(Refusal::Sender),
         scope: s,
     }
 }
 
 // Writes what a step for client c left of its scope, unless the frame was turned down.
-fn keep(a: Reply, x: Scope, c: usize, state: &mut [u8])
+fn keep(a: Result<usize, Refusal>, x: Scope, c: usize, state: &mut [u8])
     requires { (server_size ≤ length state.old) × (c ≤ 8) }
     ensures { state.new ≡ scope_after (reply_response a) x c state.old }
 {
@@ -140,7 +140,7 @@ fn step_of_scope(
     state: &mut [u8],
     out: &mut [u8],
     to: &mut [u8],
-) -> Reply
+) -> Result<usize, Refusal>
     requires { Handed k (length f.now) (length area.old) (length out.old) (length to.old) × (width k.params ≤ length initial.now)
         × (server_size ≤ length state.old) × Asks k }
     ensures { byte_outcome (reply_response result) area.new state.new out.new to.new
@@ -166,7 +166,7 @@ fn step_of_vote(
     state: &mut [u8],
     out: &mut [u8],
     to: &mut [u8],
-) -> Reply
+) -> Result<usize, Refusal>
     requires { Handed k (length f.now) (length area.old) (length out.old) (length to.old) × (server_size ≤ length state.old)
         × (4 ≤ k.header.kind) × (k.header.kind ≤ 5) }
     ensures { (i : List ℕ) → byte_outcome (reply_response result) area.new state.new out.new to.new
@@ -178,15 +178,15 @@ fn step_of_vote(
     let x = s.slot;
     let n = count_vote(x, k, f, area, out, to);
     let v = n.verdict;
-    if let Verdict::Bad(r) = v {
-        return Reply::Refused(r);
+    if let Err(r) = v {
+        return Err(r);
     }
     let slot = n.slot;
     let place = n.place;
     let y = slot_in(s, slot);
     put_scope(y, c, state);
     let last = settle(Server::CLIENTS, k.params, state, area, out, to, place);
-    Reply::Step(last.count)
+    Ok(last.count)
 }
 
 // Kind 13: the report is kept, if it is its server's highest, and then what can be accepted is.
@@ -197,7 +197,7 @@ fn step_of_report(
     state: &mut [u8],
     out: &mut [u8],
     to: &mut [u8],
-) -> Reply
+) -> Result<usize, Refusal>
     requires { Handed k (length f.now) (length area.old) (length out.old) (length to.old) × (server_size ≤ length state.old)
         × (k.header.kind ≡ 13) }
     ensures { (i : List ℕ) → byte_outcome (reply_response result) area.new state.new out.new to.new
@@ -206,17 +206,17 @@ fn step_of_report(
     let g = k.params;
     let from = k.from;
     if !from_server(g, from) {
-        return Reply::Refused(Refusal::Sender);
+        return Err(Refusal::Sender);
     }
     let j = number_in(from) as usize;
     let time = area::read8(f, BODY_AT);
     if time <= report_at(state, j) {
-        return Reply::Refused(Refusal::Stale);
+        return Err(Refusal::Stale);
     }
     put_report(time, j, state);
     let first = Place { at: 0, count: 0 };
     let last = settle(Server::CLIENTS, g, state, area, out, to, first);
-    Reply::Step(last.count)
+    Ok(last.count)
 }
 
 // ---- any frame
@@ -230,7 +230,7 @@ pub fn step(
     state: &mut [u8],
     out: &mut [u8],
     to: &mut [u8],
-) -> Reply
+) -> Result<usize, Refusal>
     requires { Handed k (length f.now) (length area.old) (length out.old) (length to.old) × (width k.params ≤ length initial.now)
         × (server_size ≤ length state.old) }
     ensures { byte_outcome (reply_response result) area.new state.new out.new to.new

@@ -11,11 +11,10 @@ use crate::kinds::step;
 use blocks::Params;
 use frame::bounds::params_test;
 use frame::opener::open_frame;
-use frame::{Opened, Party, Refusal, Verdict};
+use frame::{Header, Party, Refusal};
 use layout::servers::SERVER_SIZE;
 use server::Call;
 use server::tests::room_test;
-use server_rules::Reply;
 
 pub mod answers;
 pub mod fresh;
@@ -32,25 +31,16 @@ pub fn admit(
     initial: usize,
     out: usize,
     to: usize,
-) -> Opened
+) -> Result<Header, Refusal>
     ensures { result ≡ admitted g me f.now state area initial out to }
 {
-    let params = params_test(g, me, g.n);
-    if let Verdict::Bad(r) = params {
-        return Opened::Refused(r);
-    }
-    let opened = open_frame(g, f);
-    let Opened::Frame(h) = opened else {
-        return opened;
-    };
+    params_test(g, me, g.n)?;
+    let h = open_frame(g, f)?;
     if state < SERVER_SIZE {
-        return Opened::Refused(Refusal::Room);
+        return Err(Refusal::Room);
     }
-    let room = room_test(g, area, initial, out, to);
-    if let Verdict::Bad(r) = room {
-        return Opened::Refused(r);
-    }
-    Opened::Frame(h)
+    room_test(g, area, initial, out, to)?;
+    Ok(h)
 }
 
 // A frame f is handed in by party from: refused by the lowest number, or a step of the server whose record state holds.
@@ -64,7 +54,7 @@ pub fn deliver(
     state: &mut [u8],
     out: &mut [u8],
     to: &mut [u8],
-) -> Reply
+) -> Result<usize, Refusal>
     ensures { byte_outcome (reply_response result) area.new state.new out.new to.new
         ≡ byte_delivery digest_of g me from f.now area.old initial.now state.old
         out.old to.old }
@@ -80,8 +70,8 @@ pub fn deliver(
         to.len(),
     );
     match opened {
-        Opened::Refused(r) => Reply::Refused(r),
-        Opened::Frame(header) => {
+        Err(r) => Err(r),
+        Ok(header) => {
             let k = Call {
                 params: g,
                 me: me as u8,

@@ -1,6 +1,7 @@
 -- What is enough, so that nobody waits for a false server (request F-6): n - t echoes or q readies for a ready, n - t readies for the completion, the owner's
 -- block for an echo; a completion leaves enough for the others; and 13 is answered above the open write only. An edit by which a server may wait in vain is
 -- refused here. Assumes nothing.
+use Rattle.std.specs.Prelude.{Ok, Err}
 use Prim.Native.Nat.{ℕ, ◌+◌, ◌≤◌, ◌<◌}
 use native.Mathlib.Omega.{arith}
 use mathlib.Core.Bool.{Bool, true, false, not, ◌&&◌, ◌||◌}
@@ -14,11 +15,9 @@ use Rattle.quorum.proofs.Logic.{impossible, and_true, or_left, or_right}
 use Rattle.area.specs.Area.{pick}
 use Rattle.blocks.specs.declared.Params.{Params}
 use Rattle.frame.specs.declared.Party.{Party}
-use Rattle.frame.specs.declared.Verdict.{Verdict}
 use Rattle.frame.specs.declared.Party.TheVariants as P
 use Rattle.frame.specs.declared.Refusal.TheVariants as R
-use Rattle.frame.specs.declared.Verdict.TheVariants as J
-use Rattle.frame.specs.Refusals.{and_then}
+use Rattle.frame.specs.Refusals.{and_then, Verdict}
 use Rattle.frame.specs.Params.{quota, Bounded}
 use Rattle.frame.specs.Messages.{Entry, Offer, send, echo, Body, get_stamp, ack, ask_read, read_complete}
 use Rattle.frame.specs.Messages.{stamp_is, block_is, value_is, report, Message, message, sending, to_all, number_in}
@@ -73,7 +72,7 @@ module _ (H : List ℕ → List ℕ) (g : Params) where
 -- ---- refusal 13
 
 abbrev Ahead : Verdict → Type 0
-Ahead v = v ≡ J.Bad R.Ahead
+Ahead v = v ≡ Err R.Ahead
 
 pick_ahead : (b : Bool) (u v : Verdict) → Ahead (pick b u v) → ((b ≡ true) × Ahead u) ⊎ Ahead v
 unfolding pick
@@ -81,10 +80,10 @@ pick_ahead true u v e = inl (refl, e)
 pick_ahead false u v e = inr e
 
 then_ahead : (u v : Verdict) → Ahead (and_then u v) → Ahead u ⊎ Ahead v
-then_ahead J.Fine v e = inr e
-then_ahead (J.Bad r) v e = inl e
+then_ahead (Ok _) v e = inr e
+then_ahead (Err r) v e = inl e
 
-pub open_ahead : (x : Slot) (q : ℕ) (again : Bool) → ST.open_test x q again ≡ J.Bad R.Ahead → x.sequence < q
+pub open_ahead : (x : Slot) (q : ℕ) (again : Bool) → ST.open_test x q again ≡ Err R.Ahead → x.sequence < q
 unfolding ST.open_test
 open_ahead x q again e = ⊎_elim
     (λ h. impossible (cc h.1))
@@ -125,7 +124,7 @@ module _ (H : List ℕ → List ℕ) (g : Params) (me : ℕ) (s : Server) where
   order_ahead j c q (report T) e = ⊎_elim (λ k. impossible (cc k.1)) (λ k. impossible (cc k)) (pick_ahead (ltb (report_of s j) T) _ _ e)
 
   -- only a frame above the open write is answered 13
-  pub message_ahead : (from : Party) (m : Message) → ST.message_test H g me s from m ≡ J.Bad R.Ahead → (slot_of s m.client).sequence < m.sequence
+  pub message_ahead : (from : Party) (m : Message) → ST.message_test H g me s from m ≡ Err R.Ahead → (slot_of s m.client).sequence < m.sequence
   unfolding ST.message_test
   message_ahead from m e = ⊎_elim
       (λ h. order_ahead (number_in from) m.client m.sequence m.body h.1)

@@ -1,4 +1,6 @@
 -- What a frame that passes the tests says. Assumes nothing.
+use Rattle.frame.specs.Refusals.{fine}
+use Rattle.std.specs.Prelude.{Err}
 use Prim.Native.Nat.{ℕ, ◌≤◌, ◌<◌}
 use native.Mathlib.Omega.{arith}
 use mathlib.Core.Bool.{Bool, true, false}
@@ -13,7 +15,6 @@ use Rattle.blocks.specs.declared.Params.{Params}
 use Rattle.frame.specs.declared.Party.{Party}
 use Rattle.frame.specs.declared.Party.TheVariants as P
 use Rattle.frame.specs.declared.Refusal.TheVariants as R
-use Rattle.frame.specs.declared.Verdict.TheVariants as J
 use Rattle.frame.specs.Messages.{Offer, Stage, send, echo, ready, Body, get_stamp, ack, ask_read, read_complete, stamp_is, block_is, value_is, report, Message}
 use Rattle.frame.specs.Messages.{from_server, number_in, Sized}
 use Rattle.frame.proofs.Verdicts.{fine_both, fine_is}
@@ -35,12 +36,12 @@ SizedIn g (block_is z o) = Sized g o.entry
 SizedIn g (value_is x e) = Sized g e
 SizedIn g (report T) = Unit {0}
 
-pub open_passed : (x : Slot) (q : ℕ) (again : Bool) → ST.open_test x q again ≡ J.Fine → (q ≡ x.sequence) × (again ≡ false)
+pub open_passed : (x : Slot) (q : ℕ) (again : Bool) → ST.open_test x q again ≡ fine → (q ≡ x.sequence) × (again ≡ false)
 unfolding ST.open_test pick
 open_passed x q again e = go (ltb q x.sequence) (ltb x.sequence q) again refl refl refl e
   where
     go : (a b d : Bool) → ltb q x.sequence ≡ a → ltb x.sequence q ≡ b → again ≡ d
-        → pick a (J.Bad R.Stale) (pick b (J.Bad R.Ahead) (pick d (J.Bad R.Stale) J.Fine)) ≡ J.Fine → (q ≡ x.sequence) × (again ≡ false)
+        → pick a (Err R.Stale) (pick b (Err R.Ahead) (pick d (Err R.Stale) fine)) ≡ fine → (q ≡ x.sequence) × (again ≡ false)
     go true b d p r z e = impossible (cc)
     go false true d p r z e = impossible (cc)
     go false false true p r z e = impossible (cc)
@@ -56,8 +57,8 @@ is_server g (P.Server j) e =
     let w = and_split (leb 1 j) (leb j g.n) e in
     (j, refl, (leb-true 1 j w.0, leb-true j g.n w.1))
 
-pub test_split : (H : List ℕ → List ℕ) (g : Params) (me : ℕ) (s : Server) (from : Party) (m : Message) → ST.message_test H g me s from m ≡ J.Fine
-    → (ST.sender_right g from m.client m.body ≡ true) × (ST.order_test H g me s (number_in from) m.client m.sequence m.body ≡ J.Fine)
+pub test_split : (H : List ℕ → List ℕ) (g : Params) (me : ℕ) (s : Server) (from : Party) (m : Message) → ST.message_test H g me s from m ≡ fine
+    → (ST.sender_right g from m.client m.body ≡ true) × (ST.order_test H g me s (number_in from) m.client m.sequence m.body ≡ fine)
 unfolding ST.message_test
 test_split H g me s from m e = fine_is (ST.sender_right g from m.client m.body) R.Sender _ e
 
@@ -92,7 +93,7 @@ module _ (g : Params) (from : Party) (c : ℕ) where
 -- its write is the open one
 pub counted_open : {H : List ℕ → List ℕ} {g : Params} {me : ℕ} {s : Server} {a initial : List ℕ} {j c : ℕ} {b : Body} {p : S.Counting}
     → Counted H g me s a initial j c b p
-    → (q : ℕ) → ST.order_test H g me s j c q b ≡ J.Fine → q ≡ (slot_of s c).sequence
+    → (q : ℕ) → ST.order_test H g me s j c q b ≡ fine → q ≡ (slot_of s c).sequence
 unfolding ST.order_test
 counted_open (block z x) q o = (open_passed _ q _ (fine_both _ _ o).0).0
 
@@ -100,7 +101,7 @@ counted_open (block z x) q o = (open_passed _ q _ (fine_both _ _ o).0).0
 
 -- it is a server's, and higher than what that server reported before
 pub report_passed : (H : List ℕ → List ℕ) (g : Params) (me : ℕ) (s : Server) (from : Party) (c q T : ℕ) → ST.sender_right g from c (report T) ≡ true
-    → ST.order_test H g me s (number_in from) c q (report T) ≡ J.Fine
+    → ST.order_test H g me s (number_in from) c q (report T) ≡ fine
     → (from ≡ P.Server (number_in from)) × Among g.n (number_in from) × (report_of s (number_in from) < T)
 unfolding ST.sender_right ST.order_test ST.report_test
 report_passed H g me s from c q T h o =

@@ -1,4 +1,5 @@
 -- What is known of a frame that a server takes; and a delivery keeps a well-formed server. Assumes nothing.
+use Rattle.std.specs.Prelude.{Ok, Err}
 use Prim.Native.Nat.{ℕ, ◌+◌, ◌≤◌}
 use native.Mathlib.Omega.{arith}
 use mathlib.Core.Bool.{true}
@@ -15,14 +16,11 @@ use Rattle.area.proofs.Tests.{by_pick}
 use Rattle.blocks.specs.declared.Params.{Params}
 use Rattle.frame.specs.declared.Party.{Party}
 use Rattle.frame.specs.declared.Header.{Header}
-use Rattle.frame.specs.declared.Verdict.{Verdict}
-use Rattle.frame.specs.declared.Opened.{Opened}
-use Rattle.frame.specs.declared.Verdict.TheVariants as J
-use Rattle.frame.specs.declared.Opened.TheVariants as O
+use Rattle.frame.specs.Frames.{Opened}
 use Rattle.frame.specs.Frames.{value_at, offer_at, length_of, body_length, opened, entry_in, body_in, message_in}
 use Rattle.frame.specs.Messages.{Message, Judged, good, judged_by, after, number_in, Sized}
 use Rattle.frame.specs.Params.{width, listed, params_test}
-use Rattle.frame.specs.Refusals.{and_then}
+use Rattle.frame.specs.Refusals.{and_then, Verdict, fine}
 use Rattle.frame.proofs.Opening.{opens_facts}
 use Rattle.frame.proofs.Verdicts.{fine_both}
 use Rattle.server_rules.specs.declared.Server.{Server}
@@ -62,7 +60,7 @@ body_sized g f k l =
     offered : (k' : ℕ) → body_length g k' ≡ 8 + (listed g + width g) → eqb k k' ≡ true → Sized g (entry_in g f offer_at)
     offered k' e q = entry_in_lem g f offer_at (let h = long g f k k' (8 + (listed g + width g)) l e q in omega (arith, h))
 
-pub message_sized : (g : Params) (f : List ℕ) (h : Header) → opened g f ≡ O.Frame h → SizedIn g (message_in g h f).body
+pub message_sized : (g : Params) (f : List ℕ) (h : Header) → opened g f ≡ Ok h → SizedIn g (message_in g h f).body
 unfolding message_in
 message_sized g f h p = body_sized g f h.kind (opens_facts g f h p).length_is
 
@@ -70,22 +68,22 @@ message_sized g f h p = body_sized g f h.kind (opens_facts g f h p).length_is
 
 pub record Taken (H : List ℕ → List ℕ) (g : Params) (me : ℕ) (s : Server) (from : Party) (f : List ℕ) (m : Message) : Type 0 where
   pub header : Header
-  pub opens : opened g f ≡ O.Frame header
+  pub opens : opened g f ≡ Ok header
   pub says : message_in g header f ≡ m
   pub client : Among 8 m.client
   pub sized : SizedIn g m.body
-  pub passes : ST.message_test H g me s from m ≡ J.Fine
+  pub passes : ST.message_test H g me s from m ≡ fine
 
 module _ (H : List ℕ → List ℕ) (g : Params) (me : ℕ) where
   took_by : (o : Opened) (room : Verdict) (s : Server) (from : Party) (f : List ℕ) (m : Message) → opened g f ≡ o
       → ST.judge_opened H g me o room s from f ≡ good m → Taken H g me s from f m
   unfolding message_in ST.judge_opened
-  took_by (O.Refused r) room s from f m p q = impossible (cc)
-  took_by (O.Frame h) room s from f m p q = go (and_then room (ST.message_test H g me s from (message_in g h f))) refl q
+  took_by (Err r) room s from f m p q = impossible (cc)
+  took_by (Ok h) room s from f m p q = go (and_then room (ST.message_test H g me s from (message_in g h f))) refl q
     where
       go : (v : Verdict) → and_then room (ST.message_test H g me s from (message_in g h f)) ≡ v → judged_by v (message_in g h f) ≡ good m → Taken H g me s from f m
-      go (J.Bad r) e u = impossible (cc)
-      go J.Fine e u =
+      go (Err r) e u = impossible (cc)
+      go (Ok _) e u =
           let is : message_in g h f ≡ m = cc in
           let w = opens_facts g f h p in
           record {
@@ -94,7 +92,7 @@ module _ (H : List ℕ → List ℕ) (g : Params) (me : ℕ) where
             says = is;
             client = subst (λ x. Among 8 x.client) is (w.client_low, w.client_high);
             sized = subst (λ x. SizedIn g x.body) is (body_sized g f h.kind w.length_is);
-            passes = subst (λ x. ST.message_test H g me s from x ≡ J.Fine) is (fine_both room _ e).1;
+            passes = subst (λ x. ST.message_test H g me s from x ≡ fine) is (fine_both room _ e).1;
           }
 
   pub took : (s : Server) (a initial : List ℕ) (from : Party) (f out to : List ℕ) (m : Message) → ST.judge H g me s a initial from f out to ≡ good m
@@ -104,8 +102,8 @@ module _ (H : List ℕ → List ℕ) (g : Params) (me : ℕ) where
     where
       go : (v : Verdict) → after v (ST.judge_opened H g me (opened g f) (ST.room_test g (length a) (length initial) (length out)
           (length to)) s from f) ≡ good m → Taken H g me s from f m
-      go J.Fine e = took_by (opened g f) _ s from f m refl e
-      go (J.Bad r) e = impossible (cc)
+      go (Ok _) e = took_by (opened g f) _ s from f m refl e
+      go (Err r) e = impossible (cc)
 
   -- a delivery keeps a server within its bounds, if they grant what a taken message asks
   pub delivered_within : (B : Bounds) (s : Server) (a initial : List ℕ) (from : Party) (f out to : List ℕ) → Within B s

@@ -1,31 +1,32 @@
 -- A server's entry points: the whole outcome of a delivery, and of the constructor. H is the digest, g the parameters, me the server's
 -- number. These are definitions.
-use Rattle.std.specs.Prelude.{ℕ, not, List, [], length, ltb, eqb}
+use Rattle.std.specs.Prelude.{ℕ, not, List, [], length, ltb, eqb, Result, Ok, Err}
 use Rattle.std.proofs.lemmas.List.Edits.{sets}
 use Rattle.area.specs.Area.{pick}
 use Rattle.area.specs.Responses.{Response, turned_down, gives}
 use Rattle.blocks.specs.declared.Params.{Params}
 use Rattle.frame.specs.declared.Party.{Party}
-use Rattle.frame.specs.declared.Verdict.{Verdict}
-use Rattle.frame.specs.declared.Verdict.TheVariants as J
-use Rattle.frame.specs.Refusals.{number_of, and_then, refused}
+use Rattle.frame.specs.Refusals.{number_of, Verdict, fine, and_then, refused}
 use Rattle.frame.specs.Params.{width, params_test}
 use Rattle.frame.specs.Messages.{Judged, bad, good}
 use Rattle.frame.specs.Outbox.{frames, receivers}
 use Rattle.frame.specs.Chunks.{area_bytes, chunk_at, present_at}
 use Rattle.group_rules.specs.Coded.{block_at, digests_of}
 use Rattle.server_rules.specs.declared.Server.{Server}
-use Rattle.server_rules.specs.declared.Reply.{Reply}
+use Rattle.frame.specs.declared.Refusal.{Refusal}
 use Rattle.server_rules.specs.declared.Served.{Served}
-use Rattle.server_rules.specs.declared.Reply.TheVariants as Y
 use Rattle.server_rules.specs.State.{fresh_server}
 use Rattle.server_rules.specs.Tests.{judge}
 use Rattle.server_rules.specs.Steps.{Effect, send_only, effect}
 
+-- a step, with the number of frames that it sent, or the reason why there is none
+abbrev pub Reply : Type 0
+Reply = Result ℕ Refusal
+
 -- what a reply says: the number, or how many frames were sent
 abbrev pub reply_response : Reply → Response ℕ
-reply_response (Y.Step c) = gives c
-reply_response (Y.Refused r) = turned_down (number_of r)
+reply_response (Ok c) = gives c
+reply_response (Err r) = turned_down (number_of r)
 
 -- its number, 0 of a step
 unfoldable pub reply_number : Response ℕ → ℕ
@@ -97,11 +98,11 @@ module _ (H : List ℕ → List ℕ) (g : Params) (me : ℕ) where
       (pick (not (eqb (length v) g.size)) (refused 3)
       (pick (ltb area area_bytes) (refused 10)
       (pick (ltb initial (width g)) (refused 10)
-      J.Fine)))
+      fine)))
 
   unfoldable pub construct_by : Verdict → List ℕ → List ℕ → List ℕ → Constructed
-  construct_by (J.Bad r) v a initial = record { reply = turned_down (number_of r); server = fresh_server; area = a; initial = initial }
-  construct_by J.Fine v a initial = record {
+  construct_by (Err r) v a initial = record { reply = turned_down (number_of r); server = fresh_server; area = a; initial = initial }
+  construct_by (Ok _) v a initial = record {
     reply = gives 0;
     server = fresh_server;
     area = sets a (chunk_at present_at) (digests_of H g v);

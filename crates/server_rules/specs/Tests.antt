@@ -1,15 +1,12 @@
 -- Whether a frame handed to a server is turned down: the tests of document 01's numbers 10 to 14, and all tests in the order of their
 -- numbers. H is the digest, g the parameters, me the server's number. These are definitions.
-use Rattle.std.specs.Prelude.{ℕ, Bool, false, not, ◌&&◌, List, length, get_or, leb, ltb, eqb}
+use Rattle.std.specs.Prelude.{ℕ, Bool, false, not, ◌&&◌, List, length, get_or, leb, ltb, eqb, Ok, Err}
 use Rattle.area.specs.Area.{pick}
 use Rattle.blocks.specs.declared.Params.{Params}
 use Rattle.frame.specs.declared.Party.{Party}
-use Rattle.frame.specs.declared.Verdict.{Verdict}
-use Rattle.frame.specs.declared.Opened.{Opened}
+use Rattle.frame.specs.Frames.{Opened}
 use Rattle.frame.specs.declared.Party.TheVariants as P
-use Rattle.frame.specs.declared.Verdict.TheVariants as J
-use Rattle.frame.specs.declared.Opened.TheVariants as O
-use Rattle.frame.specs.Refusals.{and_then, refused}
+use Rattle.frame.specs.Refusals.{and_then, refused, Verdict, fine}
 use Rattle.frame.specs.Params.{width, server_frames, out_room, to_room, params_test}
 use Rattle.frame.specs.Messages.{Offer, Stage, send, echo, ready, Body, get_stamp, ack, ask_read, read_complete, stamp_is, block_is, value_is, report, Message}
 use Rattle.frame.specs.Messages.{number_in, from_server, Judged, bad, judged_by, after}
@@ -28,7 +25,7 @@ room_test g area initial out to =
     (pick (ltb initial (width g)) (refused 10)
     (pick (ltb out (out_room g (server_frames g))) (refused 10)
     (pick (ltb to (to_room (server_frames g))) (refused 10)
-    J.Fine)))
+    fine)))
 
 -- ---- refusal 11: "sender or receiver not the kind's or, where a client, not the owner; a server not 1 to n"
 
@@ -70,22 +67,22 @@ open_test x q again =
     pick (ltb q x.sequence) (refused 12)
     (pick (ltb x.sequence q) (refused 13)
     (pick again (refused 12)
-    J.Fine))
+    fine))
 
 -- "A read .. below the newest noted or ended, a read equal to it .. is old"
 unfoldable pub read_test : Reader → ℕ → Verdict
-read_test r q = pick (leb q r.sequence) (refused 12) J.Fine
+read_test r q = pick (leb q r.sequence) (refused 12) fine
 
 -- "A .. read-complete below the newest noted or ended .. or a repeated read-complete is old"
 unfoldable pub done_test : Reader → ℕ → Verdict
 done_test r q =
     pick (ltb q r.sequence) (refused 12)
     (pick (eqb q r.sequence && not r.listening) (refused 12)
-    J.Fine)
+    fine)
 
 -- "A kind 13 that isn't higher is 12": r is the highest report of its sender
 unfoldable pub report_test : ℕ → ℕ → Verdict
-report_test r T = pick (ltb r T) J.Fine (refused 12)
+report_test r T = pick (ltb r T) fine (refused 12)
 
 -- ---- refusals 12 to 14
 
@@ -102,13 +99,13 @@ module _ (H : List ℕ → List ℕ) (g : Params) (me : ℕ) where
 
   -- of any frame whose sender is right; "Get-stamp is never 12"
   unfoldable pub order_test : Server → ℕ → ℕ → ℕ → Body → Verdict
-  order_test s j c q get_stamp = J.Fine
-  order_test s j c q ack = J.Fine
+  order_test s j c q get_stamp = fine
+  order_test s j c q ack = fine
   order_test s j c q ask_read = read_test (reader_of s c) q
   order_test s j c q read_complete = done_test (reader_of s c) q
-  order_test s j c q (stamp_is T) = J.Fine
+  order_test s j c q (stamp_is T) = fine
   order_test s j c q (block_is z o) = block_test (slot_of s c) j q z o
-  order_test s j c q (value_is x e) = J.Fine
+  order_test s j c q (value_is x e) = fine
   order_test s j c q (report T) = report_test (report_of s j) T
 
   -- refusals 11 to 14
@@ -120,8 +117,8 @@ module _ (H : List ℕ → List ℕ) (g : Params) (me : ℕ) where
 
   -- "A frame is opened first; what does not open never reaches a server's state"
   unfoldable pub judge_opened : Opened → Verdict → Server → Party → List ℕ → Judged
-  judge_opened (O.Refused r) room s from f = bad r
-  judge_opened (O.Frame h) room s from f = judged_by (and_then room (message_test s from (message_in g h f))) (message_in g h f)
+  judge_opened (Err r) room s from f = bad r
+  judge_opened (Ok h) room s from f = judged_by (and_then room (message_test s from (message_in g h f))) (message_in g h f)
 
   unfoldable pub judge : Server → List ℕ → List ℕ → Party → List ℕ → List ℕ → List ℕ → Judged
   judge s area initial from f out to =

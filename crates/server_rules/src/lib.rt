@@ -82,15 +82,9 @@ pub struct Scope {
     pub reader: Reader,
 }
 
-// A step, with the number of frames that it sent, or the reason why there is none.
-#[derive(Clone, Copy)]
-pub enum Reply {
-    Step(usize),
-    Refused(Refusal),
-}
-
 #[derive(Clone, Copy)]
 pub struct Served {
-    pub reply: Reply,
+    // how many frames the step sent, or why there is none
+    pub reply: Result<usize, Refusal>,
     pub server: Server,
 }

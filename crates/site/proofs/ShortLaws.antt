@@ -1,12 +1,12 @@
 -- The answer to a call with a short area, from the promises of the functions that its code calls. Assumes nothing.
+use Rattle.std.specs.Prelude.{Err}
+use Rattle.frame.specs.Refusals.{Verdict, fine}
 use Prim.Native.Nat.{ℕ}
 use mathlib.Core.Path.{◌≡◌, sym, ap, ◌∙◌}
 use mathlib.Core.List.{List}
 use Rattle.blocks.specs.declared.Params.{Params}
-use Rattle.frame.specs.declared.Opened.{Opened}
+use Rattle.frame.specs.Frames.{Opened}
 use Rattle.frame.specs.declared.Refusal.{Refusal}
-use Rattle.frame.specs.declared.Verdict.{Verdict}
-use Rattle.frame.specs.declared.Verdict.TheVariants as J
 use Rattle.frame.specs.Params.{Bounded, params_test}
 use Rattle.frame.specs.Stamps.{last_client}
 use Rattle.frame.specs.Frames.{opened}
@@ -17,32 +17,32 @@ use Rattle.site.specs.Short.{opened_short, frame_short, stamp_short}
 
 -- ---- the record's area is short
 
-pub bounded_by : (g : Params) (me most : ℕ) (v : Verdict) → v ≡ params_test g me most → v ≡ J.Fine → Bounded g
+pub bounded_by : (g : Params) (me most : ℕ) (v : Verdict) → v ≡ params_test g me most → v ≡ fine → Bounded g
 bounded_by g me most v e p = let A = admitted_of g me most (sym e ∙ p) in A.bounded
 
 module _ (g : Params) (me most : ℕ) (f : List ℕ) (v : Verdict) (e : v ≡ params_test g me most) where
-  pub frame_refused : (r : Refusal) → v ≡ J.Bad r → J.Bad r ≡ frame_short g me most f
+  pub frame_refused : (r : Refusal) → v ≡ Err r → Err r ≡ frame_short g me most f
   unfolding frame_short
   frame_refused r p = stop_first (params_test g me most) (opened_short (opened g f)) v r e p
 
-  pub frame_opened : (o : Opened) (w : Verdict) → v ≡ J.Fine → o ≡ opened g f → w ≡ opened_short o → w ≡ frame_short g me most f
+  pub frame_opened : (o : Opened) (w : Verdict) → v ≡ fine → o ≡ opened g f → w ≡ opened_short o → w ≡ frame_short g me most f
   unfolding frame_short
   frame_opened o w p q h = go_second (params_test g me most) (opened_short (opened g f)) v w e p (h ∙ ap opened_short q)
 
 -- ---- a read's stamp: its area is short
 
 module _ (g : Params) (me : ℕ) (s : Client) (n : ℕ) (f : List ℕ) (v : Verdict) (e : v ≡ params_test g me last_client) where
-  pub stamp_refused : (r : Refusal) → v ≡ J.Bad r → J.Bad r ≡ stamp_short g me s n f
+  pub stamp_refused : (r : Refusal) → v ≡ Err r → Err r ≡ stamp_short g me s n f
   unfolding stamp_short
   stamp_refused r p = stop_first (params_test g me last_client) _ v r e p
 
-  module _ (w : Verdict) (fine : v ≡ J.Fine) (q : w ≡ value_test g s.phase n) where
-    pub stamp_value : (r : Refusal) → w ≡ J.Bad r → J.Bad r ≡ stamp_short g me s n f
+  module _ (w : Verdict) (fine : v ≡ fine) (q : w ≡ value_test g s.phase n) where
+    pub stamp_value : (r : Refusal) → w ≡ Err r → Err r ≡ stamp_short g me s n f
     unfolding stamp_short
     stamp_value r p =
-        go_second (params_test g me last_client) _ v (J.Bad r) e fine (stop_first (value_test g s.phase n) (opened_short (opened g f)) w r q p)
+        go_second (params_test g me last_client) _ v (Err r) e fine (stop_first (value_test g s.phase n) (opened_short (opened g f)) w r q p)
 
-    pub stamp_opened : (o : Opened) (x : Verdict) → w ≡ J.Fine → o ≡ opened g f → x ≡ opened_short o → x ≡ stamp_short g me s n f
+    pub stamp_opened : (o : Opened) (x : Verdict) → w ≡ fine → o ≡ opened g f → x ≡ opened_short o → x ≡ stamp_short g me s n f
     unfolding stamp_short
     stamp_opened o x p k h =
         go_second (params_test g me last_client) _ v x e fine (go_second (value_test g s.phase n) (opened_short (opened g f)) w x q p (h ∙ ap opened_short k))

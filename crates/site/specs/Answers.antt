@@ -1,17 +1,15 @@
 -- A client's answer to a host, as one number. Its lowest byte is 0, or the number of the refusal, and then all other bytes are 0. These are definitions.
-use Rattle.std.specs.Prelude.{ℕ, ◌+◌, ◌*◌, ◌%◌}
+use Rattle.std.specs.Prelude.{ℕ, ◌+◌, ◌*◌, ◌%◌, Ok, Err}
 use Rattle.area.specs.Responses.{Response, turned_down, gives}
-use Rattle.frame.specs.declared.Verdict.{Verdict}
-use Rattle.frame.specs.declared.Verdict.TheVariants as J
-use Rattle.frame.specs.Refusals.{number_of}
+use Rattle.frame.specs.Refusals.{number_of, Verdict}
 use Rattle.client_rules.specs.Answers.{Progress, goes_on, write_ends, write_closes, read_gives, read_disagrees}
 use Rattle.client_rules.specs.declared.Phase.{Phase}
 use Rattle.client_rules.specs.declared.Phase.TheVariants as F
 
 -- the answer of a test
 unfoldable pub test_answer : Verdict → ℕ
-test_answer J.Fine = 0
-test_answer (J.Bad r) = number_of r
+test_answer (Ok _) = 0
+test_answer (Err r) = number_of r
 
 -- the second byte says what happened: 0, nothing has ended; 1, the write has ended; 2, it closed as out of stamps; 3, the read has ended with a value;
 -- 4, it has ended because its blocks disagree. The bytes above say how many frames were sent; at the end of a read a read-complete to each of n servers.

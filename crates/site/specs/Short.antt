@@ -1,12 +1,9 @@
 -- A call whose area for the record or for a stamp is short: refusal 10, unless one with a lower number applies. g are the parameters, and me is one of
 -- parties 1 to most. These are definitions.
-use Rattle.std.specs.Prelude.{ℕ, List}
+use Rattle.std.specs.Prelude.{ℕ, List, Ok, Err}
 use Rattle.blocks.specs.declared.Params.{Params}
-use Rattle.frame.specs.declared.Opened.{Opened}
-use Rattle.frame.specs.declared.Opened.TheVariants as O
-use Rattle.frame.specs.declared.Verdict.{Verdict}
-use Rattle.frame.specs.declared.Verdict.TheVariants as J
-use Rattle.frame.specs.Refusals.{and_then, refused}
+use Rattle.frame.specs.Frames.{Opened}
+use Rattle.frame.specs.Refusals.{and_then, refused, Verdict}
 use Rattle.frame.specs.Params.{params_test}
 use Rattle.frame.specs.Stamps.{last_client}
 use Rattle.frame.specs.Frames.{opened}
@@ -24,8 +21,8 @@ value_short g me most v = and_then (params_test g me most) (and_then (length_tes
 
 -- a frame f is handed in; without a record it is not known whether a write is open, so a lent value is not looked at
 unfoldable pub opened_short : Opened → Verdict
-opened_short (O.Frame h) = refused 10
-opened_short (O.Refused r) = J.Bad r
+opened_short (Ok h) = refused 10
+opened_short (Err r) = Err r
 
 unfoldable pub frame_short : Params → ℕ → ℕ → List ℕ → Verdict
 frame_short g me most f = and_then (params_test g me most) (opened_short (opened g f))

@@ -5,15 +5,15 @@ ghost use Rattle.client_rules.specs.Answers.{answer_response};
 ghost use Rattle.site.specs.Answers.{test_answer, client_answer, open_answer};
 
 use client_rules::{Answer, Phase};
-use frame::Verdict;
+use frame::Refusal;
 use frame::refusals::number_of;
 
-pub fn test_answer(v: Verdict) -> u64
+pub fn test_answer(v: Result<(), Refusal>) -> u64
     ensures { result ≡ test_answer v }
 {
     match v {
-        Verdict::Fine => 0,
-        Verdict::Bad(r) => number_of(r) as u64,
+        Ok(()) => 0,
+        Err(r) => number_of(r) as u64,
     }
 }
 

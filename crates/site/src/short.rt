@@ -9,60 +9,51 @@ use frame::bounds::params_test;
 use frame::opener::open_frame;
 use frame::places::CLIENTS;
 use frame::refusals::and_then;
-use frame::{Opened, Refusal, Verdict};
+use frame::{Header, Refusal};
 
 // A client begins a read; refusals 1 to 3 come first.
-pub fn read_short(g: Params, me: u8) -> Verdict
+pub fn read_short(g: Params, me: u8) -> Result<(), Refusal>
     ensures { result ≡ read_short g me }
 {
     let params = params_test(g, me as usize, CLIENTS);
-    and_then(params, Verdict::Bad(Refusal::Room))
+    and_then(params, Err(Refusal::Room))
 }
 
 // A value of len bytes is lent to party me, one of parties 1 to most; refusals 1 to 3 come first.
-pub fn value_short(g: Params, me: u8, most: usize, len: usize) -> Verdict
+pub fn value_short(g: Params, me: u8, most: usize, len: usize) -> Result<(), Refusal>
     ensures { result ≡ value_short g me most len }
 {
     let params = params_test(g, me as usize, most);
     let whole = length_test(g, len);
-    let rest = and_then(whole, Verdict::Bad(Refusal::Room));
+    let rest = and_then(whole, Err(Refusal::Room));
     and_then(params, rest)
 }
 
-fn opened_short(o: Opened) -> Verdict
+fn opened_short(o: Result<Header, Refusal>) -> Result<(), Refusal>
     ensures { result ≡ opened_short o }
 {
     match o {
-        Opened::Frame(h) => Verdict::Bad(Refusal::Room),
-        Opened::Refused(r) => Verdict::Bad(r),
+        Ok(h) => Err(Refusal::Room),
+        Err(r) => Err(r),
     }
 }
 
 // The frame f is handed in; refusals 1 to 9 come first.
-pub fn frame_short(g: Params, me: u8, most: usize, f: &[u8]) -> Verdict
+pub fn frame_short(g: Params, me: u8, most: usize, f: &[u8]) -> Result<(), Refusal>
     ensures { result ≡ frame_short g me most f.now }
 {
-    let params = params_test(g, me as usize, most);
-    if let Verdict::Bad(r) = params {
-        return Verdict::Bad(r);
-    }
+    params_test(g, me as usize, most)?;
     let opened = open_frame(g, f);
     opened_short(opened)
 }
 
 // The frame f is handed to client s, with a value of len bytes; refusals 1 to 9 come first.
-pub fn stamp_short(g: Params, me: u8, s: Client, len: usize, f: &[u8]) -> Verdict
+pub fn stamp_short(g: Params, me: u8, s: Client, len: usize, f: &[u8]) -> Result<(), Refusal>
     ensures { result ≡ stamp_short g me s len f.now }
 {
     let p = s.phase;
-    let params = params_test(g, me as usize, CLIENTS);
-    if let Verdict::Bad(r) = params {
-        return Verdict::Bad(r);
-    }
-    let whole = value_test(g, p, len);
-    if let Verdict::Bad(r) = whole {
-        return Verdict::Bad(r);
-    }
+    params_test(g, me as usize, CLIENTS)?;
+    value_test(g, p, len)?;
     let opened = open_frame(g, f);
     opened_short(opened)
 }

@@ -1,5 +1,6 @@
 -- What one delivered frame does to a server's parts in the broadcasts of writes: the record BroadcastFacts, which is all that runs need of a step here.
 -- Assumes nothing.
+use Rattle.frame.specs.Refusals.{fine}
 use Prim.Native.Nat.{ℕ, ◌+◌, ◌-◌, ◌<◌}
 use native.Mathlib.Omega.{arith}
 use native.Mathlib.Decide.{ℕ_discrete}
@@ -17,7 +18,6 @@ use Rattle.quorum.proofs.Quorums.{AtLeast}
 use Rattle.blocks.specs.declared.Params.{Params}
 use Rattle.frame.specs.declared.Party.{Party}
 use Rattle.frame.specs.declared.Party.TheVariants as A
-use Rattle.frame.specs.declared.Verdict.TheVariants as J
 use Rattle.frame.specs.Messages.{Offer, Stage, send, echo, ready, Body, block_is, Message, message, sending, number_in}
 use Rattle.frame.specs.Params.{Bounded}
 use Rattle.frame.proofs.Sizes.{small}
@@ -69,7 +69,7 @@ module _ (H : List ℕ → List ℕ) (g : Params) where
   abbrev rules : Rules Offer
   rules = block_rules H g
 
-  first : (me : ℕ) (s : Server) (a : List ℕ) (j c q : ℕ) (x : Offer) → ST.order_test H g me s j c q (block_is send x) ≡ J.Fine → (part_at g s a c).sent ≡ false
+  first : (me : ℕ) (s : Server) (a : List ℕ) (j c q : ℕ) (x : Offer) → ST.order_test H g me s j c q (block_is send x) ≡ fine → (part_at g s a c).sent ≡ false
   unfolding ST.order_test ST.counted block_view
   first me s a j c q x o = (open_passed (slot_of s c) q _ (fine_both _ _ o).0).1
 
@@ -202,7 +202,7 @@ module _ (H : List ℕ → List ℕ) (g : Params) where
   -- ---- a step
 
   module _ (L : Bounded g) (me : ℕ) (s : Server) (a initial : List ℕ) (F : ServerShape s a) (from : Party) (c q : ℕ) (is : Among 8 c)
-      (b : Body) (Q : SizedIn g b) (right : ST.sender_right g from c b ≡ true) (o : ST.order_test H g me s (number_in from) c q b ≡ J.Fine) where
+      (b : Body) (Q : SizedIn g b) (right : ST.sender_right g from c b ≡ true) (o : ST.order_test H g me s (number_in from) c q b ≡ fine) where
     abbrev j : ℕ
     j = number_in from
 
@@ -216,7 +216,7 @@ module _ (H : List ℕ → List ℕ) (g : Params) where
     brings : (z : Stage) (x : Offer) → b ≡ block_is z x → q ≡ (slot_of s c).sequence
         → Brings rules g.n g.t agreed (blocks_sane H g) me (part_at g s a c) (NewSend s from m c) (New s from m c echo) (New s from m c ready) j x z
     brings send x e n = (
-      first me s a j c q x (subst (λ b. ST.order_test H g me s j c q b ≡ J.Fine) e o),
+      first me s a j c q x (subst (λ b. ST.order_test H g me s j c q b ≡ fine) e o),
       (block_sender g from c send x (subst (λ b. ST.sender_right g from c b ≡ true) e right), λ i. message c (n i) (e i)),
     )
     brings echo x e n = ((block_sender g from c echo x (subst (λ b. ST.sender_right g from c b ≡ true) e right)).0, λ i. message c (n i) (e i))
@@ -300,12 +300,12 @@ module _ (H : List ℕ → List ℕ) (g : Params) where
   -- each frame that passes the tests
   pub cast_facts : Bounded g → (me : ℕ) (s : Server) (a initial : List ℕ) → ServerShape s a → (from : Party) (m : Message) → Among 8 m.client
       → SizedIn g m.body
-      → ST.message_test H g me s from m ≡ J.Fine → BroadcastFacts s a from m (S.effect H g me s a initial from m)
+      → ST.message_test H g me s from m ≡ fine → BroadcastFacts s a from m (S.effect H g me s a initial from m)
   cast_facts L me s a initial F from m is Q e = let (h, o) = test_split H g me s from m e in go (shape_of H g me s a initial from m) Q h o
     where
       go : {b : Body} {r : S.Effect} → Shape H g me s a initial (number_in from) m.client m.sequence b r → SizedIn g b
           → ST.sender_right g from m.client b ≡ true
-          → ST.order_test H g me s (number_in from) m.client m.sequence b ≡ J.Fine → BroadcastFacts s a from (message m.client m.sequence b) r
+          → ST.order_test H g me s (number_in from) m.client m.sequence b ≡ fine → BroadcastFacts s a from (message m.client m.sequence b) r
       go (idle b) Q h o = idle_facts s a from _ _ refl refl (λ to d n z y u. Memᴰ.not-nil u) refl
       go answers Q h o = idle_facts s a from _ _ refl refl (λ to d n z y u. no_cast to _ _ d n _ _ z y (λ v. v) u) refl
       go notes Q h o = idle_facts s a from _ _ refl refl (λ to d n z y u. no_cast to _ _ d n _ _ z y (λ v. v) u) refl

@@ -1,4 +1,5 @@
 -- What is known of a frame that a client takes, and that what clients send can be said in a frame. Assumes nothing.
+use Rattle.std.specs.Prelude.{Ok, Err}
 use Prim.Native.Nat.{ℕ, ◌+◌, ◌≤◌, ◌<◌}
 use native.Mathlib.Omega.{arith}
 use native.Mathlib.Nat.{mul_comm}
@@ -17,17 +18,14 @@ use Rattle.blocks.specs.declared.Params.{Params}
 use Rattle.frame.specs.declared.Stamp.{Stamp}
 use Rattle.frame.specs.declared.Party.{Party}
 use Rattle.frame.specs.declared.Header.{Header}
-use Rattle.frame.specs.declared.Verdict.{Verdict}
-use Rattle.frame.specs.declared.Opened.{Opened}
+use Rattle.frame.specs.Frames.{Opened}
 use Rattle.frame.specs.declared.Refusal.TheVariants as R
-use Rattle.frame.specs.declared.Verdict.TheVariants as J
-use Rattle.frame.specs.declared.Opened.TheVariants as O
 use Rattle.group_rules.specs.Coded.{digests_of, entry_of, block_at}
 use Rattle.frame.specs.Frames.{opened, message_in}
 use Rattle.frame.specs.Messages.{Entry, offer, send, Body, get_stamp, ask_read, read_complete, block_is, Message, message}
 use Rattle.frame.specs.Messages.{number_in, from_server, Judged, bad, good, judged_by, after, Sized, Formed, FormedBody}
 use Rattle.frame.specs.Params.{params_test, listed, client_frames, out_room, to_room}
-use Rattle.frame.specs.Refusals.{and_then}
+use Rattle.frame.specs.Refusals.{and_then, Verdict, fine}
 use Rattle.frame.specs.Stamps.{last_sequence, last_client}
 use Rattle.frame.specs.Chunks.{rows_bytes}
 use Rattle.frame.proofs.Verdicts.{fine_both, fine_not}
@@ -49,13 +47,13 @@ use Rattle.client_rules.proofs.CallFacts.{value_whole}
 use Rattle.steps.proofs.ServerRanges.{AllFormed, formed_all}
 use Rattle.server_rules.proofs.Decoding.{block_width}
 
-pub by_fine : (v : Verdict) (n m : Message) → judged_by v n ≡ good m → v ≡ J.Fine
-by_fine J.Fine n m e = refl
-by_fine (J.Bad r) n m e = impossible (cc)
+pub by_fine : (v : Verdict) (n m : Message) → judged_by v n ≡ good m → v ≡ fine
+by_fine (Ok _) n m e = refl
+by_fine (Err r) n m e = impossible (cc)
 
 pub after_fine : (v : Verdict) (j : Judged) (m : Message) → after v j ≡ good m → j ≡ good m
-after_fine J.Fine j m e = e
-after_fine (J.Bad r) j m e = impossible (cc)
+after_fine (Ok _) j m e = e
+after_fine (Err r) j m e = impossible (cc)
 
 -- the number of a write that awaits stamps can be said in a frame, whatever frame comes
 pub record Numbered (s : Client) : Type 0 where
@@ -65,26 +63,26 @@ pub record Numbered (s : Client) : Type 0 where
 module _ (H : List ℕ → List ℕ) (g : Params) (me : ℕ) where
   pub record Taken (s : Client) (v : List ℕ) (from : Party) (f : List ℕ) (m : Message) : Type 0 where
     pub header : Header
-    pub opens : opened g f ≡ O.Frame header
+    pub opens : opened g f ≡ Ok header
     pub says : message_in g header f ≡ m
-    pub passes : CT.message_test H g me s from m ≡ J.Fine
-    pub value : CT.value_test g s.phase (length v) ≡ J.Fine
+    pub passes : CT.message_test H g me s from m ≡ fine
+    pub value : CT.value_test g s.phase (length v) ≡ fine
 
   pub data Delivered (s : Client) (a v : List ℕ) (from : Party) (f : List ℕ) (r : C.Effect) : Type 0 where
     refused : r ≡ C.quiet s a → Delivered s a v from f r
     taken : (m : Message) → Taken s v from f m → rows_bytes ≤ length a → r ≡ C.effect H g me s a v from m → Delivered s a v from f r
 
-  took_by : (o : Opened) (room : Verdict) (s : Client) (v : List ℕ) (from : Party) (f : List ℕ) (m : Message) → CT.value_test g s.phase (length v) ≡ J.Fine
+  took_by : (o : Opened) (room : Verdict) (s : Client) (v : List ℕ) (from : Party) (f : List ℕ) (m : Message) → CT.value_test g s.phase (length v) ≡ fine
       → opened g f ≡ o → CT.judge_opened H g me o room s from f ≡ good m → Taken s v from f m
   unfolding CT.judge_opened
-  took_by (O.Refused r) room s v from f m t p q = impossible (cc)
-  took_by (O.Frame h) room s v from f m t p q = go (and_then room (CT.message_test H g me s from (message_in g h f))) refl q
+  took_by (Err r) room s v from f m t p q = impossible (cc)
+  took_by (Ok h) room s v from f m t p q = go (and_then room (CT.message_test H g me s from (message_in g h f))) refl q
     where
       go : (y : Verdict) → and_then room (CT.message_test H g me s from (message_in g h f)) ≡ y → judged_by y (message_in g h f) ≡ good m → Taken s v from f m
-      go (J.Bad r) e u = impossible (cc)
-      go J.Fine e u =
+      go (Err r) e u = impossible (cc)
+      go (Ok _) e u =
           let is : message_in g h f ≡ m = cc in
-          record { header = h; opens = p; says = is; passes = subst (λ x. CT.message_test H g me s from x ≡ J.Fine) is (fine_both room _ e).1; value = t }
+          record { header = h; opens = p; says = is; passes = subst (λ x. CT.message_test H g me s from x ≡ fine) is (fine_both room _ e).1; value = t }
 
   pub took : (s : Client) (a v : List ℕ) (from : Party) (f result out to : List ℕ) (m : Message) → CT.judge H g me s a v from f result out to ≡ good m
       → Taken s v from f m
@@ -94,8 +92,8 @@ module _ (H : List ℕ → List ℕ) (g : Params) (me : ℕ) where
       go : (y : Verdict) → and_then (params_test g me last_client) (CT.value_test g s.phase (length v)) ≡ y
           → after y (CT.judge_opened H g me (opened g f) (CT.room_test g (length a) (length result) (length out) (length to)) s from f) ≡ good m
           → Taken s v from f m
-      go J.Fine p e = took_by (opened g f) _ s v from f m (fine_both (params_test g me last_client) _ p).1 refl e
-      go (J.Bad r) p e = impossible (cc)
+      go (Ok _) p e = took_by (opened g f) _ s v from f m (fine_both (params_test g me last_client) _ p).1 refl e
+      go (Err r) p e = impossible (cc)
 
   -- what is taken found room
   pub record Room (a result out to : List ℕ) : Type 0 where
@@ -104,7 +102,7 @@ module _ (H : List ℕ → List ℕ) (g : Params) (me : ℕ) where
     pub out_room_lem : out_room g (client_frames g) ≤ length out
     pub to_room_lem : to_room (client_frames g) ≤ length to
 
-  pub send_room_lem : (out to : List ℕ) → CT.send_room g (length out) (length to) ≡ J.Fine
+  pub send_room_lem : (out to : List ℕ) → CT.send_room g (length out) (length to) ≡ fine
       → (out_room g (client_frames g) ≤ length out) × (to_room (client_frames g) ≤ length to)
   unfolding CT.send_room
   send_room_lem out to w =
@@ -121,8 +119,8 @@ module _ (H : List ℕ → List ℕ) (g : Params) (me : ℕ) where
       room = CT.room_test g (length a) (length result) (length out) (length to)
 
       go : (o : Opened) → CT.judge_opened H g me o room s from f ≡ good m → Room a result out to
-      go (O.Refused r) u = impossible (cc)
-      go (O.Frame h) u =
+      go (Err r) u = impossible (cc)
+      go (Ok h) u =
           let w = (fine_both room (CT.message_test H g me s from (message_in g h f)) (by_fine _ _ m u)).0 in
           let p₁ = fine_not _ _ _ w in
           let p₂ = fine_not _ _ _ p₁.1 in
@@ -143,14 +141,14 @@ module _ (H : List ℕ → List ℕ) (g : Params) (me : ℕ) where
     pub server : from_server g from ≡ true
     pub answers : CT.answers m.body ≡ true
     pub owner : CT.owner_right me m.client m.body ≡ true
-    pub order : CT.order_test H g me s (number_in from) m.sequence m.body ≡ J.Fine
+    pub order : CT.order_test H g me s (number_in from) m.sequence m.body ≡ fine
 
-  pub passed : (s : Client) (from : Party) (m : Message) → CT.message_test H g me s from m ≡ J.Fine → Passed s from m
+  pub passed : (s : Client) (from : Party) (m : Message) → CT.message_test H g me s from m ≡ fine → Passed s from m
   unfolding CT.message_test pick CT.answers CT.order_test
   passed s from m e = go (from_server g from && (CT.answers m.body && CT.owner_right me m.client m.body)) refl e
     where
       go : (b : Bool) → (from_server g from && (CT.answers m.body && CT.owner_right me m.client m.body)) ≡ b
-          → pick b (CT.order_test H g me s (number_in from) m.sequence m.body) (J.Bad R.Sender) ≡ J.Fine → Passed s from m
+          → pick b (CT.order_test H g me s (number_in from) m.sequence m.body) (Err R.Sender) ≡ fine → Passed s from m
       go true p e =
           let w = and_split _ _ p in
           let y = and_split _ _ w.1 in
@@ -184,7 +182,7 @@ module _ (H : List ℕ → List ℕ) (g : Params) (me : ℕ) where
   -- ---- the numbers of writes
 
   -- what an open write has in its first part is learned there
-  pub learns_asking : (s : Client) (a v : List ℕ) (j q : ℕ) {b : Body} {s' : Client} → CT.order_test H g me s j q b ≡ J.Fine → Learns H g me s a v j b s'
+  pub learns_asking : (s : Client) (a v : List ℕ) (j q : ℕ) {b : Body} {s' : Client} → CT.order_test H g me s j q b ≡ fine → Learns H g me s a v j b s'
       → CS.asking s.phase ≡ true
   unfolding CT.order_test
   learns_asking s a v j q o (replies T) = (and_split (CS.asking s.phase) _ (awaited_true H g me _ o)).0
@@ -195,7 +193,7 @@ module _ (H : List ℕ → List ℕ) (g : Params) (me : ℕ) where
   keeps_writes s a v j (drops z) = (refl, refl)
   keeps_writes s a v j (keeps i z) = (refl, refl)
 
-  numbered_shape : (s : Client) (a v : List ℕ) (j q : ℕ) {b : Body} {r : C.Effect} → Numbered s → CT.order_test H g me s j q b ≡ J.Fine
+  numbered_shape : (s : Client) (a v : List ℕ) (j q : ℕ) {b : Body} {r : C.Effect} → Numbered s → CT.order_test H g me s j q b ≡ fine
       → Shape H g me s a v j b r → Numbered r.client
   numbered_shape s a v j q N o (idle b) = N
   numbered_shape s a v j q N o (notes T p) = record { low = N.low; high = N.high }
@@ -229,7 +227,7 @@ module _ (H : List ℕ → List ℕ) (g : Params) (me : ℕ) where
     said q lo hi b f = record { client_low = is.0; client_high = is.1; sequence_low = lo; sequence_high = hi; body = f }
 
     shape_formed : (s : Client) (a v : List ℕ) → Numbered s → (j c q : ℕ) {b : Body} {r : C.Effect} → Formed g (message c q b)
-        → CT.order_test H g me s j q b ≡ J.Fine → CT.value_test g s.phase (length v) ≡ J.Fine → Shape H g me s a v j b r → AllFormed g r.sends
+        → CT.order_test H g me s j q b ≡ fine → CT.value_test g s.phase (length v) ≡ fine → Shape H g me s a v j b r → AllFormed g r.sends
     unfolding CT.order_test
     shape_formed s a v N j c q f o t (idle b) = none_formed
     shape_formed s a v N j c q f o t (notes T p) = none_formed
@@ -259,18 +257,18 @@ module _ (H : List ℕ → List ℕ) (g : Params) (me : ℕ) where
             rw e (shape_formed s a v N (number_in from) m.client m.sequence F' (passed s from m T.passes).order T.value
             (shape_of H g me s a v from m))
 
-    idle_low : (s : Client) (last : ℕ) → CB.idle_test s.phase last ≡ J.Fine → last < last_sequence
+    idle_low : (s : Client) (last : ℕ) → CB.idle_test s.phase last ≡ fine → last < last_sequence
     idle_low s last e =
         let p₁ = fine_not _ _ _ e in
         let p₂ = fine_not _ _ _ p₁.1 in
         leb-false last_sequence last p₂.0
 
-    pub read_idle : (s : Client) (out to : List ℕ) → CB.read_test g me s out to ≡ J.Fine → CB.idle_test s.phase s.reads ≡ J.Fine
+    pub read_idle : (s : Client) (out to : List ℕ) → CB.read_test g me s out to ≡ fine → CB.idle_test s.phase s.reads ≡ fine
     unfolding CB.read_test
     read_idle s out to e =
         (fine_both (CT.send_room g (length out) (length to)) (CB.idle_test s.phase s.reads) (fine_both (params_test g me last_client) _ e).1).1
 
-    pub write_idle : (s : Client) (v out to : List ℕ) → CB.write_test g me s v out to ≡ J.Fine → CB.idle_test s.phase s.writes ≡ J.Fine
+    pub write_idle : (s : Client) (v out to : List ℕ) → CB.write_test g me s v out to ≡ fine → CB.idle_test s.phase s.writes ≡ fine
     unfolding CB.write_test
     write_idle s v out to e =
         let p₁ = (fine_both (params_test g me last_client) _ e).1 in
@@ -283,8 +281,8 @@ module _ (H : List ℕ → List ℕ) (g : Params) (me : ℕ) where
     read_formed s out to = go (CB.read_test g me s out to) refl
       where
         go : (y : Verdict) → CB.read_test g me s out to ≡ y → AllFormed g (CB.begin_by g me y s (CB.open_read g me s)).sends
-        go (J.Bad r) e = none_formed
-        go J.Fine e =
+        go (Err r) e = none_formed
+        go (Ok _) e =
             let h = idle_low s s.reads (read_idle s out to e) in
             formed_all g _ (λ i. said (s.reads + 1) (omega arith) (omega (arith, h)) ask_read tt)
 
@@ -293,8 +291,8 @@ module _ (H : List ℕ → List ℕ) (g : Params) (me : ℕ) where
     write_formed s v out to = go (CB.write_test g me s v out to) refl
       where
         go : (y : Verdict) → CB.write_test g me s v out to ≡ y → AllFormed g (CB.begin_by g me y s (CB.open_write g me s)).sends
-        go (J.Bad r) e = none_formed
-        go J.Fine e =
+        go (Err r) e = none_formed
+        go (Ok _) e =
             let h = idle_low s s.writes (write_idle s v out to e) in
             formed_all g _ (λ i. said (s.writes + 1) (omega arith) (omega (arith, h)) get_stamp tt)
 
@@ -303,15 +301,15 @@ module _ (H : List ℕ → List ℕ) (g : Params) (me : ℕ) where
     numbered_read s out to N = go (CB.read_test g me s out to)
       where
         go : (y : Verdict) → Numbered (CB.begin_by g me y s (CB.open_read g me s)).client
-        go (J.Bad r) = N
-        go J.Fine = record { low = λ p. impossible (cc p); high = N.high }
+        go (Err r) = N
+        go (Ok _) = record { low = λ p. impossible (cc p); high = N.high }
 
     pub numbered_write : (s : Client) (v out to : List ℕ) → Numbered s → Numbered (CB.write_begun g me s v out to).client
     unfolding CB.write_begun CB.open_write CB.begin_by
     numbered_write s v out to N = go (CB.write_test g me s v out to) refl
       where
         go : (y : Verdict) → CB.write_test g me s v out to ≡ y → Numbered (CB.begin_by g me y s (CB.open_write g me s)).client
-        go (J.Bad r) e = N
-        go J.Fine e =
+        go (Err r) e = N
+        go (Ok _) e =
             let h = idle_low s s.writes (write_idle s v out to e) in
             record { low = λ p. omega arith; high = omega (arith, h) }

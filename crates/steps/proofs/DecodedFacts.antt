@@ -1,4 +1,5 @@
 -- What a server completes or accepts in a step has the digests of a value that it decodes there, or was complete before. Assumes nothing.
+use Rattle.frame.specs.Refusals.{fine}
 use Prim.Native.Nat.{ℕ}
 use native.Mathlib.Decide.{ℕ_discrete}
 use mathlib.Core.Bool.{true}
@@ -12,7 +13,6 @@ use Rattle.quorum.specs.Quorum.{Among}
 use Rattle.quorum.proofs.Logic.{impossible}
 use Rattle.blocks.specs.declared.Params.{Params}
 use Rattle.frame.specs.declared.Party.{Party}
-use Rattle.frame.specs.declared.Verdict.TheVariants as J
 use Rattle.frame.specs.Messages.{Offer, Body, Message, number_in}
 use Rattle.frame.specs.Params.{Bounded}
 use Rattle.server_rules.specs.declared.Server.{Server}
@@ -56,13 +56,13 @@ module _ (H : List ℕ → List ℕ) (g : Params) (L : Bounded g) (me : ℕ) (s 
           (sym (ap (λ v. v.done) T.here) ∙ subst (λ d. (part_of g s c p d).done ≡ some y) z u))
 
   -- each frame that passes the tests
-  pub decoded_facts : (from : Party) (m : Message) → Among 8 m.client → SizedIn g m.body → ST.message_test H g me s from m ≡ J.Fine
+  pub decoded_facts : (from : Party) (m : Message) → Among 8 m.client → SizedIn g m.body → ST.message_test H g me s from m ≡ fine
       → DecodedFacts H g s a (S.effect H g me s a initial from m)
   decoded_facts from m is Q e = let (h, o) = test_split H g me s from m e in go (shape_of H g me s a initial from m) Q h o
     where
       go : {b : Body} {r : S.Effect} → Shape H g me s a initial (number_in from) m.client m.sequence b r → SizedIn g b
           → ST.sender_right g from m.client b ≡ true
-          → ST.order_test H g me s (number_in from) m.client m.sequence b ≡ J.Fine → DecodedFacts H g s a r
+          → ST.order_test H g me s (number_in from) m.client m.sequence b ≡ fine → DecodedFacts H g s a r
       go (idle b) Q h o = idle_decoded _ refl refl refl
       go answers Q h o = idle_decoded _ refl refl refl
       go notes Q h o = idle_decoded _ refl refl refl

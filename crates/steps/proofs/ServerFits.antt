@@ -1,4 +1,6 @@
 -- The shape of a server: arrays of their lengths, a large enough area. Every delivery keeps it. Assumes nothing.
+use Rattle.std.specs.Prelude.{Ok, Err}
+use Rattle.frame.specs.Refusals.{Verdict}
 use Prim.Native.Nat.{ℕ, ◌≤◌}
 use native.Mathlib.Omega.{arith}
 use mathlib.Core.Path.{◌≡◌, refl}
@@ -7,8 +9,6 @@ use lib.ListN.{length}
 use lib.Seq.{length-sets}
 use Rattle.blocks.specs.declared.Params.{Params}
 use Rattle.frame.specs.declared.Party.{Party}
-use Rattle.frame.specs.declared.Verdict.{Verdict}
-use Rattle.frame.specs.declared.Verdict.TheVariants as J
 use Rattle.frame.specs.Chunks.{area_bytes}
 use Rattle.frame.specs.Messages.{Body, Message, number_in, Judged, bad, good}
 use Rattle.server_rules.specs.declared.Server.{Server}
@@ -85,5 +85,5 @@ module _ (H : List ℕ → List ℕ) (g : Params) (few : g.n ≤ 10) (me : ℕ) 
   shape_fresh v a initial R = go (SD.construct_test H g me v (length a) (length initial))
     where
       go : (b : Verdict) → ServerShape (SD.construct_by H g me b v a initial).server (SD.construct_by H g me b v a initial).area
-      go (J.Bad r) = record { within = server_within shapes empty tt tt tt; room = R }
-      go J.Fine = record { within = server_within shapes empty tt tt tt; room = rw length-sets R }
+      go (Err r) = record { within = server_within shapes empty tt tt tt; room = R }
+      go (Ok _) = record { within = server_within shapes empty tt tt tt; room = rw length-sets R }

@@ -1,4 +1,5 @@
 -- A server whose stamps are within their bounds sends messages that can be said in a frame, and stays so. Assumes nothing.
+use Rattle.frame.specs.Refusals.{fine}
 use Prim.Native.Nat.{ℕ, ◌+◌, ◌≤◌, ◌<◌}
 use native.Mathlib.Omega.{arith}
 use mathlib.Core.Bool.{Bool, true, false}
@@ -16,7 +17,6 @@ use Rattle.area.specs.Area.{pick}
 use Rattle.blocks.specs.declared.Params.{Params}
 use Rattle.frame.specs.declared.Stamp.{Stamp}
 use Rattle.frame.specs.declared.Party.{Party}
-use Rattle.frame.specs.declared.Verdict.TheVariants as J
 use Rattle.frame.specs.Chunks.{list_bytes, area_bytes}
 use Rattle.frame.specs.Messages.{Entry, Body, get_stamp, ask_read, stamp_is, value_is, Message, message, Sending, to_all, number_in, Sized, Formed, FormedBody}
 use Rattle.frame.specs.Params.{width, listed, Bounded}
@@ -209,7 +209,7 @@ module _ (H : List ℕ → List ℕ) (g : Params) (L : Bounded g) (me : ℕ) (s 
   step_writes (hears T x) is h w u = freed_in_bounds x (report_shape s a F j T) (report_in_bounds T) w u
 
   step_formed : width g ≤ length initial → {c q : ℕ} {b : Body} {r : S.Effect} → Shape H g me s a initial j c q b r → Formed g (message c q b)
-      → ST.sender_right g from c b ≡ true → ST.order_test H g me s j c q b ≡ J.Fine → AllFormed g r.sends
+      → ST.sender_right g from c b ≡ true → ST.order_test H g me s j c q b ≡ fine → AllFormed g r.sends
   step_formed I (idle b) f h o y u = absurd (Memᴰ.not-nil u)
   step_formed I {c} {q} answers f h o y u = one_formed g _ (with_body g c q get_stamp (stamp_is s.stamp.time) f B.stamp.time_high) y u
   step_formed I {c} {q} notes f h o y u = one_formed g _
@@ -225,7 +225,7 @@ module _ (H : List ℕ → List ℕ) (g : Params) (L : Bounded g) (me : ℕ) (s 
   step_formed I (hears T x) f h o y u = freed_formed x (report_shape s a F j T) (report_in_bounds T) y u
 
   -- each frame that passes the tests
-  module _ (m : Message) (f : Formed g m) (e : ST.message_test H g me s from m ≡ J.Fine) where
+  module _ (m : Message) (f : Formed g m) (e : ST.message_test H g me s from m ≡ fine) where
     pub effect_in_bounds : InBounds (S.effect H g me s a initial from m).server
     effect_in_bounds =
         step_within ranges H g me s a initial j m.client m.sequence B f.client_high (shape_of H g me s a initial from m) (record {

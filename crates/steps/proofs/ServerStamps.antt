@@ -1,5 +1,6 @@
 -- What one delivered frame does to a server's present stamp and to its listeners, and what it answers clients: the record StampFacts, which is all that runs
 -- need of a step here. Assumes nothing.
+use Rattle.frame.specs.Refusals.{fine}
 use Prim.Native.Nat.{ℕ, ◌≤◌, ◌<◌}
 use native.Mathlib.Omega.{arith}
 use native.Mathlib.Decide.{ℕ_discrete}
@@ -17,7 +18,6 @@ use Rattle.blocks.specs.declared.Params.{Params}
 use Rattle.frame.specs.declared.Stamp.{Stamp}
 use Rattle.frame.specs.declared.Party.{Party}
 use Rattle.frame.specs.declared.Party.TheVariants as A
-use Rattle.frame.specs.declared.Verdict.TheVariants as J
 use Rattle.frame.specs.Chunks.{entry_at, area_bytes}
 use Rattle.frame.specs.Messages.{Entry, Body, get_stamp, ack, ask_read, stamp_is, value_is, report, Message, message, Sending, sending, number_in, Formed}
 use Rattle.frame.specs.Params.{listed, Bounded}
@@ -171,7 +171,7 @@ module _ (H : List ℕ → List ℕ) (g : Params) where
 
     step_facts : {b : Body} {r : S.Effect} → Shape H g me s a initial (number_in from) c q b r → Formed g (message c q b) → SizedIn g b
         → ST.sender_right g from c b ≡ true
-        → ST.order_test H g me s (number_in from) c q b ≡ J.Fine → InBounds r.server → StampFacts s a initial from (message c q b) r
+        → ST.order_test H g me s (number_in from) c q b ≡ fine → InBounds r.server → StampFacts s a initial from (message c q b) r
     unfolding ST.sender_right
     step_facts (idle b) f Q h o B' = record {
       up = omega arith;
@@ -228,7 +228,7 @@ module _ (H : List ℕ → List ℕ) (g : Params) where
   -- each frame that passes the tests
   pub order_facts : Bounded g → (me : ℕ) (s : Server) → InBounds s → (a initial : List ℕ) → ServerShape s a → (from : Party) (m : Message) → Formed g m
       → SizedIn g m.body
-      → ST.message_test H g me s from m ≡ J.Fine → StampFacts s a initial from m (S.effect H g me s a initial from m)
+      → ST.message_test H g me s from m ≡ fine → StampFacts s a initial from m (S.effect H g me s a initial from m)
   order_facts L me s B a initial F from m f Q e =
       let (h, o) = test_split H g me s from m e in
       step_facts L me s B a initial F from m.client m.sequence (shape_of H g me s a initial from m) f Q h o

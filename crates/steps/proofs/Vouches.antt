@@ -1,5 +1,6 @@
 -- What one delivered frame does to a server's reports and to its time (request F-9): which reports it keeps and sends, and on what ground it accepts writes.
 -- Assumes nothing.
+use Rattle.frame.specs.Refusals.{fine}
 use Prim.Native.Nat.{ℕ, ◌+◌, ◌≤◌, ◌<◌}
 use native.Mathlib.Omega.{arith}
 use native.Mathlib.Decide.{ℕ_discrete}
@@ -16,7 +17,6 @@ use Rattle.quorum.proofs.Quorums.{AtLeast, at_least_map}
 use Rattle.blocks.specs.declared.Params.{Params}
 use Rattle.frame.specs.declared.Party.{Party}
 use Rattle.frame.specs.declared.Party.TheVariants as A
-use Rattle.frame.specs.declared.Verdict.TheVariants as J
 use Rattle.frame.specs.Messages.{Body, stamp_is, value_is, report, Message, message, Sending, sending, number_in}
 use Rattle.group_rules.proofs.Vouching.{backed_servers}
 use Rattle.server_rules.specs.declared.Server.{Server}
@@ -112,7 +112,7 @@ module _ (H : List ℕ → List ℕ) (g : Params) (few : g.n ≤ 10) (me : ℕ) 
   }
 
   step_vouches : {c q : ℕ} {b : Body} {r : S.Effect} → Shape H g me s a initial (number_in from) c q b r → ST.sender_right g from c b ≡ true
-      → ST.order_test H g me s (number_in from) c q b ≡ J.Fine → VouchFacts g s from (message c q b) r
+      → ST.order_test H g me s (number_in from) c q b ≡ fine → VouchFacts g s from (message c q b) r
   step_vouches (idle b) h o = rests _ refl refl (λ b c q T u. Memᴰ.not-nil u) (λ b c q T u. absurd (Memᴰ.not-nil u))
   step_vouches answers h o = rests _ refl refl (λ b c q T u. impossible (cc (alone u))) (λ b c q T u. cc (alone u))
   step_vouches notes h o = rests _ refl refl (λ b c q T u. impossible (cc (alone u))) (λ b c q T u. impossible (cc (alone u)))
@@ -178,7 +178,7 @@ module _ (H : List ℕ → List ℕ) (g : Params) (few : g.n ≤ 10) (me : ℕ) 
   step_grounds (hears T f) Q low own told next = freed_grounds f Q low own told next
 
   -- each frame that passes the tests
-  pub vouch_facts : (m : Message) → ST.message_test H g me s from m ≡ J.Fine → VouchFacts g s from m (S.effect H g me s a initial from m)
+  pub vouch_facts : (m : Message) → ST.message_test H g me s from m ≡ fine → VouchFacts g s from m (S.effect H g me s a initial from m)
   vouch_facts m e = let (h, o) = test_split H g me s from m e in step_vouches (shape_of H g me s a initial from m) h o
 
   pub vouch_grounds : (m : Message) → Grounds g s (S.effect H g me s a initial from m)

@@ -1,5 +1,6 @@
 -- What a frame that a server takes does, as runs need it: what it leaves of each client's part, what then has gone out, and what comes with an acceptance.
 -- Assumes nothing.
+use Rattle.frame.specs.Refusals.{fine}
 use Prim.Native.Nat.{ℕ, ◌+◌, ◌<◌}
 use native.Mathlib.Omega.{arith}
 use mathlib.Core.Bool.{Bool, true, false}
@@ -13,7 +14,6 @@ use Rattle.quorum.proofs.Logic.{impossible}
 use Rattle.blocks.specs.declared.Params.{Params}
 use Rattle.frame.specs.declared.Party.{Party}
 use Rattle.frame.specs.declared.Party.TheVariants as P
-use Rattle.frame.specs.declared.Verdict.TheVariants as J
 use Rattle.frame.proofs.Sizes.{small}
 use Rattle.frame.specs.Stamps.{last_time}
 use Rattle.frame.specs.Params.{Bounded}
@@ -55,7 +55,7 @@ counted_got g a c x j echo o e = flagged _ _ e
 counted_got g a c x j ready o e = flagged _ _ e
 
 module _ (H : List ℕ → List ℕ) (g : Params) (L : Bounded g) (me : ℕ) (s : Server) (a initial : List ℕ) (F : ServerShape s a) (from : Party) (m : Message)
-    (is : Among 8 m.client) (Q : SizedIn g m.body) (pass : ST.message_test H g me s from m ≡ J.Fine) where
+    (is : Among 8 m.client) (Q : SizedIn g m.body) (pass : ST.message_test H g me s from m ≡ fine) where
   abbrev R : Rules Offer
   R = block_rules H g
 

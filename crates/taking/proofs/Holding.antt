@@ -1,5 +1,6 @@
 -- What a server holds after a frame that it takes: its present stamp and entry stay, or are those of a write that it accepts; and what it counts fits. Assumes
 -- nothing.
+use Rattle.frame.specs.Refusals.{fine}
 use Prim.Native.Nat.{ℕ, ◌≤◌}
 use native.Mathlib.Omega.{arith}
 use mathlib.Core.Bool.{Bool, true, false}
@@ -12,7 +13,6 @@ use Rattle.blocks.specs.declared.Params.{Params}
 use Rattle.group_rules.specs.Coded.{fits, fit_test}
 use Rattle.frame.specs.declared.Party.{Party}
 use Rattle.frame.specs.declared.Refusal.TheVariants as X
-use Rattle.frame.specs.declared.Verdict.TheVariants as J
 use Rattle.frame.specs.Chunks.{entry_at, store_if, present_at, area_bytes}
 use Rattle.frame.specs.Stamps.{older}
 use Rattle.frame.proofs.Chunks.{entry_same}
@@ -35,14 +35,14 @@ use Rattle.steps.proofs.ServerFits.{ServerShape}
 
 module _ (H : List ℕ → List ℕ) (g : Params) (me : ℕ) (s : Server) (from : Party) where
   -- a frame of a write that is taken has a block that fits at its place
-  pub taken_fits : (m : Message) → ST.message_test H g me s from m ≡ J.Fine → (c q : ℕ) (z : Stage) (o : Offer) → m ≡ message c q (block_is z o)
+  pub taken_fits : (m : Message) → ST.message_test H g me s from m ≡ fine → (c q : ℕ) (z : Stage) (o : Offer) → m ≡ message c q (block_is z o)
       → fits H o.entry (ST.place_in me z (number_in from)) ≡ true
   unfolding ST.order_test fit_test
   taken_fits m e c q z o x =
       let t = (test_split H g me s from m e).1 in
-      let t' : ST.order_test H g me s (number_in from) c q (block_is z o) ≡ J.Fine =
-      subst (λ m. ST.order_test H g me s (number_in from) m.client m.sequence m.body ≡ J.Fine) x t in
-      (fine_is (fits H o.entry (ST.place_in me z (number_in from))) X.Digest J.Fine
+      let t' : ST.order_test H g me s (number_in from) c q (block_is z o) ≡ fine =
+      subst (λ m. ST.order_test H g me s (number_in from) m.client m.sequence m.body ≡ fine) x t in
+      (fine_is (fits H o.entry (ST.place_in me z (number_in from))) X.Digest fine
       (fine_both (ST.open_test (slot_of s c) q (ST.counted (slot_of s c) (number_in from) (block_is z o)))
       (fit_test H o.entry (ST.place_in me z (number_in from))) t').1).0
 
@@ -53,7 +53,7 @@ module _ (H : List ℕ → List ℕ) (g : Params) (me : ℕ) (s : Server) (from 
         ⊎ ((w : S.Write) × Memᴰ w r.accepted × (r.server.stamp ≡ S.stamp_of w) × (entry_at g r.area present_at ≡ w.entry)
         × (older s.stamp (S.stamp_of w) ≡ true))
 
-    pub presents : (m : Message) → Among 8 m.client → SizedIn g m.body → ST.message_test H g me s from m ≡ J.Fine
+    pub presents : (m : Message) → Among 8 m.client → SizedIn g m.body → ST.message_test H g me s from m ≡ fine
         → Presents (S.effect H g me s a initial from m)
     presents m is Q e = let (h, t) = test_split H g me s from m e in go (shape_of H g me s a initial from m) Q h
       where

@@ -1,5 +1,6 @@
 -- What a server does to its readers and tells them: a read is noted and answered with the present value, only its client ends it, and who listens is told of
 -- every larger stamp. Assumes nothing.
+use Rattle.frame.specs.Refusals.{fine}
 use Prim.Native.Nat.{ℕ, zero, suc, ◌+◌, ◌≤◌, ◌<◌}
 use native.Mathlib.Omega.{arith}
 use native.Mathlib.Decide.{ℕ_discrete}
@@ -17,7 +18,6 @@ use Rattle.area.specs.Area.{pick}
 use Rattle.blocks.specs.declared.Params.{Params}
 use Rattle.frame.specs.declared.Party.{Party}
 use Rattle.frame.specs.declared.Party.TheVariants as P
-use Rattle.frame.specs.declared.Verdict.TheVariants as J
 use Rattle.frame.specs.Stamps.{older}
 use Rattle.frame.specs.Messages.{Offer, Stage, send, echo, ready, Body, get_stamp, ack, ask_read, read_complete, stamp_is}
 use Rattle.frame.specs.Messages.{block_is, value_is, report, Message, message, Sending, sending, to_from, to_all, number_in}
@@ -100,11 +100,11 @@ pub data Note (s : Server) (from : Party) (m : Message) (r : S.Effect) (d : ℕ)
       → reader_of r.server d ≡ record { sequence = q; listening = false; noted = (reader_of s d).noted } → Note s from m r d
 
 module _ (H : List ℕ → List ℕ) (g : Params) (me : ℕ) (s : Server) (W : Within shapes s) (a initial : List ℕ) (from : Party) (c q : ℕ) (is : Among 8 c) where
-  read_passed : (x : Reader) → ST.read_test x q ≡ J.Fine → x.sequence < q
+  read_passed : (x : Reader) → ST.read_test x q ≡ fine → x.sequence < q
   unfolding ST.read_test
   read_passed x e = leb-false q x.sequence (fine_not _ _ _ e).0
 
-  done_passed : (x : Reader) → ST.done_test x q ≡ J.Fine → x.sequence ≤ q
+  done_passed : (x : Reader) → ST.done_test x q ≡ fine → x.sequence ≤ q
   unfolding ST.done_test
   done_passed x e = ltb-false q x.sequence (fine_not _ _ _ e).0
 
@@ -118,7 +118,7 @@ module _ (H : List ℕ → List ℕ) (g : Params) (me : ℕ) (s : Server) (W : W
   there : (x : Reader) (d : ℕ) → (d ≡ c → ⊥) → reader_of (with_reader s c x) d ≡ reader_of s d
   there x d ne = get_or-set_other s.readers c d x no_reader ne
 
-  on_read_lem : ST.from_owner from c ≡ true → ST.read_test (reader_of s c) q ≡ J.Fine → (d : ℕ) → Note s from (message c q ask_read) (S.on_read H g me s a initial c q) d
+  on_read_lem : ST.from_owner from c ≡ true → ST.read_test (reader_of s c) q ≡ fine → (d : ℕ) → Note s from (message c q ask_read) (S.on_read H g me s a initial c q) d
   unfolding S.on_read
   on_read_lem h t d = go (ℕ_discrete d c)
     where
@@ -127,7 +127,7 @@ module _ (H : List ℕ → List ℕ) (g : Params) (me : ℕ) (s : Server) (W : W
           (noted q refl (is_owner from c h) (read_passed (reader_of s c) t) (here _))
       go (no ne) = same (there _ d ne) (λ q y. ne (sym (ap (λ m. m.client) y)))
 
-  on_complete : ST.from_owner from c ≡ true → ST.done_test (reader_of s c) q ≡ J.Fine → (d : ℕ)
+  on_complete : ST.from_owner from c ≡ true → ST.done_test (reader_of s c) q ≡ fine → (d : ℕ)
       → Note s from (message c q read_complete) (S.on_read_complete H g me s a c q) d
   unfolding S.on_read_complete
   on_complete h t d = go (ℕ_discrete d c)
@@ -137,7 +137,7 @@ module _ (H : List ℕ → List ℕ) (g : Params) (me : ℕ) (s : Server) (W : W
           (ended q refl (is_owner from c h) (done_passed (reader_of s c) t) (here _))
       go (no ne) = same (there _ d ne) (λ q y. impossible (cc (ap (λ m. m.body) y)))
 
-  note_of : (b : Body) → ST.sender_right g from c b ≡ true → ST.order_test H g me s (number_in from) c q b ≡ J.Fine → (d : ℕ)
+  note_of : (b : Body) → ST.sender_right g from c b ≡ true → ST.order_test H g me s (number_in from) c q b ≡ fine → (d : ℕ)
       → Note s from (message c q b) (S.on_body H g me s a initial (number_in from) c q b) d
   unfolding S.on_body S.settle ST.sender_right ST.order_test
   note_of get_stamp h t d = quiet _ _ refl (λ e. impossible (cc e)) d
@@ -150,7 +150,7 @@ module _ (H : List ℕ → List ℕ) (g : Params) (me : ℕ) (s : Server) (W : W
   note_of (report T) h t d = quiet _ _ (freed_readers (free g 8 (with_report s (number_in from) T) a)) (λ e. impossible (cc e)) d
 
 pub note : (H : List ℕ → List ℕ) (g : Params) (me : ℕ) (s : Server) → Within shapes s → (a initial : List ℕ) (from : Party) (m : Message) → Among 8 m.client
-    → ST.message_test H g me s from m ≡ J.Fine → (d : ℕ) → Note s from m (S.effect H g me s a initial from m) d
+    → ST.message_test H g me s from m ≡ fine → (d : ℕ) → Note s from m (S.effect H g me s a initial from m) d
 unfolding S.effect
 note H g me s W a initial from m is e d =
     let (h, t) = test_split H g me s from m e in

@@ -1,5 +1,6 @@
 -- A server leaves no write waiting that it may accept (request F-9): after each step of which something may be accepted none is ripe, and the others leave what
 -- ripeness goes by. Assumes nothing.
+use Rattle.frame.specs.Refusals.{fine}
 use Prim.Native.Nat.{ℕ, ◌≤◌, ◌<◌}
 use native.Mathlib.Decide.{ℕ_discrete}
 use mathlib.Core.Bool.{Bool, true, false, ◌&&◌, ◌||◌}
@@ -14,7 +15,6 @@ use Rattle.quorum.proofs.Logic.{impossible, and_true}
 use Rattle.area.specs.Area.{pick}
 use Rattle.blocks.specs.declared.Params.{Params}
 use Rattle.frame.specs.declared.Party.{Party}
-use Rattle.frame.specs.declared.Verdict.TheVariants as J
 use Rattle.frame.specs.Stamps.{last_time, last_sequence}
 use Rattle.frame.specs.Params.{Bounded}
 use Rattle.frame.specs.Messages.{Offer, Stage, send, echo, ready, Body, get_stamp, ack, ask_read, read_complete}
@@ -113,7 +113,7 @@ module _ (H : List ℕ → List ℕ) (g : Params) (L : Bounded g) (me : ℕ) (s 
   ripeless_of c q (report T) is h N = free_calm g (with_report s (number_in from) T) a (report_shape s a F (number_in from) T).within
 
   -- each frame that passes the tests
-  pub ripeless : (m : Message) → Among 8 m.client → ST.message_test H g me s from m ≡ J.Fine → Ripeless g s a
+  pub ripeless : (m : Message) → Among 8 m.client → ST.message_test H g me s from m ≡ fine → Ripeless g s a
       → Ripeless g (S.effect H g me s a initial from m).server (S.effect H g me s a initial from m).area
   unfolding S.effect
   ripeless m is e N = ripeless_of m.client m.sequence m.body is (test_split H g me s from m e).0 N

@@ -1,5 +1,6 @@
 -- What a frame that a server takes does to each client's part of the broadcast: it stays, a frame of its open write is counted, or that write is accepted.
 -- Assumes nothing.
+use Rattle.frame.specs.Refusals.{fine}
 use Prim.Native.Nat.{ℕ, ◌+◌, ◌<◌}
 use native.Mathlib.Omega.{arith}
 use native.Mathlib.Decide.{ℕ_discrete}
@@ -15,7 +16,6 @@ use Rattle.quorum.specs.Quorum.{Among}
 use Rattle.quorum.proofs.Logic.{impossible}
 use Rattle.blocks.specs.declared.Params.{Params}
 use Rattle.frame.specs.declared.Party.{Party}
-use Rattle.frame.specs.declared.Verdict.TheVariants as J
 use Rattle.frame.specs.Stamps.{last_time}
 use Rattle.frame.specs.Messages.{Offer, Stage, send, echo, ready, Body, get_stamp, ack, ask_read, read_complete}
 use Rattle.frame.specs.Messages.{stamp_is, block_is, value_is, report, Message, message, Sending, number_in, Sized}
@@ -133,7 +133,7 @@ module _ (H : List ℕ → List ℕ) (g : Params) (me : ℕ) (s : Server) (a : L
     -- ---- a frame of client c's write
 
     module _ (z : Stage) (o : Offer) (Q : Sized g o.entry) (right : ST.sender_right g from c (block_is z o) ≡ true)
-        (t : ST.order_test H g me s j c q (block_is z o) ≡ J.Fine) where
+        (t : ST.order_test H g me s j c q (block_is z o) ≡ fine) where
       abbrev p : S.Counting
       p = S.on_block H g me a c (slot_of s c) j z o
 
@@ -210,7 +210,7 @@ module _ (H : List ℕ → List ℕ) (g : Params) (me : ℕ) (s : Server) (a : L
     idle m r e f n x d = stays (ap (λ l. (get_or l d no_slot).sequence) e) (λ i. block_view g (f i) d (get_or (e i) d no_slot))
         (λ w u ew. Memᴰ.not-nil (subst (Memᴰ w) n u)) (λ q z o y. x z o (ap (λ m. m.body) y))
 
-    pub turn_of : (b : Body) → SizedIn g b → ST.sender_right g from c b ≡ true → ST.order_test H g me s j c q b ≡ J.Fine → (d : ℕ) → Among 8 d
+    pub turn_of : (b : Body) → SizedIn g b → ST.sender_right g from c b ≡ true → ST.order_test H g me s j c q b ≡ fine → (d : ℕ) → Among 8 d
         → Turn (message c q b) (S.on_body H g me s a initial j c q b) d
     unfolding S.on_body S.on_read S.on_read_complete S.settle
     turn_of get_stamp Q h t d i = idle _ _ refl refl refl (λ z o e. impossible (cc e)) d
@@ -223,7 +223,7 @@ module _ (H : List ℕ → List ℕ) (g : Params) (me : ℕ) (s : Server) (a : L
     turn_of (report T) Q h t d i = turn_report T (free g 8 (with_report s j T) a) d i
 
   pub turn : Bounded g → (initial : List ℕ) → ServerShape s a → (m : Message) → Among 8 m.client → SizedIn g m.body
-      → ST.message_test H g me s from m ≡ J.Fine → (d : ℕ) → Among 8 d → Turn m (S.effect H g me s a initial from m) d
+      → ST.message_test H g me s from m ≡ fine → (d : ℕ) → Among 8 d → Turn m (S.effect H g me s a initial from m) d
   unfolding S.effect
   turn L initial F m is Q e d i =
       let (h, t) = test_split H g me s from m e in

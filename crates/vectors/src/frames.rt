@@ -5,15 +5,15 @@ use blocks::Params;
 use case_text::report::result;
 use case_text::text::{bytes, number, put_bytes, word_at};
 use frame::refusals::number_of;
-use frame::{Header, Opened};
+use frame::{Header, Refusal};
 use std::io;
 use std::io::Write;
 
 // Document 01's number of the refusal, or 0 for a frame that opens.
-fn opened_number(o: Opened) -> u8 {
+fn opened_number(o: Result<Header, Refusal>) -> u8 {
     match o {
-        Opened::Refused(r) => number_of(r),
-        Opened::Frame(_) => 0,
+        Err(r) => number_of(r),
+        Ok(_) => 0,
     }
 }
 
@@ -29,11 +29,11 @@ fn header_bytes(h: Header) -> [u8; 7] {
     ]
 }
 
-fn shown<W: Write>(out: &mut W, line: &[u8], expected: usize, o: Opened) -> io::Result<()>
+fn shown<W: Write>(out: &mut W, line: &[u8], expected: usize, o: Result<Header, Refusal>) -> io::Result<()>
     requires { expected ≤ length line.now }
 {
     let mut text = [0u8; 8192];
-    let Opened::Frame(h) = o else {
+    let Ok(h) = o else {
         let answer = opened_number(o);
         let end = put_bytes(&mut text, 0, &[answer]);
         return result(out, b"open ", line, expected, &text[..end]);

@@ -1,4 +1,5 @@
 -- The run of Colliding.antt, computed: it is admissible, the blocks of a read disagree, and the pair of blocks is there. Assumes nothing.
+use Rattle.std.specs.Prelude.{Ok}
 use Prim.Native.Nat.{ℕ}
 use native.Mathlib.Omega.{arith}
 use mathlib.Core.Bool.{true, false}
@@ -7,7 +8,6 @@ use mathlib.Core.Logic.{inl}
 use mathlib.Core.Option.{none, some}
 use lib.ListN.{get_or, length-replicate}
 use Rattle.frame.specs.declared.Party.TheVariants as P
-use Rattle.frame.specs.declared.Opened.TheVariants as O
 use Rattle.frame.specs.Params.{Bounded}
 use Rattle.frame.specs.Messages.{Carries}
 use Rattle.client_rules.specs.Steps.{stopped}
@@ -75,7 +75,7 @@ record Computed : Type 0 where
   pub right : end_in Z (image Z second) (Toy.hand_client g 3 (P.Server 4) (answer 3 4)) ≡ stopped (found (some initial))
   pub numbers : (((image Z first).clients 2).client.reads ≡ 1) × (((image Z second).clients 3).client.reads ≡ 1)
   -- server 1's frame opens and carries its block; the initial value's blocks are the value
-  pub opens : FrFrames.opened g (FrFrames.build lie) ≡ O.Frame (FrFrames.header_for lie)
+  pub opens : FrFrames.opened g (FrFrames.build lie) ≡ Ok (FrFrames.header_for lie)
   pub carries : Carries (FrFrames.message_in g (FrFrames.header_for lie) (FrFrames.build lie)).body other
   pub initial_block : initial ≡ FrCoded.block_at blind g initial 2
   pub one_digest : blind other ≡ blind initial

@@ -1,5 +1,6 @@
 -- What the pass over a list of calls (Images.antt) computes is so in the run: who is sent what, what is accepted and ended, and whether the list is admissible.
 -- Assumes nothing.
+use Rattle.std.specs.Prelude.{Ok, Err}
 use Prim.Native.Nat.{ℕ, zero, suc, ◌+◌}
 use mathlib.Core.Bool.{Bool, true, false, not, cond, ◌&&◌}
 use mathlib.Core.Path.{◌≡◌, refl, ap, sym, ◌∙◌, subst}
@@ -15,12 +16,9 @@ use Rattle.area.specs.Area.{Bytes, pick, same}
 use Rattle.area.specs.Responses.{turned_down}
 use Rattle.area.proofs.Same.{same_true}
 use Rattle.frame.specs.declared.Party.{Party}
-use Rattle.frame.specs.declared.Verdict.{Verdict}
 use Rattle.frame.specs.declared.Header.{Header}
-use Rattle.frame.specs.Refusals.{number_of, answered_by}
+use Rattle.frame.specs.Refusals.{number_of, answered_by, Verdict, fine}
 use Rattle.frame.specs.declared.Party.TheVariants as P
-use Rattle.frame.specs.declared.Verdict.TheVariants as J
-use Rattle.frame.specs.declared.Opened.TheVariants as O
 use Rattle.frame.specs.Params.{width, Bounded}
 use Rattle.frame.specs.Messages.{Sending, number_in, Judged, bad, good}
 use Rattle.frame.specs.Frames.{build, opened}
@@ -110,8 +108,8 @@ module _ (Z : Setup) (G : Exact Z) where
   initial_is i = go (SD.construct_test H g i initial_value (length (state_areas i)) (length (initial_areas i)))
     where
       go : (b : Verdict) → length (SD.construct_by H g i b initial_value (state_areas i) (initial_areas i)).initial ≡ width g
-      go (J.Bad r) = G.initial_long i
-      go J.Fine = rw length-sets (G.initial_long i)
+      go (Err r) = G.initial_long i
+      go (Ok _) = rw length-sets (G.initial_long i)
 
   fresh_like : (i : ℕ) → ServerLike ((start Z).servers i) ((image Z []).servers i)
   unfolding start image SD.construction SD.construct_by
@@ -123,8 +121,8 @@ module _ (Z : Setup) (G : Exact Z) where
             area = (SD.construct_by H g i b initial_value (state_areas i) (initial_areas i)).area;
           })
           (record { server = fresh_server; entries = entry_at g (SD.construct_by H g i b initial_value (state_areas i) (initial_areas i)).area })
-      go (J.Bad r) = record { server = refl; area = record { long = G.state_long i; at = λ p. refl } }
-      go J.Fine = record { server = refl; area = record { long = rw length-sets (G.state_long i); at = λ p. refl } }
+      go (Err r) = record { server = refl; area = record { long = G.state_long i; at = λ p. refl } }
+      go (Ok _) = record { server = refl; area = record { long = rw length-sets (G.state_long i); at = λ p. refl } }
 
   -- a delivery in the run, and in the pass
   server_at_lem : (w : World) (v : Image) → Depicts w v → (i : ℕ) (from : Party) (f out to : List ℕ)
@@ -237,7 +235,7 @@ module _ (Z : Setup) (G : Exact Z) where
   is_honest (P.Server j) h = and_true _ _ (and_true _ _ (le-leb 1 j h.0.0) (le-leb j g.n h.0.1)) (ap not h.1)
   is_honest (P.Client c) h = and_true _ _ (and_true _ _ (le-leb 1 c h.0.0) (le-leb c 8 h.0.1)) (ap not h.1)
 
-  frame_is : (f : List ℕ) (h : Header) → opened g f ≡ O.Frame h → is_frame (opened g f) ≡ true
+  frame_is : (f : List ℕ) (h : Header) → opened g f ≡ Ok h → is_frame (opened g f) ≡ true
   unfolding is_frame
   frame_is f h o = ap is_frame o
 
@@ -320,13 +318,13 @@ module _ (Z : Setup) (G : Exact Z) where
   ends_by ks (begin_write d v out to) c q h r e = impossible (cc)
 
   pub opens_read_by : (ks : List Call) (c q : ℕ) (out to : List ℕ) → ((image Z ks).clients c).client.reads + 1 ≡ q
-      → CB.read_test g c ((image Z ks).clients c).client out to ≡ J.Fine → OpensRead Z c q ks (begin_read c out to)
+      → CB.read_test g c ((image Z ks).clients c).client out to ≡ fine → OpensRead Z c q ks (begin_read c out to)
   opens_read_by ks c q out to r e =
       let h = ((depicts ks).clients c).client in
       (refl, ap (λ s. s.reads + 1) h ∙ r, ap (λ s. CB.read_test g c s out to) h ∙ e)
 
   pub opens_write_by : (ks : List Call) (c q : ℕ) (v out to : List ℕ) → ((image Z ks).clients c).client.writes + 1 ≡ q
-      → CB.write_test g c ((image Z ks).clients c).client v out to ≡ J.Fine → OpensWrite Z c q v ks (begin_write c v out to)
+      → CB.write_test g c ((image Z ks).clients c).client v out to ≡ fine → OpensWrite Z c q v ks (begin_write c v out to)
   opens_write_by ks c q v out to r e =
       let h = ((depicts ks).clients c).client in
       (refl, ap (λ s. s.writes + 1) h ∙ r, refl, ap (λ s. CB.write_test g c s v out to) h ∙ e)
@@ -345,8 +343,8 @@ module _ (Z : Setup) (G : Exact Z) where
 
   verdict_bad_lem : {A : Type 0} (b : Verdict) (x : A) (n : ℕ) → verdict_bad b ≡ some n → answered_by b x ≡ turned_down n
   unfolding verdict_bad
-  verdict_bad_lem (J.Bad r) x n e = let h : number_of r ≡ n = cc e in ap turned_down h
-  verdict_bad_lem J.Fine x n e = impossible (cc e)
+  verdict_bad_lem (Err r) x n e = let h : number_of r ≡ n = cc e in ap turned_down h
+  verdict_bad_lem (Ok _) x n e = impossible (cc e)
 
   -- what a frame is judged in the run, and in the pass
   pub server_judged : (ks : List Call) (i : ℕ) (from : Party) (f out to : List ℕ)

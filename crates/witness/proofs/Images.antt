@@ -1,5 +1,6 @@
 -- A run seen by chunks: the world with entries in place of areas, what was sent, and whether the list of calls is admissible so far, each from one pass over
 -- the list, so that it can be computed. Assumes nothing.
+use Rattle.std.specs.Prelude.{Ok, Err}
 use Prim.Native.Nat.{ℕ}
 use mathlib.Core.Bool.{Bool, true, false, not, ◌&&◌, ◌||◌}
 use mathlib.Core.List.{List, [], ◌∷◌}
@@ -7,12 +8,9 @@ use mathlib.Core.Option.{Option, none, some}
 use lib.Dec.{eqb, leb, ltb}
 use Rattle.area.specs.Area.{pick, same}
 use Rattle.frame.specs.declared.Party.{Party}
-use Rattle.frame.specs.declared.Opened.{Opened}
-use Rattle.frame.specs.declared.Verdict.{Verdict}
-use Rattle.frame.specs.declared.Verdict.TheVariants as J
+use Rattle.frame.specs.Frames.{Opened}
 use Rattle.frame.specs.declared.Party.TheVariants as P
-use Rattle.frame.specs.declared.Opened.TheVariants as O
-use Rattle.frame.specs.Refusals.{number_of}
+use Rattle.frame.specs.Refusals.{number_of, Verdict}
 use Rattle.frame.specs.Messages.{Entry, Sending, Judged, bad, good}
 use Rattle.frame.specs.Frames.{build, opened}
 use Rattle.frame.specs.Chunks.{entry_at}
@@ -78,12 +76,12 @@ judged_bad (bad r) = some (number_of r)
 judged_bad (good m) = none
 
 unfoldable pub verdict_bad : Verdict → Option ℕ
-verdict_bad (J.Bad r) = some (number_of r)
-verdict_bad J.Fine = none
+verdict_bad (Err r) = some (number_of r)
+verdict_bad (Ok _) = none
 
 unfoldable pub is_frame : Opened → Bool
-is_frame (O.Frame h) = true
-is_frame (O.Refused r) = false
+is_frame (Ok h) = true
+is_frame (Err r) = false
 
 module _ (Z : Setup) where
   open Z use {H, g, faulty_server, faulty_client}

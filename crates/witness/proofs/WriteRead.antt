@@ -1,4 +1,5 @@
 -- The run of WriteRead.antt, computed: it is admissible, the write is accepted and ends, and the read returns it. Assumes nothing.
+use Rattle.frame.specs.Refusals.{fine}
 use Prim.Native.Nat.{◌+◌}
 use mathlib.Core.Bool.{true, false}
 use mathlib.Core.Path.{◌≡◌, refl}
@@ -6,7 +7,6 @@ use mathlib.Core.Logic.{inl, inr}
 use mathlib.Core.List.Memᴰ
 use mathlib.Core.List.{[], ◌∷◌}
 use native.Mathlib.Omega.{arith}
-use Rattle.frame.specs.declared.Verdict.TheVariants as J
 use Rattle.frame.specs.Params.{client_frames, out_room, to_room, Bounded}
 use Rattle.frame.specs.Messages.{ready}
 use Rattle.client_rules.specs.Steps.{written, stopped}
@@ -78,10 +78,10 @@ record Computed : Type 0 where
   pub read_number : ((image Z reading).clients 2).client.reads ≡ 1
   -- the write and the read can begin
   pub write_opens : (((image Z []).clients 1).client.writes + 1 ≡ 1)
-      × (CB.write_test g 1 ((image Z []).clients 1).client value (Toy.zeros (out_room g (client_frames g))) (Toy.zeros (to_room (client_frames g))) ≡ J.Fine)
+      × (CB.write_test g 1 ((image Z []).clients 1).client value (Toy.zeros (out_room g (client_frames g))) (Toy.zeros (to_room (client_frames g))) ≡ fine)
   pub read_opens : (((image Z (ack_from 4 ∷ accepting)).clients 2).client.reads + 1 ≡ 1)
       × (CB.read_test g 2 ((image Z (ack_from 4 ∷ accepting)).clients 2).client (Toy.zeros (out_room g (client_frames g)))
-      (Toy.zeros (to_room (client_frames g))) ≡ J.Fine)
+      (Toy.zeros (to_room (client_frames g))) ≡ fine)
 
 computed : Computed
 unfolding Toy.toy Toy.zeros Toy.four Toy.setup Toy.hand_server Toy.hand_client Toy.start_read Toy.start_write g initial value Z entry_for stamp stamp_asked stamp_from

@@ -4,22 +4,22 @@ use Rattle.playback.proofs.Outcomes.{record_refused, play_refused, bounds, few_c
 use native.Mathlib.Omega.{arith}
 use Rattle.playback.proofs.play.Goals as goal
 
-pub returns-in-Bad : goal.returns-in-Bad
-returns-in-Bad c =
+pub returns-in-Err : goal.returns-in-Err
+returns-in-Err c =
     let a = c.args in
     record_refused a.g a.me a.value.now a.trace.now a.area.now a.initial.now a.state.now a.out.now _ c.fresh_test-fits.ensures _
-    c.in-Bad.is
+    c.in-Err.is
 
 pub overflow_cast-me : goal.overflow_cast-me
 overflow_cast-me c =
     let A = (fine_fresh _ _ _ _ _ c.fresh_test-fits.ensures c.in_default.is).0 in
     record { fits = omega (arith, A.own_high, A.bounded.servers_high) }
 
-pub returns-in-Bad-test : goal.returns-in-Bad-test
-returns-in-Bad-test c =
+pub returns-in-Err-test : goal.returns-in-Err-test
+returns-in-Err-test c =
     let a = c.args in
     play_refused a.g a.me a.value.now a.trace.now a.area.now a.initial.now a.state.now a.out.now _ c.fresh_test-fits.ensures
-    c.in_default.is _ c.construct_test-test.ensures _ c.in-Bad-test.is
+    c.in_default.is _ c.construct_test-test.ensures _ c.in-Err-test.is
 
 pub out_test-room-requires : goal.out_test-room-requires
 out_test-room-requires c =
@@ -27,11 +27,11 @@ out_test-room-requires c =
     bounds a.g a.me a.value.now a.trace.now a.area.now a.initial.now a.state.now a.out.now _ c.fresh_test-fits.ensures
     c.in_default.is _ c.construct_test-test.ensures c.in_default-test.is c.survey-found.result c.survey-found.ensures
 
-pub returns-in-Bad-room : goal.returns-in-Bad-room
-returns-in-Bad-room c =
+pub returns-in-Err-room : goal.returns-in-Err-room
+returns-in-Err-room c =
     let a = c.args in
     out_refused a.g a.me a.value.now a.trace.now a.area.now a.initial.now a.state.now a.out.now _ c.fresh_test-fits.ensures
-    c.in_default.is _ c.construct_test-test.ensures c.in_default-test.is c.survey-found.result c.survey-found.ensures _ c.out_test-room.ensures _ c.in-Bad-room.is
+    c.in_default.is _ c.construct_test-test.ensures c.in_default-test.is c.survey-found.result c.survey-found.ensures _ c.out_test-room.ensures _ c.in-Err-room.is
 
 pub play_all-bytes-requires : goal.play_all-bytes-requires
 play_all-bytes-requires c =

@@ -4,10 +4,10 @@ use Rattle.frame.proofs.Within.{admitted_of}
 use mathlib.Core.Path.{sym, ◌∙◌}
 use Rattle.server_deliver.proofs.admit.Goals as goal
 
-pub returns-in-Bad : goal.returns-in-Bad
-returns-in-Bad c =
+pub returns-in-Err : goal.returns-in-Err
+returns-in-Err c =
     let a = c.args in
-    out_of_bounds a.g a.me a.f.now a.state a.area a.initial a.out a.to _ c.params_test-params.ensures _ c.in-Bad.is
+    out_of_bounds a.g a.me a.f.now a.state a.area a.initial a.out a.to _ c.params_test-params.ensures _ c.in-Err.is
 
 pub open_frame-opened-requires : goal.open_frame-opened-requires
 open_frame-opened-requires c = (admitted_of _ _ _ (sym c.params_test-params.ensures ∙ c.in_default.is)).bounded
@@ -22,19 +22,19 @@ pub returns-then-state-lt-SERVER_SIZE : goal.returns-then-state-lt-SERVER_SIZE
 returns-then-state-lt-SERVER_SIZE c =
     let a = c.args in
     no_record a.g a.me a.f.now a.state a.area a.initial a.out a.to _ c.params_test-params.ensures c.in_default.is _
-    c.open_frame-opened.ensures _ c.in-Frame.is c.if-state-lt-SERVER_SIZE.true
+    c.open_frame-opened.ensures _ c.in-Ok.is c.if-state-lt-SERVER_SIZE.true
 
 pub room_test-room-requires : goal.room_test-room-requires
 room_test-room-requires c = (admitted_of _ _ _ (sym c.params_test-params.ensures ∙ c.in_default.is)).bounded
 
-pub returns-in-Bad-room : goal.returns-in-Bad-room
-returns-in-Bad-room c =
+pub returns-in-Err-room : goal.returns-in-Err-room
+returns-in-Err-room c =
     let a = c.args in
     no_room a.g a.me a.f.now a.state a.area a.initial a.out a.to _ c.params_test-params.ensures c.in_default.is _
-    c.open_frame-opened.ensures _ c.in-Frame.is _ c.room_test-room.ensures c.if-state-lt-SERVER_SIZE.false _ c.in-Bad-room.is
+    c.open_frame-opened.ensures _ c.in-Ok.is _ c.room_test-room.ensures c.if-state-lt-SERVER_SIZE.false _ c.in-Err-room.is
 
 pub returns : goal.returns
 returns c =
     let a = c.args in
     has_room a.g a.me a.f.now a.state a.area a.initial a.out a.to _ c.params_test-params.ensures c.in_default.is _
-    c.open_frame-opened.ensures _ c.in-Frame.is _ c.room_test-room.ensures c.if-state-lt-SERVER_SIZE.false c.in_default-room.is
+    c.open_frame-opened.ensures _ c.in-Ok.is _ c.room_test-room.ensures c.if-state-lt-SERVER_SIZE.false c.in_default-room.is

@@ -5,11 +5,11 @@ use Rattle.client_deliver.proofs.Answers.{refused_is, step_is}
 use Rattle.client_deliver.proofs.ReadLaws.{kept_from, value_verdict}
 use Rattle.client_deliver.proofs.reading.on_value.Goals as goal
 
-pub returns-in-Bad : goal.returns-in-Bad
+pub returns-in-Err : goal.returns-in-Err
 unfolding message_test order_test answers owner_right
-returns-in-Bad c =
+returns-in-Err c =
     let a = c.args in
-    refused_is _ _ a.s a.area.now _ _ _ _ (value_verdict a.k.params a.k.me a.s a.k.from a.k.header _ _ _ _ c.stamp_in-x.ensures c.entry_test-v.ensures) _ c.in-Bad.is
+    refused_is _ _ a.s a.area.now _ _ _ _ (value_verdict a.k.params a.k.me a.s a.k.from a.k.header _ _ _ _ c.stamp_in-x.ensures c.entry_test-v.ensures) _ c.in-Err.is
 
 pub keep-requires : goal.keep-requires
 keep-requires c =

@@ -3,10 +3,10 @@ use Rattle.frame.proofs.Within.{stop_first, go_second}
 use Rattle.client_deliver.proofs.Senders.{awaited_new}
 use Rattle.client_deliver.proofs.tests.kept_test.Goals as goal
 
-pub returns-in-Bad : goal.returns-in-Bad
-returns-in-Bad c =
+pub returns-in-Err : goal.returns-in-Err
+returns-in-Err c =
     let a = c.args in
-    stop_first _ _ _ _ (awaited_new _ _ _ a.q a.s.reads _ _ _ _ a.x c.awaited_test-order.ensures c.is_reading.ensures c.has_stamp-again.ensures c.used_places.ensures.0) c.in-Bad.is
+    stop_first _ _ _ _ (awaited_new _ _ _ a.q a.s.reads _ _ _ _ a.x c.awaited_test-order.ensures c.is_reading.ensures c.has_stamp-again.ensures c.used_places.ensures.0) c.in-Err.is
 
 pub returns : goal.returns
 returns c =

@@ -8,11 +8,11 @@ use Rattle.client_deliver.proofs.WriteLaws.{asking_writes, report_kept, report_g
 use native.Mathlib.Omega.{arith}
 use Rattle.client_deliver.proofs.writing.on_report.Goals as goal
 
-pub returns-in-Bad : goal.returns-in-Bad
+pub returns-in-Err : goal.returns-in-Err
 unfolding message_test order_test answers owner_right
-returns-in-Bad c =
+returns-in-Err c =
     let a = c.args in
-    λ z l. refused_is _ _ a.s z _ l _ _ (report_in _ _ _ _ _ _ c.report_test-v.ensures c.read8-time.ensures) _ c.in-Bad.is
+    λ z l. refused_is _ _ a.s z _ l _ _ (report_in _ _ _ _ _ _ c.report_test-v.ensures c.read8-time.ensures) _ c.in-Err.is
 
 pub with_report-client-requires : goal.with_report-client-requires
 with_report-client-requires c =

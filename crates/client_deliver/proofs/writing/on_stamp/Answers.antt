@@ -10,11 +10,11 @@ use Rattle.client_deliver.proofs.WriteLaws.{asking_writes, stamp_gathers}
 use native.Mathlib.Omega.{arith}
 use Rattle.client_deliver.proofs.writing.on_stamp.Goals as goal
 
-pub returns-in-Bad : goal.returns-in-Bad
+pub returns-in-Err : goal.returns-in-Err
 unfolding message_test order_test answers owner_right
-returns-in-Bad c =
+returns-in-Err c =
     let a = c.args in
-    λ z l. refused_is _ _ a.s z _ l _ _ (verdict_in _ _ _ _ (asking a.s.phase) _ c.reply_test-v.ensures c.is_asking.ensures) _ c.in-Bad.is
+    λ z l. refused_is _ _ a.s z _ l _ _ (verdict_in _ _ _ _ (asking a.s.phase) _ c.reply_test-v.ensures c.is_asking.ensures) _ c.in-Err.is
 
 pub bounds-heard-j : goal.bounds-heard-j
 bounds-heard-j c =

@@ -4,10 +4,10 @@ use Rattle.frame.specs.Frames.{opening_response}
 use Rattle.host_facts.specs.Frames.{header_answer}
 use Rattle.host_facts.proofs.frames.header_answer.Goals as goal
 
-pub returns-in-Frame : goal.returns-in-Frame
+pub returns-in-Ok : goal.returns-in-Ok
 unfolding header_answer
-returns-in-Frame c = sym (ap (λ z. header_answer (opening_response z)) c.in-Frame.is)
+returns-in-Ok c = sym (ap (λ z. header_answer (opening_response z)) c.in-Ok.is)
 
-pub returns-in-Refused : goal.returns-in-Refused
+pub returns-in-Err : goal.returns-in-Err
 unfolding header_answer
-returns-in-Refused c = c.number_of.ensures ∙ sym (ap (λ z. header_answer (opening_response z)) c.in-Refused.is)
+returns-in-Err c = c.number_of.ensures ∙ sym (ap (λ z. header_answer (opening_response z)) c.in-Err.is)

@@ -5,8 +5,8 @@ use Rattle.frame.proofs.Within.{bounded_of}
 use Rattle.host_facts.proofs.PresentLaws.{block_bounds, no_record, no_area, no_initial, no_room, block_done}
 use Rattle.host_facts.proofs.present.server_block.Goals as goal
 
-pub returns-in-Bad : goal.returns-in-Bad
-returns-in-Bad c = block_bounds _ _ _ _ _ _ c.bounds_test-bounds.ensures _ _ c.in-Bad.is c.number_of.ensures
+pub returns-in-Err : goal.returns-in-Err
+returns-in-Err c = block_bounds _ _ _ _ _ _ c.bounds_test-bounds.ensures _ _ c.in-Err.is c.number_of.ensures
 
 pub width-w-requires : goal.width-w-requires
 width-w-requires c = bounded_of _ (sym c.bounds_test-bounds.ensures ∙ c.in_default.is)

@@ -3,10 +3,10 @@ use Rattle.server_rules.specs.Delivery.{reply_count}
 use borrow.Author.Rules.{rules}
 use Rattle.playback.proofs.reports.reply_count.Goals as goal
 
-pub returns-in-Step : goal.returns-in-Step
+pub returns-in-Ok : goal.returns-in-Ok
 unfolding reply_count
-returns-in-Step c = search rules
+returns-in-Ok c = search rules
 
-pub returns-in-Refused : goal.returns-in-Refused
+pub returns-in-Err : goal.returns-in-Err
 unfolding reply_count
-returns-in-Refused c = search rules
+returns-in-Err c = search rules

@@ -4,9 +4,9 @@ use Rattle.server_rules.specs.Delivery.{reply_number}
 use borrow.Author.Rules.{rules}
 use Rattle.playback.proofs.reports.reply_number.Goals as goal
 
-pub returns-in-Step : goal.returns-in-Step
+pub returns-in-Ok : goal.returns-in-Ok
 unfolding reply_number
-returns-in-Step c = search rules
+returns-in-Ok c = search rules
 
-pub returns-in-Refused : goal.returns-in-Refused
-returns-in-Refused c = refused_number _ _ _ c.in-Refused.is c.number_of.ensures
+pub returns-in-Err : goal.returns-in-Err
+returns-in-Err c = refused_number _ _ _ c.in-Err.is c.number_of.ensures

@@ -4,10 +4,10 @@ use Rattle.playback.proofs.Resumes.{resume_refused, resume_counted, resume_done}
 use native.Mathlib.Omega.{arith}
 use Rattle.playback.proofs.resume.resume.Goals as goal
 
-pub returns-in-Bad : goal.returns-in-Bad
-returns-in-Bad c =
+pub returns-in-Err : goal.returns-in-Err
+returns-in-Err c =
     let a = c.args in
-    resume_refused a.g a.me a.initial.now a.trace.now (areas a.area.now a.state.now a.out.now a.to.now) _ c.resume_test-test.ensures _ c.in-Bad.is
+    resume_refused a.g a.me a.initial.now a.trace.now (areas a.area.now a.state.now a.out.now a.to.now) _ c.resume_test-test.ensures _ c.in-Err.is
 
 pub ending_of-ending-requires : goal.ending_of-ending-requires
 ending_of-ending-requires c =

@@ -4,8 +4,8 @@ use Rattle.frame.proofs.Within.{admitted_of}
 use Rattle.playback.proofs.Resumes.{params_refused, record_refused, rooms_tested}
 use Rattle.playback.proofs.resume.resume_test.Goals as goal
 
-pub returns-in-Bad : goal.returns-in-Bad
-returns-in-Bad c = params_refused _ _ _ _ _ _ _ _ c.params_test-params.ensures _ c.in-Bad.is
+pub returns-in-Err : goal.returns-in-Err
+returns-in-Err c = params_refused _ _ _ _ _ _ _ _ c.params_test-params.ensures _ c.in-Err.is
 
 pub returns-then-state-lt-SERVER_SIZE : goal.returns-then-state-lt-SERVER_SIZE
 returns-then-state-lt-SERVER_SIZE c = record_refused _ _ _ _ _ _ _ _ c.params_test-params.ensures c.in_default.is c.if-state-lt-SERVER_SIZE.true

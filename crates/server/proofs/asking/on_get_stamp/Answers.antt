@@ -1,11 +1,12 @@
 -- The step of one kind: refused as the tests say, or its whole outcome. Assumes nothing.
+use Rattle.frame.specs.Refusals.{fine}
+use Rattle.std.specs.Prelude.{Err}
 use mathlib.Core.Bool.{not}
 use Prim.Native.Nat.{◌+◌, ◌*◌}
 use Rattle.server.proofs.Answers.{refused_is, step_is, only_sent}
 use Rattle.server.proofs.Sending.{stamp_room}
 use Rattle.server_rules.specs.Tests.{message_test, sender_right, order_test}
 use Rattle.frame.proofs.Within.{stop_not, go_on}
-use Rattle.frame.specs.declared.Verdict.TheVariants as J
 use Rattle.frame.specs.declared.Refusal.TheVariants as R
 use Rattle.frame.specs.declared.Party.TheVariants as P
 use Rattle.frame.specs.Messages.{message, sending, stamp_is}
@@ -21,7 +22,7 @@ pub returns-then-not-from_owner : goal.returns-then-not-from_owner
 unfolding message_test sender_right order_test
 returns-then-not-from_owner c =
     let a = c.args in
-    λ w e z. refused_is (J.Bad R.Sender) _ R.Sender w a.h.client a.s z _ _ _ e (stop_not _ _ R.Sender J.Fine c.from_owner.ensures (ap not c.if-not-from_owner.true)) refl
+    λ w e z. refused_is (Err R.Sender) _ R.Sender w a.h.client a.s z _ _ _ e (stop_not _ _ R.Sender fine c.from_owner.ensures (ap not c.if-not-from_owner.true)) refl
 
 pub send_stamp-place-requires : goal.send_stamp-place-requires
 send_stamp-place-requires c =
@@ -31,6 +32,6 @@ pub returns : goal.returns
 unfolding message_test sender_right order_test
 returns c =
     let a = c.args in
-    λ w e z. step_is J.Fine _ w z z _ _ _ _ _ a.h.client a.s c.send_stamp-place.result _
-    (go_on _ _ R.Sender J.Fine J.Fine c.from_owner.ensures (ap not c.if-not-from_owner.false) refl) refl
+    λ w e z. step_is fine _ w z z _ _ _ _ _ a.h.client a.s c.send_stamp-place.result _
+    (go_on _ _ R.Sender fine fine c.from_owner.ensures (ap not c.if-not-from_owner.false) refl) refl
     (only_sent w _ z _ _ _ (as_it_was w a.h.client a.s e) (c.send_stamp-place.ensures ∙ ap (λ (u : Scope). sent (outbox a.out.now a.to.now first_place) (sending (P.Client a.h.client) (message a.h.client a.h.sequence (stamp_is u.stamp.time)) ∷ [])) e)) c.taken.ensures.0 c.taken.ensures.1

@@ -4,10 +4,10 @@ use Rattle.sha256.specs.Hash.{digest_of}
 use Rattle.server.proofs.Constructing.{sound_of, construct_bad, construct_fine}
 use Rattle.server.proofs.setup.construct.Goals as goal
 
-pub returns-in-Bad : goal.returns-in-Bad
-returns-in-Bad c =
+pub returns-in-Err : goal.returns-in-Err
+returns-in-Err c =
     let a = c.args in
-    construct_bad digest_of a.g a.me a.value.now a.area.now a.initial.now _ _ c.fresh-server.ensures c.construct_test-v.ensures _ c.in-Bad.is
+    construct_bad digest_of a.g a.me a.value.now a.area.now a.initial.now _ _ c.fresh-server.ensures c.construct_test-v.ensures _ c.in-Err.is
 
 pub store_initial-requires : goal.store_initial-requires
 store_initial-requires c =

@@ -5,10 +5,10 @@ use Rattle.frame.proofs.Within.{admitted_of}
 use Rattle.server.proofs.Constructing.{bounds_bad, length_bad, area_short, initial_short, all_fine}
 use Rattle.server.proofs.setup.construct_test.Goals as goal
 
-pub returns-in-Bad : goal.returns-in-Bad
-returns-in-Bad c =
+pub returns-in-Err : goal.returns-in-Err
+returns-in-Err c =
     let a = c.args in
-    bounds_bad digest_of a.g a.me a.value.now _ _ _ c.params_test-params.ensures _ c.in-Bad.is
+    bounds_bad digest_of a.g a.me a.value.now _ _ _ c.params_test-params.ensures _ c.in-Err.is
 
 pub returns-then-value-g : goal.returns-then-value-g
 returns-then-value-g c =

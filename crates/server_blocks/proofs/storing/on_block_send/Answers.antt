@@ -7,12 +7,12 @@ use Rattle.server_blocks.proofs.storing.on_block_send.Goals as goal
 pub send_test-v-requires : goal.send_test-v-requires
 send_test-v-requires c = let P = c.requires in (P.0, P.2)
 
-pub returns-in-Bad : goal.returns-in-Bad
-returns-in-Bad c =
+pub returns-in-Err : goal.returns-in-Err
+returns-in-Err c =
     let a = c.args in
     let o = offer a.time (entry a.list.now a.block.now) in
     λ w. record {
-      handles = turned_down_lem a.k a.x _ o send w _ _ _ (send_verdict_lem a.k a.x _ o c.send_test-v.ensures) _ c.in-Bad.is;
+      handles = turned_down_lem a.k a.x _ o send w _ _ _ (send_verdict_lem a.k a.x _ o c.send_test-v.ensures) _ c.in-Err.is;
       room = room_before _ _ _ c.requires.1;
     }
 

@@ -11,13 +11,13 @@ use Rattle.server_blocks.proofs.storing.on_block_vote.Goals as goal
 pub vote_test-v-requires : goal.vote_test-v-requires
 vote_test-v-requires c = let P = c.requires in (P.0.bounded, P.1)
 
-pub returns-in-Bad : goal.returns-in-Bad
-returns-in-Bad c =
+pub returns-in-Err : goal.returns-in-Err
+returns-in-Err c =
     let a = c.args in
     let k = a.k in
     let o = offer a.time (entry a.list.now a.block.now) in
     record {
-      handles = turned_down_lem k a.x _ o (vote_stage k.header.kind) a.area.now _ _ _ (vote_verdict_lem k a.x _ o c.vote_test-v.ensures) _ c.in-Bad.is;
+      handles = turned_down_lem k a.x _ o (vote_stage k.header.kind) a.area.now _ _ _ (vote_verdict_lem k a.x _ o c.vote_test-v.ensures) _ c.in-Err.is;
       room = room_before _ _ _ c.requires.0.room;
     }
 

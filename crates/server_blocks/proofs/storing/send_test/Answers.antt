@@ -5,8 +5,8 @@ use native.Mathlib.Omega.{arith}
 use Rattle.server_blocks.proofs.BlockSteps.{send_bad, send_fine}
 use Rattle.server_blocks.proofs.storing.send_test.Goals as goal
 
-pub returns-in-Bad : goal.returns-in-Bad
-returns-in-Bad c = let a = c.args in send_bad a.k a.x _ (entry a.list.now a.block.now) c.owner_test-v.ensures _ c.in-Bad.is
+pub returns-in-Err : goal.returns-in-Err
+returns-in-Err c = let a = c.args in send_bad a.k a.x _ (entry a.list.now a.block.now) c.owner_test-v.ensures _ c.in-Err.is
 
 pub fit_test-requires : goal.fit_test-requires
 fit_test-requires c =

@@ -6,10 +6,10 @@ use Rattle.server_blocks.proofs.BlockSteps.{vote_bad, vote_fine}
 use native.Mathlib.Omega.{arith}
 use Rattle.server_blocks.proofs.storing.vote_test.Goals as goal
 
-pub returns-in-Bad : goal.returns-in-Bad
-returns-in-Bad c =
+pub returns-in-Err : goal.returns-in-Err
+returns-in-Err c =
     let a = c.args in
-    vote_bad a.k a.x _ (entry a.list.now a.block.now) _ c.flags_of-on.ensures c.server_test-v.ensures _ c.in-Bad.is
+    vote_bad a.k a.x _ (entry a.list.now a.block.now) _ c.flags_of-on.ensures c.server_test-v.ensures _ c.in-Err.is
 
 pub fit_test-requires : goal.fit_test-requires
 fit_test-requires c =

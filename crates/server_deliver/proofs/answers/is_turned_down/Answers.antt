@@ -4,10 +4,10 @@ use Rattle.area.specs.Responses.{is_turned_down}
 use Rattle.server_rules.specs.Delivery.{reply_response}
 use Rattle.server_deliver.proofs.answers.is_turned_down.Goals as goal
 
-pub returns-in-Step : goal.returns-in-Step
+pub returns-in-Ok : goal.returns-in-Ok
 unfolding is_turned_down
-returns-in-Step c = sym (ap (λ z. is_turned_down (reply_response z)) c.in-Step.is)
+returns-in-Ok c = sym (ap (λ z. is_turned_down (reply_response z)) c.in-Ok.is)
 
-pub returns-in-Refused : goal.returns-in-Refused
+pub returns-in-Err : goal.returns-in-Err
 unfolding is_turned_down
-returns-in-Refused c = sym (ap (λ z. is_turned_down (reply_response z)) c.in-Refused.is)
+returns-in-Err c = sym (ap (λ z. is_turned_down (reply_response z)) c.in-Err.is)

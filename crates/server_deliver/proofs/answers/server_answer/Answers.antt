@@ -4,10 +4,10 @@ use Rattle.server_rules.specs.Delivery.{reply_response}
 use Rattle.server_deliver.specs.Answers.{server_answer}
 use Rattle.server_deliver.proofs.answers.server_answer.Goals as goal
 
-pub returns-in-Step : goal.returns-in-Step
+pub returns-in-Ok : goal.returns-in-Ok
 unfolding server_answer
-returns-in-Step c = sym (ap (λ z. server_answer (reply_response z)) c.in-Step.is)
+returns-in-Ok c = sym (ap (λ z. server_answer (reply_response z)) c.in-Ok.is)
 
-pub returns-in-Refused : goal.returns-in-Refused
+pub returns-in-Err : goal.returns-in-Err
 unfolding server_answer
-returns-in-Refused c = c.number_of.ensures ∙ sym (ap (λ z. server_answer (reply_response z)) c.in-Refused.is)
+returns-in-Err c = c.number_of.ensures ∙ sym (ap (λ z. server_answer (reply_response z)) c.in-Err.is)

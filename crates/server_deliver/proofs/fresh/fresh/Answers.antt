@@ -3,10 +3,10 @@ use native.Mathlib.Omega.{arith}
 use Rattle.server_deliver.proofs.FreshRecords.{fine_fresh, fresh_refused, fresh_done}
 use Rattle.server_deliver.proofs.fresh.fresh.Goals as goal
 
-pub returns-in-Bad : goal.returns-in-Bad
-returns-in-Bad c =
+pub returns-in-Err : goal.returns-in-Err
+returns-in-Err c =
     let a = c.args in
-    fresh_refused a.g a.me a.value.now a.area.now a.initial.now a.state.now _ c.fresh_test-test.ensures _ c.in-Bad.is
+    fresh_refused a.g a.me a.value.now a.area.now a.initial.now a.state.now _ c.fresh_test-test.ensures _ c.in-Err.is
 
 pub overflow_cast-me : goal.overflow_cast-me
 overflow_cast-me c =

@@ -20,8 +20,8 @@ pub count_vote-n-requires : goal.count_vote-n-requires
 count_vote-n-requires c = let P = c.requires in (P.0, P.2, P.3)
 
 -- src/kinds.rt:199:9
-pub returns-in-Bad : goal.returns-in-Bad
-returns-in-Bad c = let a = c.args in let P = c.requires in λ i. vote_refused digest_of a.k a.f.now a.area.now i a.state.now a.out.now a.to.now P.1 (bytes_of a.state.now (λ i. let f = c.slice_known-2-1.given i in omega arith)) P.0.lent.client_high P.2 P.3 _ _ _ _ (c.count_vote-n.ensures.handles ∙ ap (λ (x : Scope). block_frame digest_of a.k x.slot a.area.now (vote_stage a.k.header.kind) (offer_in a.k.params a.f.now) (outbox a.out.now a.to.now first_place)) c.scope_at-s.ensures) _ c.in-Bad.is
+pub returns-in-Err : goal.returns-in-Err
+returns-in-Err c = let a = c.args in let P = c.requires in λ i. vote_refused digest_of a.k a.f.now a.area.now i a.state.now a.out.now a.to.now P.1 (bytes_of a.state.now (λ i. let f = c.slice_known-2-1.given i in omega arith)) P.0.lent.client_high P.2 P.3 _ _ _ _ (c.count_vote-n.ensures.handles ∙ ap (λ (x : Scope). block_frame digest_of a.k x.slot a.area.now (vote_stage a.k.header.kind) (offer_in a.k.params a.f.now) (outbox a.out.now a.to.now first_place)) c.scope_at-s.ensures) _ c.in-Err.is
 
 -- src/kinds.rt:204:5
 pub put_scope-requires : goal.put_scope-requires

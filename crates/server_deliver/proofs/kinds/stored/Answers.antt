@@ -3,10 +3,10 @@ use mathlib.Core.Path.{sym}
 use Rattle.server_deliver.proofs.Writes.{stored_refused, stored_fine}
 use Rattle.server_deliver.proofs.kinds.stored.Goals as goal
 
-pub returns-in-Bad : goal.returns-in-Bad
-returns-in-Bad c =
+pub returns-in-Err : goal.returns-in-Err
+returns-in-Err c =
     let a = c.args in
-    sym (stored_refused a.n.verdict a.s a.n.slot a.n.place _ c.in-Bad.is)
+    sym (stored_refused a.n.verdict a.s a.n.slot a.n.place _ c.in-Err.is)
 
 pub returns : goal.returns
 returns c =

@@ -3,10 +3,10 @@ use mathlib.Core.Path.{sym, ap, ◌∙◌}
 use Rattle.site.specs.Answers.{test_answer}
 use Rattle.site.proofs.answers.test_answer.Goals as goal
 
-pub returns-in-Fine : goal.returns-in-Fine
+pub returns-in-Ok : goal.returns-in-Ok
 unfolding test_answer
-returns-in-Fine c = sym (ap test_answer c.in-Fine.is)
+returns-in-Ok c = sym (ap test_answer c.in-Ok.is)
 
-pub returns-in-Bad : goal.returns-in-Bad
+pub returns-in-Err : goal.returns-in-Err
 unfolding test_answer
-returns-in-Bad c = c.number_of.ensures ∙ sym (ap test_answer c.in-Bad.is)
+returns-in-Err c = c.number_of.ensures ∙ sym (ap test_answer c.in-Err.is)

@@ -11,10 +11,7 @@ use blocks::bounds::{length_fits, parties_fit, threshold_fits};
 pub fn own_test(me: usize, most: usize) -> Result<(), Refusal>
     ensures { result ≡ own_test me most }
 {
-    if me < 1 {
-        return Err(Refusal::Parties);
-    }
-    if most < me {
+    if me < 1 || most < me {
         return Err(Refusal::Parties);
     }
     Ok(())
@@ -24,14 +21,10 @@ pub fn own_test(me: usize, most: usize) -> Result<(), Refusal>
 pub fn code_test(g: Params) -> Result<(), Refusal>
     ensures { result ≡ code_test g }
 {
-    let n = g.n;
-    let t = g.t;
-    let k = g.k;
-    let size = g.size;
-    if !threshold_fits(n, t, k) {
+    if !threshold_fits(g.n, g.t, g.k) {
         return Err(Refusal::Threshold);
     }
-    if !length_fits(size) {
+    if !length_fits(g.size) {
         return Err(Refusal::Length);
     }
     Ok(())
@@ -41,9 +34,7 @@ pub fn code_test(g: Params) -> Result<(), Refusal>
 pub fn bounds_test(g: Params) -> Result<(), Refusal>
     ensures { result ≡ bounds_test g }
 {
-    let n = g.n;
-    let t = g.t;
-    if !parties_fit(n, t) {
+    if !parties_fit(g.n, g.t) {
         return Err(Refusal::Parties);
     }
     code_test(g)
@@ -53,9 +44,7 @@ pub fn bounds_test(g: Params) -> Result<(), Refusal>
 pub fn params_test(g: Params, me: usize, most: usize) -> Result<(), Refusal>
     ensures { result ≡ params_test g me most }
 {
-    let n = g.n;
-    let t = g.t;
-    if !parties_fit(n, t) {
+    if !parties_fit(g.n, g.t) {
         return Err(Refusal::Parties);
     }
     own_test(me, most)?;
@@ -99,8 +88,5 @@ pub fn quota(g: Params) -> usize
     requires { Bounded g }
     ensures { result ≡ quota g }
 {
-    if g.k < g.t + 1 {
-        return g.t + 1;
-    }
-    g.k
+    g.k.max(g.t + 1)
 }

@@ -18,7 +18,7 @@ pub enum Party {
 }
 
 // A stamp is (time, writer, write sequence), compared in that order.
-#[derive(Clone, Copy)]
+#[derive(Clone, Copy, PartialEq, Eq, PartialOrd, Ord)]
 pub struct Stamp {
     pub time: u64,
     pub writer: u8,

@@ -17,10 +17,7 @@ use blocks::Params;
 pub fn framing_test(f: &[u8]) -> Result<(), Refusal>
     ensures { result ≡ framing_test f.now }
 {
-    if f.len() < BODY_AT {
-        return Err(Refusal::Framing);
-    }
-    if area::read2(f, LENGTH_AT) as usize + 2 != f.len() {
+    if f.len() < BODY_AT || area::read2(f, LENGTH_AT) as usize + 2 != f.len() {
         return Err(Refusal::Framing);
     }
     Ok(())
@@ -43,10 +40,7 @@ pub fn header_in(f: &[u8]) -> Header
 fn is_retired(kind: u8) -> bool
     ensures { result ≡ retired kind }
 {
-    if kind < 6 {
-        return false;
-    }
-    kind <= 8
+    matches!(kind, 6..=8)
 }
 
 // Refusals 5 to 7: version not 1, kind not 1 to 13 or retired, client not 1 to 8 or sequence 0.
@@ -56,22 +50,10 @@ pub fn header_test(version: u8, h: Header) -> Result<(), Refusal>
     if version != VERSION {
         return Err(Refusal::Version);
     }
-    if h.kind < 1 {
+    if h.kind < 1 || 13 < h.kind || is_retired(h.kind) {
         return Err(Refusal::Kind);
     }
-    if 13 < h.kind {
-        return Err(Refusal::Kind);
-    }
-    if is_retired(h.kind) {
-        return Err(Refusal::Kind);
-    }
-    if h.client < 1 {
-        return Err(Refusal::Owner);
-    }
-    if LAST_CLIENT < h.client {
-        return Err(Refusal::Owner);
-    }
-    if h.sequence == 0 {
+    if h.client < 1 || LAST_CLIENT < h.client || h.sequence == 0 {
         return Err(Refusal::Owner);
     }
     Ok(())
@@ -82,25 +64,15 @@ fn length_of(kind: u8, entry: usize) -> usize
     requires { entry ≤ 576 }
     ensures { (result ≡ length_of kind entry) × (result ≤ 589) }
 {
-    if kind <= 1 {
-        return 0;
+    match kind {
+        0..=1 => 0,
+        2 => 8,
+        3..=5 => 8 + entry,
+        6..=10 => 0,
+        11 => 13 + entry,
+        12 => 0,
+        _ => 8,
     }
-    if kind <= 2 {
-        return 8;
-    }
-    if kind <= 5 {
-        return 8 + entry;
-    }
-    if kind <= 10 {
-        return 0;
-    }
-    if kind <= 11 {
-        return 13 + entry;
-    }
-    if kind <= 12 {
-        return 0;
-    }
-    8
 }
 
 // The length of the body of a kind.
@@ -140,10 +112,7 @@ pub fn stamp_in(f: &[u8]) -> Stamp
 pub fn stamp_test(s: Stamp) -> Result<(), Refusal>
     ensures { result ≡ stamp_test s }
 {
-    if !parts_agree(s) {
-        return Err(Refusal::Content);
-    }
-    if LAST_CLIENT < s.writer {
+    if !parts_agree(s) || LAST_CLIENT < s.writer {
         return Err(Refusal::Content);
     }
     Ok(())

@@ -20,14 +20,10 @@ pub fn number_in(p: Party) -> u8
 pub fn from_server(g: Params, from: Party) -> bool
     ensures { result ≡ from_server g from }
 {
-    let Party::Server(j) = from else {
-        return false;
-    };
-    let i = j as usize;
-    if i < 1 {
-        return false;
+    match from {
+        Party::Client(_) => false,
+        Party::Server(j) => 1 <= j && j as usize <= g.n,
     }
-    i <= g.n
 }
 
 // The class and the number of a party.
@@ -44,8 +40,8 @@ pub fn party_bytes(p: Party) -> [u8; 2]
 pub fn party_in(class: u8, number: u8) -> Party
     ensures { result ≡ party_in class number }
 {
-    if class == 0 {
-        return Party::Client(number);
+    match class {
+        0 => Party::Client(number),
+        _ => Party::Server(number),
     }
-    Party::Server(number)
 }

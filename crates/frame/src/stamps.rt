@@ -8,26 +8,14 @@ use crate::Stamp;
 pub fn is_older(a: Stamp, b: Stamp) -> bool
     ensures { result ≡ older a b }
 {
-    if a.time != b.time {
-        return a.time < b.time;
-    }
-    if a.writer != b.writer {
-        return a.writer < b.writer;
-    }
-    a.sequence < b.sequence
+    a < b
 }
 
 // Whether a and b are one stamp.
 pub fn is_same(a: Stamp, b: Stamp) -> bool
     ensures { result ≡ same_stamp a b }
 {
-    if a.time != b.time {
-        return false;
-    }
-    if a.writer != b.writer {
-        return false;
-    }
-    a.sequence == b.sequence
+    a == b
 }
 
 // The stamp of the initial value.
@@ -46,13 +34,8 @@ pub fn parts_agree(s: Stamp) -> bool
     ensures { result ≡ parts_agree s.time s.writer s.sequence }
 {
     if s.time == 0 {
-        if s.writer != 0 {
-            return false;
-        }
-        return s.sequence == 0;
+        s.writer == 0 && s.sequence == 0
+    } else {
+        s.writer != 0 && s.sequence != 0
     }
-    if s.writer == 0 {
-        return false;
-    }
-    s.sequence != 0
 }

@@ -1,12 +1,16 @@
-use mathlib.Core.Path.{refl}
-use borrow.Author.Tests.{lt-leb, le-leb}
+use Rattle.std.proofs.Common.{arith}
+use Rattle.std.proofs.lemmas.Bool.Decides.{nat_tests}
 use Rattle.frame.specs.Frames.{retired}
 use Rattle.frame.proofs.opener.is_retired.Goals as goal
 
-pub returns-then-kind-lt6 : goal.returns-then-kind-lt6
+pub returns-in-6-to-8 : goal.returns-in-6-to-8
 unfolding retired
-returns-then-kind-lt6 c = rw (lt-leb 6 _ c.if-kind-lt6.true) refl
+returns-in-6-to-8 c = grind (arith, nat_tests)
 
-pub returns : goal.returns
+pub returns-in_default : goal.returns-in_default
 unfolding retired
-returns c = rw (le-leb 6 _ c.if-kind-lt6.false) refl
+returns-in_default c = grind (arith, nat_tests)
+
+pub returns-in_default-2 : goal.returns-in_default-2
+unfolding retired
+returns-in_default-2 c = grind (arith, nat_tests)

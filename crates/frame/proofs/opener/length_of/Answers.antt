@@ -1,33 +1,33 @@
-use Rattle.frame.specs.Frames.{length_of}
+use Rattle.std.proofs.Common.{arith}
+use Rattle.std.proofs.lemmas.Bool.Decides.{nat_tests}
 use Rattle.area.specs.Area.{pick}
-use Rattle.area.proofs.Tests.{tests}
-use native.Mathlib.Omega.{arith}
+use Rattle.frame.specs.Frames.{length_of}
 use Rattle.frame.proofs.opener.length_of.Goals as goal
 
-pub returns-then-kind-le1 : goal.returns-then-kind-le1
+pub returns-in-2 : goal.returns-in-2
 unfolding length_of pick
-returns-then-kind-le1 c = (search tests, omega arith)
+returns-in-2 c = grind (arith, nat_tests)
 
-pub returns-then-kind-le2 : goal.returns-then-kind-le2
+pub returns-in-11 : goal.returns-in-11
 unfolding length_of pick
-returns-then-kind-le2 c = (search tests, omega arith)
+returns-in-11 c = grind (arith, nat_tests)
 
-pub returns-then-kind-le5 : goal.returns-then-kind-le5
+pub returns-in-12 : goal.returns-in-12
 unfolding length_of pick
-returns-then-kind-le5 c = (search tests, omega arith)
+returns-in-12 c = grind (arith, nat_tests)
 
-pub returns-then-kind-le10 : goal.returns-then-kind-le10
+pub returns-in-0-to-1 : goal.returns-in-0-to-1
 unfolding length_of pick
-returns-then-kind-le10 c = (search tests, omega arith)
+returns-in-0-to-1 c = grind (arith, nat_tests)
 
-pub returns-then-kind-le11 : goal.returns-then-kind-le11
+pub returns-in-3-to-5 : goal.returns-in-3-to-5
 unfolding length_of pick
-returns-then-kind-le11 c = (search tests, omega arith)
+returns-in-3-to-5 c = grind (arith, nat_tests)
 
-pub returns-then-kind-le12 : goal.returns-then-kind-le12
+pub returns-in-6-to-10 : goal.returns-in-6-to-10
 unfolding length_of pick
-returns-then-kind-le12 c = (search tests, omega arith)
+returns-in-6-to-10 c = grind (arith, nat_tests)
 
-pub returns : goal.returns
+pub returns-in_default : goal.returns-in_default
 unfolding length_of pick
-returns c = (search tests, omega arith)
+returns-in_default c = grind (arith, nat_tests)

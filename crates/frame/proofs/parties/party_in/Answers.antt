@@ -1,13 +1,13 @@
--- By the class. Assumes nothing.
-use Rattle.frame.specs.Outbox.{party_in}
+use Rattle.std.proofs.Common.{arith}
+use Rattle.std.proofs.lemmas.Bool.Decides.{nat_tests}
 use Rattle.area.specs.Area.{pick}
-use Rattle.area.proofs.Tests.{tests}
+use Rattle.frame.specs.Outbox.{party_in}
 use Rattle.frame.proofs.parties.party_in.Goals as goal
 
-pub returns-then-class-eq0 : goal.returns-then-class-eq0
+pub returns-in-0 : goal.returns-in-0
 unfolding party_in pick
-returns-then-class-eq0 c = search tests
+returns-in-0 c = grind (arith, nat_tests)
 
-pub returns : goal.returns
+pub returns-in_default : goal.returns-in_default
 unfolding party_in pick
-returns c = search tests
+returns-in_default c = grind (arith, nat_tests)

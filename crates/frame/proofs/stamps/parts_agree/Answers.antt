@@ -7,14 +7,14 @@ pub returns-then-s-ne0 : goal.returns-then-s-ne0
 unfolding parts_agree pick
 returns-then-s-ne0 c = search tests
 
-pub returns-then-s-eq0 : goal.returns-then-s-eq0
+pub returns-else-s-ne0 : goal.returns-else-s-ne0
 unfolding parts_agree pick
-returns-then-s-eq0 c = search tests
+returns-else-s-ne0 c = search tests
 
 pub returns-then-s-eq0-2 : goal.returns-then-s-eq0-2
 unfolding parts_agree pick
 returns-then-s-eq0-2 c = search tests
 
-pub returns : goal.returns
+pub returns-else-s-eq0-2 : goal.returns-else-s-eq0-2
 unfolding parts_agree pick
-returns c = search tests
+returns-else-s-eq0-2 c = search tests

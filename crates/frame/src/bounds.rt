@@ -2,8 +2,8 @@
 ghost use Rattle.std.specs.Prelude.{◌≡◌, ◌≤◌};
 ghost use Rattle.frame.specs.Params.{Bounded, width, own_test, code_test, bounds_test, params_test, largest_frame, out_room, to_room, quota};
 
-use crate::places::VALUE_AT;
 use crate::Refusal;
+use crate::places::VALUE_AT;
 use blocks::Params;
 use blocks::bounds::{length_fits, parties_fit, threshold_fits};
 

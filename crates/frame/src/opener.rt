@@ -40,7 +40,7 @@ pub fn header_in(f: &[u8]) -> Header
 fn is_retired(kind: u8) -> bool
     ensures { result ≡ retired kind }
 {
-    matches!(kind, 6..=8)
+    (6..=8).contains(&kind)
 }
 
 // Refusals 5 to 7: version not 1, kind not 1 to 13 or retired, client not 1 to 8 or sequence 0.

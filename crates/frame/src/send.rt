@@ -9,23 +9,23 @@ ghost use Rattle.frame.specs.Outbox.{outbox, sent, wrote, wrote_to, Room, stage_
 
 use crate::parties::{party_bytes, party_in};
 use crate::places::{BODY_AT, VERSION};
-use crate::{Ask, Broadcast, Party, Place, Stamp, WriteTime};
+use crate::{Ask, Broadcast, Header, Party, Place, Stamp, WriteTime};
 use blocks::Params;
 
 // The bytes before the body, of which size follow.
-fn header_bytes(size: usize, kind: u8, client: u8, sequence: u32) -> [u8; 9]
-    ensures { result ≡ header_bytes size kind client sequence }
+fn header_bytes(size: usize, h: Header) -> [u8; 9]
+    ensures { result ≡ header_bytes size h.kind h.client h.sequence }
 {
     [
         (size / 256 % 256) as u8,
         (size % 256) as u8,
         VERSION,
-        kind,
-        client,
-        (sequence / 65536 / 256 % 256) as u8,
-        (sequence / 65536 % 256) as u8,
-        (sequence % 65536 / 256 % 256) as u8,
-        (sequence % 65536 % 256) as u8,
+        h.kind,
+        h.client,
+        (h.sequence / 65536 / 256 % 256) as u8,
+        (h.sequence / 65536 % 256) as u8,
+        (h.sequence % 65536 / 256 % 256) as u8,
+        (h.sequence % 65536 % 256) as u8,
     ]
 }
 
@@ -49,33 +49,27 @@ fn stamp_bytes(s: Stamp) -> [u8; 13]
     b
 }
 
-// Writes a frame from index at on; its body is given in three parts.
-fn put_frame(
-    out: &mut [u8],
-    at: usize,
-    kind: u8,
-    client: u8,
-    sequence: u32,
-    lead: &[u8],
-    digests: &[u8],
-    block: &[u8],
-)
-    requires { at + (9 + (length lead.now + (length digests.now + length block.now))) ≤ length out.old }
+// The body of a frame to be sent, in three parts: a time or a stamp, a digest list, and a block.
+#[derive(Clone, Copy)]
+pub struct Body<'a> {
+    pub lead: &'a [u8],
+    pub digests: &'a [u8],
+    pub block: &'a [u8],
+}
+
+// Writes a frame from index at on.
+fn put_frame(out: &mut [u8], at: usize, h: Header, b: Body)
+    requires { at + (9 + (length b.lead.now + (length b.digests.now + length b.block.now))) ≤ length out.old }
     ensures { out.new
-        ≡ sets out.old at (frame_of kind client sequence (lead.now ++ (digests.now ++ block.now))) }
+        ≡ sets out.old at (frame_of h.kind h.client h.sequence (b.entry.lead.now ++ (b.entry.digests.now ++ b.entry.block.now))) }
 {
     let body = at + BODY_AT;
-    let list = body + lead.len();
-    let header = header_bytes(
-        7 + (lead.len() + (digests.len() + block.len())),
-        kind,
-        client,
-        sequence,
-    );
-    area::put(out, at, &header);
-    area::put(out, body, lead);
-    area::put(out, list, digests);
-    area::put(out, list + digests.len(), block);
+    let list = body + b.lead.len();
+    let size = 7 + (b.lead.len() + (b.digests.len() + b.block.len()));
+    area::put(out, at, &header_bytes(size, h));
+    area::put(out, body, b.lead);
+    area::put(out, list, b.digests);
+    area::put(out, list + b.digests.len(), b.block);
 }
 
 // Sends one frame, after those that are there already.
@@ -84,23 +78,19 @@ pub fn deposit(
     to: &mut [u8],
     p: Place,
     receiver: Party,
-    kind: u8,
-    client: u8,
-    sequence: u32,
-    lead: &[u8],
-    digests: &[u8],
-    block: &[u8],
+    h: Header,
+    b: Body,
 ) -> Place
-    requires { Room p 1 (9 + (length lead.now + (length digests.now + length block.now))) (length out.old) (length to.old) }
+    requires { Room p 1 (9 + (length b.lead.now + (length b.digests.now + length b.block.now))) (length out.old) (length to.old) }
     ensures { outbox out.new to.new result
         ≡ wrote (outbox out.old to.old p) receiver
-        (frame_of kind client sequence (lead.now ++ (digests.now ++ block.now))) }
+        (frame_of h.kind h.client h.sequence (b.entry.lead.now ++ (b.entry.digests.now ++ b.entry.block.now))) }
 {
     let bytes = party_bytes(receiver);
     area::put(to, 2 * p.count, &bytes);
-    put_frame(out, p.at, kind, client, sequence, lead, digests, block);
+    put_frame(out, p.at, h, b);
     Place {
-        at: p.at + (BODY_AT + (lead.len() + (digests.len() + block.len()))),
+        at: p.at + (BODY_AT + (b.lead.len() + (b.digests.len() + b.block.len()))),
         count: p.count + 1,
     }
 }
@@ -112,34 +102,17 @@ pub fn deposit_all(
     p: Place,
     class: u8,
     n: usize,
-    kind: u8,
-    client: u8,
-    sequence: u32,
-    lead: &[u8],
-    digests: &[u8],
-    block: &[u8],
+    h: Header,
+    b: Body,
 ) -> Place
-    requires { (n ≤ 10) × Room p n (9 + (length lead.now + (length digests.now + length block.now))) (length out.old) (length to.old) }
+    requires { (n ≤ 10) × Room p n (9 + (length b.lead.now + (length b.digests.now + length b.block.now))) (length out.old) (length to.old) }
     ensures { outbox out.new to.new result
         ≡ wrote_to class (outbox out.old to.old p)
-        (frame_of kind client sequence (lead.now ++ (digests.now ++ block.now))) n }
+        (frame_of h.kind h.client h.sequence (b.entry.lead.now ++ (b.entry.digests.now ++ b.entry.block.now))) n }
 {
     let mut q = p;
-    let mut j: usize = 0;
-    while j < n {
-        j += 1;
-        q = deposit(
-            out,
-            to,
-            q,
-            party_in(class, j as u8),
-            kind,
-            client,
-            sequence,
-            lead,
-            digests,
-            block,
-        );
+    for j in 0..n {
+        q = deposit(out, to, q, party_in(class, j as u8 + 1), h, b);
     }
     q
 }
@@ -177,13 +150,17 @@ pub fn ask_all(
     ensures { outbox out.new to.new result
         ≡ sent (outbox out.old to.old p) (to_all g (λ j. message client sequence (ask_of a))) }
 {
-    let kind = ask_kind(a);
-    let no_lead = [0u8; 0];
-    let no_list = [0u8; 0];
-    let no_block = [0u8; 0];
-    deposit_all(
-        out, to, p, 1, g.n, kind, client, sequence, &no_lead, &no_list, &no_block,
-    )
+    let h = Header {
+        kind: ask_kind(a),
+        client,
+        sequence,
+    };
+    let b = Body {
+        lead: &[],
+        digests: &[],
+        block: &[],
+    };
+    deposit_all(out, to, p, 1, g.n, h, b)
 }
 
 // Sends a step of a write's broadcast, the same time, digest list and block, to all servers.
@@ -201,11 +178,18 @@ pub fn block_all(
     ensures { outbox out.new to.new result ≡ sent (outbox out.old to.old p)
         (to_all g (λ j. message w.client w.sequence (block_is (stage_of z) (offer w.time (entry digests.now block.now))))) }
 {
-    let kind = block_kind(z);
+    let h = Header {
+        kind: block_kind(z),
+        client: w.client,
+        sequence: w.sequence,
+    };
     let t = time_bytes(w.time);
-    deposit_all(
-        out, to, p, 1, g.n, kind, w.client, w.sequence, &t, digests, block,
-    )
+    let b = Body {
+        lead: &t,
+        digests,
+        block,
+    };
+    deposit_all(out, to, p, 1, g.n, h, b)
 }
 
 // Sends server j its block of a write.
@@ -223,19 +207,18 @@ pub fn send_block(
         (sending (Party.Server j)
         (message w.client w.sequence (block_is send (offer w.time (entry digests.now block.now)))) ∷ []) }
 {
+    let h = Header {
+        kind: 3,
+        client: w.client,
+        sequence: w.sequence,
+    };
     let t = time_bytes(w.time);
-    deposit(
-        out,
-        to,
-        p,
-        Party::Server(j),
-        3,
-        w.client,
-        w.sequence,
-        &t,
+    let b = Body {
+        lead: &t,
         digests,
         block,
-    )
+    };
+    deposit(out, to, p, Party::Server(j), h, b)
 }
 
 // Sends a client the server's present time.
@@ -251,21 +234,18 @@ pub fn send_stamp(
     ensures { outbox out.new to.new result
         ≡ sent (outbox out.old to.old p) (sending (Party.Client client) (message client sequence (stamp_is time)) ∷ []) }
 {
-    let t = time_bytes(time);
-    let no_list = [0u8; 0];
-    let no_block = [0u8; 0];
-    deposit(
-        out,
-        to,
-        p,
-        Party::Client(client),
-        2,
+    let h = Header {
+        kind: 2,
         client,
         sequence,
-        &t,
-        &no_list,
-        &no_block,
-    )
+    };
+    let t = time_bytes(time);
+    let b = Body {
+        lead: &t,
+        digests: &[],
+        block: &[],
+    };
+    deposit(out, to, p, Party::Client(client), h, b)
 }
 
 // Sends a client the acknowledgement of its write.
@@ -274,21 +254,17 @@ pub fn send_ack(out: &mut [u8], to: &mut [u8], p: Place, client: u8, sequence: u
     ensures { outbox out.new to.new result
         ≡ sent (outbox out.old to.old p) (sending (Party.Client client) (message client sequence ack) ∷ []) }
 {
-    let no_lead = [0u8; 0];
-    let no_list = [0u8; 0];
-    let no_block = [0u8; 0];
-    deposit(
-        out,
-        to,
-        p,
-        Party::Client(client),
-        9,
+    let h = Header {
+        kind: 9,
         client,
         sequence,
-        &no_lead,
-        &no_list,
-        &no_block,
-    )
+    };
+    let b = Body {
+        lead: &[],
+        digests: &[],
+        block: &[],
+    };
+    deposit(out, to, p, Party::Client(client), h, b)
 }
 
 // Sends a client a value.
@@ -307,19 +283,18 @@ pub fn send_value(
         ≡ sent (outbox out.old to.old p)
         (sending (Party.Client client) (message client sequence (value_is s (entry digests.now block.now))) ∷ []) }
 {
-    let t = stamp_bytes(s);
-    deposit(
-        out,
-        to,
-        p,
-        Party::Client(client),
-        11,
+    let h = Header {
+        kind: 11,
         client,
         sequence,
-        &t,
+    };
+    let t = stamp_bytes(s);
+    let b = Body {
+        lead: &t,
         digests,
         block,
-    )
+    };
+    deposit(out, to, p, Party::Client(client), h, b)
 }
 
 // Sends the report of a server's time, after a client's write, to all servers and to clients 1 to 8.
@@ -328,13 +303,17 @@ pub fn send_report(out: &mut [u8], to: &mut [u8], p: Place, g: Params, w: WriteT
     ensures { outbox out.new to.new result ≡ sent (outbox out.old to.old p)
         (to_all g (λ j. message w.client w.sequence (report w.time)) ++ to_clients (message w.client w.sequence (report w.time))) }
 {
+    let h = Header {
+        kind: 13,
+        client: w.client,
+        sequence: w.sequence,
+    };
     let t = time_bytes(w.time);
-    let no_list = [0u8; 0];
-    let no_block = [0u8; 0];
-    let q = deposit_all(
-        out, to, p, 1, g.n, 13, w.client, w.sequence, &t, &no_list, &no_block,
-    );
-    deposit_all(
-        out, to, q, 0, 8, 13, w.client, w.sequence, &t, &no_list, &no_block,
-    )
+    let b = Body {
+        lead: &t,
+        digests: &[],
+        block: &[],
+    };
+    let q = deposit_all(out, to, p, 1, g.n, h, b);
+    deposit_all(out, to, q, 0, 8, h, b)
 }

@@ -21,6 +21,6 @@ pub returns : goal.returns
 returns c =
     let a = c.args in
     let t = c.time_bytes-t in
-    let k = c.block_kind-kind.ensures in
+    let k = c.block_kind.ensures in
     let f = block_frame_lem _ _ _ a.w.time (stage_of a.z) t.result a.digests.now a.block.now k t.ensures in
     sent_all a.g _ _ _ _ _ _ _ _ f c.deposit_all.ensures

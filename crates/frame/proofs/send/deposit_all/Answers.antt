@@ -17,13 +17,13 @@ deposit-q-requires c =
 pub loop-j-preserved : goal.loop-j-preserved
 loop-j-preserved c =
     let a = c.args in
-    let f = frame_of a.kind a.client a.sequence (a.lead.now ++ (a.digests.now ++ a.block.now)) in
+    let f = frame_of a.h.kind a.h.client a.h.sequence (a.b.lead.now ++ (a.b.digests.now ++ a.b.block.now)) in
     let l₀ = c.loop-j in
     let i = l₀.invariant in
     let e = c.deposit-q.ensures in
     let p = c.party_in.ensures in
     let w = after_one _ _ _ _ _ _ _ _ e in
-    let l = length_written a.kind a.client a.sequence a.lead.now a.digests.now a.block.now in (
+    let l = length_written a.h.kind a.h.client a.h.sequence a.b.lead.now a.b.digests.now a.b.block.now in (
       omega arith,
       e ∙ ap (λ z. wrote z c.party_in.result f) i.1 ∙ ap (λ z. wrote (wrote_to a.class (outbox a.out.now a.to.now a.p) f l₀.j) z f) p ∙ one_more a.class _ f l₀.j,
       place_after _ _ _ l₀.j _ _ w.at_is l i.2,
@@ -42,4 +42,4 @@ pub returns : goal.returns
 returns c =
     let a = c.args in
     let e : c.loop-j.j ≡ a.n = omega arith in
-    c.loop-j.invariant.1 ∙ ap (wrote_to a.class (outbox a.out.now a.to.now a.p) (frame_of a.kind a.client a.sequence (a.lead.now ++ (a.digests.now ++ a.block.now)))) e
+    c.loop-j.invariant.1 ∙ ap (wrote_to a.class (outbox a.out.now a.to.now a.p) (frame_of a.h.kind a.h.client a.h.sequence (a.b.lead.now ++ (a.b.digests.now ++ a.b.block.now)))) e

@@ -9,8 +9,8 @@ use Rattle.frame.proofs.send.deposit_all.Given as goal
 abbrev pub invariant-loop-j : goal.invariant-loop-j
 invariant-loop-j l =
     (l.j ≤ l.n)
-    × (outbox l.out l.to l.q ≡ wrote_to l.class (outbox l.initial.out l.initial.to l.initial.q) (frame_of l.kind l.client l.sequence (l.lead ++ (l.digests ++ l.block))) l.j)
-    × (l.q.at ≡ l.initial.q.at + l.j * (9 + (length l.lead + (length l.digests + length l.block))))
+    × (outbox l.out l.to l.q ≡ wrote_to l.class (outbox l.initial.out l.initial.to l.initial.q) (frame_of l.h.kind l.h.client l.h.sequence (l.b.lead.now ++ (l.b.digests.now ++ l.b.block.now))) l.j)
+    × (l.q.at ≡ l.initial.q.at + l.j * (9 + (length l.b.lead.now + (length l.b.digests.now + length l.b.block.now))))
     × (l.q.count ≡ l.initial.q.count + l.j)
     × (length l.out ≡ length l.initial.out)
     × (length l.to ≡ length l.initial.to)

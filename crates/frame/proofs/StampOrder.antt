@@ -2,11 +2,11 @@
 use Prim.Native.Nat.{ℕ, ◌≤◌, ◌<◌}
 use native.Mathlib.Omega.{arith}
 use native.Mathlib.Decide.{dec_le}
-use mathlib.Core.Bool.{Bool, true, false, ◌||◌}
+use mathlib.Core.Bool.{Bool, true, false}
 use mathlib.Core.Path.{◌≡◌, refl, ap, sym, ◌∙◌}
 use mathlib.Core.Logic.{◌⊎◌, inl, inr, ⊎_elim}
 use lib.Dec.{ltb, eqb}
-use borrow.Author.Tests.{ltb-true, eqb-true, lt-ltb, le-ltb, eq-eqb, ne_eqb}
+use borrow.Author.Tests.{ltb-true, eqb-true, lt-ltb, eq-eqb}
 use Rattle.area.proofs.Tests.{impossible, and_left, and_right, and_true, or_split, or_left, or_right}
 use Rattle.frame.specs.declared.Stamp.{Stamp}
 use Rattle.frame.specs.Stamps.{older, same_stamp, zero_stamp}
@@ -138,26 +138,3 @@ zero_least a = ⊎_elim (λ h. inr h) (⊎_elim (λ h. inl h) (λ h. absurd (not
     not (inl h) = omega arith
     not (inr (e, inl h)) = omega arith
     not (inr (e, inr (f, h))) = omega arith
-
--- ---- the code's turns: the first part that differs decides
-
-or_neither : (a : Bool) → (a || false) ≡ a
-or_neither true = refl
-or_neither false = refl
-
-pub older_time : (a b : Stamp) → (a.time ≡ b.time → ⊥) → ltb a.time b.time ≡ older a b
-unfolding older
-older_time a b h = rw (ne_eqb _ _ h) (sym (or_neither (ltb a.time b.time)))
-
-pub older_writer : (a b : Stamp) → a.time ≡ b.time → (a.writer ≡ b.writer → ⊥) → ltb a.writer b.writer ≡ older a b
-unfolding older
-older_writer a b e h =
-    let k : b.time ≤ a.time = omega arith in
-    rw (le-ltb _ _ k, eq-eqb _ _ e, ne_eqb _ _ h) (sym (or_neither (ltb a.writer b.writer)))
-
-pub older_sequence : (a b : Stamp) → a.time ≡ b.time → a.writer ≡ b.writer → ltb a.sequence b.sequence ≡ older a b
-unfolding older
-older_sequence a b e f =
-    let k : b.time ≤ a.time = omega arith in
-    let l : b.writer ≤ a.writer = omega arith in
-    rw (le-ltb _ _ k, eq-eqb _ _ e, le-ltb _ _ l, eq-eqb _ _ f)

@@ -14,7 +14,6 @@ use Rattle.blocks.specs.declared.Params.{Params}
 use Rattle.frame.specs.declared.Party.{Party}
 use Rattle.frame.specs.declared.Place.{Place}
 use Rattle.frame.specs.declared.Stamp.{Stamp}
-use Rattle.frame.specs.declared.Broadcast.{Broadcast}
 use Rattle.frame.specs.declared.Ask.{Ask}
 use Rattle.frame.specs.declared.Ask.TheVariants as A
 use Rattle.frame.specs.Params.{width, listed}
@@ -22,7 +21,7 @@ use Rattle.frame.specs.Messages.{entry, Offer, offer, Stage, send, echo, ready, 
 use Rattle.frame.specs.Messages.{to_all}
 use Rattle.frame.specs.Messages.{to_clients}
 use Rattle.frame.specs.Frames.{kind_of, body_bytes, entry_bytes, offer_bytes, stamp_bytes, header_bytes, frame_of, build, entry_in}
-use Rattle.frame.specs.Outbox.{party_bytes, party_in, Outbox, outbox, sent, wrote, wrote_to, Room, stage_of, ask_of}
+use Rattle.frame.specs.Outbox.{party_bytes, party_in, Outbox, outbox, sent, wrote, wrote_to, Room, ask_of}
 use Rattle.frame.specs.Chunks.{store_entry}
 use Rattle.frame.proofs.RoundTrip.{length_frame}
 use Rattle.frame.proofs.Outbox.{wrote_sent, all_sent, clients_sent, sent_append}
@@ -199,11 +198,7 @@ value_frame c q s t d b e = rw e
 
 -- ---- the code's names
 
-pub kind_of_ask : (a a' : Ask) → a ≡ a' → kind_of (ask_of a') ≡ kind_of (ask_of a)
-kind_of_ask a a' e = rw e
 
-pub kind_of_block : (z z' : Broadcast) → z ≡ z' → block_kind (stage_of z') ≡ block_kind (stage_of z)
-kind_of_block z z' p = rw p
 
 -- ---- sent
 

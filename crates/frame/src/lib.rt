@@ -25,28 +25,28 @@ pub struct Stamp {
     pub sequence: u32,
 }
 
-// Why a frame or a call is turned down, in the order of document 01's numbers 1 to 19.
+// Why a frame or a call is turned down, with document 01's number.
 #[derive(Clone, Copy)]
 pub enum Refusal {
-    Parties,
-    Threshold,
-    Length,
-    Framing,
-    Version,
-    Kind,
-    Owner,
-    Body,
-    Content,
-    Room,
-    Sender,
-    Stale,
-    Ahead,
-    Digest,
-    Busy,
-    Exhausted,
-    Closed,
-    Record,
-    Unlisted,
+    Parties = 1,
+    Threshold = 2,
+    Length = 3,
+    Framing = 4,
+    Version = 5,
+    Kind = 6,
+    Owner = 7,
+    Body = 8,
+    Content = 9,
+    Room = 10,
+    Sender = 11,
+    Stale = 12,
+    Ahead = 13,
+    Digest = 14,
+    Busy = 15,
+    Exhausted = 16,
+    Closed = 17,
+    Record = 18,
+    Unlisted = 19,
 }
 
 // What comes before a frame's body, without length and version. The client is the operation's owner.
@@ -72,17 +72,17 @@ pub struct WriteTime {
     pub time: u64,
 }
 
-// What a server sends to all in a broadcast.
+// What a server sends to all in a broadcast, with the kind of its frame.
 #[derive(Clone, Copy)]
 pub enum Broadcast {
-    Echo,
-    Ready,
+    Echo = 4,
+    Ready = 5,
 }
 
-// What a client asks of all servers with no body.
+// What a client asks of all servers with no body, with the kind of its frame.
 #[derive(Clone, Copy)]
 pub enum Ask {
-    GetStamp,
-    Read,
-    ReadComplete,
+    GetStamp = 1,
+    Read = 10,
+    ReadComplete = 12,
 }

@@ -1,5 +1,4 @@
 use Rattle.std.specs.Prelude.{Err}
-use Rattle.frame.specs.Frames.{Opened}
 use Rattle.frame.proofs.Chain.{header_long, value_long, stop_framing, stop_header, stop_body, stop_content, opens_at_last}
 use mathlib.Core.Path.{◌≡◌, ◌∙◌}
 use borrow.Author.Rules.{rules}

@@ -1,15 +1,15 @@
+use borrow.Author.Rules.{rules}
 use Rattle.frame.specs.Frames.{kind_of}
-use Rattle.frame.proofs.Writing.{kind_of_ask}
 use Rattle.frame.proofs.send.ask_kind.Goals as goal
 
-pub returns-in-GetStamp : goal.returns-in-GetStamp
+pub returns : goal.returns
 unfolding kind_of
-returns-in-GetStamp c = kind_of_ask _ _ c.in-GetStamp.is
+returns c = search rules
 
-pub returns-in-Read : goal.returns-in-Read
+pub returns-2 : goal.returns-2
 unfolding kind_of
-returns-in-Read c = kind_of_ask _ _ c.in-Read.is
+returns-2 c = search rules
 
-pub returns-in-ReadComplete : goal.returns-in-ReadComplete
+pub returns-3 : goal.returns-3
 unfolding kind_of
-returns-in-ReadComplete c = kind_of_ask _ _ c.in-ReadComplete.is
+returns-3 c = search rules

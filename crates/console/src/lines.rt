@@ -72,7 +72,9 @@ impl<'a, C: Clock, S: Read> Lines<'a, C, S> {
     // The part that starts at next: up to a newline, or to the end of the piece.
     fn part(&mut self) -> Part<'_> {
         let start = self.next;
-        let newline = self.buffer[start..self.size].iter().position(|b| *b == b'\n');
+        let newline = self.buffer[start..self.size]
+            .iter()
+            .position(|b| *b == b'\n');
         let end = newline.map_or(self.size, |length| start + length);
         let ends = newline.is_some();
         self.next = if ends { end + 1 } else { end };

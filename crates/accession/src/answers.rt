@@ -2,20 +2,12 @@
 ghost use Rattle.std.specs.Prelude.{IfErr};
 ghost use Rattle.console.specs.Failures.{IsWriting};
 
-use crate::line::{Line, is_word};
+use crate::line::Line;
 use accession_index::{Found, Index, Insertion, number_of, rows_in};
-use case_text::fields::{Field, is_bytes, is_number};
-use console::counts::count_of;
+use case_text::fields::Field;
 use console::failure::Failure;
 use console::output::{put, put_decimal, put_refused, put_what};
 use std::io::Write;
-
-// The words `insert`, `search` and `index`, each as one number.
-const INSERT: u64 = 115923103347316;
-
-const SEARCH: u64 = 126879263777640;
-
-const INDEX: u64 = 452823639416;
 
 fn put_number<W: Write>(out: &mut W, place: u8) -> Result<(), Failure>
     ensures failed { IfErr result IsWriting }
@@ -62,44 +54,34 @@ fn put_index<W: Write>(out: &mut W, index: &Index) -> Result<(), Failure>
 }
 
 // The value is inserted by its first eight bytes: what follows them changes nothing.
-fn insert<W: Write>(index: &mut Index, line: Line, bytes: &[u8], out: &mut W) -> Result<(), Failure>
+fn insert<W: Write>(index: &mut Index, line: &Line, out: &mut W) -> Result<(), Failure>
     ensures failed { IfErr result IsWriting }
 {
-    if !is_bytes(line.argument) {
+    if !line.argument.is_bytes() {
         return put_what(out);
     }
-    let n = count_of(line.used, bytes);
-    let done = accession_index::insert(*index, &bytes[..n]);
+    let done = accession_index::insert(*index, line.bytes());
     *index = done.index;
     put_inserted(out, done.answer)
 }
 
-fn search<W: Write>(index: &Index, argument: Field, out: &mut W) -> Result<(), Failure>
+fn search<W: Write>(index: &Index, argument: &Field, out: &mut W) -> Result<(), Failure>
     ensures failed { IfErr result IsWriting }
 {
-    if !is_number(argument) || argument.large {
-        return put_what(out);
+    match argument.number.map(u64::try_from) {
+        Some(Ok(number)) => put_found(out, accession_index::search(*index, number)),
+        _ => put_what(out),
     }
-    put_found(out, accession_index::search(*index, argument.number))
 }
 
-// Answers a line, whose argument spells these bytes.
-pub fn answer<W: Write>(
-    index: &mut Index,
-    line: Line,
-    bytes: &[u8],
-    out: &mut W,
-) -> Result<(), Failure>
+// Answers a line.
+pub fn answer<W: Write>(index: &mut Index, line: &Line, out: &mut W) -> Result<(), Failure>
     ensures failed { IfErr result IsWriting }
 {
-    if is_word(line, 6, INSERT, 1) {
-        return insert(index, line, bytes, out);
+    match (line.word(), line.spaces) {
+        (b"insert", 1) => insert(index, line, out),
+        (b"search", 1) => search(index, &line.argument, out),
+        (b"index", 0) => put_index(out, index),
+        _ => put_what(out),
     }
-    if is_word(line, 6, SEARCH, 1) {
-        return search(index, line.argument, out);
-    }
-    if is_word(line, 5, INDEX, 0) {
-        return put_index(out, index);
-    }
-    put_what(out)
 }

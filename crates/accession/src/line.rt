@@ -1,76 +1,50 @@
 // A line of the input, read byte by byte: a word, and for two of the words one argument after a space.
-use case_text::fields::{Field, field_with, no_field, store};
+use arrayvec::ArrayVec;
+use case_text::fields::Field;
 
-// Its word; how many spaces it has, 2 meaning more than 1; the argument, and how many bytes that spells, 8 meaning 8 or more.
-#[derive(Clone, Copy)]
+// Its word; how many spaces it has; the argument, and the first eight bytes that it spells.
+#[derive(Drop)]
 pub struct Line {
-    pub word: Field,
-    pub spaces: u8,
+    word: Field,
+    pub spaces: u64,
     pub argument: Field,
-    pub used: usize,
+    bytes: ArrayVec<u8, 8>,
 }
 
-pub fn no_line() -> Line {
-    Line {
-        word: no_field(),
-        spaces: 0,
-        argument: no_field(),
-        used: 0,
+impl Line {
+    pub fn new() -> Line {
+        Line {
+            word: Field::new(),
+            spaces: 0,
+            argument: Field::new(),
+            bytes: ArrayVec::new(),
+        }
     }
-}
 
-// The line with one more space.
-fn spaced(line: Line) -> Line {
-    let mut r = line;
-    if line.spaces < 2 {
-        r.spaces = line.spaces + 1;
+    // Adds a byte, which is not a newline.
+    fn add_byte(&mut self, b: u8) {
+        if b == b' ' {
+            self.spaces = self.spaces.saturating_add(1);
+        } else if self.spaces == 0 {
+            self.word.add(b);
+        } else if let Some(byte) = self.argument.add(b) {
+            let _ = self.bytes.try_push(byte);
+        }
     }
-    r
-}
 
-// The line with one more byte of its argument.
-fn add_to_argument(line: Line, b: u8, bytes: &mut [u8]) -> Line {
-    let f = line.argument;
-    let y = field_with(f, b);
-    let mut r = line;
-    r.argument = y;
-    if f.odd {
-        r.used = store(bytes, line.used, f.half, y.half);
+    // Adds a part.
+    pub fn add(&mut self, part: &[u8]) {
+        for b in part {
+            self.add_byte(*b);
+        }
     }
-    r
-}
 
-// The line with one more byte, which is not a newline; the first eight bytes that the argument spells go into bytes.
-fn add_byte(line: Line, b: u8, bytes: &mut [u8]) -> Line {
-    if b == b' ' {
-        return spaced(line);
+    pub fn word(&self) -> &[u8] {
+        self.word.word()
     }
-    if line.spaces != 0 {
-        return add_to_argument(line, b, bytes);
-    }
-    let word = field_with(line.word, b);
-    let mut r = line;
-    r.word = word;
-    r
-}
 
-// The line with one more part.
-pub fn add_part(line: Line, part: &[u8], bytes: &mut [u8]) -> Line {
-    let mut y = line;
-    for b in part {
-        y = add_byte(y, *b, bytes);
+    // What its argument spells, up to eight bytes.
+    pub fn bytes(&self) -> &[u8] {
+        self.bytes.as_slice()
     }
-    y
-}
-
-// Whether the line is this word, of the given number of bytes, followed by the given number of spaces.
-pub fn is_word(line: Line, length: usize, word: u64, spaces: u8) -> bool {
-    let f = line.word;
-    if f.length != length {
-        return false;
-    }
-    if f.word != word {
-        return false;
-    }
-    line.spaces == spaces
 }

@@ -4,7 +4,7 @@ ghost use Rattle.console.specs.Failures.{IsWriting};
 
 use crate::line::Line;
 use accession_index::{Index, number_of, rows_in};
-use case_text::fields::{Field, is_bytes, is_number};
+use case_text::fields::Field;
 use console::failure::Failure;
 use console::output::{put, put_decimal, put_refused, put_what};
 use std::io::Write;
@@ -39,22 +39,22 @@ fn put_index<W: Write>(out: &mut W, index: &Index) -> Result<(), Failure>
 fn insert<W: Write>(index: &mut Index, line: &Line, out: &mut W) -> Result<(), Failure>
     ensures failed { IfErr result IsWriting }
 {
-    if !is_bytes(line.argument) {
+    if !line.argument.is_bytes() {
         return put_what(out);
     }
-    match index.insert(line.value()) {
+    match index.insert(line.bytes()) {
         Ok(place) => put_place(out, place),
         Err(refusal) => put_refused(out, number_of(refusal)),
     }
 }
 
-fn search<W: Write>(index: &Index, argument: Field, out: &mut W) -> Result<(), Failure>
+fn search<W: Write>(index: &Index, argument: &Field, out: &mut W) -> Result<(), Failure>
     ensures failed { IfErr result IsWriting }
 {
-    if !is_number(argument) || argument.large {
+    let Some(Ok(number)) = argument.number.map(u64::try_from) else {
         return put_what(out);
-    }
-    match index.search(argument.number) {
+    };
+    match index.search(number) {
         Some(place) => put_place(out, place),
         None => put(out, b"none\n"),
     }
@@ -64,13 +64,10 @@ fn search<W: Write>(index: &Index, argument: Field, out: &mut W) -> Result<(), F
 pub fn answer<W: Write>(index: &mut Index, line: &Line, out: &mut W) -> Result<(), Failure>
     ensures failed { IfErr result IsWriting }
 {
-    if line.is_word(b"insert", 1) {
-        insert(index, line, out)
-    } else if line.is_word(b"search", 1) {
-        search(index, line.argument, out)
-    } else if line.is_word(b"index", 0) {
-        put_index(out, index)
-    } else {
-        put_what(out)
+    match (line.word(), line.spaces) {
+        (b"insert", 1) => insert(index, line, out),
+        (b"search", 1) => search(index, &line.argument, out),
+        (b"index", 0) => put_index(out, index),
+        _ => put_what(out),
     }
 }

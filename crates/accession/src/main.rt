@@ -7,7 +7,7 @@ use crate::line::Line;
 use accession_index::Index;
 use console::failure::{Failure, report};
 use console::input::open_input;
-use console::lines::{next_part, no_part};
+use console::lines::Lines;
 use console::output::{flush, nothing};
 use std::io::{Read, Write};
 use std::rt::{Clock, Runtime};
@@ -21,19 +21,17 @@ fn read_all<C: Clock, S: Read, W: Write>(
     source: &mut S,
     out: &mut W,
 ) -> Result<(), Failure> {
-    let mut chunk = [0u8; 65536];
     let mut index = Index::fresh();
+    let mut lines = Lines::new(clock, source);
     let mut line = Line::new();
-    let mut part = no_part();
     for _ in 0..u64::MAX {
-        part = next_part(part, clock, source, &mut chunk, out)?;
-        line.add_part(&chunk[part.start..part.end]);
+        let Some(part) = lines.next_part(out)? else {
+            break;
+        };
+        line.add(part.text);
         if part.ends {
             answer(&mut index, &line, out)?;
             line = Line::new();
-        }
-        if !part.more {
-            break;
         }
     }
     flush(out)

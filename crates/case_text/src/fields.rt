@@ -1,137 +1,82 @@
 // A field of a line, read byte by byte, so that it may be of any length.
-ghost use Rattle.std.specs.Prelude.{◌≤◌};
+ghost use Rattle.std.specs.Prelude.{◌≡◌, ◌≤◌, min, option_map, IfSome};
 
 use crate::text::digit;
+use arrayvec::ArrayVec;
 
-// How many bytes it has, 9 for any number above 8; the last eight of them as one number; its value as a decimal number, modulo 2^64; whether all of it are
-// decimal digits without leading zeros, and whether the value is 2^64 or more; whether all of it are hexadecimal digits, whether they are odd in number, and
-// the last of them.
-#[derive(Clone, Copy)]
+// How many bytes of a field are kept: one more than any word has.
+const KEPT: usize = 9;
+
+// The bytes that pairs of digits spell: every digit has its pair; the first one of a pair waits, as the upper half of a byte; or some byte was no digit.
+#[derive(Clone, Copy, Debug, PartialEq, Eq)]
+enum Pairs {
+    Whole,
+    Half(u8),
+    Broken,
+}
+
+// Its first bytes; its value, if it is a decimal number without leading zeros, where the largest u128 stands for a larger one too; and what it spells.
+#[derive(Drop)]
 pub struct Field {
-    pub length: usize,
-    pub word: u64,
-    pub number: u64,
-    pub decimal: bool,
-    pub large: bool,
-    pub hex: bool,
-    pub odd: bool,
-    pub half: u8,
+    front: ArrayVec<u8, KEPT>,
+    pub number: Option<u128>,
+    pairs: Pairs,
 }
 
-pub fn no_field() -> Field {
-    Field {
-        length: 0,
-        word: 0,
-        number: 0,
-        decimal: true,
-        large: false,
-        hex: true,
-        odd: false,
-        half: 0,
+impl Field {
+    pub fn new() -> Field {
+        Field {
+            front: ArrayVec::new(),
+            number: None,
+            pairs: Pairs::Whole,
+        }
     }
-}
 
-fn longer(length: usize) -> usize {
-    if length < 9 {
-        return length + 1;
+    // The number with one more digit.
+    fn number_with(&self, d: u8) -> Option<u128> {
+        if 9 < d {
+            return None;
+        }
+        if self.front.is_empty() {
+            return Some(u128::from(d));
+        }
+        let n = self.number.filter(|n| *n != 0)?;
+        Some(n.saturating_mul(10).saturating_add(u128::from(d)))
     }
-    9
-}
 
-// Whether a decimal number reaches 2^64 with one more digit, this one.
-fn is_large(f: Field, d: u8) -> bool {
-    if f.large {
-        return true;
+    // Adds a byte, and answers the byte that it spells with the digit before it, if it ends a pair.
+    pub fn add(&mut self, b: u8) -> Option<u8> {
+        let d = digit(b);
+        self.number = d.and_then(|d| self.number_with(d));
+        let _ = self.front.try_push(b);
+        let (pairs, byte) = match (self.pairs, d) {
+            (Pairs::Whole, Some(high)) => (Pairs::Half(high * 16), None),
+            (Pairs::Half(high), Some(low)) => (Pairs::Whole, Some(high | low)),
+            _ => (Pairs::Broken, None),
+        };
+        self.pairs = pairs;
+        byte
     }
-    if f.number < 1844674407370955161 {
-        return false;
-    }
-    if 1844674407370955161 < f.number {
-        return true;
-    }
-    5 < d
-}
 
-// Whether a field that is a decimal number without leading zeros still is with this digit added.
-fn stays_decimal(f: Field, d: u8) -> bool {
-    if !f.decimal {
-        return false;
+    // Its first bytes: all of them, if it is a word.
+    pub fn word(&self) -> &[u8] {
+        self.front.as_slice()
     }
-    if 9 < d {
-        return false;
-    }
-    if f.length == 0 {
-        return true;
-    }
-    f.number != 0
-}
 
-fn stays_hex(hex: bool, d: u8) -> bool {
-    if !hex {
-        return false;
+    // Its value as a decimal number, or 1000 if it is larger: more than any number of parties or length of a value may be.
+    pub fn capped(&self) -> Option<usize>
+        ensures most { IfSome result (λ n. n ≤ 1000) }
+        ensures value { result ≡ option_map (λ n. min n 1000) self.now.number }
+    {
+        self.number.map(|n| n.min(1000) as usize)
     }
-    d < 16
-}
 
-fn number_with(number: u64, d: u8) -> u64 {
-    (number % 1844674407370955162 * 10).wrapping_add(d as u64)
-}
-
-// The field with one more byte.
-pub fn field_with(f: Field, b: u8) -> Field {
-    let d = digit(b);
-    Field {
-        length: longer(f.length),
-        word: f.word % 72057594037927936 * 256 + b as u64,
-        number: number_with(f.number, d),
-        decimal: stays_decimal(f, d),
-        large: is_large(f, d),
-        hex: stays_hex(f.hex, d),
-        odd: !f.odd,
-        half: d,
+    // Whether it spells bytes: two digits each, or `-` for none.
+    pub fn is_bytes(&self) -> bool {
+        match self.word() {
+            b"" => false,
+            b"-" => true,
+            _ => self.pairs == Pairs::Whole,
+        }
     }
-}
-
-// Stores the byte that two digits spell after the bytes that are used, if there is room, and answers how many are used then.
-pub fn store(bytes: &mut [u8], used: usize, high: u8, low: u8) -> usize {
-    if bytes.len() <= used {
-        return used;
-    }
-    bytes[used] = high % 16 * 16 + low % 16;
-    used + 1
-}
-
-// Whether a field is a decimal number without leading zeros.
-pub fn is_number(f: Field) -> bool {
-    if f.length == 0 {
-        return false;
-    }
-    f.decimal
-}
-
-// A field's value as a decimal number, or 1000 if it is larger: more than any number of parties or length of a value may be.
-pub fn capped(f: Field) -> usize
-    ensures { result ≤ 1000 }
-{
-    if f.large {
-        return 1000;
-    }
-    if 1000 < f.number {
-        return 1000;
-    }
-    f.number as usize
-}
-
-// Whether a field spells bytes: two digits each, or `-` for none.
-pub fn is_bytes(f: Field) -> bool {
-    if f.length == 0 {
-        return false;
-    }
-    if f.length == 1 {
-        return f.word == 0x2d;
-    }
-    if f.odd {
-        return false;
-    }
-    f.hex
 }

@@ -26,10 +26,7 @@ impl std::error::Error for Failure {}
 pub fn written(outcome: io::Result<()>) -> Result<(), Failure>
     ensures { IfErr result IsWriting }
 {
-    match outcome {
-        Ok(()) => Ok(()),
-        Err(error) => Err(Failure::Writing(error)),
-    }
+    outcome.map_err(Failure::Writing)
 }
 
 // Says on standard error why a program stopped, if it did. Where that can't be written either, nothing can be said.

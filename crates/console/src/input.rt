@@ -4,7 +4,7 @@ ghost use Rattle.std.specs.Io.{ReadsAtMost};
 ghost use Rattle.console.specs.Failures.{IsReading};
 
 use crate::failure::Failure;
-use crate::patience::{is_put_off, left_after};
+use crate::patience::is_put_off;
 use std::env::FillError;
 use std::io::Read;
 use std::rt::{Clock, Env, Files};
@@ -76,15 +76,13 @@ pub fn read_piece<C: Clock, S: Read>(
     ensures failed { IfErr result IsReading }
 {
     let mut outcome = source.read(buf);
-    let mut left = left_after(u64::MAX, is_put_off(clock, &outcome));
-    while 0 < left {
+    for _ in 0..u64::MAX {
+        if !is_put_off(clock, &outcome) {
+            break;
+        }
         outcome = source.read(buf);
-        left = left_after(left, is_put_off(clock, &outcome));
     }
-    match outcome {
-        Ok(count) => Ok(count),
-        Err(error) => Err(Failure::Reading(error)),
-    }
+    outcome.map_err(Failure::Reading)
 }
 
 // Reads the input to its end, or until the buffer is full, and answers how many bytes it has.

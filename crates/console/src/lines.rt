@@ -1,96 +1,102 @@
 // The lines of an input, part by part, so that a line may be of any length. The answers that wait are written before more is read.
-ghost use Rattle.std.specs.Prelude.{◌≤◌, length, IfOk};
+ghost use Rattle.std.specs.Prelude.{◌≤◌};
 
-use crate::counts::count_of;
 use crate::failure::Failure;
 use crate::input::read_piece;
 use crate::output::flush;
-use case_text::text::until;
 use std::io::{Read, Write};
 use std::rt::Clock;
 
-// A part of a line: where it starts and ends in the buffer, whether the line ends with it, and whether the input may have more. How many bytes of the buffer
-// were read, and at which of them the next part starts; whether a line has begun and not ended.
-#[derive(Clone, Copy)]
-pub struct Part {
-    pub start: usize,
-    pub end: usize,
+// How many bytes are read at a time.
+const ROOM: usize = 65536;
+
+// Where reading stands: between lines, within a line that has begun and not ended, or at the input's end.
+#[derive(Clone, Copy, Debug, PartialEq, Eq)]
+enum Place {
+    Between,
+    Within,
+    Over,
+}
+
+// A part of a line, and whether the line ends with it.
+#[derive(Clone, Copy, Debug)]
+pub struct Part<'a> {
+    pub text: &'a [u8],
     pub ends: bool,
-    pub more: bool,
-    pub size: usize,
-    pub next: usize,
-    pub begun: bool,
 }
 
-// An empty part, with nothing left in the buffer.
-fn empty(ends: bool, more: bool, begun: bool) -> Part
-    ensures { (result.start ≤ 0) × (result.end ≤ 0) }
-{
-    Part {
-        start: 0,
-        end: 0,
-        ends,
-        more,
-        size: 0,
-        next: 0,
-        begun,
+// An input whose parts are taken one after the other: the piece that was read last lies in the buffer before index size, and the next part starts at next.
+#[derive(Drop)]
+pub struct Lines<'a, C, S> {
+    clock: &'a C,
+    source: &'a mut S,
+    buffer: [u8; ROOM],
+    next: usize,
+    size: usize,
+    place: Place,
+    ghost order: { next ≤ size },
+    ghost room: { size ≤ 65536 },
+}
+
+impl<'a, C: Clock, S: Read> Lines<'a, C, S> {
+    // Before the first part.
+    pub fn new(clock: &'a C, source: &'a mut S) -> Lines<'a, C, S> {
+        Lines {
+            clock,
+            source,
+            buffer: [0; ROOM],
+            next: 0,
+            size: 0,
+            place: Place::Between,
+        }
     }
-}
 
-// Before the first part.
-pub fn no_part() -> Part {
-    empty(false, true, false)
-}
-
-// The part of a line that starts at index at of what was read, up to a newline or to the end.
-fn part_at(read: &[u8], at: usize) -> Part
-    requires { at ≤ length read.now }
-    ensures { (result.start ≤ result.end) × (result.end ≤ length read.now) }
-{
-    let size = read.len();
-    let end = until(read, at, b'\n');
-    let ends = end < size;
-    Part {
-        start: at,
-        end,
-        ends,
-        more: true,
-        size,
-        next: if ends { end + 1 } else { end },
-        begun: !ends,
+    // Reads the next piece.
+    fn read(&mut self) -> Result<usize, Failure> {
+        self.next = 0;
+        self.size = 0;
+        self.size = read_piece(self.clock, self.source, &mut self.buffer)?;
+        Ok(self.size)
     }
-}
 
-// Reads the next piece. Where the input ends, a line that has begun ends too.
-fn read_part<C: Clock, S: Read>(
-    clock: &C,
-    source: &mut S,
-    buf: &mut [u8],
-    begun: bool,
-) -> Result<Part, Failure>
-    ensures { IfOk result (λ p. (p.start ≤ p.end) × (p.end ≤ length buf.new)) }
-{
-    let n = read_piece(clock, source, buf)?;
-    if n == 0 {
-        return Ok(empty(begun, false, begun));
+    // Where the input ends, a line that has begun ends too.
+    fn last_part(&mut self) -> Option<Part<'static>> {
+        let begun = self.place == Place::Within;
+        self.place = Place::Over;
+        begun.then_some(Part {
+            text: b"",
+            ends: true,
+        })
     }
-    Ok(part_at(&buf[..n], 0))
-}
 
-// The part that follows p. What the program has put since p is written before more is read.
-pub fn next_part<C: Clock, S: Read, W: Write>(
-    p: Part,
-    clock: &C,
-    source: &mut S,
-    buf: &mut [u8],
-    out: &mut W,
-) -> Result<Part, Failure>
-    ensures { IfOk result (λ p. (p.start ≤ p.end) × (p.end ≤ length buf.new)) }
-{
-    let n = count_of(p.size, buf);
-    if p.next < n {
-        return Ok(part_at(&buf[..n], p.next));
+    // The part that starts at next: up to a newline, or to the end of the piece.
+    fn part(&mut self) -> Part<'_> {
+        let start = self.next;
+        let newline = self.buffer[start..self.size]
+            .iter()
+            .position(|b| *b == b'\n');
+        let end = newline.map_or(self.size, |length| start + length);
+        let ends = newline.is_some();
+        self.next = if ends { end + 1 } else { end };
+        self.place = if ends { Place::Between } else { Place::Within };
+        let lines = &*self;
+        Part {
+            text: &lines.buffer[start..end],
+            ends,
+        }
     }
-    flush(out)?;
-    read_part(clock, source, buf, p.begun)
+
+    // The next part; none at the input's end. What the program has put is written before more is read.
+    pub fn next_part<W: Write>(&mut self, out: &mut W) -> Result<Option<Part<'_>>, Failure> {
+        if self.place == Place::Over {
+            return Ok(None);
+        }
+        if self.next == self.size {
+            flush(out)?;
+            if self.read()? == 0 {
+                return Ok(self.last_part());
+            }
+        }
+        Ok(Some(self.part()))
+    }
 }

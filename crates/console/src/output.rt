@@ -2,9 +2,9 @@
 ghost use Rattle.std.specs.Prelude.{IfErr};
 ghost use Rattle.console.specs.Failures.{IsWriting};
 
-use crate::counts::count_of;
 use crate::failure::{Failure, written};
-use crate::patience::{is_put_off, left_after};
+use crate::patience::is_put_off;
+use arrayvec::ArrayVec;
 use std::io;
 use std::io::Write;
 use std::rt::Clock;
@@ -22,10 +22,11 @@ impl<R: Print + Clock> Write for Patient<'_, R> {
             return Err(error);
         }
         let mut outcome = self.rt.write_some(buf);
-        let mut left = left_after(u64::MAX, is_put_off(self.rt, &outcome));
-        while 0 < left {
+        for _ in 0..u64::MAX {
+            if !is_put_off(self.rt, &outcome) {
+                break;
+            }
             outcome = self.rt.write_some(buf);
-            left = left_after(left, is_put_off(self.rt, &outcome));
         }
         self.failed = outcome.err();
         outcome
@@ -39,36 +40,32 @@ impl<R: Print + Clock> Write for Patient<'_, R> {
 // How many bytes wait at most.
 const ROOM: usize = 65536;
 
-// Standard output, with the bytes that wait at the front of its area. What waits when it is dropped is not written.
+// Standard output, with the bytes that wait. What waits when it is dropped is not written.
 #[derive(Drop)]
 pub struct Out<'a, R> {
     patient: Patient<'a, R>,
-    area: [u8; ROOM],
-    used: usize,
+    waiting: ArrayVec<u8, ROOM>,
 }
 
 impl<R: Print + Clock> Out<'_, R> {
     // Writes what waits.
     fn send(&mut self) -> io::Result<()> {
-        let n = count_of(self.used, &self.area);
-        self.used = 0;
-        self.patient.write_all(&self.area[..n])
+        let outcome = self.patient.write_all(self.waiting.as_slice());
+        self.waiting.clear();
+        outcome
     }
 }
 
 impl<R: Print + Clock> Write for Out<'_, R> {
     // What waits is written if the bytes do not fit after it; what doesn't fit at all does not wait.
     fn write(&mut self, buf: &[u8]) -> io::Result<usize> {
-        if ROOM - count_of(self.used, &self.area) < buf.len() {
+        if self.waiting.remaining_capacity() < buf.len() {
             self.send()?;
         }
-        let n = count_of(self.used, &self.area);
-        if ROOM - n < buf.len() {
+        if self.waiting.remaining_capacity() < buf.len() {
             return self.patient.write(buf);
         }
-        area::put(&mut self.area, n, buf);
-        self.used = n + buf.len();
-        Ok(buf.len())
+        self.waiting.write(buf)
     }
 
     fn flush(&mut self) -> io::Result<()> {
@@ -80,8 +77,7 @@ impl<R: Print + Clock> Write for Out<'_, R> {
 pub fn nothing<R: Print + Clock>(rt: &R) -> Out<'_, R> {
     Out {
         patient: Patient { rt, failed: None },
-        area: [0; ROOM],
-        used: 0,
+        waiting: ArrayVec::new(),
     }
 }
 
@@ -104,16 +100,6 @@ pub fn put_decimal<W: Write>(out: &mut W, x: u64) -> Result<(), Failure>
     ensures failed { IfErr result IsWriting }
 {
     written(write!(out, "{x}"))
-}
-
-// Puts bytes as hexadecimal digits.
-pub fn put_hex<W: Write>(out: &mut W, bytes: &[u8]) -> Result<(), Failure>
-    ensures failed { IfErr result IsWriting }
-{
-    for byte in bytes {
-        written(write!(out, "{byte:02x}"))?;
-    }
-    Ok(())
 }
 
 // Puts the answer to a line that the program does not understand.

@@ -1,6 +1,4 @@
-// Calls that fail only for now, and loops that make such a call again.
-ghost use Rattle.std.specs.Prelude.{◌<◌};
-
+// Calls that fail only for now, and are to be made again.
 use std::io::ErrorKind;
 use std::rt::Clock;
 use std::time::Duration;
@@ -29,12 +27,4 @@ pub fn is_put_off<T>(clock: &impl Clock, outcome: &io::Result<T>) -> bool {
         Ok(_) => false,
         Err(error) => is_again(clock, error),
     }
-}
-
-// How many turns a loop has left after one of them: none if it is not to go on.
-pub fn left_after(left: u64, more: bool) -> u64
-    requires { 0 < left }
-    ensures { result < left }
-{
-    if more { left - 1 } else { 0 }
 }

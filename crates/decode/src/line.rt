@@ -1,132 +1,100 @@
 // A line of the input, read byte by byte, so that it may be of any length: `decode N T K L ROOM NUMBERS BLOCKS`, with one space between fields.
-use case_text::fields::{Field, capped, field_with, is_bytes, is_number, no_field, store};
+use arrayvec::ArrayVec;
+use blocks::Params;
+use case_text::fields::Field;
 
-// How many fields a line has, and the places of the last two. The word `decode` has place 0; N, T, K, L and ROOM follow it.
-const FIELDS: usize = 8;
+// How many bytes of NUMBERS and of BLOCKS are kept, as in specs/Kept.antt: one more than any decoding can use, which takes at most ten blocks of 256 bytes. So
+// a longer field is refused for its length, as it would be if all of it were kept.
+const NUMBERS_KEPT: usize = 11;
 
+const BYTES_KEPT: usize = 2561;
+
+// The places of the last two fields. The word `decode` has place 0; N, T, K, L and ROOM follow it.
 const NUMBERS: usize = 6;
 
 const BLOCKS: usize = 7;
 
-// The word `decode`, as one number, and how many bytes it has.
-const DECODE: u64 = 0x6465636f6465;
-
-const DECODE_LENGTH: usize = 6;
-
-// The place of the field being read, 8 for any after the last; whether each field before it has the form that its place asks for, and its value as a decimal
-// number, or 1000 if it is larger; the field being read; and how many bytes of NUMBERS and of BLOCKS are kept.
-#[derive(Clone, Copy)]
+// The place of the field being read; the numbers before it, or none once a field has not the form that its place asks for; that field; and what is kept of
+// NUMBERS and of BLOCKS.
+#[derive(Drop)]
 pub struct Line {
-    pub place: usize,
-    pub right: bool,
-    pub values: [usize; FIELDS],
-    pub field: Field,
-    pub numbers: usize,
-    pub blocks: usize,
+    place: usize,
+    values: Option<[usize; NUMBERS]>,
+    field: Field,
+    numbers: ArrayVec<u8, NUMBERS_KEPT>,
+    blocks: ArrayVec<u8, BYTES_KEPT>,
 }
 
-pub fn no_line() -> Line {
-    Line {
-        place: 0,
-        right: true,
-        values: [0; FIELDS],
-        field: no_field(),
-        numbers: 0,
-        blocks: 0,
-    }
+// What a whole line asks for: the parameters, how many bytes the value may take, the blocks' numbers and the blocks.
+#[derive(Clone, Copy)]
+pub struct Ask<'a> {
+    pub params: Params,
+    pub room: usize,
+    pub numbers: &'a [u8],
+    pub blocks: &'a [u8],
 }
 
-fn is_decode(f: Field) -> bool {
-    if f.length != DECODE_LENGTH {
-        return false;
+impl Line {
+    pub fn new() -> Line {
+        Line {
+            place: 0,
+            values: Some([0; NUMBERS]),
+            field: Field::new(),
+            numbers: ArrayVec::new(),
+            blocks: ArrayVec::new(),
+        }
     }
-    f.word == DECODE
-}
 
-// Whether a field has the form that its place asks for.
-fn fits(place: usize, f: Field) -> bool {
-    if place == 0 {
-        return is_decode(f);
+    // The numbers with that of the field being read, which ends; none if a field has not its form.
+    fn ended(&self) -> Option<[usize; NUMBERS]> {
+        let mut values = self.values?;
+        match self.place {
+            0 if self.field.word() == b"decode".as_slice() => Some(values),
+            NUMBERS | BLOCKS if self.field.is_bytes() => Some(values),
+            place @ 1..NUMBERS => {
+                values[place] = self.field.capped()?;
+                Some(values)
+            }
+            _ => None,
+        }
     }
-    if place < NUMBERS {
-        return is_number(f);
-    }
-    is_bytes(f)
-}
 
-// The line after the end of the field being read.
-fn ended(line: Line) -> Line {
-    let i = line.place;
-    let f = line.field;
-    if FIELDS <= i {
-        return line;
+    // Adds a byte, which is not a newline; the bytes that NUMBERS and BLOCKS spell are kept while there is room.
+    fn add_byte(&mut self, b: u8) {
+        if b == b' ' {
+            self.values = self.ended();
+            self.place = self.place.saturating_add(1);
+            self.field = Field::new();
+            return;
+        }
+        let Some(byte) = self.field.add(b) else {
+            return;
+        };
+        let _ = match self.place {
+            NUMBERS => self.numbers.try_push(byte),
+            BLOCKS => self.blocks.try_push(byte),
+            _ => Ok(()),
+        };
     }
-    let mut r = line;
-    r.values[i] = capped(f);
-    if !fits(i, f) {
-        r.right = false;
-    }
-    r
-}
 
-fn next_place(place: usize) -> usize {
-    if place < FIELDS {
-        return place + 1;
+    // Adds a part.
+    pub fn add(&mut self, part: &[u8]) {
+        for b in part {
+            self.add_byte(*b);
+        }
     }
-    FIELDS
-}
 
-// The line after a space.
-fn next_field(line: Line) -> Line {
-    let mut r = ended(line);
-    let f = no_field();
-    r.place = next_place(line.place);
-    r.field = f;
-    r
-}
-
-// The line with one more byte of a field; the bytes that NUMBERS and BLOCKS spell are kept while there is room.
-fn add_to_field(line: Line, b: u8, numbers: &mut [u8], blocks: &mut [u8]) -> Line {
-    let f = line.field;
-    let y = field_with(f, b);
-    let mut r = line;
-    r.field = y;
-    if !f.odd {
-        return r;
+    // What the line asks for, if it ends here and has all its fields, each in its form.
+    pub fn ask(&self) -> Option<Ask<'_>> {
+        if self.place != BLOCKS {
+            return None;
+        }
+        let [_, n, t, k, size, room] = self.ended()?;
+        Some(Ask {
+            params: Params { n, t, k, size },
+            room,
+            numbers: self.numbers.as_slice(),
+            blocks: self.blocks.as_slice(),
+        })
     }
-    if line.place == NUMBERS {
-        r.numbers = store(numbers, line.numbers, f.half, y.half);
-        return r;
-    }
-    if line.place == BLOCKS {
-        r.blocks = store(blocks, line.blocks, f.half, y.half);
-        return r;
-    }
-    r
-}
-
-// The line with one more byte, which is not a newline.
-fn add_byte(line: Line, b: u8, numbers: &mut [u8], blocks: &mut [u8]) -> Line {
-    if b == b' ' {
-        return next_field(line);
-    }
-    add_to_field(line, b, numbers, blocks)
-}
-
-// The line with one more part.
-pub fn add_part(line: Line, part: &[u8], numbers: &mut [u8], blocks: &mut [u8]) -> Line {
-    let mut y = line;
-    for b in part {
-        y = add_byte(y, *b, numbers, blocks);
-    }
-    y
-}
-
-// Whether a line that ends here has all its fields, each in its form.
-pub fn is_whole(line: Line) -> bool {
-    let y = ended(line);
-    if y.place != BLOCKS {
-        return false;
-    }
-    y.right
 }

@@ -1,173 +1,109 @@
 // A line of the script, read byte by byte: up to six fields with one space between, and the bytes that its last field spells.
-use case_text::fields::{Field, capped, field_with, is_bytes, is_number, no_field, store};
+use arrayvec::ArrayVec;
+use case_text::fields::Field;
 
-// The words of the script, by number; 0 is any other word.
-pub const HALL: u8 = 1;
+// One more than the most fields that a line has: a line with that many has too many.
+const FIELDS: usize = 7;
 
-pub const SERVER: u8 = 2;
+// A frame has at most 65537 bytes, by its length field. A field that spells more fills the last place too; no frame and no value is that long.
+const BYTES: usize = 65538;
 
-pub const CLIENT: u8 = 3;
+// The words of the script.
+#[derive(Clone, Copy, Debug, PartialEq, Eq)]
+pub enum Word {
+    Hall,
+    Server,
+    Client,
+    FromClient,
+    FromServer,
+    Read,
+    Write,
+}
 
-pub const FROM_CLIENT: u8 = 4;
+impl Word {
+    fn spelt(text: &[u8]) -> Option<Word> {
+        match text {
+            b"hall" => Some(Word::Hall),
+            b"S" => Some(Word::Server),
+            b"C" => Some(Word::Client),
+            b"c" => Some(Word::FromClient),
+            b"s" => Some(Word::FromServer),
+            b"read" => Some(Word::Read),
+            b"write" => Some(Word::Write),
+            _ => None,
+        }
+    }
+}
 
-pub const FROM_SERVER: u8 = 5;
-
-pub const READ: u8 = 6;
-
-pub const WRITE: u8 = 7;
-
-// How they are spelt, as one number, the first byte first: hall, read, write, S, C, c and s.
-const SPELT_HALL: u64 = 0x68616c6c;
-
-const SPELT_READ: u64 = 0x72656164;
-
-const SPELT_WRITE: u64 = 0x7772697465;
-
-const SPELT_SERVER: u64 = 0x53;
-
-const SPELT_CLIENT: u64 = 0x43;
-
-const SPELT_FROM_CLIENT: u64 = 0x63;
-
-const SPELT_FROM_SERVER: u64 = 0x73;
-
-// What is kept of a field: which word it is; whether it is a decimal number, and its value, 1000 meaning 1000 or more; whether it spells bytes.
-#[derive(Clone, Copy)]
+// What is kept of a field: which word it is; its value as a decimal number, 1000 meaning 1000 or more; whether it spells bytes.
+#[derive(Clone, Copy, Debug, Default)]
 pub struct Mark {
-    pub word: u8,
-    pub decimal: bool,
-    pub number: u16,
+    pub word: Option<Word>,
+    pub number: Option<usize>,
     pub bytes: bool,
 }
 
-// The place of the field being read, 6 meaning too many fields; what is kept of the fields before it; that field; and how many bytes it spells so far.
-#[derive(Clone, Copy)]
+// What is kept of the fields that have ended, the field being read, and the bytes that the last of them all spells so far.
+#[derive(Drop)]
 pub struct Line {
-    pub last: usize,
-    pub marks: [Mark; 6],
-    pub field: Field,
-    pub used: usize,
+    marks: ArrayVec<Mark, FIELDS>,
+    field: Field,
+    bytes: ArrayVec<u8, BYTES>,
 }
 
-fn no_mark() -> Mark {
-    Mark {
-        word: 0,
-        decimal: false,
-        number: 0,
-        bytes: false,
-    }
-}
-
-pub fn no_line() -> Line {
-    Line {
-        last: 0,
-        marks: [no_mark(); 6],
-        field: no_field(),
-        used: 0,
-    }
-}
-
-// The number of a word with this length in bytes.
-fn word_of(length: usize, word: u64) -> u8 {
-    if length == 1 {
-        return letter_of(word);
-    }
-    if length == 4 {
-        if word == SPELT_HALL {
-            return HALL;
-        }
-        if word == SPELT_READ {
-            return READ;
-        }
-        return 0;
-    }
-    if length == 5 {
-        if word == SPELT_WRITE {
-            return WRITE;
+impl Line {
+    pub fn new() -> Line {
+        Line {
+            marks: ArrayVec::new(),
+            field: Field::new(),
+            bytes: ArrayVec::new(),
         }
     }
-    0
-}
 
-fn letter_of(word: u64) -> u8 {
-    if word == SPELT_SERVER {
-        return SERVER;
+    // Ends the field that is being read.
+    fn end_field(&mut self) {
+        let mark = Mark {
+            word: Word::spelt(self.field.word()),
+            number: self.field.capped(),
+            bytes: self.field.is_bytes(),
+        };
+        let _ = self.marks.try_push(mark);
+        self.field = Field::new();
     }
-    if word == SPELT_CLIENT {
-        return CLIENT;
-    }
-    if word == SPELT_FROM_CLIENT {
-        return FROM_CLIENT;
-    }
-    if word == SPELT_FROM_SERVER {
-        return FROM_SERVER;
-    }
-    0
-}
 
-fn mark_of(f: Field) -> Mark {
-    Mark {
-        word: word_of(f.length, f.word),
-        decimal: is_number(f),
-        number: capped(f) as u16,
-        bytes: is_bytes(f),
+    // Adds a byte, which is not a newline.
+    fn add_byte(&mut self, b: u8) {
+        if b == b' ' {
+            self.end_field();
+            self.bytes.clear();
+        } else if let Some(byte) = self.field.add(b) {
+            let _ = self.bytes.try_push(byte);
+        }
     }
-}
 
-// The line at its end: the field that was being read is kept, too.
-pub fn ended(line: Line) -> Line {
-    let i = line.last;
-    if 6 <= i {
-        return line;
+    // Adds a part, with which the line may end.
+    pub fn add(&mut self, part: &[u8], ends: bool) {
+        for b in part {
+            self.add_byte(*b);
+        }
+        if ends {
+            self.end_field();
+        }
     }
-    let mark = mark_of(line.field);
-    let mut r = line;
-    r.marks[i] = mark;
-    r
-}
 
-fn next_place(last: usize) -> usize {
-    if last < 6 {
-        return last + 1;
+    // What is kept of its fields, once it has ended.
+    pub fn fields(&self) -> &[Mark] {
+        self.marks.as_slice()
     }
-    6
-}
 
-fn next_field(line: Line) -> Line {
-    let kept = ended(line);
-    let marks = kept.marks;
-    Line {
-        last: next_place(line.last),
-        marks,
-        field: no_field(),
-        used: 0,
+    // What its last field spells.
+    pub fn bytes(&self) -> &[u8] {
+        self.bytes.as_slice()
     }
-}
 
-fn add_to_field(line: Line, b: u8, bytes: &mut [u8]) -> Line {
-    let f = line.field;
-    let y = field_with(f, b);
-    let mut r = line;
-    r.field = y;
-    if f.odd {
-        r.used = store(bytes, line.used, f.half, y.half);
+    // Begins a new line.
+    pub fn clear(&mut self) {
+        self.marks.clear();
+        self.bytes.clear();
     }
-    r
-}
-
-// The line with one byte more, which is not a newline.
-pub fn add_byte(line: Line, b: u8, bytes: &mut [u8]) -> Line {
-    if b == b' ' {
-        return next_field(line);
-    }
-    add_to_field(line, b, bytes)
-}
-
-// Whether there is anything on the line.
-pub fn is_begun(line: Line) -> bool {
-    let f = line.field;
-    if 0 < f.length {
-        return true;
-    }
-    0 < line.last
 }

@@ -1,27 +1,27 @@
 // What is printed for an answer.
-ghost use Rattle.std.specs.Prelude.{◌≤◌, length, IfErr};
+ghost use Rattle.std.specs.Prelude.{IfErr};
 ghost use Rattle.console.specs.Failures.{IsWriting};
 
+use case_text::text::Hex;
+use client_rules::Answer;
 use console::failure::{Failure, written};
-use console::output::{put, put_hex};
+use console::output::put;
 use frame::refusals::number_of;
 use frame::{Refusal, Stamp};
+use std::fmt;
 use std::io::Write;
 
-// Puts bytes, `-` for none.
-fn put_bytes<W: Write>(out: &mut W, bytes: &[u8]) -> Result<(), Failure>
-    ensures failed { IfErr result IsWriting }
-{
-    if bytes.is_empty() {
-        return put(out, b"-");
-    }
-    put_hex(out, bytes)
-}
+// Bytes, `-` for none.
+#[derive(Clone, Copy, Debug)]
+struct Bytes<'a>(&'a [u8]);
 
-pub fn put_ready<W: Write>(out: &mut W) -> Result<(), Failure>
-    ensures failed { IfErr result IsWriting }
-{
-    put(out, b"ready\n")
+impl fmt::Display for Bytes<'_> {
+    fn fmt<W: fmt::Write>(&self, f: &mut fmt::Formatter<W>) -> fmt::Result {
+        if self.0.is_empty() {
+            return f.write_str("-");
+        }
+        Hex(self.0).fmt(f)
+    }
 }
 
 pub fn put_refused<W: Write>(out: &mut W, r: Refusal) -> Result<(), Failure>
@@ -30,94 +30,39 @@ pub fn put_refused<W: Write>(out: &mut W, r: Refusal) -> Result<(), Failure>
     console::output::put_refused(out, u64::from(number_of(r)))
 }
 
-fn put_field<W: Write>(out: &mut W, x: u64) -> Result<(), Failure>
-    ensures failed { IfErr result IsWriting }
-{
-    written(write!(out, " {x}"))
-}
-
-fn put_stamp<W: Write>(out: &mut W, s: Stamp) -> Result<(), Failure>
-    ensures failed { IfErr result IsWriting }
-{
-    put_field(out, s.time)?;
-    put_field(out, u64::from(s.writer))?;
-    put_field(out, u64::from(s.sequence))
-}
-
 // A read's value and its stamp.
-pub fn put_value<W: Write>(out: &mut W, value: &[u8], stamp: Stamp) -> Result<(), Failure>
+fn put_value<W: Write>(out: &mut W, value: &[u8], stamp: Stamp) -> Result<(), Failure>
     ensures failed { IfErr result IsWriting }
 {
-    put(out, b"value ")?;
-    put_bytes(out, value)?;
-    put_stamp(out, stamp)?;
-    put(out, b"\n")
+    let value = Bytes(value);
+    let Stamp {
+        time,
+        writer,
+        sequence,
+    } = stamp;
+    written(writeln!(out, "value {value} {time} {writer} {sequence}"))
 }
 
-pub fn put_written<W: Write>(out: &mut W) -> Result<(), Failure>
-    ensures failed { IfErr result IsWriting }
-{
-    put(out, b"written\n")
-}
-
-pub fn put_out_of_stamps<W: Write>(out: &mut W) -> Result<(), Failure>
-    ensures failed { IfErr result IsWriting }
-{
-    put(out, b"out of stamps\n")
-}
-
-pub fn put_disagreement<W: Write>(out: &mut W) -> Result<(), Failure>
-    ensures failed { IfErr result IsWriting }
-{
-    put(out, b"disagreement\n")
-}
-
-fn put_class<W: Write>(out: &mut W, class: u8) -> Result<(), Failure>
-    ensures failed { IfErr result IsWriting }
-{
-    if class == 0 {
-        return put(out, b"> c ");
+// The first frame, and what follows it; all there is, if no whole frame is there.
+fn split_frame(frames: &[u8]) -> (&[u8], &[u8]) {
+    match frames {
+        [high, low, body @ ..] => {
+            let length = usize::from(u16::from_be_bytes([*high, *low]));
+            frames.split_at(2 + length.min(body.len()))
+        }
+        _ => (frames, b""),
     }
-    put(out, b"> s ")
 }
 
-fn put_receiver<W: Write>(out: &mut W, class: u8, number: u8) -> Result<(), Failure>
+fn put_frame<W: Write>(out: &mut W, class: u8, number: u8, frame: &[u8]) -> Result<(), Failure>
     ensures failed { IfErr result IsWriting }
 {
-    put_class(out, class)?;
-    written(write!(out, "{number} "))
+    let class = if class == 0 { 'c' } else { 's' };
+    let frame = Bytes(frame);
+    written(writeln!(out, "> {class} {number} {frame}"))
 }
 
-// Where the frame at index at ends; the end of the area if no whole frame is there.
-fn frame_end(frames: &[u8], at: usize) -> usize
-    ensures { result ≤ length frames.now }
-{
-    let n = frames.len();
-    if n <= at {
-        return n;
-    }
-    if n - at < 2 {
-        return n;
-    }
-    let length = area::read2(frames, at) as usize + 2;
-    if n - at < length {
-        return n;
-    }
-    at + length
-}
-
-fn put_frame<W: Write>(out: &mut W, frames: &[u8], at: usize, end: usize) -> Result<(), Failure>
-    requires { end ≤ length frames.now }
-    ensures failed { IfErr result IsWriting }
-{
-    if end <= at {
-        return Ok(());
-    }
-    put_bytes(out, &frames[at..end])?;
-    put(out, b"\n")
-}
-
-// Puts `step` and a line for each of the frames sent, with its receiver.
+// Puts `step` and a line for each of the frames sent, with its receiver's class and number.
 pub fn put_step<W: Write>(
     out: &mut W,
     frames: &[u8],
@@ -127,12 +72,44 @@ pub fn put_step<W: Write>(
     ensures failed { IfErr result IsWriting }
 {
     put(out, b"step\n")?;
-    let mut at = 0;
-    for i in 0..count.min(to.len() / 2) {
-        put_receiver(out, to[2 * i], to[2 * i + 1])?;
-        let end = frame_end(frames, at);
-        put_frame(out, frames, at, end)?;
-        at = end;
+    let mut left = frames;
+    for receiver in to.chunks_exact(2).take(count) {
+        let (frame, rest) = split_frame(left);
+        put_frame(out, receiver[0], receiver[1], frame)?;
+        left = rest;
     }
     Ok(())
+}
+
+// A client's answer to a call after which n frames are sent where its read ends.
+pub fn put_answer<W: Write>(
+    out: &mut W,
+    answer: Answer,
+    n: usize,
+    value: &[u8],
+    frames: &[u8],
+    to: &[u8],
+) -> Result<(), Failure>
+    ensures failed { IfErr result IsWriting }
+{
+    match answer {
+        Answer::Sent(count) => put_step(out, frames, to, count),
+        Answer::Written => {
+            put_step(out, frames, to, 0)?;
+            put(out, b"written\n")
+        }
+        Answer::OutOfStamps => {
+            put_step(out, frames, to, 0)?;
+            put(out, b"out of stamps\n")
+        }
+        Answer::Value(stamp) => {
+            put_step(out, frames, to, n)?;
+            put_value(out, value, stamp)
+        }
+        Answer::Disagreement => {
+            put_step(out, frames, to, n)?;
+            put(out, b"disagreement\n")
+        }
+        Answer::Refused(r) => put_refused(out, r),
+    }
 }

@@ -4,73 +4,41 @@
 #![tactic(auto)]
 
 use case_text::report::echo;
-use case_text::text::{until, word_at};
+use case_text::text::Words;
 use console::failure::Failure;
 use console::input::read_whole;
 use console::output::{flush, nothing};
-use frame::places::AREA_BYTES;
 use std::io;
 use std::io::Write;
 use std::rt::Runtime;
-use trial::{Trial, showing};
+use trial::Trial;
 
 mod clients;
-mod handing;
-mod making;
 mod shown;
 mod trial;
 
 // One line, without its newline.
-fn case<W: Write>(
-    report: &mut W,
-    line: &[u8],
-    x: Trial,
-    area: &mut [u8],
-    initial: &mut [u8],
-) -> io::Result<Trial> {
-    let w = word_at(line, 0);
-    let kind = &line[..w.end];
-    if area::equal(kind, b"fresh") {
-        return making::made(report, line, w.next, area, initial);
-    }
-    if area::equal(kind, b"deliver") {
-        return handing::handed(report, line, w.next, showing(x, false), area, initial);
-    }
-    if area::equal(kind, b"whole") {
-        return handing::handed(report, line, w.next, showing(x, true), area, initial);
-    }
-    echo(report, line)?;
-    if area::equal(kind, b"unready") {
-        return Ok(handing::unready(line, w.next, x));
-    }
-    Ok(x)
-}
-
-// All lines of s.
-fn cases<W: Write>(
-    report: &mut W,
-    s: &[u8],
-    area: &mut [u8],
-    initial: &mut [u8],
-) -> io::Result<()> {
-    let mut x = trial::first();
-    let mut at = 0;
-    while at < s.len() {
-        let end = until(s, at, b'\n');
-        x = case(report, &s[at..end], x, area, initial)?;
-        if end == s.len() {
-            break;
+fn case<W: Write>(report: &mut W, line: &[u8], trial: &mut Trial) -> io::Result<()> {
+    let mut words = Words::new(line);
+    match words.word() {
+        b"fresh" => trial.fresh(report, words),
+        b"deliver" => trial.deliver(report, words, false),
+        b"whole" => trial.deliver(report, words, true),
+        b"unready" => {
+            echo(report, line)?;
+            trial.unready(words);
+            Ok(())
         }
-        at = end + 1;
+        _ => echo(report, line),
     }
-    Ok(())
 }
 
 // All lines of s, and then those of a client.
-fn all_cases<W: Write>(report: &mut W, s: &[u8]) -> io::Result<()> {
-    let mut area = [0u8; AREA_BYTES];
-    let mut initial = [0u8; 256];
-    cases(report, s, &mut area, &mut initial)?;
+fn cases<W: Write>(report: &mut W, s: &[u8]) -> io::Result<()> {
+    let mut trial = Trial::new();
+    for line in s.split_inclusive(|b| *b == b'\n') {
+        case(report, line.strip_suffix(b"\n").unwrap_or(line), &mut trial)?;
+    }
     clients::run(report)
 }
 
@@ -79,7 +47,7 @@ fn run<R: Runtime>(rt: &R) -> Result<(), Failure> {
     let mut s = [0u8; 65536];
     let n = read_whole(rt, &mut rt.reader(), &mut s)?;
     let mut out = nothing(rt);
-    all_cases(&mut out, &s[..n]).map_err(Failure::Writing)?;
+    cases(&mut out, &s[..n]).map_err(Failure::Writing)?;
     flush(&mut out)
 }
 

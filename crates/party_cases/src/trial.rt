@@ -1,74 +1,141 @@
-// The server on which the cases run, and numbers read from a line.
-ghost use Rattle.std.specs.Prelude.{◌≤◌, length};
-
+// The server on which the cases run: a fresh one is made, frames are handed to it, and its record is changed.
+use crate::shown::{made, replied};
 use blocks::Params;
-use case_text::text::{number, word_at};
+use case_text::text::Words;
 use frame::Party;
-use layout::servers::SERVER_SIZE;
+use frame::places::AREA_BYTES;
+use layout::servers::{SERVER_SIZE, put_scope, scope_at};
+use server_deliver::deliver;
+use server_deliver::fresh::fresh;
+use server_rules::Server;
+use std::io;
+use std::io::Write;
 
-#[derive(Clone, Copy)]
+// How long the area for the initial block is.
+const INITIAL: usize = 256;
+
+// The largest areas that are lent for sent frames and their receivers: those of a step for four servers.
+const OUT_MOST: usize = 26144;
+
+const TO_MOST: usize = 344;
+
+// What they hold before.
+const LENT: u8 = 0x5a;
+
+// The parameters, the own number, the record, the state area and that of the initial block.
+#[derive(Drop)]
 pub struct Trial {
-    pub g: Params,
-    pub me: usize,
-    pub record: [u8; SERVER_SIZE],
-    // whether a reply is shown with the whole areas that were lent for it
-    pub whole: bool,
+    params: Params,
+    me: usize,
+    record: [u8; SERVER_SIZE],
+    area: [u8; AREA_BYTES],
+    initial: [u8; INITIAL],
 }
 
-// A number in a line, and where the next word starts.
-#[derive(Clone, Copy)]
-pub struct Reading {
-    pub value: usize,
-    pub next: usize,
-}
-
-// The server before the first line: none is made yet.
-pub fn first() -> Trial {
-    Trial {
-        g: Params {
-            n: 0,
-            t: 0,
-            k: 0,
-            size: 0,
-        },
-        me: 0,
-        record: [0; SERVER_SIZE],
-        whole: false,
+// N T K L
+fn params(words: &mut Words) -> Params {
+    Params {
+        n: words.number(),
+        t: words.number(),
+        k: words.number(),
+        size: words.number(),
     }
 }
 
-// The same server, with replies shown by their frames alone, or with the whole areas.
-pub fn showing(x: Trial, whole: bool) -> Trial {
-    Trial { whole, ..x }
-}
-
-// The number that starts at index at.
-pub fn told(line: &[u8], at: usize) -> Reading
-    requires { at ≤ length line.now }
-    ensures { result.next ≤ length line.now }
-{
-    let w = word_at(line, at);
-    let value = number(line, w.start, w.end);
-    Reading {
-        value,
-        next: w.next,
-    }
-}
-
-// The smaller of a and most.
-pub fn at_most(a: usize, most: usize) -> usize
-    ensures { (result ≤ a) × (result ≤ most) }
-{
-    if a < most {
-        return a;
-    }
-    most
-}
-
-// The party of a class, 0 client and 1 server, and a number.
-pub fn party(class: usize, number: u8) -> Party {
+// CLASS NUMBER: 0 is a client's class, 1 a server's.
+fn party(words: &mut Words) -> Party {
+    let class = words.number();
+    let number = (words.number() % 256) as u8;
     if class == 0 {
-        return Party::Client(number);
+        Party::Client(number)
+    } else {
+        Party::Server(number)
     }
-    Party::Server(number)
+}
+
+impl Trial {
+    // Before the first line: no server is made yet.
+    pub fn new() -> Trial {
+        Trial {
+            params: Params {
+                n: 0,
+                t: 0,
+                k: 0,
+                size: 0,
+            },
+            me: 0,
+            record: [0; SERVER_SIZE],
+            area: [0; AREA_BYTES],
+            initial: [0; INITIAL],
+        }
+    }
+
+    // fresh N T K L ME AREA INITIAL VALUE ANSWER: the parameters, the own number, the lengths of the two lent areas, the initial value, what is expected
+    pub fn fresh<W: Write>(&mut self, report: &mut W, mut words: Words) -> io::Result<()> {
+        self.params = params(&mut words);
+        self.me = words.number();
+        let area = words.number().min(AREA_BYTES);
+        let initial = words.number().min(INITIAL);
+        let value = words.bytes::<1024>();
+        self.record = [0; SERVER_SIZE];
+        let reply = fresh(
+            self.params,
+            self.me,
+            value.as_slice(),
+            &mut self.area[..area],
+            &mut self.initial[..initial],
+            &mut self.record,
+        );
+        made(
+            report,
+            words.rest,
+            reply,
+            &self.area[..area],
+            &self.initial[..initial],
+        )
+    }
+
+    // deliver CLASS NUMBER AREA INITIAL OUT TO FRAME ANSWER: the sender, the lengths of the four lent areas, the frame, what is expected
+    pub fn deliver<W: Write>(
+        &mut self,
+        report: &mut W,
+        mut words: Words,
+        whole: bool,
+    ) -> io::Result<()> {
+        let from = party(&mut words);
+        let area = words.number().min(AREA_BYTES);
+        let initial = words.number().min(INITIAL);
+        let out_length = words.number().min(OUT_MOST);
+        let to_length = words.number().min(TO_MOST);
+        let frame = words.bytes::<1024>();
+        let mut out = [LENT; OUT_MOST];
+        let mut to = [LENT; TO_MOST];
+        let reply = deliver(
+            self.params,
+            self.me,
+            from,
+            frame.as_slice(),
+            &mut self.area[..area],
+            &self.initial[..initial],
+            &mut self.record,
+            &mut out[..out_length],
+            &mut to[..to_length],
+        );
+        replied(
+            report,
+            words.rest,
+            reply,
+            &out[..out_length],
+            &to[..to_length],
+            whole,
+        )
+    }
+
+    // unready CLIENT: the record says that the server has not sent its ready for the client's open write. No run makes such a record.
+    pub fn unready(&mut self, mut words: Words) {
+        let c = words.number().min(Server::CLIENTS);
+        let mut scope = scope_at(&self.record, c);
+        scope.slot.blocks.ready = false;
+        put_scope(scope, c, &mut self.record);
+    }
 }

@@ -3,7 +3,7 @@
 #![tactic(auto)]
 
 use case_text::report::echo;
-use case_text::text::{until, word_at};
+use case_text::text::Words;
 use console::failure::{Failure, report};
 use console::input::read_whole;
 use console::output::{flush, nothing};
@@ -18,39 +18,22 @@ mod products;
 
 // One line, without its newline.
 fn case<W: Write>(out: &mut W, line: &[u8]) -> io::Result<()> {
-    let w = word_at(line, 0);
-    let kind = &line[..w.end];
-    if area::equal(kind, b"digest") {
-        return digests::digest(out, line, w.next);
+    let mut words = Words::new(line);
+    match words.word() {
+        b"digest" => digests::digest(out, words),
+        b"product" => products::product(out, words),
+        b"inverse" => products::inverse(out, words),
+        b"encode" => coding::encode_case(out, words),
+        b"decode" => coding::decode_case(out, words),
+        b"open" => frames::opening(out, words),
+        _ => echo(out, line),
     }
-    if area::equal(kind, b"product") {
-        return products::product(out, line, w.next);
-    }
-    if area::equal(kind, b"inverse") {
-        return products::inverse(out, line, w.next);
-    }
-    if area::equal(kind, b"encode") {
-        return coding::encode_case(out, line, w.next);
-    }
-    if area::equal(kind, b"decode") {
-        return coding::decode_case(out, line, w.next);
-    }
-    if area::equal(kind, b"open") {
-        return frames::opening(out, line, w.next);
-    }
-    echo(out, line)
 }
 
 // All lines of s.
 fn cases<W: Write>(out: &mut W, s: &[u8]) -> io::Result<()> {
-    let mut at = 0;
-    while at < s.len() {
-        let end = until(s, at, b'\n');
-        case(out, &s[at..end])?;
-        if end == s.len() {
-            break;
-        }
-        at = end + 1;
+    for line in s.split_inclusive(|b| *b == b'\n') {
+        case(out, line.strip_suffix(b"\n").unwrap_or(line))?;
     }
     Ok(())
 }

@@ -1,9 +1,0 @@
--- Every turn goes past one line.
-use Rattle.std.proofs.Common.{◌≤◌, ◌-◌, length}
-use Rattle.party_cases.proofs.cases.Given as goal
-
-abbrev pub invariant-loop-at : goal.invariant-loop-at
-invariant-loop-at g l = l.at ≤ length l.s
-
-abbrev pub decreases-loop-at : goal.decreases-loop-at
-decreases-loop-at g l = length l.s - l.at

@@ -16,31 +16,17 @@ use blocks::decoder::decode_into;
 use blocks::encoder::block_stands;
 use frame::entries::block_at;
 
-// Adds server j to the c numbers collected so far, if it is flagged and they are fewer than k; returns how many there are then.
-fn add_number(mark: bool, j: u8, c: usize, k: usize, numbers: &mut [u8; 8]) -> usize
-    requires { (c ≤ k) × (k ≤ 8) }
-    ensures { (result ≡ pick (mark && ltb c k) (c + 1) c)
-        × (numbers.new ≡ pick (mark && ltb c k) (set numbers.old c j) numbers.old) }
-{
-    if mark {
-        if c < k {
-            numbers[c] = j;
-            return c + 1;
-        }
-    }
-    c
-}
-
 // The k lowest flagged servers of 1 to n.
 fn choose(on: [bool; 11], n: usize, k: usize, numbers: &mut [u8; 8])
     requires { (n ≤ 10) × (k ≤ 8) }
     ensures { numbers.new ≡ sets numbers.old 0 (lowest (marked on) k n) }
 {
     let mut c = 0;
-    let mut j = 0;
-    while j < n {
-        c = add_number(on[j + 1], (j + 1) as u8, c, k, numbers);
-        j += 1;
+    for j in 0..n {
+        if on[j + 1] && c < k {
+            numbers[c] = (j + 1) as u8;
+            c += 1;
+        }
     }
 }
 
@@ -58,11 +44,9 @@ fn collect(js: &[u8], at: [usize; 11], area: &[u8], g: Params, b: usize, out: &m
     requires { Collecting g js.now at area.now b (length out.old) }
     ensures { out.new ≡ sets out.old 0 (blocks_in g at area.now js.now) }
 {
-    let mut i = 0;
-    while i < js.len() {
+    for i in 0..js.len() {
         let j = js[i] as usize;
         put_block(area, at[j], g, out, i * b);
-        i += 1;
     }
 }
 
@@ -104,10 +88,7 @@ fn is_block(
     requires { (0 < k) × (k ≤ 8) × (length value.now ≤ 256) × (length own.now ≡ block_length (length value.now) k) × Tables ps.now ls.now }
     ensures { result ≡ pick mark (same own.now (block_of k value.now j)) true }
 {
-    if !mark {
-        return true;
-    }
-    block_stands(value, k, j, own, 0, ps, ls)
+    !mark || block_stands(value, k, j, own, 0, ps, ls)
 }
 
 // Whether the blocks of all flagged servers of 1 to n are those of the value.
@@ -125,13 +106,11 @@ pub fn all_of(
 {
     let n = g.n;
     let k = g.k;
-    let mut j = 0;
-    while j < n {
+    for j in 0..n {
         let own = block_at(area, at[j + 1], g);
         if !is_block(on[j + 1], own, value, k, (j + 1) as u8, ps, ls) {
             return false;
         }
-        j += 1;
     }
     true
 }

@@ -36,11 +36,9 @@ pub fn digests(value: &[u8], g: Params, out: &mut [u8], at: usize, ps: &[u8; 255
 {
     let n = g.n;
     let k = g.k;
-    let mut j = 0;
-    while j < n {
+    for j in 0..n {
         let d = block_digest(value, k, (j + 1) as u8, ps, ls);
         area::put(out, at + 32 * j, &d);
-        j += 1;
     }
 }
 
@@ -87,13 +85,11 @@ pub fn agrees(
 {
     let n = g.n;
     let k = g.k;
-    let mut j = 0;
-    while j < n {
+    for j in 0..n {
         let own = block_at(area, at[j + 1], g);
         if !agrees_at(value, k, (j + 1) as u8, on[j + 1], own, list, ps, ls) {
             return false;
         }
-        j += 1;
     }
     true
 }

@@ -9,7 +9,7 @@ use Rattle.group.proofs.decoding.all_of.Goals as goal
 pub loop-j-init : goal.loop-j-init
 loop-j-init c =
     let p = c.requires in
-    (left_start _ _ _ p.0.bounded p.1 _ _ p.0.whole, omega arith)
+    left_start _ _ _ p.0.bounded p.1 _ _ p.0.whole
 
 pub block_at-own-requires : goal.block_at-own-requires
 block_at-own-requires c =
@@ -26,20 +26,15 @@ pub returns-then-not-is_block : goal.returns-then-not-is_block
 returns-then-not-is_block c =
     let p = c.requires in
     left_out _ _ _ p.0.bounded p.1 _ _ p.0.whole _ _ c.loop-j-test.true (in_order_lem _ _ _ p.0.bounded p.1 _ _ p.0.whole _ (c.loop-j.j + 1) _ c.block_at-own.ensures c.is_block.ensures) (ap not c.if-not-is_block.true)
-    c.loop-j.invariant.0
-
-pub loop-j-smaller : goal.loop-j-smaller
-loop-j-smaller c = omega arith
+    c.loop-j.invariant
 
 pub loop-j-preserved : goal.loop-j-preserved
 loop-j-preserved c =
-    let p = c.requires in (
+    let p = c.requires in
       left_turn _ _ _ p.0.bounded p.1 _ _ p.0.whole _ _ c.loop-j-test.true (in_order_lem _ _ _ p.0.bounded p.1 _ _ p.0.whole _ (c.loop-j.j + 1) _ c.block_at-own.ensures c.is_block.ensures) (ap not c.if-not-is_block.false)
-          c.loop-j.invariant.0,
-      omega arith,
-    )
+          c.loop-j.invariant
 
 pub returns : goal.returns
 returns c =
     let p = c.requires in
-    sym (c.loop-j.invariant.0 ∙ left_end _ _ _ p.0.bounded p.1 _ _ p.0.whole _ c.loop-j-test.false)
+    sym (c.loop-j.invariant ∙ left_end _ _ _ p.0.bounded p.1 _ _ p.0.whole _ (omega arith))

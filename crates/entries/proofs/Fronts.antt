@@ -1,4 +1,5 @@
 -- What is at the front of a list of bytes, by cases: nothing, 22, 23, or an entry. Assumes nothing.
+use Rattle.std.specs.Prelude.{Ok, Err}
 use Prim.Native.Nat.{ℕ, ◌+◌, ◌≤◌, ◌<◌}
 use native.Mathlib.Omega.{arith}
 use mathlib.Core.Path.{◌≡◌, refl, sym, ap₂, ◌∙◌}
@@ -16,7 +17,6 @@ use Rattle.area.proofs.Tests.{impossible, and_left, and_right, or_split, or_fals
 use Rattle.frame.specs.declared.Party.{Party}
 use Rattle.entries.specs.declared.Closing.TheVariants as C
 use Rattle.entries.specs.declared.Found.{Found}
-use Rattle.entries.specs.declared.Reading.TheVariants as R
 use Rattle.frame.specs.Outbox.{party_in}
 use Rattle.entries.specs.Entries.{malformed, cut, reading_response, reading_of}
 
@@ -179,19 +179,19 @@ module _ (l : List ℕ) where
 -- ---- and its readings
 
 module _ (l : List ℕ) where
-  pub whole_read : length l ≡ 0 → reading_response (R.Closed C.Whole) ≡ reading_of l
+  pub whole_read : length l ≡ 0 → reading_response (Err C.Whole) ≡ reading_of l
   unfolding reading_of pick
   whole_read h = rw (eq-eqb _ 0 h)
 
   module _ (filled : length l ≡ 0 → ⊥) where
-    pub malformed_read : malformed l ≡ true → reading_response (R.Closed C.Malformed) ≡ reading_of l
+    pub malformed_read : malformed l ≡ true → reading_response (Err C.Malformed) ≡ reading_of l
     unfolding reading_of pick
     malformed_read e = rw (ne_eqb _ 0 filled, e)
 
-    pub cut_read : malformed l ≡ false → cut l ≡ true → reading_response (R.Closed C.Cut) ≡ reading_of l
+    pub cut_read : malformed l ≡ false → cut l ≡ true → reading_response (Err C.Cut) ≡ reading_of l
     unfolding reading_of pick
     cut_read e f = rw (ne_eqb _ 0 filled, e, f)
 
   pub entry_read : (p : Party) (x : ℕ) → Begins l → p ≡ party_in (get_or l 3 0) (get_or l 4 0) → x ≡ be2 l 0
-      → reading_response (R.Entry (record { sender = p; end = 2 + x })) ≡ reading_of l
+      → reading_response (Ok (record { sender = p; end = 2 + x })) ≡ reading_of l
   entry_read p x B e f = ap₂ (λ q y. gives (some (record { sender = q; end = 2 + y }))) e f ∙ sym (reading_begins l B)

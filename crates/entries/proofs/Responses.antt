@@ -1,5 +1,6 @@
 -- A closing can be told from its number, and a reading or a writing from what it says, so no two say the same. Assumes
 -- nothing.
+use Rattle.std.specs.Prelude.{Ok, Err}
 use Prim.Native.Nat.{ℕ}
 use mathlib.Core.Path.{◌≡◌, refl, ap}
 use mathlib.Core.Option.{Option, none, some}
@@ -9,15 +10,11 @@ use Rattle.area.specs.Responses.{Response, turned_down, gives}
 use Rattle.entries.specs.declared.Closing.{Closing}
 use Rattle.entries.specs.declared.Closing.TheVariants as C
 use Rattle.entries.specs.declared.Found.{Found}
-use Rattle.entries.specs.declared.Reading.{Reading}
-use Rattle.entries.specs.declared.Reading.TheVariants as R
 use Rattle.entries.specs.declared.Survey.{Survey}
-use Rattle.entries.specs.declared.Writing.{Writing}
-use Rattle.entries.specs.declared.Writing.TheVariants as W
 use Rattle.frame.specs.Refusals.{refusal}
 use Rattle.frame.proofs.Responses.{one_each}
-use Rattle.entries.specs.Entries.{closing_number, reading_response, Surveyed, surveyed}
-use Rattle.entries.specs.Writing.{writing_response}
+use Rattle.entries.specs.Entries.{Reading, closing_number, reading_response, Surveyed, surveyed}
+use Rattle.entries.specs.Writing.{Writing, writing_response}
 
 -- the closing with the number n (0 where none has it)
 abbrev closing : ℕ → Closing
@@ -29,15 +26,15 @@ closing_back C.Malformed = refl
 closing_back C.Cut = refl
 
 abbrev reading_in : Response (Option Found) → Reading
-reading_in (gives (some x)) = R.Entry x
-reading_in (gives none) = R.Closed C.Whole
-reading_in (turned_down n) = R.Closed (closing n)
+reading_in (gives (some x)) = Ok x
+reading_in (gives none) = Err C.Whole
+reading_in (turned_down n) = Err (closing n)
 
 pub reading_back : (r : Reading) → reading_in (reading_response r) ≡ r
-reading_back (R.Entry x) = refl
-reading_back (R.Closed C.Whole) = refl
-reading_back (R.Closed C.Malformed) = refl
-reading_back (R.Closed C.Cut) = refl
+reading_back (Ok x) = refl
+reading_back (Err C.Whole) = refl
+reading_back (Err C.Malformed) = refl
+reading_back (Err C.Cut) = refl
 
 abbrev survey_in : Surveyed → Survey
 survey_in x = record { count = x.count; closing = closing x.closing }
@@ -46,9 +43,9 @@ pub survey_back : (s : Survey) → survey_in (surveyed s) ≡ s
 survey_back s = ap (λ (c : Closing). record { count = s.count; closing = c }) (closing_back s.closing)
 
 abbrev writing_in : Response ℕ → Writing
-writing_in (gives m) = W.Written m
-writing_in (turned_down n) = W.Refused (refusal n)
+writing_in (gives m) = Ok m
+writing_in (turned_down n) = Err (refusal n)
 
 pub writing_back : (w : Writing) → writing_in (writing_response w) ≡ w
-writing_back (W.Written m) = refl
-writing_back (W.Refused r) = ap W.Refused (one_each r)
+writing_back (Ok m) = refl
+writing_back (Err r) = ap Err (one_each r)

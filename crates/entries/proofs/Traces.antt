@@ -1,4 +1,5 @@
 -- A trace is read from its front: an entry, and then what follows it. Assumes nothing.
+use Rattle.std.specs.Prelude.{Ok, Err}
 use Prim.Native.Nat.{ℕ, zero, suc, ◌+◌, ◌-◌, ◌≤◌, ◌<◌}
 use native.Mathlib.Omega.{arith}
 use mathlib.Core.Path.{◌≡◌, refl, sym, ap, ap₂, ◌∙◌}
@@ -11,10 +12,8 @@ use Rattle.area.specs.Numbers.{be2}
 use Rattle.area.proofs.Tests.{impossible}
 use Rattle.entries.specs.declared.Closing.{Closing}
 use Rattle.entries.specs.declared.Closing.TheVariants as C
-use Rattle.entries.specs.declared.Reading.{Reading}
-use Rattle.entries.specs.declared.Reading.TheVariants as R
 use Rattle.entries.specs.declared.Found.{Found}
-use Rattle.entries.specs.Entries.{closing_number, reading_response, reading_of, Trace, closed, before, found_in, then_trace, trace_from, trace_of}
+use Rattle.entries.specs.Entries.{Reading, closing_number, reading_response, reading_of, Trace, closed, before, found_in, then_trace, trace_from, trace_of}
 use Rattle.entries.specs.Entries.{surveyed, survey_of}
 use Rattle.entries.proofs.Fronts.{Begins, found_at, Unsound, length_low, version_other, class_high, Front, empty, bad, short, one, front}
 
@@ -89,13 +88,13 @@ unfolding trace_of
 trace_more l = from_front (length l) l (omega arith)
 
 module _ (l : List ℕ) where
-  closed_with_lem : (c : Closing) → then_trace (reading_response (R.Closed c)) l trace_of ≡ closed (closing_number c)
+  closed_with_lem : (c : Closing) → then_trace (reading_response (Err c)) l trace_of ≡ closed (closing_number c)
   unfolding then_trace
   closed_with_lem C.Whole = refl
   closed_with_lem C.Malformed = refl
   closed_with_lem C.Cut = refl
 
-  pub trace_closed : (c : Closing) → reading_of l ≡ reading_response (R.Closed c) → trace_of l ≡ closed (closing_number c)
+  pub trace_closed : (c : Closing) → reading_of l ≡ reading_response (Err c) → trace_of l ≡ closed (closing_number c)
   trace_closed c e = trace_more l ∙ ap (λ r. then_trace r l trace_of) e ∙ closed_with_lem c
 
   pub trace_entry_lem : (x : Found) → reading_of l ≡ gives (some x) → trace_of l ≡ before (found_in l x ∷ []) (trace_of (drop x.end l))
@@ -126,10 +125,10 @@ module _ (trace : List ℕ) (at : ℕ) (r : Reading) (is : reading_response r �
   read_rest : reading_response r ≡ reading_of (drop at trace)
   read_rest = is ∙ ap reading_of (lent_rest trace at)
 
-  pub rest_closed : (c : Closing) → r ≡ R.Closed c → trace_of (drop at trace) ≡ closed (closing_number c)
+  pub rest_closed : (c : Closing) → r ≡ Err c → trace_of (drop at trace) ≡ closed (closing_number c)
   rest_closed c e = trace_closed (drop at trace) c (sym read_rest ∙ ap reading_response e)
 
-  module _ (x : Found) (e : r ≡ R.Entry x) where
+  module _ (x : Found) (e : r ≡ Ok x) where
     pub rest_within : (5 ≤ x.end) × (x.end ≤ length trace - at)
     rest_within = let w = entry_within (drop at trace) x (sym read_rest ∙ ap reading_response e) in (w.0, omega (arith, w.1, length-drop at trace))
 
@@ -151,13 +150,13 @@ counts_start trace = record { many = omega arith; ends = refl }
 
 module _ (trace : List ℕ) (at count : ℕ) (K : Counts trace at count) (r : Reading)
     (is : reading_response r ≡ reading_of (take (length trace - at) (drop at trace))) where
-  pub counts_next : (x : Found) → r ≡ R.Entry x → Counts trace (at + x.end) (count + 1)
+  pub counts_next : (x : Found) → r ≡ Ok x → Counts trace (at + x.end) (count + 1)
   unfolding before
   counts_next x e =
       let t = rest_entry trace at r is x e in
       record { many = omega (arith, ap (λ y. length y.entries) t, K.many); ends = sym (ap (λ y. y.closing) t) ∙ K.ends }
 
-  pub counts_end : (c : Closing) → r ≡ R.Closed c → surveyed (record { count = count; closing = c }) ≡ survey_of (trace_of trace)
+  pub counts_end : (c : Closing) → r ≡ Err c → surveyed (record { count = count; closing = c }) ≡ survey_of (trace_of trace)
   unfolding survey_of
   counts_end c e =
       let t = rest_closed trace at r is c e in

@@ -1,7 +1,7 @@
 -- Entries of a trace. Document 02, F-8: "A trace is a row of entries, each a 2-byte big-endian length, version 1, the sender class (0 client, 1 server), its
 -- number (1) and the frame; the length counts all after itself." "Errors: 22, entry malformed (length under 3, version not 1 or class above 1, as far as its
 -- bytes go), at that entry ..; 23, trace ends inside an entry, likewise." Assumes nothing: these are definitions.
-use Rattle.std.specs.Prelude.{ℕ, zero, suc, ◌+◌, ◌-◌, Bool, not, ◌&&◌, ◌||◌, List, [], ◌∷◌, ◌++◌, length, get_or, drop, eqb, ltb, leb}
+use Rattle.std.specs.Prelude.{ℕ, zero, suc, ◌+◌, ◌-◌, Bool, not, ◌&&◌, ◌||◌, List, [], ◌∷◌, ◌++◌, length, get_or, drop, eqb, ltb, leb, Result, Ok, Err}
 use Rattle.std.proofs.Math.Option.{Option, none, some}
 use Rattle.area.specs.Area.{pick, part}
 use Rattle.area.specs.Responses.{Response, turned_down, gives}
@@ -11,8 +11,6 @@ use Rattle.frame.specs.Outbox.{party_bytes, party_in}
 use Rattle.entries.specs.declared.Closing.{Closing}
 use Rattle.entries.specs.declared.Closing.TheVariants as C
 use Rattle.entries.specs.declared.Found.{Found}
-use Rattle.entries.specs.declared.Reading.{Reading}
-use Rattle.entries.specs.declared.Reading.TheVariants as R
 use Rattle.entries.specs.declared.Survey.{Survey}
 
 -- a frame, and who handed it in
@@ -63,12 +61,16 @@ closing_number C.Whole = 0
 closing_number C.Malformed = 22
 closing_number C.Cut = 23
 
+-- what is at the front of some bytes: an entry, or how the trace closes there
+abbrev pub Reading : Type 0
+Reading = Result Found Closing
+
 -- what a reading says, by its cases: an entry; nothing, since no bytes are left; or the number, 22 or 23, with which the trace closes there
 abbrev pub reading_response : Reading → Response (Option Found)
-reading_response (R.Entry x) = gives (some x)
-reading_response (R.Closed C.Whole) = gives none
-reading_response (R.Closed C.Malformed) = turned_down (closing_number C.Malformed)
-reading_response (R.Closed C.Cut) = turned_down (closing_number C.Cut)
+reading_response (Ok x) = gives (some x)
+reading_response (Err C.Whole) = gives none
+reading_response (Err C.Malformed) = turned_down (closing_number C.Malformed)
+reading_response (Err C.Cut) = turned_down (closing_number C.Cut)
 
 -- what is at the front of the bytes that are left: nothing, so that the trace is whole; 22; 23; or an entry
 unfoldable pub reading_of : List ℕ → Response (Option Found)

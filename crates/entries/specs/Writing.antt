@@ -1,22 +1,25 @@
 -- The outcome of writing an entry: the answer, and every byte of the lent area. Assumes nothing: these are definitions.
-use Rattle.std.specs.Prelude.{ℕ, ◌+◌, List, length, ltb}
+use Rattle.std.specs.Prelude.{ℕ, ◌+◌, List, length, ltb, Result, Ok, Err}
 use Rattle.std.proofs.lemmas.List.Edits.{sets}
 use Rattle.area.specs.Area.{pick}
 use Rattle.area.specs.Responses.{Response, turned_down, gives}
 use Rattle.frame.specs.declared.Party.{Party}
+use Rattle.frame.specs.declared.Refusal.{Refusal}
 use Rattle.frame.specs.Refusals.{number_of}
-use Rattle.entries.specs.declared.Writing.{Writing}
-use Rattle.entries.specs.declared.Writing.TheVariants as W
 use Rattle.entries.specs.Entries.{frame_at, trace_entry, entry_bytes}
 
 -- the longest frame of an entry: the entry's length, which counts the frame and three bytes before it, fits into two bytes
 abbrev pub longest : ℕ
 longest = 65532
 
+-- how many bytes an entry takes, or why it is turned down
+abbrev pub Writing : Type 0
+Writing = Result ℕ Refusal
+
 -- what a writing says, by its cases: how many bytes the entry takes, or the refusal's number
 abbrev pub writing_response : Writing → Response ℕ
-writing_response (W.Written m) = gives m
-writing_response (W.Refused r) = turned_down (number_of r)
+writing_response (Ok m) = gives m
+writing_response (Err r) = turned_down (number_of r)
 
 pub record Written : Type 0 where
   pub answer : Response ℕ

@@ -1,7 +1,7 @@
 // Entries of a trace (document 02, F-8): each is a frame and its sender.
 #![tactic(auto)]
 
-use frame::{Party, Refusal};
+use frame::Party;
 
 pub mod reader;
 pub mod writer;
@@ -28,20 +28,6 @@ pub enum Closing {
 pub struct Found {
     pub sender: Party,
     pub end: usize,
-}
-
-// What is at the front of some bytes.
-#[derive(Clone, Copy)]
-pub enum Reading {
-    Entry(Found),
-    Closed(Closing),
-}
-
-// What writing an entry gives: how many bytes it takes, or why it is turned down.
-#[derive(Clone, Copy)]
-pub enum Writing {
-    Written(usize),
-    Refused(Refusal),
 }
 
 // How many entries a trace has before it closes.

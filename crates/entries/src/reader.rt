@@ -2,7 +2,7 @@
 ghost use Rattle.std.specs.Prelude.{◌≡◌};
 ghost use Rattle.entries.specs.Entries.{malformed, cut, reading_response, reading_of, trace_of, surveyed, survey_of};
 
-use crate::{Closing, Found, Reading, Survey};
+use crate::{Closing, Found, Survey};
 use frame::parties::party_in;
 
 // 22: the length is under 3, the version not 1 or the class above 1, as far as the bytes go.
@@ -38,21 +38,21 @@ fn is_cut(l: &[u8]) -> bool
 }
 
 // What is at the front of l: an entry, or how the trace closes there.
-pub fn read_entry(l: &[u8]) -> Reading
+pub fn read_entry(l: &[u8]) -> Result<Found, Closing>
     ensures { reading_response result ≡ reading_of l.now }
 {
     if l.len() == 0 {
-        return Reading::Closed(Closing::Whole);
+        return Err(Closing::Whole);
     }
     if is_malformed(l) {
-        return Reading::Closed(Closing::Malformed);
+        return Err(Closing::Malformed);
     }
     if is_cut(l) {
-        return Reading::Closed(Closing::Cut);
+        return Err(Closing::Cut);
     }
     let sender = party_in(l[3], l[4]);
     let end = 2 + area::read2(l, 0) as usize;
-    Reading::Entry(Found { sender, end })
+    Ok(Found { sender, end })
 }
 
 // Counts the entries of a trace.
@@ -64,10 +64,10 @@ pub fn survey(trace: &[u8]) -> Survey
     loop {
         let reading = read_entry(&trace[at..]);
         match reading {
-            Reading::Closed(closing) => {
+            Err(closing) => {
                 return Survey { count, closing };
             }
-            Reading::Entry(found) => {
+            Ok(found) => {
                 count += 1;
                 at += found.end;
             }

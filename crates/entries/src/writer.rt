@@ -3,7 +3,7 @@ ghost use Rattle.std.specs.Prelude.{◌≡◌, ◌<◌};
 ghost use Rattle.entries.specs.Entries.{lead_bytes};
 ghost use Rattle.entries.specs.Writing.{written, writing_response, writing};
 
-use crate::{FRAME_AT, LONGEST, VERSION, Writing};
+use crate::{FRAME_AT, LONGEST, VERSION};
 use frame::parties::party_bytes;
 use frame::{Party, Refusal};
 
@@ -18,18 +18,18 @@ fn lead_bytes(sender: Party, size: usize) -> [u8; 5]
 }
 
 // Writes an entry at the front of out. Refusal 3: the frame is too long for an entry; 10: out is too short.
-pub fn write_entry(sender: Party, f: &[u8], out: &mut [u8]) -> Writing
+pub fn write_entry(sender: Party, f: &[u8], out: &mut [u8]) -> Result<usize, Refusal>
     ensures { written (writing_response result) out.new ≡ writing sender f.now out.old }
 {
     if LONGEST < f.len() {
-        return Writing::Refused(Refusal::Length);
+        return Err(Refusal::Length);
     }
     let size = FRAME_AT + f.len();
     if out.len() < size {
-        return Writing::Refused(Refusal::Room);
+        return Err(Refusal::Room);
     }
     let lead = lead_bytes(sender, size - 2);
     area::put(out, 0, &lead);
     area::put(out, FRAME_AT, f);
-    Writing::Written(size)
+    Ok(size)
 }

@@ -46,12 +46,12 @@ module _ (g : Params) (me : ℕ) (from : Party) (f area initial state out to : L
 module _ (g : Params) (me : ℕ) (v area initial state : List ℕ) (long : server_size ≤ length state)
     (t : SD.construct_test digest_of g me v (length area) (length initial) ≡ fine) (r : Response ℕ) (ar i st : List ℕ)
     (e : byte_constructed r ar i st ≡ byte_construction digest_of g me v area initial state) where
-  fine : is_turned_down (SD.construction digest_of g me v area initial).reply ≡ false
+  taken : is_turned_down (SD.construction digest_of g me v area initial).reply ≡ false
   unfolding SD.construction SD.construct_by is_turned_down
-  fine = ap (λ (w : Verdict). is_turned_down (SD.construct_by digest_of g me w v area initial).reply) t
+  taken = ap (λ (w : Verdict). is_turned_down (SD.construct_by digest_of g me w v area initial).reply) t
 
   is_fresh : server_in st ≡ fresh_server
-  is_fresh = ap (λ (z : ByteConstructed). server_in z.state) e ∙ made_back g me v area initial state long fine
+  is_fresh = ap (λ (z : ByteConstructed). server_in z.state) e ∙ made_back g me v area initial state long taken
 
   pub fresh_outcome : ◌≡◌ {A = SD.Constructed} (record { reply = r; server = server_in st; area = ar; initial = i })
       (SD.construction digest_of g me v area initial)
@@ -64,7 +64,7 @@ module _ (g : Params) (me : ℕ) (v area initial state : List ℕ) (long : serve
   pub fresh_stored : st ≡ sets state 0 (server_bytes (server_in st))
   fresh_stored =
       ap (λ (z : ByteConstructed). z.state) e
-      ∙ made_is g me v area initial state long fine
+      ∙ made_is g me v area initial state long taken
       ∙ ap (λ (s : Server). sets state 0 (server_bytes s)) (sym is_fresh)
 
   -- so storing the record again changes nothing

@@ -25,7 +25,7 @@ use Rattle.playback.specs.Theorem.{Handed, AllEnough, entries_of, Taken, taken, 
 use Rattle.playback.specs.Journal.{Kept, deliveries, steps_alone, JournalTheorem}
 use Rattle.playback.proofs.ByteSteps.{step_outcome, step_stored, fresh_outcome, fresh_stored}
 use Rattle.playback.proofs.Outcomes.{whole_played}
-use Rattle.playback.proofs.Theorem.{fine, theorem}
+use Rattle.playback.proofs.Theorem.{fine_of, theorem}
 use Rattle.playback.proofs.Turns.{constructs}
 
 -- ---- a journal
@@ -111,7 +111,7 @@ module _ (g : Params) (me : ℕ) (v trace area initial state out : List ℕ) (b 
     unfolding taken_from
     played =
         let m = byte_construction digest_of g me v area initial state in
-        let t = constructs digest_of g me v trace (length area) (length initial) (length out) (fine digest_of g me v trace area initial out x gave) in
+        let t = constructs digest_of g me v trace (length area) (length initial) (length out) (fine_of digest_of g me v trace area initial out x gave) in
         let F = fresh_outcome g me v area initial state long t m.reply m.area m.initial m.state refl in
         let f = fresh_stored g me v area initial state long t m.reply m.area m.initial m.state refl in
         let n = made_length g me v area initial state long in

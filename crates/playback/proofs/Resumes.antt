@@ -1,4 +1,5 @@
 -- The loop that goes on with the entries of a trace, and the outcome of the call. Assumes nothing.
+use Rattle.std.specs.Prelude.{Ok, Err}
 use Rattle.std.specs.Prelude.{Err}
 use Prim.Native.Nat.{ℕ, ◌+◌, ◌-◌, ◌≤◌, ◌<◌}
 use native.Mathlib.Omega.{arith}
@@ -21,10 +22,8 @@ use Rattle.layout.specs.Servers.{server_size}
 use Rattle.server_deliver.specs.Records.{ByteOutcome, byte_outcome, rooms_test, byte_delivery}
 use Rattle.entries.specs.declared.Closing.{Closing}
 use Rattle.entries.specs.declared.Found.{Found}
-use Rattle.entries.specs.declared.Reading.{Reading}
-use Rattle.entries.specs.declared.Reading.TheVariants as R
 use Rattle.entries.specs.declared.Survey.{Survey}
-use Rattle.entries.specs.Entries.{closing_number, TraceEntry, before, found_in, reading_response, reading_of, trace_of, Surveyed, surveyed, survey_of}
+use Rattle.entries.specs.Entries.{Reading, closing_number, TraceEntry, before, found_in, reading_response, reading_of, trace_of, Surveyed, surveyed, survey_of}
 use Rattle.entries.proofs.Traces.{lent_rest, rest_closed, rest_within, rest_entry, few_entries}
 use Rattle.playback.specs.declared.Ending.{Ending}
 use Rattle.playback.specs.Playback.{End, end_in, ending_of}
@@ -58,13 +57,13 @@ module _ (g : Params) (me : ℕ) (initial trace : List ℕ) (whole : Areas) wher
     pub is : resumed digest_of g me initial l (left at) ≡ whole
 
   module _ (l : Areas) (at : ℕ) (T : Going l at) (r : Reading) (is : reading_response r ≡ reading_of (take (length trace - at) (drop at trace))) where
-    pub going_end : (c : Closing) → r ≡ R.Closed c → l ≡ whole
+    pub going_end : (c : Closing) → r ≡ Err c → l ≡ whole
     unfolding resumed
     going_end c e =
         let n : left at ≡ [] = ap (λ t. t.entries) (rest_closed trace at r is c e) in
         sym (ap (resumed digest_of g me initial l) n) ∙ T.is
 
-    module _ (x : Found) (found : r ≡ R.Entry x) where
+    module _ (x : Found) (found : r ≡ Ok x) where
       abbrev e : TraceEntry
       e = found_in (take (length trace - at) (drop at trace)) x
 

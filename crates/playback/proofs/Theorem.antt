@@ -75,9 +75,9 @@ module _ (H : List ℕ → List ℕ) (g : Params) (me : ℕ) where
     fine_by (Err q) y e = impossible (cc)
     fine_by (Ok _) y e = refl
 
-    pub fine : (y : Summed) → (playback H g me v trace a initial out).answer ≡ gives y → test ≡ fine
+    pub fine_of : (y : Summed) → (playback H g me v trace a initial out).answer ≡ gives y → test ≡ fine
     unfolding playback
-    fine y e = fine_by test y e
+    fine_of y e = fine_by test y e
 
     module _ (f : test ≡ fine) where
       is : playback H g me v trace a initial out ≡ outcome_of (trace_of trace) all x.initial out
@@ -150,8 +150,8 @@ module _ (H : List ℕ → List ℕ) (g : Params) (me : ℕ) where
     unfolding played_from
     cut x y p q =
         let k = SD.construction H g me v a initial in
-        let f = fine v u a initial out x p in
-        let f' = fine v (u ++ w) a initial out' y q in
+        let f = fine_of v u a initial out x p in
+        let f' = fine_of v (u ++ w) a initial out' y q in
         let P = is v u a initial out f in
         let Q = is v (u ++ w) a initial out' f' in
         let t = whole_trace u w b c in
@@ -241,7 +241,7 @@ module _ (H : List ℕ → List ℕ) (g : Params) (me : ℕ) where
     refused = refused;
     room = room;
     no_room = (room 0 0).1 (omega arith);
-    steps = λ v trace a initial out b y e hs i E. steps v trace a initial out (fine v trace a initial out y e) b hs i E;
+    steps = λ v trace a initial out b y e hs i E. steps v trace a initial out (fine_of v trace a initial out y e) b hs i E;
     turned_down_lem = λ initial s a e es n f. S.turned_down_lem H g me initial s a e es n f;
     turned_down_bytes = λ n. refl;
     cut = cut;

@@ -1,4 +1,5 @@
 -- The loop over the entries: what is played so far, and then what is left, is the whole playback. Assumes nothing.
+use Rattle.std.specs.Prelude.{Ok, Err}
 use Rattle.frame.specs.Refusals.{fine}
 use Prim.Native.Nat.{ℕ, ◌+◌, ◌*◌, ◌-◌, ◌≤◌, ◌<◌}
 use native.Mathlib.Omega.{arith}
@@ -25,9 +26,7 @@ use Rattle.server_rules.specs.Delivery as SD
 use Rattle.server.proofs.Constructing.{sound_of}
 use Rattle.entries.specs.declared.Closing.{Closing}
 use Rattle.entries.specs.declared.Found.{Found}
-use Rattle.entries.specs.declared.Reading.{Reading}
-use Rattle.entries.specs.declared.Reading.TheVariants as R
-use Rattle.entries.specs.Entries.{TraceEntry, before, found_in, reading_response, reading_of, trace_of}
+use Rattle.entries.specs.Entries.{Reading, TraceEntry, before, found_in, reading_response, reading_of, trace_of}
 use Rattle.entries.proofs.Traces.{lent_rest, rest_closed, rest_within, rest_entry}
 use Rattle.playback.specs.Reports.{addressed, Report, report_bytes, reports_bytes}
 use Rattle.playback.specs.Playback.{entry_need, out_test, report_of, server_after, area_after, Played, played, play_test, played_from}
@@ -74,7 +73,7 @@ module _ (H : List ℕ → List ℕ) (g : Params) (me : ℕ) (initial trace : Li
       pub used_all : used ≡ length (reports_bytes whole.reports)
       pub out_all : out ≡ sets out₀ 0 (reports_bytes whole.reports)
 
-    pub turn_end : (c : Closing) → r ≡ R.Closed c → Ends
+    pub turn_end : (c : Closing) → r ≡ Err c → Ends
     unfolding played reports_bytes
     turn_end c e =
         let n : left at ≡ [] = ap (λ t. t.entries) (rest_closed trace at r is c e) in
@@ -89,7 +88,7 @@ module _ (H : List ℕ → List ℕ) (g : Params) (me : ℕ) (initial trace : Li
 
     -- ---- an entry x, whose frame is lent to the step
 
-    module _ (x : Found) (found : r ≡ R.Entry x) where
+    module _ (x : Found) (found : r ≡ Ok x) where
       abbrev e : TraceEntry
       e = found_in (take (length trace - at) (drop at trace)) x
 

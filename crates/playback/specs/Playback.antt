@@ -1,10 +1,11 @@
 -- The playback of a trace. Document 02, F-8: "From a fresh server the playback gives every reply, every frame sent and the final state. They must
 -- equal the steps taken one after another, each with room enough." H is the digest, g the parameters, me the server's number. These are definitions.
-use Rattle.std.specs.Prelude.{ℕ, ◌+◌, ◌*◌, List, [], ◌∷◌, length, replicate, ltb, eqb, Ok, Err}
+use Rattle.std.specs.Prelude.{ℕ, ◌+◌, ◌*◌, List, [], ◌∷◌, length, replicate, ltb, eqb, Result, Ok, Err}
 use Rattle.std.proofs.lemmas.List.Edits.{sets}
 use Rattle.area.specs.Area.{pick}
 use Rattle.area.specs.Responses.{Response, turned_down, gives}
 use Rattle.blocks.specs.declared.Params.{Params}
+use Rattle.frame.specs.declared.Refusal.{Refusal}
 use Rattle.frame.specs.Refusals.{number_of, refused, and_then, Verdict, fine}
 use Rattle.frame.specs.Params.{largest_frame, server_frames, out_room, to_room}
 use Rattle.server_rules.specs.declared.Server.{Server}
@@ -15,8 +16,6 @@ use Rattle.entries.specs.Entries.{closing_number, TraceEntry, Trace, trace_of}
 use Rattle.playback.specs.declared.Ending.{Ending}
 use Rattle.playback.specs.declared.Ending.TheVariants as E
 use Rattle.playback.specs.declared.Summary.{Summary}
-use Rattle.playback.specs.declared.Answer.{Answer}
-use Rattle.playback.specs.declared.Answer.TheVariants as A
 use Rattle.playback.specs.Reports.{Report, reports_bytes}
 
 -- ---- the room
@@ -99,9 +98,13 @@ pub record Summed : Type 0 where
 abbrev pub summed : Summary → Summed
 summed x = record { entries = x.entries; bytes = x.bytes; ending = end_in x.ending }
 
+-- what a playback gave, or why it was turned down
+abbrev pub Answer : Type 0
+Answer = Result Summary Refusal
+
 abbrev pub playback_response : Answer → Response Summed
-playback_response (A.Played x) = gives (summed x)
-playback_response (A.Refused r) = turned_down (number_of r)
+playback_response (Ok x) = gives (summed x)
+playback_response (Err r) = turned_down (number_of r)
 
 -- the answer, the server, and every byte of the lent areas
 pub record Outcome : Type 0 where

@@ -3,7 +3,8 @@ ghost use Rattle.std.specs.Prelude.{◌≡◌};
 ghost use Rattle.playback.specs.Playback.{summed, playback_response};
 ghost use Rattle.playback.specs.Answers.{summary_answer, playback_answer};
 
-use crate::{Answer, Ending, Summary};
+use crate::{Ending, Summary};
+use frame::Refusal;
 use frame::refusals::number_of;
 
 // How the trace closed, 22 or 23, in the second byte.
@@ -24,11 +25,11 @@ fn summary_answer(x: Summary) -> u64
     }
 }
 
-pub fn playback_answer(a: Answer) -> u64
+pub fn playback_answer(a: Result<Summary, Refusal>) -> u64
     ensures { result ≡ playback_answer (playback_response a) }
 {
     match a {
-        Answer::Played(x) => summary_answer(x),
-        Answer::Refused(r) => number_of(r) as u64,
+        Ok(x) => summary_answer(x),
+        Err(r) => number_of(r) as u64,
     }
 }

@@ -38,12 +38,6 @@ pub struct Summary {
     pub ending: Ending,
 }
 
-#[derive(Clone, Copy)]
-pub enum Answer {
-    Played(Summary),
-    Refused(Refusal),
-}
-
 // How many bytes of the out area are asked for an entry.
 fn entry_need(g: Params) -> usize
     requires { Bounded g }
@@ -86,32 +80,21 @@ pub fn play(
     initial: &mut [u8],
     state: &mut [u8],
     out: &mut [u8],
-) -> Answer
+) -> Result<Summary, Refusal>
     ensures { bytes_played (playback_response result) area.new initial.new state.new out.new
         ≡ byte_playback digest_of g me value.now trace.now area.old initial.old
         state.old out.old }
 {
-    let fits = fresh_test(g, me, value.len(), state.len());
-    if let Err(r) = fits {
-        return Answer::Refused(r);
-    }
-    let test = construct_test(g, me as u8, value, area.len(), initial.len());
-    if let Err(r) = test {
-        return Answer::Refused(r);
-    }
+    fresh_test(g, me, value.len(), state.len())?;
+    construct_test(g, me as u8, value, area.len(), initial.len())?;
     let found = survey(trace);
     let entries = found.count;
-    let room = out_test(g, entries, out.len());
-    if let Err(r) = room {
-        return Answer::Refused(r);
-    }
+    out_test(g, entries, out.len())?;
     let bytes = play_all(g, me, value, trace, area, initial, state, out);
-    let closing = found.closing;
-    let ending = ending_of(closing, entries);
-    let summary = Summary {
+    let ending = ending_of(found.closing, entries);
+    Ok(Summary {
         entries,
         bytes,
         ending,
-    };
-    Answer::Played(summary)
+    })
 }

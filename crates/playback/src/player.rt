@@ -1,6 +1,6 @@
 // The entries of a trace delivered one after the other, each with enough room: the record stays in its area, and a step writes its frames into the out area.
 ghost use Rattle.std.specs.Prelude.{◌≡◌, ◌≤◌, length};
-ghost use Rattle.frame.specs.declared.Verdict.TheVariants.{Fine};
+ghost use Rattle.frame.specs.Refusals.{fine};
 ghost use Rattle.entries.specs.Entries.{trace_of};
 ghost use Rattle.sha256.specs.Hash.{digest_of};
 ghost use Rattle.layout.specs.Servers.{server_size};
@@ -10,7 +10,7 @@ ghost use Rattle.playback.specs.Stages.{done, played_all};
 use crate::reports::{REPORT_HEAD, put_report};
 use blocks::Params;
 use entries::reader::read_entry;
-use entries::{FRAME_AT, Reading};
+use entries::FRAME_AT;
 use server_deliver::deliver;
 use server_deliver::fresh::fresh;
 
@@ -28,30 +28,27 @@ pub fn play_all(
     state: &mut [u8],
     out: &mut [u8],
 ) -> usize
-    requires { (play_test digest_of g me value.now (trace_of trace.now) (length area.old) (length initial.old) (length out.old) ≡ Fine)
+    requires { (play_test digest_of g me value.now (trace_of trace.now) (length area.old) (length initial.old) (length out.old) ≡ fine)
         × (server_size ≤ length state.old) }
     ensures { done result area.new initial.new state.new out.new
         ≡ played_all digest_of g me value.now (trace_of trace.now) area.old initial.old state.old
         out.old }
 {
-    fresh(g, me, value, area, initial, state);
+    let _ = fresh(g, me, value, area, initial, state);
     let mut to = [0u8; TO_ROOM];
     let mut at: usize = 0;
     let mut used: usize = 0;
     loop {
         let rest = &trace[at..];
-        let reading = read_entry(rest);
-        let Reading::Entry(found) = reading else {
+        let Ok(found) = read_entry(rest) else {
             return used;
         };
-        let sender = found.sender;
-        let end = found.end;
         let from = used + REPORT_HEAD;
         let reply = deliver(
             g,
             me,
-            sender,
-            &rest[FRAME_AT..end],
+            found.sender,
+            &rest[FRAME_AT..found.end],
             area,
             initial,
             state,
@@ -59,6 +56,6 @@ pub fn play_all(
             &mut to,
         );
         used = put_report(reply, &to, out, used);
-        at += end;
+        at += found.end;
     }
 }

@@ -5,10 +5,10 @@ ghost use Rattle.entries.specs.Entries.{trace_of};
 ghost use Rattle.playback.specs.Playback.{playback_response};
 ghost use Rattle.playback.specs.Resume.{areas, resumed, resume_test, resumption, byte_resumption};
 
-use crate::{Answer, Summary, ending_of};
+use crate::{Summary, ending_of};
 use blocks::Params;
 use entries::reader::{read_entry, survey};
-use entries::{FRAME_AT, Reading};
+use entries::FRAME_AT;
 use frame::bounds::params_test;
 use frame::Refusal;
 use layout::servers::SERVER_SIZE;
@@ -52,24 +52,21 @@ fn resume_all(
     let mut at: usize = 0;
     loop {
         let rest = &trace[at..];
-        let reading = read_entry(rest);
-        let Reading::Entry(found) = reading else {
+        let Ok(found) = read_entry(rest) else {
             return;
         };
-        let sender = found.sender;
-        let end = found.end;
-        deliver(
+        let _ = deliver(
             g,
             me,
-            sender,
-            &rest[FRAME_AT..end],
+            found.sender,
+            &rest[FRAME_AT..found.end],
             area,
             initial,
             state,
             out,
             to,
         );
-        at += end;
+        at += found.end;
     }
 }
 
@@ -83,12 +80,12 @@ pub fn resume(
     state: &mut [u8],
     out: &mut [u8],
     to: &mut [u8],
-) -> Answer
+) -> Result<Summary, Refusal>
     ensures { resumption (playback_response result) (areas area.new state.new out.new to.new)
         ≡ byte_resumption digest_of g me initial.now trace.now
         (areas area.old state.old out.old to.old) }
 {
-    let test = resume_test(
+    resume_test(
         g,
         me,
         state.len(),
@@ -96,19 +93,14 @@ pub fn resume(
         initial.len(),
         out.len(),
         to.len(),
-    );
-    if let Err(r) = test {
-        return Answer::Refused(r);
-    }
+    )?;
     let found = survey(trace);
     let entries = found.count;
     resume_all(g, me, trace, area, initial, state, out, to);
-    let closing = found.closing;
-    let ending = ending_of(closing, entries);
-    let summary = Summary {
+    let ending = ending_of(found.closing, entries);
+    Ok(Summary {
         entries,
         bytes: 0,
         ending,
-    };
-    Answer::Played(summary)
+    })
 }

@@ -178,8 +178,8 @@ module _ (H : List ℕ → List ℕ) (k : Call) (f a initial st out to : List �
 
         module _ (e : n.verdict ≡ fine) (y : Scope) (q : y ≡ slot_in (scope_of s c) n.slot) (F : Bytes f) (l₁ : List ℕ)
             (w : l₁ ≡ scope_sets st c y.stamp y.slot y.reader) where
-          fine : message_test H g k.me s k.from voted ≡ fine
-          fine = (counted n (slot_of s c) a a₁ out o₁ to t₁ p _ handles e).0
+          passes : message_test H g k.me s k.from voted ≡ fine
+          passes = (counted n (slot_of s c) a a₁ out o₁ to t₁ p _ handles e).0
 
           count : left n.slot a₁ (outbox o₁ t₁ n.place) ≡ counts p (outbox out to first_place)
           count = (counted n (slot_of s c) a a₁ out o₁ to t₁ p _ handles e).1
@@ -197,7 +197,7 @@ module _ (H : List ℕ → List ℕ) (k : Call) (f a initial st out to : List �
           vote_taken l₂ a₂ o₂ t₂ p₂ r =
               let d : a₁ ≡ p.area = ap (λ (x : Left). x.area) count in
               let b : outbox o₁ t₁ n.place ≡ sent (outbox out to first_place) p.sends = ap (λ (x : Left). x.box) count in
-              byte_taken (ap (message_test H g k.me s k.from) is_voted ∙ fine) (behind p x) votes l₂ a₂ o₂ t₂ p₂
+              byte_taken (ap (message_test H g k.me s k.from) is_voted ∙ passes) (behind p x) votes l₂ a₂ o₂ t₂ p₂
               (settles s₁ l₁ l₂ p.area a₂ o₁ t₁ o₂ t₂ n.place p₂ _ (ap server_in written ∙ vote_back F) b
               (r ∙ ap (λ y. freed_in g 8 l₁ y (outbox o₁ t₁ n.place)) d)
               ∙ ap (λ y. settled (opened_in s₁.stamp x.accepted y) x.area (sent (sent (outbox out to first_place) p.sends) x.sends)) written

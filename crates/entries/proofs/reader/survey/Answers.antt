@@ -6,31 +6,31 @@ use Rattle.entries.proofs.reader.survey.Goals as goal
 pub loop-closing-init : goal.loop-closing-init
 loop-closing-init c = (omega arith, omega arith, counts_start _)
 
-pub returns-in-Closed : goal.returns-in-Closed
-returns-in-Closed c =
-    counts_end _ _ _ c.loop-closing.invariant.2 _ c.read_entry-reading.ensures _ c.in-Closed.is
+pub returns-in-Err : goal.returns-in-Err
+returns-in-Err c =
+    counts_end _ _ _ c.loop-closing.invariant.2 _ c.read_entry-reading.ensures _ c.in-Err.is
 
 pub overflow_add-at : goal.overflow_add-at
 overflow_add-at c =
     let w = rest_within c.args.trace.now
     c.loop-closing.at _ c.read_entry-reading.ensures _
-    c.in-Entry.is in
+    c.in-Ok.is in
     record { fits = omega arith }
 
 pub loop-closing-smaller : goal.loop-closing-smaller
 loop-closing-smaller c =
     let w = rest_within c.args.trace.now
     c.loop-closing.at _ c.read_entry-reading.ensures _
-    c.in-Entry.is in
+    c.in-Ok.is in
     omega arith
 
 pub loop-closing-preserved : goal.loop-closing-preserved
 loop-closing-preserved c =
     let w = rest_within c.args.trace.now
     c.loop-closing.at _ c.read_entry-reading.ensures _
-    c.in-Entry.is in (
+    c.in-Ok.is in (
       omega arith,
       omega arith,
       counts_next _ _ _ c.loop-closing.invariant.2 _
-          c.read_entry-reading.ensures _ c.in-Entry.is,
+          c.read_entry-reading.ensures _ c.in-Ok.is,
     )

@@ -52,7 +52,7 @@ returns-in_default c =
     let P = c.requires in
     let k = c.fresh in
     let t = constructs digest_of _ _ _ a.trace.now _ _ _ P.0 in
-    let E = turn_end _ _ _ _ _ _ _ _ l.area l.out l.at l.used l.invariant.0 _ c.read_entry-reading.ensures _ c.in_default.is in
+    let E = turn_end _ _ _ _ _ _ _ _ l.area l.out l.at l.used l.invariant.0 _ c.read_entry.ensures _ c.in_default.is in
     all_played digest_of a.g a.me a.value.now a.area.now a.initial.now _ _ _ _
     (fresh_outcome a.g a.me a.value.now a.area.now a.initial.now a.state.now P.1 t _ _ _ _ k.ensures) a.trace.now
     a.state.now _ (as_many _ _)
@@ -62,36 +62,36 @@ returns-in_default c =
 pub overflow_add-from : goal.overflow_add-from
 overflow_add-from c =
     let l = c.loop-found in
-    let S = step_room _ _ _ _ _ _ _ _ l.area l.out l.at l.used l.invariant.0 _ c.read_entry-reading.ensures _ c.in-Entry.is l.to l.invariant.1 in
+    let S = step_room _ _ _ _ _ _ _ _ l.area l.out l.at l.used l.invariant.0 _ c.read_entry.ensures _ c.in-Ok.is l.to l.invariant.1 in
     record { fits = omega (arith, S.1, l.invariant.4, c.well_formed.1.1.1.1.1.1.1.0.0) }
 
 pub slice_bounds-deliver-count : goal.slice_bounds-deliver-count
 slice_bounds-deliver-count c =
     let l = c.loop-found in
-    let w = within _ _ _ _ _ _ _ _ l.area l.out l.at l.used l.invariant.0 _ c.read_entry-reading.ensures _ c.in-Entry.is in
+    let w = within _ _ _ _ _ _ _ _ l.area l.out l.at l.used l.invariant.0 _ c.read_entry.ensures _ c.in-Ok.is in
     omega (arith, w.0)
 
 pub slice_bounds-deliver-start : goal.slice_bounds-deliver-start
 slice_bounds-deliver-start c =
     let l = c.loop-found in
-    let w = within _ _ _ _ _ _ _ _ l.area l.out l.at l.used l.invariant.0 _ c.read_entry-reading.ensures _ c.in-Entry.is in
+    let w = within _ _ _ _ _ _ _ _ l.area l.out l.at l.used l.invariant.0 _ c.read_entry.ensures _ c.in-Ok.is in
     omega (arith, w.0)
 
 pub slice_bounds-deliver-end : goal.slice_bounds-deliver-end
 slice_bounds-deliver-end c =
     let l = c.loop-found in
-    let w = within _ _ _ _ _ _ _ _ l.area l.out l.at l.used l.invariant.0 _ c.read_entry-reading.ensures _ c.in-Entry.is in
+    let w = within _ _ _ _ _ _ _ _ l.area l.out l.at l.used l.invariant.0 _ c.read_entry.ensures _ c.in-Ok.is in
     w.2
 
 pub slice_bounds-deliver-count-in-loop-found : goal.slice_bounds-deliver-count-in-loop-found
 slice_bounds-deliver-count-in-loop-found c =
     let l = c.loop-found in
-    (step_room _ _ _ _ _ _ _ _ l.area l.out l.at l.used l.invariant.0 _ c.read_entry-reading.ensures _ c.in-Entry.is l.to l.invariant.1).1
+    (step_room _ _ _ _ _ _ _ _ l.area l.out l.at l.used l.invariant.0 _ c.read_entry.ensures _ c.in-Ok.is l.to l.invariant.1).1
 
 pub slice_bounds-deliver-start-in-loop-found : goal.slice_bounds-deliver-start-in-loop-found
 slice_bounds-deliver-start-in-loop-found c =
     let l = c.loop-found in
-    (step_room _ _ _ _ _ _ _ _ l.area l.out l.at l.used l.invariant.0 _ c.read_entry-reading.ensures _ c.in-Entry.is l.to l.invariant.1).1
+    (step_room _ _ _ _ _ _ _ _ l.area l.out l.at l.used l.invariant.0 _ c.read_entry.ensures _ c.in-Ok.is l.to l.invariant.1).1
 
 pub slice_bounds-deliver-end-in-loop-found-2 : goal.slice_bounds-deliver-end-in-loop-found-2
 slice_bounds-deliver-end-in-loop-found-2 c = sym c.loop-found.invariant.1
@@ -100,22 +100,22 @@ pub put_report-used-requires : goal.put_report-used-requires
 put_report-used-requires c =
     let l = c.loop-found in
     let d = c.deliver-reply in
-    let S = step_room _ _ _ _ _ _ _ _ l.area l.out l.at l.used l.invariant.0 _ c.read_entry-reading.ensures _ c.in-Entry.is l.to l.invariant.1 in
-    let b = entry_bytes_lem _ _ _ _ _ _ _ _ l.area l.out l.at l.used l.invariant.0 _ c.read_entry-reading.ensures _ c.in-Entry.is in
+    let S = step_room _ _ _ _ _ _ _ _ l.area l.out l.at l.used l.invariant.0 _ c.read_entry.ensures _ c.in-Ok.is l.to l.invariant.1 in
+    let b = entry_bytes_lem _ _ _ _ _ _ _ _ l.area l.out l.at l.used l.invariant.0 _ c.read_entry.ensures _ c.in-Ok.is in
     let q = step_outcome _ _ _ _ _ _ l.state _ _ l.invariant.7 l.invariant.5 b _ _ _ _ _ d.ensures in
-    let A = turn_asks _ _ _ _ _ _ _ _ l.area l.out l.at l.used l.invariant.0 _ c.read_entry-reading.ensures _ c.in-Entry.is _ _ _ _ _ _ S.0 S.1 q in
+    let A = turn_asks _ _ _ _ _ _ _ _ l.area l.out l.at l.used l.invariant.0 _ c.read_entry.ensures _ c.in-Ok.is _ _ _ _ _ _ S.0 S.1 q in
     (A.head_room, A.lie, A.receivers_in, A.few, A.fits)
 
 pub overflow_add-at : goal.overflow_add-at
 overflow_add-at c =
     let l = c.loop-found in
-    let w = within _ _ _ _ _ _ _ _ l.area l.out l.at l.used l.invariant.0 _ c.read_entry-reading.ensures _ c.in-Entry.is in
+    let w = within _ _ _ _ _ _ _ _ l.area l.out l.at l.used l.invariant.0 _ c.read_entry.ensures _ c.in-Ok.is in
     record { fits = omega (arith, w.1, l.invariant.0.low, c.well_formed.1.1.1.0.0) }
 
 pub loop-found-smaller : goal.loop-found-smaller
 loop-found-smaller c =
     let l = c.loop-found in
-    let w = within _ _ _ _ _ _ _ _ l.area l.out l.at l.used l.invariant.0 _ c.read_entry-reading.ensures _ c.in-Entry.is in
+    let w = within _ _ _ _ _ _ _ _ l.area l.out l.at l.used l.invariant.0 _ c.read_entry.ensures _ c.in-Ok.is in
     omega (arith, w.0, w.1, l.invariant.0.low)
 
 pub loop-found-preserved : goal.loop-found-preserved
@@ -124,10 +124,10 @@ loop-found-preserved c =
     let d = c.deliver-reply in
     let p = c.put_report-used in
     let z = c.slice_known-in-loop-found-2-1 in
-    let S = step_room _ _ _ _ _ _ _ _ l.area l.out l.at l.used l.invariant.0 _ c.read_entry-reading.ensures _ c.in-Entry.is l.to l.invariant.1 in
-    let b = entry_bytes_lem _ _ _ _ _ _ _ _ l.area l.out l.at l.used l.invariant.0 _ c.read_entry-reading.ensures _ c.in-Entry.is in
+    let S = step_room _ _ _ _ _ _ _ _ l.area l.out l.at l.used l.invariant.0 _ c.read_entry.ensures _ c.in-Ok.is l.to l.invariant.1 in
+    let b = entry_bytes_lem _ _ _ _ _ _ _ _ l.area l.out l.at l.used l.invariant.0 _ c.read_entry.ensures _ c.in-Ok.is in
     let q = step_outcome _ _ _ _ _ _ l.state _ _ l.invariant.7 l.invariant.5 b _ _ _ _ _ d.ensures in (
-      turn_next _ _ _ _ _ _ _ _ l.area l.out l.at l.used l.invariant.0 _ c.read_entry-reading.ensures _ c.in-Entry.is _ _ _ _ _ _ S.0 S.1 q
+      turn_next _ _ _ _ _ _ _ _ l.area l.out l.at l.used l.invariant.0 _ c.read_entry.ensures _ c.in-Ok.is _ _ _ _ _ _ S.0 S.1 q
           _ _ p.ensures.0 p.ensures.1,
       d.auto.to ∙ l.invariant.1,
       d.auto.area ∙ l.invariant.2,

@@ -1,7 +1,7 @@
 // A client begins a read or a write.
 ghost use Rattle.std.specs.Prelude.{◌≡◌, length};
 ghost use Rattle.frame.specs.Params.{params_test};
-ghost use Rattle.frame.specs.Refusals.{and_then};
+ghost use Rattle.frame.specs.Refusals.{and_then, fine};
 ghost use Rattle.frame.specs.Stamps.{last_client};
 ghost use Rattle.client_rules.specs.Tests.{send_room};
 ghost use Rattle.client_rules.specs.Beginning.{begun, idle_test, closed_test, length_test, open_read, open_write, begun_of, read_beginning, write_beginning};
@@ -56,7 +56,7 @@ fn write_test(
 // "Read to all."; the rows are empty.
 fn open_read(g: Params, me: u8, s: Client, out: &mut [u8], to: &mut [u8]) -> Answered
     requires { Opening g s.reads (length out.old) (length to.old) }
-    ensures { begun result out.new to.new ≡ begun_of g me J.Fine (open_read g me s) out.old to.old }
+    ensures { begun result out.new to.new ≡ begun_of g me fine (open_read g me s) out.old to.old }
 {
     let reads = s.reads + 1;
     let heard = s.heard;
@@ -84,7 +84,7 @@ fn open_read(g: Params, me: u8, s: Client, out: &mut [u8], to: &mut [u8]) -> Ans
 // "Get-stamp to all."
 fn open_write(g: Params, me: u8, s: Client, out: &mut [u8], to: &mut [u8]) -> Answered
     requires { Opening g s.writes (length out.old) (length to.old) }
-    ensures { begun result out.new to.new ≡ begun_of g me J.Fine (open_write g me s) out.old to.old }
+    ensures { begun result out.new to.new ≡ begun_of g me fine (open_write g me s) out.old to.old }
 {
     let writes = s.writes + 1;
     let heard = [false; 11];

@@ -96,12 +96,12 @@ module _ (g : Params) (me : ℕ) (s : Client) (a v : List ℕ) (from : Party) (f
         bad_judged r
         (ap (λ z. after z (judge_opened digest_of g me (opened g f) (room_test g (length a) (length l) (length out) (length to)) s from f)) (sym call ∙ e))
 
-    module _ (fine : c ≡ fine) (o : Opened) (open_is : o ≡ opened g f) where
+    module _ (passed : c ≡ fine) (o : Opened) (open_is : o ≡ opened g f) where
       judged_opened : judge digest_of g me s a v from f l out to
           ≡ judge_opened digest_of g me o (room_test g (length a) (length l) (length out) (length to)) s from f
       unfolding judge
       judged_opened =
-          ap (λ z. after z (judge_opened digest_of g me (opened g f) (room_test g (length a) (length l) (length out) (length to)) s from f)) (sym call ∙ fine)
+          ap (λ z. after z (judge_opened digest_of g me (opened g f) (room_test g (length a) (length l) (length out) (length to)) s from f)) (sym call ∙ passed)
           ∙ ap (λ z. judge_opened digest_of g me z (room_test g (length a) (length l) (length out) (length to)) s from f) (sym open_is)
 
       pub not_opened : (r : Refusal) → o ≡ Err r

@@ -36,13 +36,13 @@ module _ (g : Params) (me : ℕ) (s : Client) (n : ℕ) (f : List ℕ) (v : Verd
   unfolding stamp_short
   stamp_refused r p = stop_first (params_test g me last_client) _ v r e p
 
-  module _ (w : Verdict) (fine : v ≡ fine) (q : w ≡ value_test g s.phase n) where
+  module _ (w : Verdict) (passed : v ≡ fine) (q : w ≡ value_test g s.phase n) where
     pub stamp_value : (r : Refusal) → w ≡ Err r → Err r ≡ stamp_short g me s n f
     unfolding stamp_short
     stamp_value r p =
-        go_second (params_test g me last_client) _ v (Err r) e fine (stop_first (value_test g s.phase n) (opened_short (opened g f)) w r q p)
+        go_second (params_test g me last_client) _ v (Err r) e passed (stop_first (value_test g s.phase n) (opened_short (opened g f)) w r q p)
 
     pub stamp_opened : (o : Opened) (x : Verdict) → w ≡ fine → o ≡ opened g f → x ≡ opened_short o → x ≡ stamp_short g me s n f
     unfolding stamp_short
     stamp_opened o x p k h =
-        go_second (params_test g me last_client) _ v x e fine (go_second (value_test g s.phase n) (opened_short (opened g f)) w x q p (h ∙ ap opened_short k))
+        go_second (params_test g me last_client) _ v x e passed (go_second (value_test g s.phase n) (opened_short (opened g f)) w x q p (h ∙ ap opened_short k))

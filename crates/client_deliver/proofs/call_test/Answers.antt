@@ -1,9 +1,14 @@
 -- The parameters first, then the value's length. Assumes nothing.
+use Rattle.std.specs.Prelude.{Err}
+use borrow.Author.Rules.{rules}
+use mathlib.Core.Path.{◌≡◌, ◌∙◌}
 use Rattle.frame.proofs.Within.{stop_first, go_second}
 use Rattle.client_deliver.proofs.call_test.Goals as goal
 
-pub returns-in-Err : goal.returns-in-Err
-returns-in-Err c = stop_first _ _ _ _ c.params_test-params.ensures c.in-Err.is
+pub returns-in_err-params_test : goal.returns-in_err-params_test
+returns-in_err-params_test c =
+    let e : c.from_residual.result ≡ Err c.in_err-params_test.field-0.0 = search rules in
+    e ∙ stop_first _ _ _ _ c.params_test.ensures c.in_err-params_test.was
 
 pub returns : goal.returns
-returns c = go_second _ _ _ _ c.params_test-params.ensures c.in_default.is c.value_test.ensures
+returns c = go_second _ _ _ _ c.params_test.ensures c.in_ok-params_test.was c.value_test.ensures

@@ -23,10 +23,10 @@ step-requires c =
     let a = c.args in
     admitted_by a.g a.me a.s _ _ _ _ _ _ _ _ _ _ c.call_test-call.ensures c.in_default.is c.open_frame-opened.ensures c.in-Ok.is c.room_test-room.ensures c.in_default-room.is
 
-pub returns-in-Err : goal.returns-in-Err
-returns-in-Err c =
+pub returns-in-Err-opened : goal.returns-in-Err-opened
+returns-in-Err-opened c =
     let a = c.args in
-    not_opened a.g a.me a.s a.area.now a.value.now a.from a.f.now a.res.now _ _ _ c.call_test-call.ensures c.in_default.is _ c.open_frame-opened.ensures _ c.in-Err.is
+    not_opened a.g a.me a.s a.area.now a.value.now a.from a.f.now a.res.now _ _ _ c.call_test-call.ensures c.in_default.is _ c.open_frame-opened.ensures _ c.in-Err-opened.is
 
 pub returns-in_default-room : goal.returns-in_default-room
 returns-in_default-room c =

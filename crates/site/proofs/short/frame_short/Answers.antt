@@ -1,12 +1,17 @@
 -- The parameters first, then the frame. Assumes nothing.
+use Rattle.std.specs.Prelude.{Err}
+use borrow.Author.Rules.{rules}
+use mathlib.Core.Path.{◌≡◌, ◌∙◌}
 use Rattle.site.proofs.ShortLaws.{bounded_by, frame_refused, frame_opened}
 use Rattle.site.proofs.short.frame_short.Goals as goal
 
-pub returns-in-Err : goal.returns-in-Err
-returns-in-Err c = frame_refused _ _ _ _ _ c.params_test-params.ensures _ c.in-Err.is
+pub returns-in_err-params_test : goal.returns-in_err-params_test
+returns-in_err-params_test c =
+    let e : c.from_residual.result ≡ Err c.in_err-params_test.field-0.0 = search rules in
+    e ∙ frame_refused _ _ _ _ _ c.params_test.ensures _ c.in_err-params_test.was
 
 pub open_frame-opened-requires : goal.open_frame-opened-requires
-open_frame-opened-requires c = bounded_by _ _ _ _ c.params_test-params.ensures c.in_default.is
+open_frame-opened-requires c = bounded_by _ _ _ _ c.params_test.ensures c.in_ok-params_test.was
 
 pub returns : goal.returns
-returns c = frame_opened _ _ _ _ _ c.params_test-params.ensures _ _ c.in_default.is c.open_frame-opened.ensures c.opened_short.ensures
+returns c = frame_opened _ _ _ _ _ c.params_test.ensures _ _ c.in_ok-params_test.was c.open_frame-opened.ensures c.opened_short.ensures

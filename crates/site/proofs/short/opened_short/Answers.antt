@@ -7,6 +7,6 @@ pub returns-in-Ok : goal.returns-in-Ok
 unfolding opened_short
 returns-in-Ok c = sym (ap opened_short c.in-Ok.is)
 
-pub returns-in-Refused : goal.returns-in-Refused
+pub returns-in-Err : goal.returns-in-Err
 unfolding opened_short
-returns-in-Refused c = sym (ap opened_short c.in-Refused.is)
+returns-in-Err c = sym (ap opened_short c.in-Err.is)

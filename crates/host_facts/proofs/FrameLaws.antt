@@ -8,8 +8,7 @@ use mathlib.Core.List.{List}
 use mathlib.Core.Option.{Option, none, some}
 use lib.ListN.{length}
 use lib.Seq.{sets}
-use lib.Dec.{leb}
-use borrow.Author.Tests.{lt-ltb, le-ltb, le-leb, lt-leb, eq-eqb, ne_eqb}
+use borrow.Author.Tests.{lt-ltb, le-ltb}
 use Rattle.area.specs.Area.{pick}
 use Rattle.area.specs.Responses.{Response, turned_down, gives}
 use Rattle.area.specs.Numbers.{be8, bytes8}
@@ -18,10 +17,9 @@ use Rattle.blocks.specs.declared.Params.{Params}
 use Rattle.frame.specs.declared.Header.{Header}
 use Rattle.frame.specs.declared.Refusal.{Refusal}
 use Rattle.frame.specs.Frames.{Opened}
-use Rattle.frame.specs.Refusals.{number_of, Verdict, fine}
+use Rattle.frame.specs.Refusals.{Verdict, answered_by, and_then}
 use Rattle.frame.specs.Params.{bounds_test}
-use Rattle.frame.specs.Frames.{retired, body_at, length_of, body_length, opened, opening_response, opened_under, stamp_in, body_in}
-use Rattle.frame.proofs.Chain.{stop_bounds, within_bounds}
+use Rattle.frame.specs.Frames.{retired, body_at, length_of, body_length, header_in, frame_test, opened_by, opened, opening_response, opened_under, stamp_in, body_in}
 use Rattle.frame.proofs.Opening.{opens_facts}
 use Rattle.host_facts.specs.Outcomes.{wrote}
 use Rattle.host_facts.specs.Frames.{header_answer, header_call, time_of, timed, time_given, time_call}
@@ -32,23 +30,6 @@ unfolding header_call
 header_done g f a x e p = p ∙ ap header_answer e
 
 -- ---- the kinds of frames that carry a time
-
-module _ (k : ℕ) where
-  pub value_carries : k ≡ 11 → true ≡ carries_time k
-  unfolding carries_time
-  value_carries e = rw (eq-eqb _ _ e)
-
-  pub report_carries : (k ≡ 11 → ⊥) → k ≡ 13 → true ≡ carries_time k
-  unfolding carries_time
-  report_carries n e = rw (ne_eqb _ _ n, eq-eqb _ _ e)
-
-  pub first_lacks : (k ≡ 11 → ⊥) → (k ≡ 13 → ⊥) → k < 2 → false ≡ carries_time k
-  unfolding carries_time
-  first_lacks n m h = rw (ne_eqb _ _ n, ne_eqb _ _ m, lt-leb _ _ h)
-
-  pub others_carry : (k ≡ 11 → ⊥) → (k ≡ 13 → ⊥) → 2 ≤ k → leb k 5 ≡ carries_time k
-  unfolding carries_time
-  others_carry n m h = rw (ne_eqb _ _ n, ne_eqb _ _ m, le-leb _ _ h)
 
 -- such a frame has a body of 8 bytes or more, which begins with the time
 record Timed (g : Params) (f : List ℕ) (k : ℕ) : Type 0 where
@@ -75,51 +56,51 @@ timed_by g f (suc (suc (suc (suc (suc (suc (suc (suc (suc (suc (suc (suc (suc (s
 
 -- ---- the time that a frame carries
 
-timed_of : (g : Params) (f : List ℕ) (h : Header) → opened g f ≡ Ok h → Timed g f h.kind
-timed_of g f h e = let o = opens_facts g f h e in timed_by g f h.kind o.kind_low o.kind_high o.kind_used
+opens_given : (v w : Verdict) (x h : Header) → answered_by (and_then v w) x ≡ gives h → opened_by w x ≡ Ok h
+opens_given (Ok _) (Ok _) x h e = cc e
+opens_given (Ok _) (Err r) x h e = impossible (cc e)
+opens_given (Err r) w x h e = impossible (cc e)
 
-pub time_long : (g : Params) (f : List ℕ) (h : Header) → opened g f ≡ Ok h → carries_time h.kind ≡ true → 17 ≤ length f
-time_long g f h e c =
-    let l = (opens_facts g f h e).length_is in
-    let b = (timed_of g f h e).long c in
-    omega (arith, l, b)
+module _ (g : Params) (f time : List ℕ) (o : Opened) (e : opening_response o ≡ opened_under g f) where
+  pub time_refused : (r : Refusal) (x : ℕ) → o ≡ Err r → x ≡ header_answer (opening_response o) → wrote x time ≡ time_call g f time
+  unfolding time_call time_given header_answer
+  time_refused r x q a =
+      ap (λ z. wrote z time) (a ∙ ap (λ z. header_answer (opening_response z)) q)
+      ∙ ap (λ z. time_given g f (opening_response z) time) (sym q)
+      ∙ ap (λ z. time_given g f z time) e
 
-module _ (g : Params) (f time : List ℕ) (v : Verdict) (p : v ≡ bounds_test g) where
-  pub time_bounds : (r : Refusal) (x : ℕ) → v ≡ Err r → x ≡ number_of r → wrote x time ≡ time_call g f time
-  unfolding time_call time_given
-  time_bounds r x q e = ap (λ z. wrote z time) e ∙ ap (λ z. time_given g f z time) (stop_bounds g f v r p q)
+  module _ (h : Header) (q : o ≡ Ok h) where
+    opens : opened g f ≡ Ok h
+    unfolding opened opened_under
+    opens = opens_given (bounds_test g) (frame_test g f) (header_in f) h (sym e ∙ ap opening_response q)
 
-  module _ (fine : v ≡ fine) (o : Opened) (e : o ≡ opened g f) where
-    pub time_refused : (r : Refusal) (x : ℕ) → o ≡ Err r → x ≡ header_answer (opening_response o) → wrote x time ≡ time_call g f time
-    unfolding time_call time_given header_answer
-    time_refused r x q a =
-        ap (λ z. wrote z time) (a ∙ ap (λ z. header_answer (opening_response z)) q)
-        ∙ ap (λ z. time_given g f (opening_response z) time) (sym q)
-        ∙ ap (λ z. time_given g f z time) (within_bounds g f v o p fine e)
+    timing : Timed g f h.kind
+    timing = let o = opens_facts g f h opens in timed_by g f h.kind o.kind_low o.kind_high o.kind_used
 
-    module _ (h : Header) (q : o ≡ Ok h) where
-      -- the frame opens
-      by_header : time_given g f (gives h) time ≡ time_call g f time
-      unfolding time_call
-      by_header = ap (λ z. time_given g f (opening_response z) time) (sym q) ∙ ap (λ z. time_given g f z time) (within_bounds g f v o p fine e)
+    pub time_long : carries_time h.kind ≡ true → 17 ≤ length f
+    time_long c =
+        let l = (opens_facts g f h opens).length_is in
+        let b = timing.long c in
+        omega (arith, l, b)
 
-      by_kind : Timed g f h.kind
-      by_kind = timed_of g f h (sym e ∙ q)
+    -- the frame opens
+    by_header : time_given g f (gives h) time ≡ time_call g f time
+    unfolding time_call
+    by_header = ap (λ z. time_given g f (opening_response z) time) (sym q) ∙ ap (λ z. time_given g f z time) e
 
-      pub time_short : length time < 8 → wrote 10 time ≡ time_call g f time
-      unfolding time_given pick
-      time_short s = sym (rw (lt-ltb _ _ s)) ∙ by_header
+    pub time_short : length time < 8 → wrote 10 time ≡ time_call g f time
+    unfolding time_given pick
+    time_short s = sym (rw (lt-ltb _ _ s)) ∙ by_header
 
-      pub time_none : 8 ≤ length time → carries_time h.kind ≡ false → wrote 0 time ≡ time_call g f time
-      unfolding time_given timed pick
-      time_none s c =
-          let t : time_of (body_in g h.kind f) ≡ none = by_kind.time ∙ ap (λ b. pick b (some (be8 f body_at)) none) c in
-          ap (λ z. timed z time) (sym t) ∙ sym (rw (le-ltb _ _ s)) ∙ by_header
+    pub time_none : 8 ≤ length time → carries_time h.kind ≡ false → wrote 0 time ≡ time_call g f time
+    unfolding time_given timed pick
+    time_none s c =
+        let t : time_of (body_in g h.kind f) ≡ none = timing.time ∙ ap (λ b. pick b (some (be8 f body_at)) none) c in
+        ap (λ z. timed z time) (sym t) ∙ sym (rw (le-ltb _ _ s)) ∙ by_header
 
-      pub time_done : (t : ℕ) (out : List ℕ) → 8 ≤ length time → carries_time h.kind ≡ true → t ≡ be8 f body_at → out ≡ sets time 0 (bytes8 t)
-          → wrote 256 out ≡ time_call g f time
-      unfolding time_given timed pick
-      time_done t out s c a b =
-          let z : time_of (body_in g h.kind f) ≡ some (be8 f body_at) =
-          by_kind.time ∙ ap (λ b. pick b (some (be8 f body_at)) none) c in
-          ap (wrote 256) (b ∙ ap (λ y. sets time 0 (bytes8 y)) a) ∙ ap (λ y. timed y time) (sym z) ∙ sym (rw (le-ltb _ _ s)) ∙ by_header
+    pub time_done : (t : ℕ) (out : List ℕ) → 8 ≤ length time → carries_time h.kind ≡ true → t ≡ be8 f body_at → out ≡ sets time 0 (bytes8 t)
+        → wrote 256 out ≡ time_call g f time
+    unfolding time_given timed pick
+    time_done t out s c a b =
+        let z : time_of (body_in g h.kind f) ≡ some (be8 f body_at) = timing.time ∙ ap (λ b. pick b (some (be8 f body_at)) none) c in
+        ap (wrote 256) (b ∙ ap (λ y. sets time 0 (bytes8 y)) a) ∙ ap (λ y. timed y time) (sym z) ∙ sym (rw (le-ltb _ _ s)) ∙ by_header

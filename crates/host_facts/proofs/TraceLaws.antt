@@ -11,9 +11,8 @@ use Rattle.frame.specs.Outbox.{party_bytes, party_in}
 use Rattle.entries.specs.declared.Closing.{Closing}
 use Rattle.entries.specs.declared.Closing.TheVariants as C
 use Rattle.entries.specs.declared.Found.{Found}
-use Rattle.entries.specs.declared.Reading.{Reading}
-use Rattle.entries.specs.declared.Reading.TheVariants as R
-use Rattle.entries.specs.Entries.{closing_number, reading_response}
+use Rattle.std.specs.Prelude.{Err}
+use Rattle.entries.specs.Entries.{Reading, closing_number, reading_response}
 use Rattle.entries.specs.Writing.{written, writing}
 use Rattle.host_facts.specs.Outcomes.{wrote}
 use Rattle.host_facts.specs.Traces.{found_answer, reading_answer, writing_answer, entry_wrote, nobody_answer, entry_write_call}
@@ -41,11 +40,11 @@ unfolding found_answer
 found_done x p a b e c d =
     ap₂ (λ y z. 256 + 65536 * y + 16777216 * z + 4294967296 * (x.end % 4294967296)) (c ∙ ap (λ z. get_or z 0 0) e) (d ∙ ap (λ z. get_or z 1 0) e)
 
-closing_answer : (c : Closing) → closing_number c ≡ reading_answer (reading_response (R.Closed c))
+closing_answer : (c : Closing) → closing_number c ≡ reading_answer (reading_response (Err c))
 unfolding reading_answer
 closing_answer C.Whole = refl
 closing_answer C.Malformed = refl
 closing_answer C.Cut = refl
 
-pub closing_done : (r : Reading) (c : Closing) → r ≡ R.Closed c → (x : ℕ) → x ≡ closing_number c → x ≡ reading_answer (reading_response r)
+pub closing_done : (r : Reading) (c : Closing) → r ≡ Err c → (x : ℕ) → x ≡ closing_number c → x ≡ reading_answer (reading_response r)
 closing_done r c e x p = p ∙ closing_answer c ∙ ap (λ z. reading_answer (reading_response z)) (sym e)

@@ -6,8 +6,7 @@ ghost use Rattle.host_facts.specs.Kinds.{carries_time};
 ghost use Rattle.host_facts.specs.Outcomes.{wrote};
 
 use blocks::Params;
-use frame::bounds::bounds_test;
-use frame::opener::{open_frame, opened_under};
+use frame::opener::opened_under;
 use frame::places::BODY_AT;
 use frame::refusals::number_of;
 use frame::{Header, Refusal};
@@ -20,9 +19,7 @@ fn header_answer(o: Result<Header, Refusal>) -> u64
     ensures { result ≡ header_answer (opening_response o) }
 {
     match o {
-        Ok(h) => 256 * h.kind as u64
-            + 65536 * h.client as u64
-            + 16777216 * h.sequence as u64,
+        Ok(h) => 256 * h.kind as u64 + 65536 * h.client as u64 + 16777216 * h.sequence as u64,
         Err(r) => number_of(r) as u64,
     }
 }
@@ -31,35 +28,24 @@ fn header_answer(o: Result<Header, Refusal>) -> u64
 pub fn frame_header(g: Params, f: &[u8]) -> u64
     ensures { result ≡ header_call g f.now }
 {
-    let opened = opened_under(g, f);
-    header_answer(opened)
+    header_answer(opened_under(g, f))
 }
 
 // Whether frames of a kind carry a time: 2 to 5, 11 and 13.
 fn carries_time(kind: u8) -> bool
     ensures { result ≡ carries_time kind }
 {
-    if kind == 11 {
+    if kind == 11 || kind == 13 {
         return true;
     }
-    if kind == 13 {
-        return true;
-    }
-    if kind < 2 {
-        return false;
-    }
-    kind <= 5
+    2 <= kind && kind <= 5
 }
 
 // Writes the time that a frame carries. 1 in the second byte of the answer if it carries one.
 pub fn frame_time(g: Params, f: &[u8], time: &mut [u8]) -> u64
     ensures { wrote result time.new ≡ time_call g f.now time.old }
 {
-    let bounds = bounds_test(g);
-    if let Err(r) = bounds {
-        return number_of(r) as u64;
-    }
-    let opened = open_frame(g, f);
+    let opened = opened_under(g, f);
     let Ok(h) = opened else {
         return header_answer(opened);
     };
@@ -69,7 +55,6 @@ pub fn frame_time(g: Params, f: &[u8], time: &mut [u8]) -> u64
     if !carries_time(h.kind) {
         return 0;
     }
-    let t = area::read8(f, BODY_AT);
-    area::write8(time, 0, t);
+    area::write8(time, 0, area::read8(f, BODY_AT));
     256
 }

@@ -4,10 +4,11 @@ ghost use Rattle.host_facts.specs.Outcomes.{wrote};
 ghost use Rattle.host_facts.specs.Present.{block_call};
 
 use blocks::Params;
+use frame::Stamp;
 use frame::bounds::{bounds_test, width};
 use frame::places::AREA_BYTES;
 use frame::refusals::number_of;
-use layout::fields::stamp_at;
+use layout::fields::Field;
 use layout::servers::SERVER_SIZE;
 use server::reads::present_block;
 
@@ -22,25 +23,18 @@ pub fn server_block<'a>(
     ensures { wrote result block.new
         ≡ block_call g area.now initial.now state.now block.old }
 {
-    let bounds = bounds_test(g);
-    if let Err(r) = bounds {
+    if let Err(r) = bounds_test(g) {
         return number_of(r) as u64;
     }
     let w = width(g);
-    if state.len() < SERVER_SIZE {
+    if state.len() < SERVER_SIZE
+        || area.len() < AREA_BYTES
+        || initial.len() < w
+        || block.len() < w
+    {
         return 10;
     }
-    if area.len() < AREA_BYTES {
-        return 10;
-    }
-    if initial.len() < w {
-        return 10;
-    }
-    if block.len() < w {
-        return 10;
-    }
-    let x = stamp_at(state, 0);
-    let b = present_block(g, x, area, initial);
-    area::put(block, 0, b);
+    let x = Stamp::get(state, 0);
+    area::put(block, 0, present_block(g, x, area, initial));
     0
 }

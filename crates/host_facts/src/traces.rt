@@ -1,5 +1,5 @@
 // Entries of a trace, read and written.
-ghost use Rattle.std.specs.Prelude.{◌≡◌, ◌<◌};
+ghost use Rattle.std.specs.Prelude.{◌≡◌};
 ghost use Rattle.entries.specs.Entries.{closing_number, reading_response};
 ghost use Rattle.entries.specs.Writing.{writing_response};
 ghost use Rattle.host_facts.specs.Outcomes.{wrote};
@@ -7,7 +7,8 @@ ghost use Rattle.host_facts.specs.Traces.{found_answer, reading_answer, writing_
 
 use entries::reader::read_entry;
 use entries::writer::write_entry;
-use entries::{Closing, FRAME_AT, Found, LONGEST, Reading, Writing};
+use entries::{Closing, FRAME_AT, Found, LONGEST};
+use frame::Refusal;
 use frame::parties::{party_bytes, party_in};
 use frame::refusals::number_of;
 
@@ -21,30 +22,23 @@ fn closing_number(c: Closing) -> u64
     }
 }
 
-fn wide(x: u8) -> u64
-    ensures { (result ≡ x) × (result < 256) }
-{
-    x as u64
-}
-
 // An entry that was found: its sender's class and number, and how many bytes it takes.
 fn found_answer(x: Found) -> u64
     ensures { result ≡ found_answer x }
 {
-    let sender = x.sender;
-    let party = party_bytes(sender);
-    let class = wide(party[0]);
-    let number = wide(party[1]);
+    let party = party_bytes(x.sender);
+    let class = party[0] as u64;
+    let number = party[1] as u64;
     let end = x.end as u64 % 4294967296;
     256 + 65536 * class + 16777216 * number + 4294967296 * end
 }
 
-fn reading_answer(r: Reading) -> u64
+fn reading_answer(r: Result<Found, Closing>) -> u64
     ensures { result ≡ reading_answer (reading_response r) }
 {
     match r {
-        Reading::Entry(x) => found_answer(x),
-        Reading::Closed(c) => closing_number(c),
+        Ok(x) => found_answer(x),
+        Err(c) => closing_number(c),
     }
 }
 
@@ -52,16 +46,15 @@ fn reading_answer(r: Reading) -> u64
 pub fn entry_read(l: &[u8]) -> u64
     ensures { result ≡ entry_read_call l.now }
 {
-    let reading = read_entry(l);
-    reading_answer(reading)
+    reading_answer(read_entry(l))
 }
 
-fn writing_answer(w: Writing) -> u64
+fn writing_answer(w: Result<usize, Refusal>) -> u64
     ensures { result ≡ writing_answer (writing_response w) }
 {
     match w {
-        Writing::Written(m) => 65536 * (m as u64 % 281474976710656),
-        Writing::Refused(r) => number_of(r) as u64,
+        Ok(m) => 65536 * (m as u64 % 281474976710656),
+        Err(r) => number_of(r) as u64,
     }
 }
 
@@ -82,13 +75,9 @@ fn nobody_answer(len: usize, room: usize) -> u64
 pub fn entry_write(class: usize, number: usize, f: &[u8], out: &mut [u8]) -> u64
     ensures { wrote result out.new ≡ entry_write_call class number f.now out.old }
 {
-    if 1 < class {
-        return nobody_answer(f.len(), out.len());
-    }
-    if 255 < number {
+    if 1 < class || 255 < number {
         return nobody_answer(f.len(), out.len());
     }
     let sender = party_in(class as u8, number as u8);
-    let done = write_entry(sender, f, out);
-    writing_answer(done)
+    writing_answer(write_entry(sender, f, out))
 }

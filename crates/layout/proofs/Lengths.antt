@@ -1,9 +1,9 @@
 -- How many bytes each part of a layout has, whatever it holds. Assumes nothing.
 use Prim.Native.Nat.{ℕ, ◌+◌}
-use mathlib.Core.Path.{◌≡◌, refl, ap₂, ◌∙◌}
+use mathlib.Core.Path.{◌≡◌, refl}
 use mathlib.Core.Bool.{Bool, false}
 use mathlib.Core.List.{List, [], ◌∷◌, ◌++◌}
-use lib.ListN.{length, get_or, length-append}
+use lib.ListN.{length, get_or}
 use Rattle.area.specs.Numbers.{bytes4, bytes8}
 use Rattle.area.proofs.Numbers.{length_bytes4, length_bytes8}
 use Rattle.area.proofs.Fills.{length_joined}
@@ -20,14 +20,11 @@ use Rattle.server_rules.specs.declared.Slot.{Slot}
 use Rattle.server_rules.specs.declared.Reader.{Reader}
 use Rattle.server_rules.specs.declared.Server.{Server}
 use Rattle.server_rules.specs.State.{no_slot, no_reader}
+use Rattle.layout.proofs.Places.{both}
 use Rattle.layout.specs.Fields.{flag_byte, row_bytes, flags_bytes, numbers_bytes}
 use Rattle.layout.specs.Clients.{client_size, phase_byte, stamps_bytes, kept_bytes, rows_bytes, head_bytes, client_bytes}
 use Rattle.layout.specs.Servers.{server_size, blocks_size, slot_size, slots_size, reader_size, readers_size, marks_bytes}
 use Rattle.layout.specs.Servers.{votes_bytes, blocks_bytes, slot_bytes, slots_bytes, reader_bytes, readers_bytes, server_bytes}
-
--- two parts, one after the other
-pub both : (a b : List ℕ) (v w : ℕ) → length a ≡ v → length b ≡ w → length (a ++ b) ≡ v + w
-both a b v w e f = length-append a b ∙ ap₂ (λ x y. x + y) e f
 
 pub length_flags : (xs : List Bool) → length (flags_bytes xs) ≡ 11
 unfolding flags_bytes row_bytes

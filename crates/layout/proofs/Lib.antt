@@ -1,4 +1,5 @@
 pub mod Places
+pub mod Made
 pub mod Lengths
 pub mod Puts
 pub mod Reading

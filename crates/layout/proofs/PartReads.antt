@@ -4,11 +4,10 @@ use native.Mathlib.Omega.{arith}
 use mathlib.Core.Path.{◌≡◌, refl, sym, ap, ◌∙◌}
 use mathlib.Core.Bool.{Bool}
 use mathlib.Core.List.{List}
-use lib.ListN.{get_or}
 use Rattle.area.specs.Numbers.{be8}
 use Rattle.server_rules.specs.declared.Slot.{Slot}
 use Rattle.server_rules.specs.State.{no_slot, slot_of, report_of}
-use Rattle.layout.specs.Fields.{flag_in, flag_at, stamp_at, numbers_at}
+use Rattle.layout.specs.Fields.{flag_at, stamp_at, numbers_at}
 use Rattle.layout.specs.Servers.{slot_size, slots_place, reports_place, blocks_at, slot_at, slots_at, server_at, server_in}
 use Rattle.layout.proofs.Reading.{row_entry}
 
@@ -26,10 +25,10 @@ module _ (l : List ℕ) where
     unfolding slot_at
     sequence_read x e = e ∙ ap (λ (s : Slot). s.sequence) slot_read
 
-    pub complete_read : (b : Bool) (i : ℕ) → i ≡ at + 10 → b ≡ flag_in (get_or l i 0) → b ≡ (slot_of (server_in l) c).blocks.complete
-    unfolding slot_at blocks_at flag_at
+    pub complete_read : (b : Bool) (i : ℕ) → i ≡ at + 10 → b ≡ flag_at l i → b ≡ (slot_of (server_in l) c).blocks.complete
+    unfolding slot_at blocks_at
     complete_read b i q e =
-        let d : i ≡ at + 8 + 2 = omega (arith, q) in e ∙ ap (λ (j : ℕ). flag_in (get_or l j 0)) d ∙ ap (λ (s : Slot). s.blocks.complete) slot_read
+        let d : i ≡ at + 8 + 2 = omega (arith, q) in e ∙ ap (flag_at l) d ∙ ap (λ (s : Slot). s.blocks.complete) slot_read
 
     pub time_read : (x i : ℕ) → i ≡ at + 11 → x ≡ be8 l i → x ≡ (slot_of (server_in l) c).blocks.time
     unfolding slot_at blocks_at

@@ -356,14 +356,14 @@ module _ (Z : Setup) (G : Assumed Z) where
         named : to_room (server_frames g) ≤ length to
         named = omega (arith, length-replicate {A = ℕ} (to_room (server_frames g)) 0)
 
-        fine : room out to ≡ fine
-        fine = room_fine g (length sv.area) (length (initial_of Z j)) (length out) (length to) (shape Z G M ks j).room (initial_long Z G M j)
+        roomy : room out to ≡ fine
+        roomy = room_fine g (length sv.area) (length (initial_of Z j)) (length out) (length to) (shape Z G M ks j).room (initial_long Z G M j)
             many named
 
         go : Order ks j a m.client m.sequence m.body ordered → Past ks ⊎ Ahead ks j m.client m.sequence m.body
         go (inl o) =
             let (r, e) = N out to many named in
-            impossible (cc (e, answer_is out to fine (ap (λ r. and_then r ordered) fine ∙ o)))
+            impossible (cc (e, answer_is out to fine (ap (λ r. and_then r ordered) roomy ∙ o)))
         go (inr (inl (o, p))) = inl p
         go (inr (inr (o, p))) = inr p
 

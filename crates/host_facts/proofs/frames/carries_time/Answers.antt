@@ -1,15 +1,20 @@
--- Each return, by the laws of FrameLaws.antt. Assumes nothing.
-use Rattle.host_facts.proofs.FrameLaws.{value_carries, report_carries, first_lacks, others_carry}
+-- By the tests of the kind. Assumes nothing.
+use Rattle.area.proofs.Tests.{tests}
+use Rattle.host_facts.specs.Kinds.{carries_time}
 use Rattle.host_facts.proofs.frames.carries_time.Goals as goal
+use Rattle.host_facts.proofs.frames.carries_time.Goals.{then-kind-eq11-via-then-kind-eq11, then-kind-eq11-via-else-kind-eq11+then-kind-eq13}
 
 pub returns-then-kind-eq11 : goal.returns-then-kind-eq11
-returns-then-kind-eq11 c = value_carries _ c.if-kind-eq11.true
+unfolding carries_time
+returns-then-kind-eq11 c = elim c.then-kind-eq11.branch [
+  | then-kind-eq11-via-then-kind-eq11 w ↦ search tests
+  | then-kind-eq11-via-else-kind-eq11+then-kind-eq13 w ↦ search tests
+]
 
-pub returns-then-kind-eq13 : goal.returns-then-kind-eq13
-returns-then-kind-eq13 c = report_carries _ c.if-kind-eq11.false c.if-kind-eq13.true
+pub returns-then-kind-ge2 : goal.returns-then-kind-ge2
+unfolding carries_time
+returns-then-kind-ge2 c = search tests
 
-pub returns-then-kind-lt2 : goal.returns-then-kind-lt2
-returns-then-kind-lt2 c = first_lacks _ c.if-kind-eq11.false c.if-kind-eq13.false c.if-kind-lt2.true
-
-pub returns : goal.returns
-returns c = others_carry _ c.if-kind-eq11.false c.if-kind-eq13.false c.if-kind-lt2.false
+pub returns-else-kind-ge2 : goal.returns-else-kind-ge2
+unfolding carries_time
+returns-else-kind-ge2 c = search tests

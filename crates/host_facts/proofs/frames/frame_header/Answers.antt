@@ -3,4 +3,4 @@ use Rattle.host_facts.proofs.FrameLaws.{header_done}
 use Rattle.host_facts.proofs.frames.frame_header.Goals as goal
 
 pub returns : goal.returns
-returns c = header_done _ _ _ _ c.opened_under-opened.ensures c.header_answer.ensures
+returns c = header_done _ _ _ _ c.opened_under.ensures c.header_answer.ensures

@@ -5,4 +5,4 @@ use Rattle.host_facts.proofs.traces.entry_read.Goals as goal
 
 pub returns : goal.returns
 unfolding entry_read_call
-returns c = c.reading_answer.ensures ∙ ap reading_answer c.read_entry-reading.ensures
+returns c = c.reading_answer.ensures ∙ ap reading_answer c.read_entry.ensures

@@ -5,9 +5,9 @@ use Rattle.host_facts.specs.Traces.{reading_answer}
 use Rattle.host_facts.proofs.TraceLaws.{closing_done}
 use Rattle.host_facts.proofs.traces.reading_answer.Goals as goal
 
-pub returns-in-Entry : goal.returns-in-Entry
+pub returns-in-Ok : goal.returns-in-Ok
 unfolding reading_answer
-returns-in-Entry c = c.found_answer.ensures ∙ sym (ap (λ z. reading_answer (reading_response z)) c.in-Entry.is)
+returns-in-Ok c = c.found_answer.ensures ∙ sym (ap (λ z. reading_answer (reading_response z)) c.in-Ok.is)
 
-pub returns-in-Closed : goal.returns-in-Closed
-returns-in-Closed c = closing_done _ _ c.in-Closed.is _ c.closing_number.ensures
+pub returns-in-Err : goal.returns-in-Err
+returns-in-Err c = closing_done _ _ c.in-Err.is _ c.closing_number.ensures

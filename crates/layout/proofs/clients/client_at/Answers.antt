@@ -1,8 +1,8 @@
-use Rattle.layout.specs.Clients.{client_at}
-use Rattle.layout.specs.Fields.{flag_at}
+-- Each part is read at its place. Assumes nothing.
+use Rattle.layout.specs.Clients.{client_at, rows_at}
+use Rattle.layout.specs.Fields.{flags_at, numbers_at}
 use Rattle.layout.proofs.clients.client_at.Goals as goal
 
--- src/clients.rt:153:1
 pub returns : goal.returns
-unfolding client_at flag_at
+unfolding client_at flags_at numbers_at rows_at
 returns c = cc

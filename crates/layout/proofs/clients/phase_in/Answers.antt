@@ -4,18 +4,18 @@ use Rattle.area.proofs.Tests.{tests}
 use Rattle.layout.specs.Clients.{phase_in}
 use Rattle.layout.proofs.clients.phase_in.Goals as goal
 
-pub returns-then-x-eq1 : goal.returns-then-x-eq1
+pub returns-in-1 : goal.returns-in-1
 unfolding phase_in pick
-returns-then-x-eq1 c = search tests
+returns-in-1 c = rw c.in-1.is
 
-pub returns-then-x-eq2 : goal.returns-then-x-eq2
+pub returns-in-2 : goal.returns-in-2
 unfolding phase_in pick
-returns-then-x-eq2 c = search tests
+returns-in-2 c = rw c.in-2.is
 
-pub returns-then-x-eq3 : goal.returns-then-x-eq3
+pub returns-in-3 : goal.returns-in-3
 unfolding phase_in pick
-returns-then-x-eq3 c = search tests
+returns-in-3 c = rw c.in-3.is
 
-pub returns : goal.returns
+pub returns-in_default : goal.returns-in_default
 unfolding phase_in pick
-returns c = search tests
+returns-in_default c = search tests

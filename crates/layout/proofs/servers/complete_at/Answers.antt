@@ -1,7 +1,7 @@
-use Rattle.layout.proofs.PartReads.{complete_read}
+-- The flag is read at its place. Assumes nothing.
 use native.Mathlib.Omega.{arith}
+use Rattle.layout.proofs.PartReads.{complete_read}
 use Rattle.layout.proofs.servers.complete_at.Goals as goal
 
--- src/servers.rt:242:1
 pub returns : goal.returns
-returns c = let a = c.args in complete_read a.bytes.now a.c (omega arith) _ _ (omega arith) c.flag_in.ensures
+returns c = let a = c.args in complete_read a.bytes.now a.c (omega arith) _ _ (omega arith) c.get.ensures

@@ -1,6 +1,7 @@
 -- The parts are stored one after the other. Assumes nothing.
+use mathlib.Core.Path.{refl}
 use Rattle.layout.proofs.Puts.{marks_put}
 use Rattle.layout.proofs.servers.put_marks.Goals as goal
 
 pub returns : goal.returns
-returns c = marks_put _ _ _ _ _ _ _ _ _ _ _ c.flag_byte.ensures c.flag_byte-2.ensures c.flag_byte-3.ensures c.put_byte.ensures c.put_byte-2.ensures c.put_byte-3.ensures
+returns c = marks_put _ _ _ _ _ _ _ _ _ _ _ refl refl refl c.put.ensures.puts c.put-2.ensures.puts c.put-3.ensures.puts

@@ -1,6 +1,9 @@
+-- The parts are stored one after the other. Assumes nothing.
+use Rattle.layout.specs.Fields.{numbers_bytes}
+use Rattle.layout.specs.Servers.{slots_bytes, readers_bytes}
 use Rattle.layout.proofs.Puts.{server_put}
 use Rattle.layout.proofs.servers.put_server.Goals as goal
 
--- src/servers.rt:187:1
 pub returns : goal.returns
-returns c = let a = c.args in server_put _ _ _ _ _ _ a.s c.put_stamp.ensures c.put_slots.ensures c.put_readers.ensures c.put_numbers.ensures
+unfolding slots_bytes readers_bytes numbers_bytes
+returns c = server_put _ _ _ _ _ _ c.args.s c.put.ensures.puts c.put_all.ensures c.put_all-2.ensures c.put_all-3.ensures

@@ -25,4 +25,4 @@ scope-read l c s x r h p q e =
 pub returns : goal.returns
 returns c =
     let a = c.args in
-    scope-read a.bytes.now a.c _ _ _ (omega arith) c.stamp_at-stamp.ensures c.slot_at-slot.ensures c.reader_at-reader.ensures
+    scope-read a.bytes.now a.c _ _ _ (omega arith) c.get.ensures c.get-2.ensures c.get-3.ensures

@@ -1,7 +1,0 @@
--- Each part is read at its place. Assumes nothing.
-use Rattle.layout.specs.Fields.{stamp_at}
-use Rattle.layout.proofs.fields.stamp_at.Goals as goal
-
-pub returns : goal.returns
-unfolding stamp_at
-returns c = cc

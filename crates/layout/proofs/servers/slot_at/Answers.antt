@@ -1,7 +1,0 @@
--- Each part is read at its place. Assumes nothing.
-use Rattle.layout.specs.Servers.{slot_at}
-use Rattle.layout.proofs.servers.slot_at.Goals as goal
-
-pub returns : goal.returns
-unfolding slot_at
-returns c = cc

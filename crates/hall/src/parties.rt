@@ -79,17 +79,14 @@ impl Hall {
             let at = AREA_BYTES * j;
             let first = 256 * j;
             let own = SERVER_SIZE * j;
-            let reply = fresh(
+            fresh(
                 g,
                 j,
                 value,
                 &mut self.areas[at..at + AREA_BYTES],
                 &mut self.initials[first..first + 256],
                 &mut self.records[own..own + SERVER_SIZE],
-            );
-            if let Err(r) = reply {
-                return Err(r);
-            }
+            )?;
             if g.n <= j {
                 break;
             }

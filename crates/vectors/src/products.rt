@@ -13,13 +13,13 @@ fn byte(words: &mut Words) -> u8 {
 pub fn product<W: Write>(out: &mut W, mut words: Words) -> io::Result<()> {
     let x = byte(&mut words);
     let y = byte(&mut words);
-    let product = field::mul(x, y, &field::powers(), &field::logs());
+    let product = field::product(x, y);
     result(out, "product", words.rest, &Hex(&[product]))
 }
 
 // inverse A INVERSE
 pub fn inverse<W: Write>(out: &mut W, mut words: Words) -> io::Result<()> {
     let x = byte(&mut words);
-    let inverse = field::inverse(x, &field::powers(), &field::logs());
+    let inverse = field::inverse(x);
     result(out, "inverse", words.rest, &Hex(&[inverse]))
 }

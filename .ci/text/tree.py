@@ -92,7 +92,7 @@ class Tree:
     def pages(self):
         """The pages of today. The notes of docs/landings speak each of its own commit, and docs/PORT.md of names that are gone: they are none."""
         pages = [self.root / "README.md", self.root / "CONTRIBUTING.md", self.root / "compare/README.md"]
-        return [page for page in pages if page.exists()] + sorted(page for page in (self.root / "docs").glob("*.md") if page.name != "PORT.md")
+        return [page for page in pages if page.exists()] + sorted(page for page in (self.root / "docs").glob("*.md") if page.name not in ("PORT.md", "DESIGN-PASS.md"))
 
     def text(self, path):
         return path.read_text(encoding="utf-8")

@@ -7,34 +7,27 @@ use crate::line::Line;
 use accession_index::Index;
 use console::failure::{Failure, report};
 use console::input::open_input;
-use console::lines::Lines;
-use console::output::{flush, nothing};
-use std::io::{Read, Write};
-use std::rt::{Clock, Runtime};
+use console::lines::{Part, read_all};
+use console::output::nothing;
+use std::io::Write;
+use std::rt::Runtime;
 
 mod answers;
 mod line;
 
-// Reads the input to its end, in at most 2^64 - 1 parts, and answers each line where it ends.
-fn read_all<C: Clock, S: Read, W: Write>(
-    clock: &C,
-    source: &mut S,
+// Takes the next part of the line, and answers the line where it ends.
+fn take<W: Write>(
+    index: &mut Index,
+    line: &mut Line,
+    part: Part<'_>,
     out: &mut W,
 ) -> Result<(), Failure> {
-    let mut index = Index::fresh();
-    let mut lines = Lines::new(clock, source);
-    let mut line = Line::new();
-    for _ in 0..u64::MAX {
-        let Some(part) = lines.next_part(out)? else {
-            break;
-        };
-        line.add(part.text);
-        if part.ends {
-            answer(&mut index, &line, out)?;
-            line = Line::new();
-        }
+    line.add(part.text);
+    if part.ends {
+        answer(index, line, out)?;
+        *line = Line::new();
     }
-    flush(out)
+    Ok(())
 }
 
 fn serve<R: Runtime>(rt: &R) -> Result<(), Failure> {
@@ -42,7 +35,14 @@ fn serve<R: Runtime>(rt: &R) -> Result<(), Failure> {
         return Ok(());
     };
     let mut out = nothing(rt);
-    read_all(rt, &mut source, &mut out)
+    let mut index = Index::fresh();
+    let mut line = Line::new();
+    read_all(
+        rt,
+        &mut source,
+        &mut out,
+        |part, out| take(&mut index, &mut line, part, out),
+    )
 }
 
 fn main(rt: HostRuntime) {

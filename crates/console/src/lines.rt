@@ -100,3 +100,24 @@ impl<'a, C: Clock, S: Read> Lines<'a, C, S> {
         Ok(Some(self.part()))
     }
 }
+
+// Reads an input to its end, in at most 2^64 - 1 parts, and hands each to take. What take has put is written before more is read, and at the end.
+pub fn read_all<C: Clock, S: Read, W: Write, F>(
+    clock: &C,
+    source: &mut S,
+    out: &mut W,
+    mut take: F,
+) -> Result<(), Failure>
+where
+    F: FnMut(Part<'_>, &mut W) -> Result<(), Failure>,
+    requires { F.IsAlwaysCallable take }
+{
+    let mut lines = Lines::new(clock, source);
+    for _ in 0..u64::MAX {
+        let Some(part) = lines.next_part(out)? else {
+            break;
+        };
+        take(part, out)?;
+    }
+    flush(out)
+}

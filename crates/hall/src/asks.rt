@@ -57,9 +57,7 @@ pub fn asked(fields: &[Mark]) -> Option<Ask> {
             Some(Ask::ToClient(j, sender(*class, *i)?))
         }
         [act] if word == Word::Client && act.word == Some(Word::Read) => Some(Ask::Read(j)),
-        [act, value]
-            if word == Word::Client && act.word == Some(Word::Write) && value.bytes =>
-        {
+        [act, value] if word == Word::Client && act.word == Some(Word::Write) && value.bytes => {
             Some(Ask::Write(j))
         }
         _ => None,

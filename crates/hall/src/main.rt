@@ -5,36 +5,29 @@ use crate::line::Line;
 use crate::parties::Hall;
 use console::failure::{Failure, report};
 use console::input::open_input;
-use console::lines::Lines;
-use console::output::{flush, nothing};
-use std::io::{Read, Write};
-use std::rt::{Clock, Runtime};
+use console::lines::{Part, read_all};
+use console::output::nothing;
+use std::io::Write;
+use std::rt::Runtime;
 
 mod asks;
 mod line;
 mod parties;
 mod print;
 
-// Reads the script to its end, in at most 2^64 - 1 parts, and answers each line where it ends.
-fn read_script<C: Clock, S: Read, W: Write>(
-    clock: &C,
-    source: &mut S,
+// Takes the next part of the line, and answers the line where it ends.
+fn take<W: Write>(
+    hall: &mut Hall,
+    line: &mut Line,
+    part: Part<'_>,
     out: &mut W,
 ) -> Result<(), Failure> {
-    let mut hall = Hall::new();
-    let mut lines = Lines::new(clock, source);
-    let mut line = Line::new();
-    for _ in 0..u64::MAX {
-        let Some(part) = lines.next_part(out)? else {
-            break;
-        };
-        line.add(part.text, part.ends);
-        if part.ends {
-            hall.answer(&line, out)?;
-            line.clear();
-        }
+    line.add(part.text, part.ends);
+    if part.ends {
+        hall.answer(line, out)?;
+        line.clear();
     }
-    flush(out)
+    Ok(())
 }
 
 // Opens the script, and runs it.
@@ -43,7 +36,14 @@ fn serve<R: Runtime>(rt: &R) -> Result<(), Failure> {
         return Ok(());
     };
     let mut out = nothing(rt);
-    read_script(rt, &mut source, &mut out)
+    let mut hall = Hall::new();
+    let mut line = Line::new();
+    read_all(
+        rt,
+        &mut source,
+        &mut out,
+        |part, out| take(&mut hall, &mut line, part, out),
+    )
 }
 
 fn main(rt: HostRuntime) {

@@ -40,7 +40,7 @@ const CLIENT_OUT: usize = 5980;
 
 const CLIENT_TO: usize = 20;
 
-// The register's parameters, once it is open, its clients, and the areas of all parties.
+// The register's parameters, once it is open, its clients, and the areas of all parties. They stay flat: Parties (specs/Areas.antt) says how long each is.
 #[derive(Drop)]
 pub struct Hall {
     params: Option<Params>,
@@ -51,6 +51,11 @@ pub struct Hall {
     rows: [u8; ROWS],
     values: [u8; VALUES],
     ghost lengths: { Parties areas initials records rows values },
+}
+
+// A function of its own, since a proof would write out a literal of this length.
+fn zeros<const N: usize>() -> [u8; N] {
+    [0; N]
 }
 
 // The place of party j, one of parties 1 to most; place 0 for any other number.
@@ -65,11 +70,11 @@ impl Hall {
         Hall {
             params: None,
             clients: [fresh_client(); Server::PLACES],
-            areas: [0; AREAS],
-            initials: [0; INITIALS],
-            records: [0; RECORDS],
-            rows: [0; ROWS],
-            values: [0; VALUES],
+            areas: zeros(),
+            initials: zeros(),
+            records: zeros(),
+            rows: zeros(),
+            values: zeros(),
         }
     }
 
@@ -120,7 +125,8 @@ impl Hall {
         let at = AREA_BYTES * i;
         let first = 256 * i;
         let own = SERVER_SIZE * i;
-        let mut frames = [0u8; SERVER_OUT];
+        let initials = &self.initials;
+        let mut frames = zeros::<SERVER_OUT>();
         let mut to = [0u8; SERVER_TO];
         let reply = deliver(
             g,
@@ -128,7 +134,7 @@ impl Hall {
             from,
             f,
             &mut self.areas[at..at + AREA_BYTES],
-            &self.initials[first..first + 256],
+            &initials[first..first + 256],
             &mut self.records[own..own + SERVER_SIZE],
             &mut frames,
             &mut to,
@@ -154,6 +160,7 @@ impl Hall {
         let at = ROWS_BYTES * i;
         let first = 256 * i;
         let size = g.size.min(256);
+        let values = &self.values;
         let mut value = [0u8; 256];
         let mut frames = [0u8; CLIENT_OUT];
         let mut to = [0u8; CLIENT_TO];
@@ -161,7 +168,7 @@ impl Hall {
             &mut self.clients[i],
             g,
             byte_of(j),
-            &self.values[first..first + size],
+            &values[first..first + size],
             from,
             f,
             &mut self.rows[at..at + ROWS_BYTES],

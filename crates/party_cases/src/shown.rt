@@ -36,7 +36,12 @@ pub fn made<W: Write>(
     }
     let area = Hex(&area[..area.len().min(128)]);
     let initial = Hex(&initial[..initial.len().min(1)]);
-    result(report, "fresh", expected, &format_args!("00{area}{initial}"))
+    result(
+        report,
+        "fresh",
+        expected,
+        &format_args!("00{area}{initial}"),
+    )
 }
 
 // How many bytes the first count frames in out take: only whole frames, and as many as are shown.

@@ -5,7 +5,7 @@ from functools import cached_property
 from pathlib import Path
 
 # what every state of the tree has besides its crates: libraries that come with the language
-SUPPLIED = {"io", "libc", "os"}
+SUPPLIED = {"arrayvec", "io", "libc", "os"}
 
 LINE_COMMENT = {".rt": "//", ".rs": "//", ".antt": "--", ".py": "#", "": "#"}
 WORD = re.compile(r"[A-Za-z_◌μ][\w\-⊕⊗◌]*")

@@ -1,4 +1,7 @@
 -- The code reads the line that is printed for a record as that record (`line_reads_back`). Assumes nothing.
+use Rattle.std.proofs.Common.{Option, Some, None}
+use Rattle.history_text.specs.ReadNumbers.{number_with}
+use Rattle.history_text.specs.ReadLines.{interval_with, stamp_with, line_with}
 use mathlib.Core.Path.{◌≡◌, refl, sym, ap, ap₂, ◌∙◌}
 use mathlib.Core.List.{List, [], ◌∷◌, ◌++◌, append_assoc}
 use Prim.Native.Nat.{ℕ, zero, suc, ◌+◌, ◌-◌, ◌*◌, ◌/◌, ◌%◌, ◌^◌, ◌<◌, ◌≤◌}
@@ -17,10 +20,6 @@ use Rattle.history_text.specs.Decimals.{decimal_of, decimal}
 use Rattle.history_text.specs.Lines.{widths}
 use Rattle.history_text.specs.Printed.{printed, InWidth}
 use Rattle.history_text.specs.ReadLines.{kind_at, interval_of, stamp_of, operation_of}
-use Rattle.history_text.specs.declared.number.Field.TheVariants.{Number}
-use Rattle.history_text.specs.declared.line.Interval.TheVariants as I
-use Rattle.history_text.specs.declared.line.Stamp.TheVariants as S
-use Rattle.history_text.specs.declared.line.Line.TheVariants as L
 use Rattle.history_text.proofs.Decimals.{decimal_small, decimal_large, below_all, head}
 use Rattle.history_text.proofs.Shown.{shown, printed_shown, printed_length}
 use Rattle.history_text.proofs.Lines.{line_whole}
@@ -80,7 +79,7 @@ digits_read (suc k) n limit u t h l =
 -- ---- a number, and a number with the byte after it
 
 number_read : (n limit c : ℕ) (t : List ℕ) → n ≤ limit → limit ≤ 18446744073709551615 → 9 < digit_of c
-    → number_of limit (decimal n ++ c ∷ t) ≡ Number n (length (decimal n))
+    → number_of limit (decimal n ++ c ∷ t) ≡ number_with n (length (decimal n))
 unfolding decimal
 number_read n limit c t h g d =
     by_test (ltb 0 n)
@@ -98,15 +97,15 @@ number_read n limit c t h g d =
     ∙ ap (λ l. digits_of limit 0 0 (l ++ c ∷ t)) (sym w.is)
     ∙ digits_read 20 n limit 0 (c ∷ t) (below_all n limit h g) h
     ∙ digits_stop limit n (0 + length (decimal_of 20 n)) 0 (c ∷ t) (omega arith) refl d
-    ∙ ap (Number n) (let o : 0 + length (decimal_of 20 n) ≡ length (decimal_of 20 n) = omega arith in o))
+    ∙ ap (number_with n) (let o : 0 + length (decimal_of 20 n) ≡ length (decimal_of 20 n) = omega arith in o))
     (λ b.
     let p : n ≡ 0 = (let q = ltb-false 0 n b in omega arith) in
     let e : decimal_of 20 n ≡ 48 ∷ [] = ap (decimal_of 20) p ∙ decimal_small 19 0 (omega arith) in
     ap (λ l. number_of limit (l ++ c ∷ t)) e ∙ number_zero limit 0 (48 ∷ c ∷ t) (omega arith) refl
-    ∙ ap₂ Number (sym p) (ap length (sym e)))
+    ∙ ap₂ number_with (sym p) (ap length (sym e)))
 
 field_read : (n limit c : ℕ) (t : List ℕ) → n ≤ limit → limit ≤ 18446744073709551615 → 9 < digit_of c
-    → field_of limit c (shown n c ++ t) ≡ Number n (length (shown n c))
+    → field_of limit c (shown n c ++ t) ≡ number_with n (length (shown n c))
 unfolding shown
 field_read n limit c t h g d =
     let a = append_assoc (decimal n) (c ∷ []) t in
@@ -114,7 +113,7 @@ field_read n limit c t h g d =
     ap (field_of limit c) a
     ∙ sym (field_found limit c 0 n (length (decimal n)) (decimal n ++ c ∷ t) (sym (number_read n limit c t h g d)) refl
     (ap (λ i. get_or (decimal n ++ c ∷ t) i 0) z ∙ get_or-append_seam (decimal n) c t 0))
-    ∙ ap (Number n) (sym (length-append (decimal n) (c ∷ [])))
+    ∙ ap (number_with n) (sym (length-append (decimal n) (c ∷ [])))
 
 space : 9 < digit_of 32
 unfolding digit_of pick
@@ -131,7 +130,7 @@ behind_two f g t =
     sym (drop-drop (length g) (length f) (f ++ (g ++ t))) ∙ ap (drop (length g)) (drop-append_seam f (g ++ t)) ∙ drop-append_seam g t
 
 interval_read : (x y : ℕ) (t : List ℕ) → x ≤ 4294967295 → y ≤ 4294967295
-    → interval_of (shown x 32 ++ (shown y 32 ++ t)) ≡ I.Times x y (length (shown x 32) + length (shown y 32))
+    → interval_of (shown x 32 ++ (shown y 32 ++ t)) ≡ interval_with x y (length (shown x 32) + length (shown y 32))
 unfolding interval_of
 interval_read x y t h g =
     sym (then_number_lem _ _ _ x (length (shown x 32)) (sym (field_read x 4294967295 32 (shown y 32 ++ t) h (omega arith) space)) refl
@@ -139,7 +138,7 @@ interval_read x y t h g =
     (sym (ap (field_of 4294967295 32) (drop-append_seam (shown x 32) (shown y 32 ++ t)) ∙ field_read y 4294967295 32 t g (omega arith) space)) refl refl))
 
 stamp_read : (m w n : ℕ) (t : List ℕ) → m ≤ 18446744073709551615 → w ≤ 8 → n ≤ 4294967295
-    → stamp_of (shown m 32 ++ (shown w 32 ++ (shown n 32 ++ t))) ≡ S.Parts m w n (length (shown m 32) + length (shown w 32) + length (shown n 32))
+    → stamp_of (shown m 32 ++ (shown w 32 ++ (shown n 32 ++ t))) ≡ stamp_with m w n (length (shown m 32) + length (shown w 32) + length (shown n 32))
 unfolding stamp_of
 stamp_read m w n t h g k =
     let u = shown w 32 ++ (shown n 32 ++ t) in
@@ -162,7 +161,7 @@ kind_of_lem : (a : Operation) → (kind_at (pick a.write 87 82) ≤ 1) × (eqb (
 unfolding kind_at pick
 kind_of_lem a = by_test a.write (λ t. rw t (omega arith, refl)) (λ t. rw t (omega arith, refl))
 
-pub line_reads_back : (a : Operation) (t : List ℕ) → InWidth a → operation_of (printed a ++ t) ≡ L.Record a (length (printed a))
+pub line_reads_back : (a : Operation) (t : List ℕ) → InWidth a → operation_of (printed a ++ t) ≡ line_with a (length (printed a))
 unfolding widths
 line_reads_back a t h =
     let k = pick {A = ℕ} a.write 87 82 in
@@ -180,7 +179,7 @@ line_reads_back a t h =
     ap operation_of (printed_shown a t)
     ∙ sym (line_whole s 0 (omega arith) refl (kind_of_lem a).0 refl a.start a.end n a.time a.writer a.sequence m (sym i) refl (sym p) refl (sym c)
     a.caller (length (shown a.caller 10)) refl)
-    ∙ ap₂ L.Record
+    ∙ ap₂ line_with
     (ap (λ w. record { write = w; start = a.start; end = a.end; time = a.time; writer = a.writer; sequence = a.sequence; caller = a.caller })
     (kind_of_lem a).1)
     (sym (printed_length a))

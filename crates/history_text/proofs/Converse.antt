@@ -3,7 +3,7 @@ use Rattle.std.proofs.Common.{Option, Some, None}
 use Rattle.history_text.specs.ReadNumbers.{number_with}
 use Rattle.history_text.specs.ReadLines.{interval_with, stamp_with, line_with}
 use mathlib.Core.Path.{◌≡◌, refl, sym, ap, ap₂, subst, ◌∙◌}
-use mathlib.Core.Bool.{true, false}
+use mathlib.Core.Bool.{Bool, true, false}
 use mathlib.Core.List.{List, [], ◌∷◌, ◌++◌, append_assoc}
 use Prim.Native.Nat.{ℕ, ◌+◌, ◌-◌, ◌*◌, ◌^◌, ◌<◌, ◌≤◌}
 use native.Mathlib.Omega.{arith}
@@ -12,7 +12,7 @@ use lib.ListN.{length, get_or, drop, length-append, get_or-eq_default}
 use lib.Seq.{get_or-append_seam, drop-append_seam, drop-drop}
 use borrow.Author.Tests.{ltb-true, ltb-false, leb-true, eqb-true, eqb-false}
 use Rattle.area.specs.Area.{pick}
-use Rattle.area.proofs.Tests.{by_pick}
+use Rattle.area.proofs.Tests.{by_pick, impossible}
 use Rattle.order.specs.declared.operation.Operation.{Operation}
 use Rattle.order.proofs.Picks.{pick_yes, pick_no}
 use Rattle.order.proofs.Less.{true_false}
@@ -20,13 +20,13 @@ use Rattle.order.proofs.Lists.{by_test}
 use Rattle.history_text.specs.Decimals.{is_digit, are_digits, value_from, value_of, is_plain, decimal}
 use Rattle.history_text.specs.Lines.{widths}
 use Rattle.history_text.specs.Printed.{printed, InWidth}
-use Rattle.history_text.specs.ReadNumbers.{digit_of, digits_of, number_of, then_number, field_of}
+use Rattle.history_text.specs.ReadNumbers.{digit_of, digits_of, number_of, then_value, then_number, field_of}
 use Rattle.history_text.specs.ReadLines.{kind_at, interval_of, stamp_of, then_interval, then_stamp, operation_of}
 use Rattle.history_text.specs.declared.number.Field.{Field}
 use Rattle.history_text.specs.declared.line.Interval.{Interval}
 use Rattle.history_text.specs.declared.line.Stamp.{Stamp}
 use Rattle.history_text.specs.declared.line.Line.{Line}
-use Rattle.history_text.proofs.Laws.{digits_cons, number_cons}
+use Rattle.history_text.proofs.Laws.{some_value, digits_cons, number_cons}
 use Rattle.history_text.proofs.Decimals.{digit_is, is_digit_lem, cons_digits, plain_head, decimal_plain}
 use Rattle.history_text.proofs.Shown.{shown, printed_shown}
 
@@ -49,18 +49,21 @@ unfolding then_stamp
 by_stamp P Q (Some p₁) bad g q p h = h p₁.time p₁.writer p₁.sequence p₁.used q
 by_stamp P Q None bad g q p h = p
 
+by_value : {T A : Type 0} (P : A → Type 0) (x : Option T) (o : A) (f : T → A) → P o → ((d : T) → x ≡ Some d → P (f d)) → P (then_value x o f)
+unfolding then_value
+by_value P (Some d) o f p h = h d refl
+by_value P None o f p h = p
+
 -- ---- digits
 
-digit_value : (c : ℕ) → ltb 9 (digit_of c) ≡ false → (is_digit c ≡ true) × (digit_of c ≡ c - 48)
-unfolding digit_of
-digit_value c e =
+digit_value : (c d : ℕ) → digit_of c ≡ Some d → (is_digit c ≡ true) × (d ≡ c - 48)
+unfolding digit_of pick
+digit_value c d e =
     by_test (ltb c 48)
-    (λ t. let q : pick (ltb c 48) 10 (pick (ltb 57 c) 10 (c - 48)) ≡ 10 = sym (pick_yes _ _ _ refl t refl) in
-    let h = ltb-false 9 (pick (ltb c 48) 10 (pick (ltb 57 c) 10 (c - 48))) e in absurd (omega arith))
+    (λ t. impossible (cc (rw t at e)))
     (λ t. by_test (ltb 57 c)
-    (λ u. let q : pick (ltb c 48) 10 (pick (ltb 57 c) 10 (c - 48)) ≡ 10 = sym (pick_no _ _ _ refl t (pick_yes _ _ _ refl u refl)) in
-    let h = ltb-false 9 (pick (ltb c 48) 10 (pick (ltb 57 c) 10 (c - 48))) e in absurd (omega arith))
-    (λ u. (is_digit_lem c (ltb-false c 48 t) (ltb-false 57 c u), sym (pick_no _ _ _ refl t (pick_no _ _ _ refl u refl)))))
+    (λ u. impossible (cc (rw (t, u) at e)))
+    (λ u. (is_digit_lem c (ltb-false c 48 t) (ltb-false 57 c u), let q = rw (t, u) at e in cc)))
 
 -- digits that were read after some that make v: they are at the front of the text
 record Behind (limit v u : ℕ) (text : List ℕ) (w n : ℕ) : Type 0 where
@@ -80,10 +83,10 @@ behind_none : (limit v u : ℕ) (text : List ℕ) → Behind limit v u text v u
 unfolding are_digits value_from
 behind_none limit v u text = record { field = []; rest = text; is = refl; digits = refl; value = refl; used = omega arith; within = λ h. h }
 
-behind_more : (limit v u c : ℕ) (text : List ℕ) (f : Option Field) → is_digit c ≡ true → digit_of c ≡ c - 48 → v * 10 + digit_of c ≤ limit
-    → SaysDigits limit (v * 10 + digit_of c) (u + 1) text f → SaysDigits limit v u (c ∷ text) f
+behind_more : (limit v u c y : ℕ) (text : List ℕ) (f : Option Field) → is_digit c ≡ true → y ≡ c - 48 → v * 10 + y ≤ limit
+    → SaysDigits limit (v * 10 + y) (u + 1) text f → SaysDigits limit v u (c ∷ text) f
 unfolding value_from
-behind_more limit v u c text (Some n) d e h b =
+behind_more limit v u c y text (Some n) d e h b =
     let k = b.used in
     record {
       field = c ∷ b.field;
@@ -94,7 +97,7 @@ behind_more limit v u c text (Some n) d e h b =
       used = omega arith;
       within = λ g. b.within h;
     }
-behind_more limit v u c text None d e h b = tt
+behind_more limit v u c y text None d e h b = tt
 
 digits_none : (limit v u : ℕ) → digits_of limit v u [] ≡ number_with v u
 unfolding digits_of
@@ -103,12 +106,13 @@ digits_none limit v u = refl
 digits_say : (limit v u : ℕ) (text : List ℕ) → SaysDigits limit v u text (digits_of limit v u text)
 digits_say limit v u [] = subst (SaysDigits limit v u []) (sym (digits_none limit v u)) (behind_none limit v u [])
 digits_say limit v u (c ∷ text) =
-    subst (SaysDigits limit v u (c ∷ text)) (sym (digits_cons limit v u c text))
-    (by_pick (SaysDigits limit v u (c ∷ text)) _ _ _ (λ t. behind_none limit v u (c ∷ text))
-    (λ t. let d = digit_value c t in
-    by_pick (SaysDigits limit v u (c ∷ text)) _ _ _
-    (λ l. behind_more limit v u c text (digits_of limit (v * 10 + digit_of c) (u + 1) text) d.0 d.1 (leb-true _ _ l)
-    (digits_say limit (v * 10 + digit_of c) (u + 1) text))
+    let P = SaysDigits limit v u (c ∷ text) in
+    subst P (sym (digits_cons limit v u c text))
+    (by_value P _ _ _ (behind_none limit v u (c ∷ text))
+    (λ y t. let d = digit_value c y t in
+    by_pick P _ _ _
+    (λ l. behind_more limit v u c y text (digits_of limit (v * 10 + y) (u + 1) text) d.0 d.1 (leb-true _ _ l)
+    (digits_say limit (v * 10 + y) (u + 1) text))
     (λ l. tt)))
 
 -- ---- a number
@@ -135,10 +139,10 @@ positive c d n =
     let low = (digit_is c d).low in
     by_test (ltb 48 c) (λ t. ltb-true 48 c t) (λ t. let h = ltb-false 48 c t in absurd (n (omega arith)))
 
-front_digits : (limit c : ℕ) (text : List ℕ) (f : Option Field) → (c ≡ 48 → ⊥) → is_digit c ≡ true → digit_of c ≡ c - 48 → 0 * 10 + digit_of c ≤ limit
-    → SaysDigits limit (0 * 10 + digit_of c) (0 + 1) text f → SaysNumber limit (c ∷ text) f
+front_digits : (limit c y : ℕ) (text : List ℕ) (f : Option Field) → (c ≡ 48 → ⊥) → is_digit c ≡ true → y ≡ c - 48 → 0 * 10 + y ≤ limit
+    → SaysDigits limit (0 * 10 + y) (0 + 1) text f → SaysNumber limit (c ∷ text) f
 unfolding value_of value_from
-front_digits limit c text (Some n) z d e h b =
+front_digits limit c y text (Some n) z d e h b =
     let k = b.used in
     record {
       field = c ∷ b.field;
@@ -149,7 +153,7 @@ front_digits limit c text (Some n) z d e h b =
       used = omega arith;
       within = b.within h;
     }
-front_digits limit c text None z d e h b = tt
+front_digits limit c y text None z d e h b = tt
 
 number_none : (limit : ℕ) → number_of limit [] ≡ None
 unfolding number_of
@@ -161,14 +165,13 @@ number_says limit (c ∷ text) =
     let P = SaysNumber limit (c ∷ text) in
     subst P (sym (number_cons limit c text))
     (by_pick P _ _ _ (λ t. front_zero limit c text (eqb-true c 48 t))
-    (λ z. by_pick P _ _ _ (λ t. tt)
-    (λ t. let d = digit_value c t in
-    subst P (sym (digits_cons limit 0 0 c text))
-    (by_pick P _ _ _ (λ u. absurd (true_false u t))
-    (λ u. by_pick P _ _ _
-    (λ l. front_digits limit c text (digits_of limit (0 * 10 + digit_of c) (0 + 1) text) (eqb-false c 48 z) d.0 d.1 (leb-true _ _ l)
-    (digits_say limit (0 * 10 + digit_of c) (0 + 1) text))
-    (λ l. tt))))))
+    (λ z. by_value P _ _ _ tt
+    (λ y t. let d = digit_value c y t in
+    subst P (some_value _ _ _ y (sym t) refl ∙ sym (digits_cons limit 0 0 c text))
+    (by_pick P _ _ _
+    (λ l. front_digits limit c y text (digits_of limit (0 * 10 + y) (0 + 1) text) (eqb-false c 48 z) d.0 d.1 (leb-true _ _ l)
+    (digits_say limit (0 * 10 + y) (0 + 1) text))
+    (λ l. tt)))))
 
 -- ---- a number and the byte after it
 
@@ -246,20 +249,14 @@ abbrev pub SaysLine : List ℕ → Option Line → Type 0
 SaysLine text (Some l) = InWidth l.operation × (text ≡ printed l.operation ++ drop l.used text)
 SaysLine text None = Unit {0}
 
-kind_byte : (c : ℕ) → ltb 1 (kind_at c) ≡ false → c ≡ pick (eqb (kind_at c) 1) 87 82
+kind_byte : (c : ℕ) (w : Bool) → kind_at c ≡ Some w → c ≡ pick w 87 82
 unfolding kind_at pick
-kind_byte c e =
+kind_byte c w e =
     by_test (eqb c 82)
-    (λ t. let q = eqb-true c 82 t in byte_82 c q)
-    (λ t. by_test (eqb c 87) (λ u. byte_87 c (eqb-true c 87 u))
-    (λ u. absurd (let x : pick (eqb c 82) 0 (pick (eqb c 87) 1 2) ≡ 2 = sym (pick_no _ _ _ refl t (pick_no _ _ _ refl u refl)) in
-    true_false (ap (ltb 1) x) e)))
-  where
-    byte_82 : (c : ℕ) → c ≡ 82 → c ≡ pick (eqb (kind_at c) 1) 87 82
-    byte_82 c q = rw q
-
-    byte_87 : (c : ℕ) → c ≡ 87 → c ≡ pick (eqb (kind_at c) 1) 87 82
-    byte_87 c q = rw q
+    (λ t. let r = rw t at e in let f : w ≡ false = cc in rw f (eqb-true c 82 t))
+    (λ t. by_test (eqb c 87)
+    (λ u. let r = rw (t, u) at e in let f : w ≡ true = cc in rw f (eqb-true c 87 u))
+    (λ u. impossible (cc (rw (t, u) at e))))
 
 front_two : (text : List ℕ) → 2 ≤ length text → text ≡ get_or text 0 0 ∷ get_or text 1 0 ∷ drop 2 text
 front_two [] h = absurd (omega arith)
@@ -271,17 +268,17 @@ unfolding operation_of widths
 line_says text =
     let P = SaysLine text in
     by_pick P _ _ _ (λ t. tt)
-    (λ t. by_pick P _ _ _ (λ k. tt)
-    (λ k. by_pick P _ _ _
+    (λ t. by_value P _ _ _ tt
+    (λ w k. by_pick P _ _ _
     (λ s. by_interval P (SaysInterval (drop 2 text)) _ None _ (interval_says (drop 2 text)) tt
     (λ start end a p. by_stamp P (SaysStamp (drop (2 + a) text)) _ None _ (stamp_says (drop (2 + a) text)) tt
     (λ time writer sequence b q. by_number P (SaysField 8 10 (drop (2 + a + b) text)) _ None _
     (field_says 8 10 (drop (2 + a + b) text) (omega arith) (omega arith)) tt
     (λ caller d r.
     let o : Operation =
-    record { write = eqb (kind_at (get_or text 0 0)) 1; start = start; end = end; time = time; writer = writer; sequence = sequence; caller = caller } in
+    record { write = w; start = start; end = end; time = time; writer = writer; sequence = sequence; caller = caller } in
     let front = front_two text (ltb-false (length text) 2 t) in
-    let kind = kind_byte (get_or text 0 0) k in
+    let kind = kind_byte (get_or text 0 0) w k in
     let space = eqb-true (get_or text 1 0) 32 s in (
       (p.0, (p.1, (q.0, (q.1, (q.2, (r.0, tt)))))),
       front

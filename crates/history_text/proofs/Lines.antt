@@ -16,7 +16,8 @@ use Rattle.history_text.specs.Lines.{Lines, Records, Malformed, record_then}
 use Rattle.history_text.specs.ReadLines.{kind_at, interval_of, stamp_of, then_interval, then_stamp, operation_of, then_line, lines_read}
 use Rattle.history_text.specs.ReadNumbers.{field_of}
 use Rattle.history_text.specs.declared.number.Field.{Field}
-use Rattle.history_text.proofs.Laws.{then_number_lem, then_bad}
+use Rattle.history_text.proofs.Laws.{some_value, no_value, then_number_lem, then_bad}
+use mathlib.Core.Bool.{Bool}
 use Rattle.history_text.specs.declared.line.Interval.{Interval}
 use Rattle.history_text.specs.declared.line.Stamp.{Stamp}
 use Rattle.history_text.specs.declared.line.Line.{Line}
@@ -57,17 +58,17 @@ module _ (s : List ℕ) (at : ℕ) where
   unfolding operation_of
   line_short h = let k : length (drop at s) < 2 = (let r = room in omega arith) in pick_yes _ _ _ refl (lt-ltb (length (drop at s)) 2 k) refl
 
-  pub line_kind : {k : ℕ} → 2 ≤ length s - at → k ≡ kind_at (get_or s at 0) → 1 < k → None ≡ operation_of (drop at s)
+  pub line_kind : 2 ≤ length s - at → None ≡ kind_at (get_or s at 0) → None ≡ operation_of (drop at s)
   unfolding operation_of
-  line_kind h e g =
+  line_kind h e =
       pick_no _ _ _ refl (le-ltb (length (drop at s)) 2 (enough h))
-      (pick_yes _ _ _ refl (ap (λ c. ltb 1 (kind_at c)) first ∙ ap (ltb 1) (sym e) ∙ lt-ltb 1 _ g) refl)
+      (no_value _ _ _ (e ∙ ap kind_at (sym first)) refl)
 
-  pub line_space : {k : ℕ} → 2 ≤ length s - at → k ≡ kind_at (get_or s at 0) → k ≤ 1 → (get_or s (at + 1) 0 ≡ 32 → ⊥) → None ≡ operation_of (drop at s)
+  pub line_space : {k : Bool} → 2 ≤ length s - at → Some k ≡ kind_at (get_or s at 0) → (get_or s (at + 1) 0 ≡ 32 → ⊥) → None ≡ operation_of (drop at s)
   unfolding operation_of
-  line_space h e g n =
+  line_space {k} h e n =
       pick_no _ _ _ refl (le-ltb (length (drop at s)) 2 (enough h))
-      (pick_no _ _ _ refl (ap (λ c. ltb 1 (kind_at c)) first ∙ ap (ltb 1) (sym e) ∙ le-ltb 1 _ g)
+      (some_value _ _ _ k (e ∙ ap kind_at (sym first))
       (pick_no _ _ _ refl (ne_eqb _ _ (λ z. n (sym (get_or-drop at s 1 0) ∙ z))) refl))
 
   -- the interval, the stamp and the caller that are read
@@ -83,12 +84,12 @@ module _ (s : List ℕ) (at : ℕ) where
       e ∙ ap (λ i. field_of 8 10 (drop i s)) (let n : at + 2 + a + b ≡ at + (2 + a + b) = omega arith in n)
       ∙ ap (field_of 8 10) (sym (drop-drop (2 + a + b) at s))
 
-  module _ {k : ℕ} (h : 2 ≤ length s - at) (e : k ≡ kind_at (get_or s at 0)) (g : k ≤ 1) (p : get_or s (at + 1) 0 ≡ 32) where
+  module _ {k : Bool} (h : 2 ≤ length s - at) (e : Some k ≡ kind_at (get_or s at 0)) (p : get_or s (at + 1) 0 ≡ 32) where
     pub line_interval : {r : Option Interval} → r ≡ interval_of (drop (at + 2) s) → r ≡ None → None ≡ operation_of (drop at s)
     unfolding operation_of
     line_interval q t =
         pick_no _ _ _ refl (le-ltb (length (drop at s)) 2 (enough h))
-        (pick_no _ _ _ refl (ap (λ c. ltb 1 (kind_at c)) first ∙ ap (ltb 1) (sym e) ∙ le-ltb 1 _ g)
+        (some_value _ _ _ k (e ∙ ap kind_at (sym first))
         (pick_yes _ _ _ refl (eq-eqb _ _ (get_or-drop at s 1 0 ∙ p)) (no_interval _ _ _ (at_interval q) t)))
 
     pub line_stamp : {r : Option Interval} {v : Option Stamp} (x y a : ℕ) → r ≡ interval_of (drop (at + 2) s) → r ≡ interval_with x y a
@@ -96,7 +97,7 @@ module _ (s : List ℕ) (at : ℕ) where
     unfolding operation_of
     line_stamp x y a q t q₂ t₂ =
         pick_no _ _ _ refl (le-ltb (length (drop at s)) 2 (enough h))
-        (pick_no _ _ _ refl (ap (λ c. ltb 1 (kind_at c)) first ∙ ap (ltb 1) (sym e) ∙ le-ltb 1 _ g)
+        (some_value _ _ _ k (e ∙ ap kind_at (sym first))
         (pick_yes _ _ _ refl (eq-eqb _ _ (get_or-drop at s 1 0 ∙ p)) (then_interval_lem _ _ _ x y a (at_interval q) t (no_stamp _ _ _ (at_stamp_lem a q₂) t₂))))
 
     module _ {r : Option Interval} {v : Option Stamp} {f : Option Field} (x y a m w n b : ℕ) (q : r ≡ interval_of (drop (at + 2) s)) (t : r ≡ interval_with x y a)
@@ -105,20 +106,19 @@ module _ (s : List ℕ) (at : ℕ) where
       unfolding operation_of
       line_caller t₃ =
           pick_no _ _ _ refl (le-ltb (length (drop at s)) 2 (enough h))
-          (pick_no _ _ _ refl (ap (λ c. ltb 1 (kind_at c)) first ∙ ap (ltb 1) (sym e) ∙ le-ltb 1 _ g)
+          (some_value _ _ _ k (e ∙ ap kind_at (sym first))
           (pick_yes _ _ _ refl (eq-eqb _ _ (get_or-drop at s 1 0 ∙ p)) (then_interval_lem _ _ _ x y a (at_interval q) t (then_stamp_lem _ _ _ m w n b (at_stamp_lem a q₂) t₂
           (then_bad _ _ _ (at_caller a b q₃) t₃)))))
 
       pub line_whole : (i d : ℕ) → f ≡ number_with i d
-          → line_with (record { write = eqb k 1; start = x; end = y; time = m; writer = w; sequence = n; caller = i }) (2 + a + b + d) ≡ operation_of (drop at s)
+          → line_with (record { write = k; start = x; end = y; time = m; writer = w; sequence = n; caller = i }) (2 + a + b + d) ≡ operation_of (drop at s)
       unfolding operation_of
       line_whole i d t₃ =
           pick_no _ _ _ refl (le-ltb (length (drop at s)) 2 (enough h))
-          (pick_no _ _ _ refl (ap (λ c. ltb 1 (kind_at c)) first ∙ ap (ltb 1) (sym e) ∙ le-ltb 1 _ g)
+          (some_value _ _ _ k (e ∙ ap kind_at (sym first))
           (pick_yes _ _ _ refl (eq-eqb _ _ (get_or-drop at s 1 0 ∙ p)) (then_interval_lem _ _ _ x y a (at_interval q) t (then_stamp_lem _ _ _ m w n b (at_stamp_lem a q₂) t₂
           (then_number_lem _ _ _ i d (at_caller a b q₃) t₃
-          (ap (λ c. line_with (record { write = eqb c 1; start = x; end = y; time = m; writer = w; sequence = n; caller = i }) (2 + a + b + d))
-          (e ∙ ap kind_at (sym first))))))))
+          refl)))))
 
 -- ---- the whole text
 

@@ -1,10 +1,10 @@
 -- How the code reads a line at the front of a text, and a text line by line. These are the stages of `judge_text`; Lines.antt says what a line is, and
 -- proofs/Link.antt shows that both agree. Assumes nothing: these are definitions.
-use Rattle.std.specs.Prelude.{ℕ, zero, suc, ◌+◌, ◌≤◌, List, [], ◌∷◌, eqb, ltb, length, get_or, drop, Option, Some, None}
+use Rattle.std.specs.Prelude.{ℕ, zero, suc, ◌+◌, ◌≤◌, Bool, true, false, List, [], ◌∷◌, eqb, ltb, length, get_or, drop, Option, Some, None}
 use Rattle.area.specs.Area.{pick}
 use Rattle.order.specs.declared.operation.Operation.{Operation}
 use Rattle.history_text.specs.Lines.{Lines, Records, Malformed, record_then}
-use Rattle.history_text.specs.ReadNumbers.{then_number, field_of}
+use Rattle.history_text.specs.ReadNumbers.{then_value, then_number, field_of}
 use Rattle.history_text.specs.declared.line.Interval.{Interval}
 use Rattle.history_text.specs.declared.line.Stamp.{Stamp}
 use Rattle.history_text.specs.declared.line.Line.{Line}
@@ -19,9 +19,9 @@ stamp_with time writer sequence used = Some (record { time = time; writer = writ
 abbrev pub line_with : Operation → ℕ → Option Line
 line_with a used = Some (record { operation = a; used = used })
 
--- 0 for R, 1 for W, 2 for another byte
-unfoldable pub kind_at : ℕ → ℕ
-kind_at c = pick (eqb c 82) 0 (pick (eqb c 87) 1 2)
+-- whether a kind is that of a write: R or W
+unfoldable pub kind_at : ℕ → Option Bool
+kind_at c = pick (eqb c 82) (Some false) (pick (eqb c 87) (Some true) None)
 
 -- start and end, "32 bits", and how many bytes they take; 32 is a space
 unfoldable pub interval_of : List ℕ → Option Interval
@@ -50,13 +50,13 @@ then_stamp None bad f = bad
 unfoldable pub operation_of : List ℕ → Option Line
 operation_of text =
     pick (ltb (length text) 2) None
-    (pick (ltb 1 (kind_at (get_or text 0 0))) None
-    (pick (eqb (get_or text 1 0) 32)
+    (then_value (kind_at (get_or text 0 0)) None (λ write.
+    pick (eqb (get_or text 1 0) 32)
     (then_interval (interval_of (drop 2 text)) None (λ start end a.
     then_stamp (stamp_of (drop (2 + a) text)) None (λ time writer sequence b.
     then_number (field_of 8 10 (drop (2 + a + b) text)) None (λ caller d.
     line_with
-    (record { write = eqb (kind_at (get_or text 0 0)) 1; start = start; end = end; time = time; writer = writer; sequence = sequence; caller = caller })
+    (record { write = write; start = start; end = end; time = time; writer = writer; sequence = sequence; caller = caller })
     (2 + a + b + d)))))
     None))
 

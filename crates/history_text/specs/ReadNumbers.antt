@@ -8,21 +8,26 @@ use Rattle.history_text.specs.declared.number.Field.{Field}
 abbrev pub number_with : ℕ → ℕ → Option Field
 number_with value used = Some (record { value = value; used = used })
 
--- the value of a digit, 10 for another byte; 48 to 57 are 0 to 9
-unfoldable pub digit_of : ℕ → ℕ
-digit_of c = pick (ltb c 48) 10 (pick (ltb 57 c) 10 (c - 48))
+-- the value of a digit; 48 to 57 are 0 to 9
+unfoldable pub digit_of : ℕ → Option ℕ
+digit_of c = pick (ltb c 48) None (pick (ltb 57 c) None (Some (c - 48)))
+
+-- what follows a value, and what there is without one
+unfoldable pub then_value : {T A : Type 0} → Option T → A → (T → A) → A
+then_value (Some x) other f = f x
+then_value None other f = other
 
 -- the number that value and then the digits at the front of a text make, and how many bytes were used; none if it is above limit
 unfoldable pub digits_of : ℕ → ℕ → ℕ → List ℕ → Option Field
 digits_of limit value used [] = number_with value used
 digits_of limit value used (c ∷ text) =
-    pick (ltb 9 (digit_of c)) (number_with value used)
-    (pick (leb (value * 10 + digit_of c) limit) (digits_of limit (value * 10 + digit_of c) (used + 1) text) None)
+    then_value (digit_of c) (number_with value used)
+    (λ d. pick (leb (value * 10 + d) limit) (digits_of limit (value * 10 + d) (used + 1) text) None)
 
 -- a number at the front of a text: 0, or digits that do not begin with 0
 unfoldable pub number_of : ℕ → List ℕ → Option Field
 number_of limit [] = None
-number_of limit (c ∷ text) = pick (eqb c 48) (number_with 0 1) (pick (ltb 9 (digit_of c)) None (digits_of limit 0 0 (c ∷ text)))
+number_of limit (c ∷ text) = pick (eqb c 48) (number_with 0 1) (then_value (digit_of c) None (λ d. digits_of limit 0 0 (c ∷ text)))
 
 -- what follows a number that was read
 unfoldable pub then_number : {A : Type 0} → Option Field → A → (ℕ → ℕ → A) → A

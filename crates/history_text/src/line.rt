@@ -29,15 +29,15 @@ pub struct Line {
     pub used: usize,
 }
 
-// 0 for R, 1 for W, 2 for another byte.
+// Whether a kind is that of a write.
 #[tactic(auto, unfolding(crate::specs::ReadLines::kind_at, area::specs::Area::pick))]
-fn kind(c: u8) -> u8
+fn kind(c: u8) -> Option<bool>
     ensures { result ≡ kind_at c }
 {
     match c {
-        b'R' => 0,
-        b'W' => 1,
-        _ => 2,
+        b'R' => Some(false),
+        b'W' => Some(true),
+        _ => None,
     }
 }
 
@@ -79,10 +79,7 @@ pub fn read_line(s: &[u8], at: usize) -> Option<Line>
     if s.len() - at < 2 {
         return None;
     }
-    let k = kind(s[at]);
-    if 1 < k {
-        return None;
-    }
+    let write = kind(s[at])?;
     if s[at + 1] != 32 {
         return None;
     }
@@ -90,7 +87,7 @@ pub fn read_line(s: &[u8], at: usize) -> Option<Line>
     let p = read_stamp(s, at + 2 + i.used)?;
     let f = read_field(s, at + 2 + i.used + p.used, 8, 10)?;
     let operation = Operation {
-        write: k == 1,
+        write,
         start: i.start,
         end: i.end,
         time: p.time,

@@ -1,5 +1,5 @@
 // Decimal numbers in text.
-ghost use Rattle.std.specs.Prelude.{◌≡◌, ◌+◌, ◌-◌, ◌*◌, ◌<◌, ◌≤◌, leb, length, drop};
+ghost use Rattle.std.specs.Prelude.{◌≡◌, ◌+◌, ◌-◌, ◌*◌, ◌<◌, ◌≤◌, leb, length, drop, IfSome};
 ghost use Rattle.history_text.specs.ReadNumbers.{digit_of, digits_of, number_of, field_of, WithinField};
 
 // A number and how many bytes it takes.
@@ -9,18 +9,15 @@ pub struct Field {
     pub used: usize,
 }
 
-// The value of a digit, 10 for another byte.
+// The value of a digit.
 #[tactic(auto, unfolding(crate::specs::ReadNumbers::digit_of, area::specs::Area::pick))]
-fn digit(c: u8) -> u64
-    ensures { (result ≡ digit_of c) × (result ≤ 10) }
+fn digit(c: u8) -> Option<u64>
+    ensures { (result ≡ digit_of c) × IfSome result (λ d. d < 10) }
 {
-    if c < 48 {
-        return 10;
+    match c {
+        b'0'..=b'9' => Some(u64::from(c - b'0')),
+        _ => None,
     }
-    if 57 < c {
-        return 10;
-    }
-    (c - 48) as u64
 }
 
 // Whether value with the digit d after it is at most limit.
@@ -45,10 +42,9 @@ fn read_digits(s: &[u8], at: usize, limit: u64) -> Option<Field>
 {
     let mut value: u64 = 0;
     for used in 0..s.len() - at {
-        let d = digit(s[at + used]);
-        if 9 < d {
+        let Some(d) = digit(s[at + used]) else {
             return Some(Field { value, used });
-        }
+        };
         if fits(value, d, limit) {
             value = value * 10 + d;
         } else {
@@ -73,7 +69,7 @@ fn read_number(s: &[u8], at: usize, limit: u64) -> Option<Field>
     if c == 48 {
         return Some(Field { value: 0, used: 1 });
     }
-    if 9 < digit(c) {
+    if digit(c).is_none() {
         return None;
     }
     read_digits(s, at, limit)

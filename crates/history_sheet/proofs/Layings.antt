@@ -30,7 +30,7 @@ use Rattle.order.proofs.Less.{true_false}
 use Rattle.order.proofs.Rows.{no_entry, row_length}
 use Rattle.order.proofs.Arranged.{the_row, size, stands, row_is_row}
 use Rattle.order.proofs.Judgements.{is_order, first}
-use Rattle.history_row.specs.Rows.{none, added, then_all, added_all, verdict_by}
+use Rattle.history_row.specs.Rows.{none, then_all, added_all, verdict_by}
 use Rattle.history_row.specs.declared.History.{History}
 use Rattle.history_row.proofs.Laws.{added_fits}
 use Rattle.history_text.specs.Lines.{Lines, Records, Malformed, lines_of, answer_of}

@@ -1,7 +1,7 @@
 -- Only written forms are read: what the code reads at the front of a text is what is printed for it (`line_says`). Assumes nothing.
 use Rattle.std.proofs.Common.{Option, Some, None}
 use Rattle.history_text.specs.ReadNumbers.{number_with}
-use Rattle.history_text.specs.ReadLines.{interval_with, stamp_with, line_with}
+use Rattle.history_text.specs.ReadLines.{interval_with, stamp_with}
 use mathlib.Core.Path.{◌≡◌, refl, sym, ap, ap₂, subst, ◌∙◌}
 use mathlib.Core.Bool.{Bool, true, false}
 use mathlib.Core.List.{List, [], ◌∷◌, ◌++◌, append_assoc}
@@ -14,8 +14,6 @@ use borrow.Author.Tests.{ltb-true, ltb-false, leb-true, eqb-true, eqb-false}
 use Rattle.area.specs.Area.{pick}
 use Rattle.area.proofs.Tests.{by_pick, impossible}
 use Rattle.order.specs.declared.operation.Operation.{Operation}
-use Rattle.order.proofs.Picks.{pick_yes, pick_no}
-use Rattle.order.proofs.Less.{true_false}
 use Rattle.order.proofs.Lists.{by_test}
 use Rattle.history_text.specs.Decimals.{is_digit, are_digits, value_from, value_of, is_plain, decimal}
 use Rattle.history_text.specs.Lines.{widths}

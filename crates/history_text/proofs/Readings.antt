@@ -1,14 +1,12 @@
 -- The turns and the end of the loop that reads a text, and the answer to what was read. Assumes nothing.
-use Rattle.std.proofs.Common.{Option, Some, None}
+use Rattle.std.proofs.Common.{Option, None}
 use Rattle.history_text.specs.ReadLines.{line_with}
 use mathlib.Core.Path.{◌≡◌, refl, sym, ap, ◌∙◌}
-use mathlib.Core.Bool.{Bool, true, false}
 use mathlib.Core.List.{List}
 use Prim.Native.Nat.{ℕ, zero, suc, ◌+◌, ◌-◌, ◌<◌, ◌≤◌}
 use native.Mathlib.Omega.{arith}
-use lib.ListN.{length, drop, take, drop_of_length-le}
+use lib.ListN.{length, drop, drop_of_length-le}
 use lib.Seq.{drop-drop}
-use Rattle.area.specs.Area.{pick}
 use Rattle.order.specs.Histories.{Judgement}
 use Rattle.order.specs.declared.operation.Operation.{Operation}
 use Rattle.order.proofs.Picks.{pick_err}

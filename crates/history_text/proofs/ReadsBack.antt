@@ -1,5 +1,5 @@
 -- The code reads the line that is printed for a record as that record (`line_reads_back`). Assumes nothing.
-use Rattle.std.proofs.Common.{Option, Some, None}
+use Rattle.std.proofs.Common.{Some, None}
 use Rattle.history_text.specs.ReadNumbers.{number_with}
 use Rattle.history_text.specs.ReadLines.{interval_with, stamp_with, line_with}
 use mathlib.Core.Path.{◌≡◌, refl, sym, ap, ap₂, ◌∙◌}
@@ -7,7 +7,7 @@ use mathlib.Core.List.{List, [], ◌∷◌, ◌++◌, append_assoc}
 use Prim.Native.Nat.{ℕ, zero, suc, ◌+◌, ◌-◌, ◌*◌, ◌/◌, ◌%◌, ◌^◌, ◌<◌, ◌≤◌}
 use native.Mathlib.Nat.{pow-suc}
 use native.Mathlib.Omega.{arith}
-use lib.Dec.{eqb, ltb, lit<}
+use lib.Dec.{ltb}
 use lib.ListN.{length, get_or, drop, length-append}
 use lib.Seq.{get_or-append_seam, drop-append_seam, drop-drop}
 use borrow.Author.Tests.{ltb-true, ltb-false, le-ltb, le-leb}

@@ -1,6 +1,6 @@
 -- What the code has read of a text, and the answer to that. These are stages of `judge_text`; Lines.antt says what a text says, and what is answered.
 -- Assumes nothing: these are definitions.
-use Rattle.std.specs.Prelude.{Result, Ok, Err}
+use Rattle.std.specs.Prelude.{Result, Err}
 use Rattle.frame.specs.declared.Refusal.{Refusal}
 use Rattle.frame.specs.declared.Refusal.TheVariants.{Record}
 use Rattle.order.specs.Histories.{Judgement}

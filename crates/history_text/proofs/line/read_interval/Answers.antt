@@ -1,5 +1,4 @@
 use mathlib.Core.Path.{refl}
-use Prim.Native.Nat.{◌+◌}
 use Rattle.history_text.proofs.Laws.{then_number_lem, then_bad, further}
 use Rattle.history_text.specs.ReadLines.{interval_of}
 use native.Mathlib.Omega.{arith}

@@ -1,5 +1,5 @@
 use mathlib.Core.Path.{refl}
-use Prim.Native.Nat.{◌+◌, ◌-◌, ◌≤◌}
+use Prim.Native.Nat.{◌-◌, ◌≤◌}
 use lib.ListN.{length}
 use Rattle.history_text.proofs.Lines.{line_short, line_kind, line_space, line_interval, line_stamp, line_caller, line_whole}
 use native.Mathlib.Omega.{arith}

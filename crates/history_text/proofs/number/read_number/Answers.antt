@@ -1,6 +1,6 @@
 use Rattle.std.proofs.Common.{◌≡◌, ℕ, ◌∙◌, sym, refl, true, false, Option, Some, None, is_some}
 use Rattle.area.proofs.Tests.{impossible}
-use Prim.Native.Nat.{◌<◌, ◌≤◌}
+use Prim.Native.Nat.{◌<◌}
 use lib.ListN.{length}
 use Rattle.history_text.proofs.Laws.{number_none, number_zero, number_bad, number_digits}
 use native.Mathlib.Omega.{arith}

@@ -1,5 +1,5 @@
 -- The lines read so far and those that are left give what is read of the whole text. Assumes nothing.
-use Rattle.std.proofs.Common.{◌≡◌, ◌∙◌, sym, refl, ◌-◌, ◌<◌, ◌≤◌, length, Err, arith}
+use Rattle.std.proofs.Common.{◌∙◌, sym, refl, ◌<◌, ◌≤◌, length, arith}
 use Rattle.std.proofs.lemmas.Result.{err_from_is_err_and}
 use Rattle.history_text.proofs.Readings.{final_start, final_bad, final_over, final_next, final_end}
 use Rattle.history_text.proofs.text.read_text.Goals as goal

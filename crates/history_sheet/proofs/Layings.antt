@@ -268,7 +268,7 @@ read_err (Err e) f p = (e, refl, p)
 module _ (text : List ℕ) where
   -- a text that is not read
   pub text_unread : (why : Refusal) (out : List ℕ) → Err why ≡ reading_of (lines_of text) → outcome (turned_down (number_of why)) out ≡ laying text out
-  unfolding laying answer_by verdict_by refused
+  unfolding laying verdict_by refused
   text_unread why out e = refusal_laid (Err why) (refused (number_of why)) (lines_of text) (number_of why) out e refl refl
 
 -- by the answer of the code

@@ -84,7 +84,7 @@ final_end h n at s l = ap (λ t. final h (lines_read n t)) (drop_of_length-le s 
 
 -- the answer to what is read of lines is that to the lines
 pub answer_reading : (l : Lines) → answer_by (reading_of l) ≡ answer_of l
-unfolding answer_by reading_of answer_of verdict_by
+unfolding reading_of answer_of verdict_by
 answer_reading (Records ops) = verdict_row ops
 answer_reading Malformed = refl
 

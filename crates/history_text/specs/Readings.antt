@@ -13,5 +13,5 @@ unfoldable pub reading_of : Lines → Result History Refusal
 reading_of (Records ops) = added_all none ops
 reading_of Malformed = Err Record
 
-unfoldable pub answer_by : Result History Refusal → Judgement
+abbrev pub answer_by : Result History Refusal → Judgement
 answer_by x = verdict_by x

@@ -26,7 +26,7 @@ pub fn read_text(s: &[u8]) -> Result<History, Refusal>
 }
 
 // The answer to what was read; the operations are lent as a slice.
-#[tactic(auto, unfolding(crate::specs::Readings::answer_by, history_row::specs::Rows::verdict_by, history_row::specs::Rows::verdict_of, area::specs::Area::pick))]
+#[tactic(auto, unfolding(history_row::specs::Rows::verdict_by, history_row::specs::Rows::verdict_of, area::specs::Area::pick))]
 pub fn judge_reading(reading: Result<History, Refusal>) -> Verdict
     ensures { judgement result ≡ answer_by reading }
 {

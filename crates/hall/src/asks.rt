@@ -47,17 +47,16 @@ pub fn asked(fields: &[Mark]) -> Option<Ask> {
     let [word, j, rest @ ..] = fields else {
         return None;
     };
-    let word = word.word?;
     let j = j.number?;
-    match rest {
-        [class, i, frame] if word == Word::Server && frame.bytes => {
+    match (word.word?, rest) {
+        (Word::Server, [class, i, frame]) if frame.bytes => {
             Some(Ask::ToServer(j, sender(*class, *i)?))
         }
-        [class, i, frame] if word == Word::Client && frame.bytes => {
+        (Word::Client, [class, i, frame]) if frame.bytes => {
             Some(Ask::ToClient(j, sender(*class, *i)?))
         }
-        [act] if word == Word::Client && act.word == Some(Word::Read) => Some(Ask::Read(j)),
-        [act, value] if word == Word::Client && act.word == Some(Word::Write) && value.bytes => {
+        (Word::Client, [act]) if act.word == Some(Word::Read) => Some(Ask::Read(j)),
+        (Word::Client, [act, value]) if act.word == Some(Word::Write) && value.bytes => {
             Some(Ask::Write(j))
         }
         _ => None,

@@ -77,14 +77,18 @@ impl Trial {
         let area = words.number().min(AREA_BYTES);
         let initial = words.number().min(INITIAL);
         let value = words.bytes::<1024>();
-        self.record = [0; SERVER_SIZE];
+        let (params, me) = (self.params, self.me);
+        let state = &mut self.area[..];
+        let block = &mut self.initial[..];
+        let record = &mut self.record[..];
+        record.fill(0);
         let reply = fresh(
-            self.params,
-            self.me,
+            params,
+            me,
             value.as_slice(),
-            &mut self.area[..area],
-            &mut self.initial[..initial],
-            &mut self.record,
+            &mut state[..area],
+            &mut block[..initial],
+            record,
         );
         made(
             report,
@@ -110,14 +114,18 @@ impl Trial {
         let frame = words.bytes::<1024>();
         let mut out = [LENT; OUT_MOST];
         let mut to = [LENT; TO_MOST];
+        let (params, me) = (self.params, self.me);
+        let state = &mut self.area[..];
+        let block = &self.initial[..];
+        let record = &mut self.record[..];
         let reply = deliver(
-            self.params,
-            self.me,
+            params,
+            me,
             from,
             frame.as_slice(),
-            &mut self.area[..area],
-            &self.initial[..initial],
-            &mut self.record,
+            &mut state[..area],
+            &block[..initial],
+            record,
             &mut out[..out_length],
             &mut to[..to_length],
         );

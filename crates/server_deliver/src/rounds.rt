@@ -36,12 +36,10 @@ fn lowest(state: &[u8], g: Params) -> usize
     requires { Bounded g × (server_size ≤ length state.now) }
     ensures { result ≡ lowest_from g (server_in state.now) 1 8 }
 {
-    let mut c: usize = 1;
-    while c < Server::PLACES {
+    for c in 1..Server::PLACES {
         if may_accept(state, g, c) {
             return c;
         }
-        c += 1;
     }
     0
 }
@@ -64,10 +62,7 @@ fn accept_at(
     let s = scope_at(state, c);
     let readers = readers_at(state, READERS_AT);
     let m = accept(s, readers, g, c as u8, area, out, to, p);
-    let scope = m.scope;
-    let stamp = scope.stamp;
-    let slot = scope.slot;
-    put_opened(stamp, slot, c, state);
+    put_opened(m.scope.stamp, m.scope.slot, c, state);
     m.place
 }
 

@@ -17,7 +17,14 @@ use frame::send::ask_all;
 use frame::{Ask, Place, Refusal};
 
 // Refusals 1, 2, 3, 10, 15 and 16 of a read; last is the last number used.
-fn read_test(g: Params, me: usize, p: Phase, last: u32, out: usize, to: usize) -> Result<(), Refusal>
+fn read_test(
+    g: Params,
+    me: usize,
+    p: Phase,
+    last: u32,
+    out: usize,
+    to: usize,
+) -> Result<(), Refusal>
     ensures { result ≡ and_then (params_test g me last_client) (and_then (send_room g out to) (idle_test p last)) }
 {
     params_test(g, me, CLIENTS)?;

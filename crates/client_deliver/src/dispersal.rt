@@ -66,10 +66,8 @@ fn own_blocks(
 {
     let g = d.params;
     let mut r = p;
-    let mut j: usize = 0;
-    while j < g.n {
-        j += 1;
-        r = send_own(value, d, list, j as u8, out, to, r);
+    for j in 0..g.n {
+        r = send_own(value, d, list, (j + 1) as u8, out, to, r);
     }
     r
 }

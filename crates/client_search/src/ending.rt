@@ -47,7 +47,11 @@ fn regain_value(rows: [Row; 11], x: Stamp, p: usize, area: &[u8], g: Params, res
 fn read_answer(agree: bool, x: Stamp) -> Answer
     ensures { result ≡ pick agree (Value x) Disagreement }
 {
-    if agree { Answer::Value(x) } else { Answer::Disagreement }
+    if agree {
+        Answer::Value(x)
+    } else {
+        Answer::Disagreement
+    }
 }
 
 // The read ends with what is at place i of server j's row.

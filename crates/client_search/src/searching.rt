@@ -5,8 +5,8 @@ ghost use Rattle.group.specs.Needs.{Comparing};
 ghost use Rattle.client_rules.specs.Rows.{rows_from, agreed, first_agreed};
 ghost use Rattle.client_search.specs.Search.{view, holders_of, Searching, standing, Inside};
 
-use crate::at_stamp::hits;
 use crate::Hits;
+use crate::at_stamp::hits;
 use blocks::Params;
 use client::rows::used_places;
 use client_rules::Row;

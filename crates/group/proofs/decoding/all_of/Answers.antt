@@ -20,7 +20,7 @@ pub is_block-requires : goal.is_block-requires
 is_block-requires c =
     let p = c.requires in
     let h = p.0.bounded in
-    (h.blocks_low, omega (arith, h.servers_high, h.faults_low, h.blocks_high), omega (arith, p.0.whole, h.size_high), own_long _ _ _ h p.1 c.args.value.now _ (c.loop-j.j + 1) p.0.whole c.block_at-own.ensures, p.0.tables)
+    (h.blocks_low, omega (arith, h.servers_high, h.faults_low, h.blocks_high), omega (arith, p.0.whole, h.size_high), own_long _ _ _ h p.1 c.args.value.now _ (c.loop-j.j + 1) p.0.whole c.block_at-own.ensures)
 
 pub returns-then-not-is_block : goal.returns-then-not-is_block
 returns-then-not-is_block c =
@@ -31,8 +31,8 @@ returns-then-not-is_block c =
 pub loop-j-preserved : goal.loop-j-preserved
 loop-j-preserved c =
     let p = c.requires in
-      left_turn _ _ _ p.0.bounded p.1 _ _ p.0.whole _ _ c.loop-j-test.true (in_order_lem _ _ _ p.0.bounded p.1 _ _ p.0.whole _ (c.loop-j.j + 1) _ c.block_at-own.ensures c.is_block.ensures) (ap not c.if-not-is_block.false)
-          c.loop-j.invariant
+    left_turn _ _ _ p.0.bounded p.1 _ _ p.0.whole _ _ c.loop-j-test.true (in_order_lem _ _ _ p.0.bounded p.1 _ _ p.0.whole _ (c.loop-j.j + 1) _ c.block_at-own.ensures c.is_block.ensures) (ap not c.if-not-is_block.false)
+    c.loop-j.invariant
 
 pub returns : goal.returns
 returns c =

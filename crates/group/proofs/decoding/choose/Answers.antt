@@ -5,7 +5,7 @@ use native.Mathlib.Omega.{arith}
 use Rattle.area.specs.Area.{pick}
 use Rattle.group.specs.Entries.{marked}
 use Rattle.group.proofs.Choosing.{lowest_none, number_turn, number_end}
-use Rattle.group.proofs.decoding.choose.Goals.{then-on-j+then-c-k, else-on-j, else-on-j-via-then-on-j+else-c-k, else-on-j-via-else-on-j}
+use Rattle.group.proofs.decoding.choose.Goals.{then-mark+then-c-k, else-mark, else-mark-via-then-mark+else-c-k, else-mark-via-else-mark}
 use Rattle.group.proofs.decoding.choose.Goals as goal
 
 pub loop-j-init : goal.loop-j-init
@@ -15,16 +15,16 @@ pub loop-j-preserved : goal.loop-j-preserved
 unfolding marked pick
 loop-j-preserved c =
     let inv = c.loop-j.invariant in
-    elim c.if-on-j.branch [
-      then-on-j+then-c-k w ↦
-        let t = lt-ltb _ _ w.if-c-k.true in
-        number_turn _ _ _ _ _ _ _ _ _ inv.0 inv.1 refl (w.c-is ∙ rw (w.if-on-j.true, t)) (w.numbers-is ∙ rw (w.if-on-j.true, t))
-    | else-on-j w ↦ elim w.else-on-j.branch [
-        else-on-j-via-then-on-j+else-c-k v ↦
-          let t = le-ltb _ _ v.if-c-k.false in
-          number_turn _ _ _ _ _ _ _ _ _ inv.0 inv.1 refl (w.c-is ∙ rw (v.if-on-j.true, t)) (w.numbers-is ∙ rw (v.if-on-j.true, t))
-      | else-on-j-via-else-on-j v ↦
-          number_turn _ _ _ _ _ _ _ _ _ inv.0 inv.1 refl (w.c-is ∙ rw v.if-on-j.false) (w.numbers-is ∙ rw v.if-on-j.false)
+    elim c.if-mark.branch [
+      | then-mark+then-c-k w ↦
+          let t = lt-ltb _ _ w.if-c-k.true in
+          number_turn _ _ _ _ _ _ _ _ _ inv.0 inv.1 refl (w.c-is ∙ rw (w.if-mark.true, t)) (w.numbers-is ∙ rw (w.if-mark.true, t))
+      | else-mark w ↦ elim w.else-mark.branch [
+        | else-mark-via-then-mark+else-c-k v ↦
+            let t = le-ltb _ _ v.if-c-k.false in
+            number_turn _ _ _ _ _ _ _ _ _ inv.0 inv.1 refl (w.c-is ∙ rw (v.if-mark.true, t)) (w.numbers-is ∙ rw (v.if-mark.true, t))
+        | else-mark-via-else-mark v ↦
+            number_turn _ _ _ _ _ _ _ _ _ inv.0 inv.1 refl (w.c-is ∙ rw v.if-mark.false) (w.numbers-is ∙ rw v.if-mark.false)
       ]
     ]
 

@@ -21,7 +21,7 @@ pub agrees_at-requires : goal.agrees_at-requires
 agrees_at-requires c =
     let p = c.requires in
     let h = p.0.bounded in
-    (h.blocks_low, omega (arith, h.servers_high, h.faults_low, h.blocks_high), omega (arith, p.0.whole, h.size_high), omega arith, omega (arith, p.2), p.0.tables)
+    (h.blocks_low, omega (arith, h.servers_high, h.faults_low, h.blocks_high), omega (arith, p.0.whole, h.size_high), omega arith, omega (arith, p.2))
 
 pub returns-then-not-agrees_at : goal.returns-then-not-agrees_at
 returns-then-not-agrees_at c =
@@ -32,8 +32,8 @@ returns-then-not-agrees_at c =
 pub loop-j-preserved : goal.loop-j-preserved
 loop-j-preserved c =
     let p = c.requires in
-      compare_turn _ _ _ p.0.bounded p.1 _ _ p.0.whole _ p.2 _ _ c.loop-j-test.true
-          (step_is _ _ _ p.0.bounded p.1 _ _ p.0.whole _ p.2 c.loop-j.j _ _ c.block_at-own.ensures c.agrees_at.ensures) (ap not c.if-not-agrees_at.false) c.loop-j.invariant
+    compare_turn _ _ _ p.0.bounded p.1 _ _ p.0.whole _ p.2 _ _ c.loop-j-test.true
+    (step_is _ _ _ p.0.bounded p.1 _ _ p.0.whole _ p.2 c.loop-j.j _ _ c.block_at-own.ensures c.agrees_at.ensures) (ap not c.if-not-agrees_at.false) c.loop-j.invariant
 
 pub returns : goal.returns
 returns c =

@@ -11,4 +11,3 @@ use Rattle.group.proofs.matching.at_time.Given as goal
 
 abbrev pub invariant-loop-j : goal.invariant-loop-j
 invariant-loop-j l = (l.r ≡ sets (replicate 11 false) 0 (table l.j (λ i. marked l.on i && eqb (get_or l.times i 0) l.time)))
-

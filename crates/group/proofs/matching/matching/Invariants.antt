@@ -10,4 +10,3 @@ use Rattle.group.proofs.matching.matching.Given as goal
 
 abbrev pub invariant-loop-j : goal.invariant-loop-j
 invariant-loop-j l = (l.r ≡ sets (replicate 11 false) 0 (table l.j (passing (sent_list l.g l.on l.at l.area l.list) l.g.n)))
-

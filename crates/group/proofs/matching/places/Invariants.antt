@@ -8,4 +8,3 @@ use Rattle.group.proofs.matching.places.Given as goal
 
 abbrev pub invariant-loop-j : goal.invariant-loop-j
 invariant-loop-j l = (l.r ≡ sets (replicate 11 0) 0 (table l.j (λ i. l.first + i)))
-

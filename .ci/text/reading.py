@@ -96,10 +96,10 @@ class Reading:
                 waiting.append((path, there) if crate is None else (self.file(crate, module), there))
 
     def promise(self, path, function):
-        """The contract of a function in a file of code: what is between its parameters and its body; None if there is no such function."""
+        """The contract of a function or method in a file of code: what is between its parameters and its body; None if there is no such function."""
         text = without_comments(self.tree.text(path), ".rt")
-        found = re.search(rf"\bfn {function}\b.*?\n\{{\n", text, re.S)
-        return found and re.sub(r"^.*?(?=\n\s*(?:requires|ensures)|\n\{)", "", found.group(0), count=1, flags=re.S)
+        found = re.search(rf"\bfn {function}\b.*?\n *\{{\n", text, re.S)
+        return found and re.sub(r"^.*?(?=\n\s*(?:requires|ensures)|\n *\{)", "", found.group(0), count=1, flags=re.S)
 
     def reach_promise(self, path, function):
         """Reaches what a promise says; gives a fault if the function is no entry point."""

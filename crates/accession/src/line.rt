@@ -1,76 +1,62 @@
 // A line of the input, read byte by byte: a word, and for two of the words one argument after a space.
 use case_text::fields::{Field, field_with, no_field, store};
+use console::counts::count_of;
 
-// Its word; how many spaces it has, 2 meaning more than 1; the argument, and how many bytes that spells, 8 meaning 8 or more.
+// Its word; how many spaces it has, 255 meaning 255 or more; the argument, the first eight bytes that it spells, and how many these are.
 #[derive(Clone, Copy)]
 pub struct Line {
-    pub word: Field,
-    pub spaces: u8,
+    word: Field,
+    spaces: u8,
     pub argument: Field,
-    pub used: usize,
+    bytes: [u8; 8],
+    used: usize,
 }
 
-pub fn no_line() -> Line {
-    Line {
-        word: no_field(),
-        spaces: 0,
-        argument: no_field(),
-        used: 0,
+impl Line {
+    // The empty line.
+    pub fn new() -> Line {
+        Line {
+            word: no_field(),
+            spaces: 0,
+            argument: no_field(),
+            bytes: [0; 8],
+            used: 0,
+        }
     }
-}
 
-// The line with one more space.
-fn spaced(line: Line) -> Line {
-    let mut r = line;
-    if line.spaces < 2 {
-        r.spaces = line.spaces + 1;
+    // Adds a part of the line, which has no newline.
+    pub fn add_part(&mut self, part: &[u8]) {
+        for b in part {
+            self.add_byte(*b);
+        }
     }
-    r
-}
 
-// The line with one more byte of its argument.
-fn add_to_argument(line: Line, b: u8, bytes: &mut [u8]) -> Line {
-    let f = line.argument;
-    let y = field_with(f, b);
-    let mut r = line;
-    r.argument = y;
-    if f.odd {
-        r.used = store(bytes, line.used, f.half, y.half);
+    fn add_byte(&mut self, b: u8) {
+        if b == b' ' {
+            self.spaces = self.spaces.saturating_add(1);
+        } else if self.spaces == 0 {
+            self.word = field_with(self.word, b);
+        } else {
+            self.add_to_argument(b);
+        }
     }
-    r
-}
 
-// The line with one more byte, which is not a newline; the first eight bytes that the argument spells go into bytes.
-fn add_byte(line: Line, b: u8, bytes: &mut [u8]) -> Line {
-    if b == b' ' {
-        return spaced(line);
+    fn add_to_argument(&mut self, b: u8) {
+        let before = self.argument;
+        self.argument = field_with(before, b);
+        if before.odd {
+            self.used = store(&mut self.bytes, self.used, before.half, self.argument.half);
+        }
     }
-    if line.spaces != 0 {
-        return add_to_argument(line, b, bytes);
-    }
-    let word = field_with(line.word, b);
-    let mut r = line;
-    r.word = word;
-    r
-}
 
-// The line with one more part.
-pub fn add_part(line: Line, part: &[u8], bytes: &mut [u8]) -> Line {
-    let mut y = line;
-    for b in part {
-        y = add_byte(y, *b, bytes);
+    // Whether the line is this word, of at most eight bytes, followed by the given number of spaces.
+    pub fn is_word(&self, word: &[u8], spaces: u8) -> bool {
+        let number = word.iter().fold(0u64, |n, b| n.wrapping_mul(256).wrapping_add(u64::from(*b)));
+        self.word.length == word.len() && self.word.word == number && self.spaces == spaces
     }
-    y
-}
 
-// Whether the line is this word, of the given number of bytes, followed by the given number of spaces.
-pub fn is_word(line: Line, length: usize, word: u64, spaces: u8) -> bool {
-    let f = line.word;
-    if f.length != length {
-        return false;
+    // The bytes that the argument spells, the first eight of them if it spells more.
+    pub fn value(&self) -> &[u8] {
+        &self.bytes[..count_of(self.used, &self.bytes)]
     }
-    if f.word != word {
-        return false;
-    }
-    line.spaces == spaces
 }

@@ -8,10 +8,8 @@ use Rattle.area.specs.Responses.{Response, turned_down, gives}
 use Rattle.accession_index.specs.Index.{number_of, insertion_response, found_place}
 use Rattle.accession_index.specs.declared.Refusal.{Refusal}
 use Rattle.accession_index.specs.declared.Refusal.TheVariants.{Full, Short}
-use Rattle.accession_index.specs.declared.Insertion.{Insertion}
-use Rattle.accession_index.specs.declared.Insertion.TheVariants as I
-use Rattle.accession_index.specs.declared.Found.{Found}
-use Rattle.accession_index.specs.declared.Found.TheVariants as F
+use Rattle.std.specs.Prelude as Std
+use Rattle.std.specs.Prelude.{Result, Ok, Err, Some, None}
 
 -- the refusal with the number n (25 where none has it)
 abbrev refusal : ℕ → Refusal
@@ -21,18 +19,18 @@ refusal_back : (r : Refusal) → refusal (number_of r) ≡ r
 refusal_back Full = refl
 refusal_back Short = refl
 
-abbrev insertion_in : Response ℕ → Insertion
-insertion_in (gives p) = I.Place p
-insertion_in (turned_down n) = I.Refused (refusal n)
+abbrev insertion_in : Response ℕ → Result ℕ Refusal
+insertion_in (gives p) = Ok p
+insertion_in (turned_down n) = Err (refusal n)
 
-pub insertion_back : (a : Insertion) → insertion_in (insertion_response a) ≡ a
-insertion_back (I.Place p) = refl
-insertion_back (I.Refused r) = ap I.Refused (refusal_back r)
+pub insertion_back : (a : Result ℕ Refusal) → insertion_in (insertion_response a) ≡ a
+insertion_back (Ok p) = refl
+insertion_back (Err r) = ap Err (refusal_back r)
 
-abbrev found_in : Option ℕ → Found
-found_in (some p) = F.Place p
-found_in none = F.Nothing
+abbrev found_in : Option ℕ → Std.Option ℕ
+found_in (some p) = Some p
+found_in none = None
 
-pub found_back : (f : Found) → found_in (found_place f) ≡ f
-found_back (F.Place p) = refl
-found_back F.Nothing = refl
+pub found_back : (f : Std.Option ℕ) → found_in (found_place f) ≡ f
+found_back (Some p) = refl
+found_back None = refl

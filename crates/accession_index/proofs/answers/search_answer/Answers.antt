@@ -1,13 +1,14 @@
 -- Case by case. Assumes nothing.
-use mathlib.Core.Path.{sym, ap}
+use mathlib.Core.Path.{sym, ap, ◌∙◌}
+use Prim.Native.Nat.{◌*◌}
 use Rattle.accession_index.specs.Index.{found_place}
 use Rattle.accession_index.specs.Answers.{search_answer}
 use Rattle.accession_index.proofs.answers.search_answer.Goals as goal
 
-pub returns-in-Place : goal.returns-in-Place
+pub returns-in-Some : goal.returns-in-Some
 unfolding search_answer
-returns-in-Place c = sym (ap (λ z. search_answer (found_place z)) c.in-Place.is)
+returns-in-Some c = ap (λ p. 65536 * p) c.from.ensures ∙ sym (ap (λ z. search_answer (found_place z)) c.in-Some.is)
 
-pub returns-in-Nothing : goal.returns-in-Nothing
+pub returns-in-None : goal.returns-in-None
 unfolding search_answer
-returns-in-Nothing c = sym (ap (λ z. search_answer (found_place z)) c.in-Nothing.is)
+returns-in-None c = sym (ap (λ z. search_answer (found_place z)) c.in-None.is)

@@ -11,7 +11,8 @@ use console::failure::Failure;
 use console::input::read_whole;
 use console::output::{flush, nothing, put, put_refused};
 use frame::Refusal;
-use order::judge::{Answer, Verdict, refuse};
+use frame::refusals::number_of;
+use order::judge::{Fault, LinePair, Verdict, refuse};
 use std::io::{Read, Write};
 use std::rt::Clock;
 
@@ -37,27 +38,26 @@ pub fn run<R: Print + Clock, S: Read>(rt: &R, source: &mut S) -> Result<(), Fail
     flush(&mut out)
 }
 
-// Puts an answer: order and the line numbers, no order and an offending pair, or refused and the number.
+// Puts an answer: order and the line numbers, or why there is no order.
 fn print<W: Write>(verdict: Verdict, out: &mut W) -> Result<(), Failure> {
     match verdict.answer {
-        Answer::Ordered(count) => {
+        Ok(count) => {
             put(out, b"order")?;
             put_lines(out, verdict.lines, count)?;
             put(out, b"\n")
         }
-        Answer::Offending(a, b) => put_pair(out, a, b),
-        Answer::Refused(number) => put_refusal(out, number),
+        Err(fault) => put_fault(out, fault),
     }
 }
 
-// Puts that an offending pair leaves no order.
-fn put_pair<W: Write>(out: &mut W, a: usize, b: usize) -> Result<(), Failure> {
-    writeln!(out, "no order {a} {b}").map_err(Failure::Writing)
-}
-
-// Puts a refusal by its number.
-fn put_refusal<W: Write>(out: &mut W, number: u8) -> Result<(), Failure> {
-    put_refused(out, u64::from(number))
+// Puts no order and an offending pair, or refused and the number.
+fn put_fault<W: Write>(out: &mut W, fault: Fault) -> Result<(), Failure> {
+    match fault {
+        Fault::Offending(LinePair { earlier, later }) => {
+            writeln!(out, "no order {earlier} {later}").map_err(Failure::Writing)
+        }
+        Fault::Refused(why) => put_refused(out, u64::from(number_of(why))),
+    }
 }
 
 // Puts the first count line numbers, each after a space.

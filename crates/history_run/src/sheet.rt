@@ -1,11 +1,12 @@
 // Reads a history to its end and prints its season sheet.
-use crate::{put_pair, put_refusal};
+use crate::put_fault;
 use console::counts::count_of;
 use console::failure::Failure;
 use console::input::read_whole;
 use console::output::{flush, nothing, put};
+use history_sheet::lay;
 use history_sheet::page::PAGE_SIZE;
-use history_sheet::{Laid, lay};
+use order::judge::Fault;
 use std::io::{Read, Write};
 use std::rt::Clock;
 
@@ -26,14 +27,13 @@ pub fn run<R: Print + Clock, S: Read>(rt: &R, source: &mut S) -> Result<(), Fail
     flush(&mut out)
 }
 
-// Puts a sheet's pages, no order and an offending pair, or refused and the number.
-fn print<W: Write>(laid: Laid, sheet: &[u8], out: &mut W) -> Result<(), Failure> {
+// Puts a sheet's pages, or why there is none.
+fn print<W: Write>(laid: Result<usize, Fault>, sheet: &[u8], out: &mut W) -> Result<(), Failure> {
     match laid {
-        Laid::Pages(pages) => {
+        Ok(pages) => {
             let used = count_of(size(pages), sheet);
             put(out, &sheet[..used])
         }
-        Laid::Offending(a, b) => put_pair(out, a, b),
-        Laid::Refused(number) => put_refusal(out, number),
+        Err(fault) => put_fault(out, fault),
     }
 }

@@ -11,26 +11,30 @@ use lib.Seq.{sets, take-suc-set, get_or-take, ext_get_or}
 use borrow.Author.Tests.{lt-ltb, le-ltb, ltb-false}
 use Rattle.area.specs.Area.{joined}
 use Rattle.area.specs.Responses.{Response, turned_down, gives, is_turned_down}
-use Rattle.area.proofs.Tests.{pick_not}
+use Rattle.area.proofs.Tests.{pick_not, impossible}
 use Rattle.area.proofs.Sets.{part_sets_same}
 use Rattle.order.specs.Histories.{row_of, line_numbers, blank, no_operation}
 use Rattle.order.specs.Histories.{has_order, no_order, judge_response, Judgement, judgement, refused, offending, ordered, judged}
 use Rattle.order.specs.Orders.{Line, in_place}
 use Rattle.order.specs.declared.operation.Operation.{Operation}
 use Rattle.order.specs.declared.operation.Entry.{Entry}
-use Rattle.order.specs.declared.judge.Answer.TheVariants as O
+use Rattle.std.proofs.Common.{Result, Ok, Err, MatchResult}
+use Rattle.frame.specs.declared.Refusal.{Refusal}
+use Rattle.frame.specs.Refusals.{number_of, refusal}
+use Rattle.frame.proofs.Responses.{one_each}
+use Rattle.order.specs.declared.judge.Fault.{Fault}
+use Rattle.order.specs.declared.judge.Fault.TheVariants.{Offending, Refused}
 use Rattle.order.specs.declared.judge.Verdict.{Verdict}
 use Rattle.order.proofs.Picks.{pick_yes, pick_no}
 use Rattle.order.proofs.Less.{true_false}
 use Rattle.order.proofs.Rows.{no_entry, row_length}
 use Rattle.order.proofs.Arranged.{the_row, size, stands, row_is_row}
 use Rattle.order.proofs.Judgements.{is_order, first}
-use Rattle.history_row.specs.Rows.{none, added, added_all}
+use Rattle.history_row.specs.Rows.{none, added, then_all, added_all, verdict_by}
 use Rattle.history_row.specs.declared.History.{History}
 use Rattle.history_row.proofs.Laws.{added_fits}
 use Rattle.history_text.specs.Lines.{Lines, Records, Malformed, lines_of, answer_of}
 use Rattle.history_text.specs.Readings.{reading_of, answer_by}
-use Rattle.history_text.specs.declared.text.Reading.{Reading}
 use Rattle.history_text.specs.Printed.{InWidth, AllInWidth}
 use Rattle.history_text.proofs.Readings.{answer_reading}
 use Rattle.history_text.proofs.Texts.{only_printed}
@@ -38,26 +42,24 @@ use Rattle.history_sheet.specs.Sheet.{page_size, pages_of, page_of, sheet_of}
 use Rattle.history_sheet.specs.Laying.{SheetResult, pages_laid, unordered, laid_response, outcome, in_order, laid_out, laying_by, laying_of, laying}
 use Rattle.history_sheet.specs.Stages.{named, named_all, Named}
 use Rattle.history_sheet.specs.Board.{Fits}
-use Rattle.history_sheet.specs.declared.Laid.{Laid}
-use Rattle.history_sheet.specs.declared.Laid.TheVariants as L
 use Rattle.history_sheet.proofs.Pages.{named_count, named_at}
 
 -- ---- responses
 
 -- the answer of the code that has a response
-unfoldable laid_with : Response SheetResult → Laid
-laid_with (turned_down x) = L.Refused x
-laid_with (gives (pages_laid n)) = L.Pages n
-laid_with (gives (unordered a b)) = L.Offending a b
+unfoldable laid_with : Response SheetResult → Result ℕ Fault
+laid_with (turned_down x) = Err (Refused (refusal x))
+laid_with (gives (pages_laid n)) = Ok n
+laid_with (gives (unordered a b)) = Err (Offending (record { earlier = a; later = b }))
 
-laid_back : (x : Laid) → laid_with (laid_response x) ≡ x
+laid_back : (x : Result ℕ Fault) → laid_with (laid_response x) ≡ x
 unfolding laid_with
-laid_back (L.Pages n) = refl
-laid_back (L.Offending a b) = refl
-laid_back (L.Refused x) = refl
+laid_back (Ok n) = refl
+laid_back (Err (Offending p)) = refl
+laid_back (Err (Refused r)) = ap (λ z. Err (Refused z)) (one_each r)
 
 -- no two answers of the code have the same response
-pub laid_injective : (x y : Laid) → laid_response x ≡ laid_response y → x ≡ y
+pub laid_injective : (x y : Result ℕ Fault) → laid_response x ≡ laid_response y → x ≡ y
 laid_injective x y e = sym (laid_back x) ∙ ap laid_with e ∙ laid_back y
 
 -- ---- room for a sheet
@@ -79,27 +81,28 @@ sheet_laid row out o m pages n e h q =
 
 -- ---- operations added to a history
 
-all_added : (h : History) (ops : List Operation) → length h.rows ≡ 64 → h.count + length ops ≤ 64
-    → take (h.count + length ops) (added_all h ops).rows ≡ take h.count h.rows ++ ops
-unfolding added_all
-all_added h [] e l = rw add-zero (sym (append-nil (take h.count h.rows)))
-all_added h (a ∷ ops) e l =
+all_added : (h k : History) (ops : List Operation) → length h.rows ≡ 64 → h.count + length ops ≤ 64 → added_all h ops ≡ Ok k
+    → take (h.count + length ops) k.rows ≡ take h.count h.rows ++ ops
+unfolding added_all then_all
+all_added h k [] e l p =
+    let q : k ≡ h = cc in
+    rw add-zero (ap (λ (z : History). take h.count z.rows) q ∙ sym (append-nil (take h.count h.rows)))
+all_added h k (a ∷ ops) e l p =
     let g : h.count < 64 = omega arith in
     let i : h.count < length h.rows = omega arith in
-    let k : History = record { rows = set h.rows h.count a; count = h.count + 1 } in
+    let more : History = record { rows = set h.rows h.count a; count = h.count + 1 } in
     let n : h.count + suc (length ops) ≡ h.count + 1 + length ops = omega arith in
     let s : take (h.count + 1) (set h.rows h.count a) ≡ take h.count h.rows ++ (a ∷ []) =
     rw (add-one h.count) (take-suc-set h.rows h.count a i) in
-    ap (λ x. take x (added_all (added h a) ops).rows) n
-    ∙ ap (λ x. take (h.count + 1 + length ops) (added_all x ops).rows) (added_fits h a g)
-    ∙ all_added k ops (length-set h.rows h.count a ∙ e) (omega arith)
+    ap (λ x. take x k.rows) n
+    ∙ all_added more k ops (length-set h.rows h.count a ∙ e) (omega arith) (sym (ap (then_all (λ z. added_all z ops)) (added_fits h a g)) ∙ p)
     ∙ ap (λ x. x ++ ops) s
     ∙ append_assoc (take h.count h.rows) (a ∷ []) ops
 
-history_rows : (ops : List Operation) → length ops ≤ 64 → take (length ops) (added_all none ops).rows ≡ ops
+history_rows : (ops : List Operation) (k : History) → length ops ≤ 64 → added_all none ops ≡ Ok k → take (length ops) k.rows ≡ ops
 unfolding none
-history_rows ops h =
-    (let z : length ops ≡ 0 + length ops = omega arith in ap (λ n. take n (added_all none ops).rows) z) ∙ all_added none ops refl (omega arith)
+history_rows ops k h p =
+    (let z : length ops ≡ 0 + length ops = omega arith in ap (λ n. take n k.rows) z) ∙ all_added none k ops refl (omega arith) p
 
 -- ---- the answer to a history that has an order
 
@@ -209,35 +212,17 @@ module _ (ops rows : List Operation) (lines : List ℕ) (m : ℕ) (w : AllInWidt
 -- ---- the outcome
 
 -- what `lay` needs to know where the history has an order
-pub record Ready (x : Reading) (v : Judgement) (m : ℕ) (l : Lines) : Type 0 where
-  pub there : Named x.history.rows v.lines m
-  pub lays : (out : List ℕ) → laid_out (named_all x.history.rows v.lines m) out ≡ laying_of l out
+pub record Ready (h : History) (v : Judgement) (m : ℕ) (l : Lines) : Type 0 where
+  pub there : Named h.rows v.lines m
+  pub lays : (out : List ℕ) → laid_out (named_all h.rows v.lines m) out ≡ laying_of l out
 
-module _ (x : Reading) (v : Judgement) where
+module _ (x : Result History Refusal) (v : Judgement) where
   answered : (l : Lines) → x ≡ reading_of l → v ≡ answer_by x → v ≡ answer_of l
   answered l e q = q ∙ ap answer_by e ∙ answer_reading l
 
   malformed_answer : v ≡ answer_of Malformed → v.answer ≡ turned_down 18
   unfolding answer_of refused
   malformed_answer e = answer_of_lem e
-
-  ready : (l : Lines) → ((ops : List Operation) → l ≡ Records ops → AllInWidth ops) → (m : ℕ)
-      → x ≡ reading_of l → v ≡ answer_by x → v.answer ≡ gives (has_order m) → Ready x v m l
-  unfolding reading_of answer_of laying_of laying_by ordered is_order
-  ready (Records ops) w m e q a =
-      let j : v ≡ judged ops = answered (Records ops) e q in
-      let b : (judged ops).answer ≡ gives (has_order m) = answer_of_lem (sym j) ∙ a in
-      let o = ordered_only ops m b in
-      let n = ordered_all ops m b in
-      let r : take m x.history.rows ≡ ops = ap₂ (λ k (y : Reading). take k y.history.rows) n e ∙ history_rows ops o.0 in
-      let s : v.lines ≡ sets blank 0 (line_numbers (row_of ops)) = ap (λ (y : Judgement). y.lines) (j ∙ sym o.1) in
-      record {
-        there = named_there ops x.history.rows v.lines m (w ops refl) o.0 n r s;
-        lays = λ out.
-            ap (λ row. laid_out row out) (named_order ops x.history.rows v.lines m (w ops refl) o.0 n r s)
-            ∙ sym (ap (λ y. laying_by y ops out) b);
-      }
-  ready Malformed w m e q a = absurd (true_false refl (sym (ap is_order (sym (malformed_answer (answered Malformed e q)) ∙ a))))
 
   pair_laid : (l : Lines) (a b : ℕ) (out : List ℕ) → x ≡ reading_of l → v ≡ answer_by x → v.answer ≡ gives (no_order a b)
       → outcome (gives (unordered a b)) out ≡ laying_of l out
@@ -251,20 +236,52 @@ module _ (x : Reading) (v : Judgement) where
   refusal_laid (Records ops) n out e q t = sym (ap (λ y. laying_by y ops out) (answer_of_lem (sym (answered (Records ops) e q)) ∙ t))
   refusal_laid Malformed n out e q t = ap (λ y. laying_by y [] out) (sym t ∙ malformed_answer (answered Malformed e q))
 
+module _ (h : History) (v : Judgement) where
+  ready : (l : Lines) → ((ops : List Operation) → l ≡ Records ops → AllInWidth ops) → (m : ℕ)
+      → Ok h ≡ reading_of l → v ≡ answer_by (Ok h) → v.answer ≡ gives (has_order m) → Ready h v m l
+  unfolding reading_of answer_of laying_of laying_by ordered is_order
+  ready (Records ops) w m e q a =
+      let j : v ≡ judged ops = answered (Ok h) v (Records ops) e q in
+      let b : (judged ops).answer ≡ gives (has_order m) = answer_of_lem (sym j) ∙ a in
+      let o = ordered_only ops m b in
+      let n = ordered_all ops m b in
+      let r : take m h.rows ≡ ops = ap (λ k. take k h.rows) n ∙ history_rows ops h o.0 (sym e) in
+      let s : v.lines ≡ sets blank 0 (line_numbers (row_of ops)) = ap (λ (y : Judgement). y.lines) (j ∙ sym o.1) in
+      record {
+        there = named_there ops h.rows v.lines m (w ops refl) o.0 n r s;
+        lays = λ out.
+            ap (λ row. laid_out row out) (named_order ops h.rows v.lines m (w ops refl) o.0 n r s)
+            ∙ sym (ap (λ y. laying_by y ops out) b);
+      }
+  ready Malformed w m e q a = absurd (true_false refl (sym (ap is_order (sym (malformed_answer (Ok h) v (answered (Ok h) v Malformed e q)) ∙ a))))
+
+-- what `map_err` says where it was an `Ok`, or an `Err`
+pub read_ok : (r : Result History Refusal) (h : History) → MatchResult r (λ x. ◌≡◌ {A = Result History Fault} (Ok h) (Ok x)) (λ e. ⊥) → Ok h ≡ r
+read_ok (Ok x) h p = cc
+read_ok (Err e) h p = absurd p
+
+pub read_err : (r : Result History Refusal) (f : Fault) → MatchResult r (λ x. ◌≡◌ {A = Result History Fault} (Err f) (Ok x)) (λ e. f ≡ Refused e)
+    → (why : Refusal) × (Err why ≡ r) × (f ≡ Refused why)
+read_err (Ok x) f p = impossible (cc p)
+read_err (Err e) f p = (e, refl, p)
+
+module _ (text : List ℕ) where
+  -- a text that is not read
+  pub text_unread : (why : Refusal) (out : List ℕ) → Err why ≡ reading_of (lines_of text) → outcome (turned_down (number_of why)) out ≡ laying text out
+  unfolding laying answer_by verdict_by refused
+  text_unread why out e = refusal_laid (Err why) (refused (number_of why)) (lines_of text) (number_of why) out e refl refl
+
 -- by the answer of the code
-module _ (x : Reading) (v : Verdict) (text : List ℕ) (e : x ≡ reading_of (lines_of text)) (q : judgement v ≡ answer_by x) where
-  pub text_pair : (a b : ℕ) (out : List ℕ) → v.answer ≡ O.Offending a b → outcome (laid_response (L.Offending a b)) out ≡ laying text out
+module _ (h : History) (v : Verdict) (text : List ℕ) (e : Ok h ≡ reading_of (lines_of text)) (q : judgement v ≡ answer_by (Ok h)) where
+  pub text_fault : (f : Fault) (out : List ℕ) → v.answer ≡ Err f → outcome (laid_response (Err f)) out ≡ laying text out
   unfolding laying
-  text_pair a b out t = pair_laid x (judgement v) (lines_of text) a b out e q (ap judge_response t)
+  text_fault (Offending p) out t = pair_laid (Ok h) (judgement v) (lines_of text) p.earlier p.later out e q (ap judge_response t)
+  text_fault (Refused r) out t = refusal_laid (Ok h) (judgement v) (lines_of text) (number_of r) out e q (ap judge_response t)
 
-  pub text_refused : (n : ℕ) (out : List ℕ) → v.answer ≡ O.Refused n → outcome (laid_response (L.Refused n)) out ≡ laying text out
-  unfolding laying
-  text_refused n out t = refusal_laid x (judgement v) (lines_of text) n out e q (ap judge_response t)
+  pub text_ready : (m : ℕ) → v.answer ≡ Ok m → Ready h (judgement v) m (lines_of text)
+  text_ready m a = ready h (judgement v) (lines_of text) (λ ops s. (only_printed text ops s).0) m e q (ap judge_response a)
 
-  pub text_ready : (m : ℕ) → v.answer ≡ O.Ordered m → Ready x (judgement v) m (lines_of text)
-  text_ready m a = ready x (judgement v) (lines_of text) (λ ops s. (only_printed text ops s).0) m e q (ap judge_response a)
-
-  pub text_laid : (m : ℕ) → v.answer ≡ O.Ordered m → (r : Response SheetResult) (out o : List ℕ)
-      → outcome r o ≡ laid_out (named_all x.history.rows v.lines m) out → outcome r o ≡ laying text out
+  pub text_laid : (m : ℕ) → v.answer ≡ Ok m → (r : Response SheetResult) (out o : List ℕ)
+      → outcome r o ≡ laid_out (named_all h.rows v.lines m) out → outcome r o ≡ laying text out
   unfolding laying
   text_laid m a r out o p = p ∙ (text_ready m a).lays out

@@ -1,6 +1,6 @@
 -- The whole outcome of laying a history out: the answer, and every byte of the lent area. Document 02, F-5: "A history without an order answers an offending
 -- pair and, like a refused one, needs no area and writes nothing." Assumes nothing: these are definitions.
-use Rattle.std.specs.Prelude.{ℕ, ◌*◌, List, map, ltb, length}
+use Rattle.std.specs.Prelude.{ℕ, ◌*◌, List, map, ltb, length, Result, Ok, Err}
 use Rattle.std.proofs.lemmas.List.Edits.{sets}
 use Rattle.area.specs.Area.{pick}
 use Rattle.area.specs.Responses.{Response, turned_down, gives}
@@ -8,8 +8,9 @@ use Rattle.order.specs.Histories.{row_of, Finding, has_order, no_order, judged}
 use Rattle.order.specs.declared.operation.Operation.{Operation}
 use Rattle.history_text.specs.Lines.{Lines, Records, Malformed, lines_of}
 use Rattle.history_sheet.specs.Sheet.{page_size, pages_of, sheet_of}
-use Rattle.history_sheet.specs.declared.Laid.{Laid}
-use Rattle.history_sheet.specs.declared.Laid.TheVariants as L
+use Rattle.frame.specs.Refusals.{number_of}
+use Rattle.order.specs.declared.judge.Fault.{Fault}
+use Rattle.order.specs.declared.judge.Fault.TheVariants.{Offending, Refused}
 
 -- what a history that is not refused gives: how many pages, or an offending pair by the line numbers of its earlier and of its later operation
 pub data SheetResult : Type 0 where
@@ -17,10 +18,10 @@ pub data SheetResult : Type 0 where
   unordered : ℕ → ℕ → SheetResult
 
 -- what the code's answer says
-abbrev pub laid_response : Laid → Response SheetResult
-laid_response (L.Pages n) = gives (pages_laid n)
-laid_response (L.Offending a b) = gives (unordered a b)
-laid_response (L.Refused x) = turned_down x
+abbrev pub laid_response : Result ℕ Fault → Response SheetResult
+laid_response (Ok n) = gives (pages_laid n)
+laid_response (Err (Offending p)) = gives (unordered p.earlier p.later)
+laid_response (Err (Refused r)) = turned_down (number_of r)
 
 pub record Outcome : Type 0 where
   pub answer : Response SheetResult

@@ -3,14 +3,15 @@ ghost use Rattle.std.specs.Prelude.{◌≡◌};
 ghost use Rattle.history_sheet.specs.Laying.{laid_response};
 ghost use Rattle.history_sheet.specs.Answers.{sheet_answer};
 
-use crate::Laid;
+use order::answers::fault_answer;
+use order::judge::Fault;
 
-pub fn sheet_answer(a: Laid) -> u64
+#[tactic(auto, unfolding(crate::specs::Answers::sheet_answer, order::specs::Answers::history_answer, order::specs::Answers::fault_answer))]
+pub fn sheet_answer(a: Result<usize, Fault>) -> u64
     ensures { result ≡ sheet_answer (laid_response a) }
 {
     match a {
-        Laid::Pages(pages) => 65536 * (pages as u64 % 256),
-        Laid::Offending(a, b) => { 256 + 65536 * (a as u64 % 256) + 16777216 * (b as u64 % 256) }
-        Laid::Refused(x) => x as u64,
+        Ok(pages) => 65536 * (pages as u64 % 256),
+        Err(fault) => fault_answer(fault),
     }
 }

@@ -12,55 +12,45 @@ ghost use Rattle.history_sheet.specs.Laying.{laid_response, outcome, laid_out, l
 ghost use Rattle.history_sheet.specs.Stages.{named_all, Named};
 
 use crate::page::{ON_PAGE, PAGE_SIZE, put_pages};
+use frame::Refusal;
 use history_text::text::{judge_reading, read_text};
-use order::judge::Answer;
+use order::judge::Fault;
 use order::operation::Operation;
-
-// Pages: how many were laid. Offending: the line numbers of the earlier and of the later operation. Refused: the number.
-#[derive(Clone, Copy)]
-pub enum Laid {
-    Pages(usize),
-    Offending(usize, usize),
-    Refused(u8),
-}
 
 // How many pages m operations take.
 fn page_count(m: usize) -> usize
     requires { m ≤ 64 }
     ensures { (result ≡ pages_of m) × (result ≤ 2) }
 {
-    if m == 0 {
-        return 1;
-    }
-    (m + 58) / ON_PAGE
+    if m == 0 { 1 } else { (m + 58) / ON_PAGE }
 }
 
 // Lays the sheet of the m operations that the first m entries of lines name, if there is room for it.
-fn put_sheet(out: &mut [u8], rows: [Operation; 64], lines: [u8; 64], m: usize) -> Laid
+fn put_sheet(
+    out: &mut [u8],
+    rows: [Operation; 64],
+    lines: [u8; 64],
+    m: usize,
+) -> Result<usize, Fault>
     requires { Named rows lines m }
     ensures { outcome (laid_response result) out.new ≡ laid_out (named_all rows lines m) out.old }
 {
     let pages = page_count(m);
     if out.len() < pages * PAGE_SIZE {
-        return Laid::Refused(10);
+        return Err(Fault::Refused(Refusal::Room));
     }
     put_pages(out, rows, lines, m, pages);
-    Laid::Pages(pages)
+    Ok(pages)
 }
 
-// Lays the sheet of a history at the front of out.
-pub fn lay(text: &[u8], out: &mut [u8]) -> Laid
+// Lays the sheet of a history at the front of out: how many pages it has.
+pub fn lay(text: &[u8], out: &mut [u8]) -> Result<usize, Fault>
     ensures { outcome (laid_response result) out.new ≡ laying text.now out.old }
 {
-    let reading = read_text(text);
-    let verdict = judge_reading(reading);
-    let history = reading.history;
+    let history = read_text(text).map_err(Fault::Refused)?;
+    let verdict = judge_reading(Ok(history));
     let rows = history.rows;
     let lines = verdict.lines;
-    let answer = verdict.answer;
-    match answer {
-        Answer::Ordered(m) => put_sheet(out, rows, lines, m),
-        Answer::Offending(a, b) => Laid::Offending(a, b),
-        Answer::Refused(number) => Laid::Refused(number),
-    }
+    let m = verdict.answer?;
+    put_sheet(out, rows, lines, m)
 }

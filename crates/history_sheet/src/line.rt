@@ -13,14 +13,11 @@ use order::operation::Operation;
 // How many bytes a line takes, with its newline.
 pub const LINE_SIZE: usize = 73;
 
-// W for a write, R for a read.
+#[tactic(auto, unfolding(area::specs::Area::pick))]
 fn kind(write: bool) -> u8
     ensures { result ≡ pick write 87 82 }
 {
-    if write {
-        return 87;
-    }
-    82
+    if write { b'W' } else { b'R' }
 }
 
 // The kind and a space after it.

@@ -1,5 +1,5 @@
 // Pages: the lines of operations, lines of spaces, and the page's number.
-ghost use Rattle.std.specs.Prelude.{◌≡◌, [], ◌+◌, ◌*◌, ◌≤◌, ◌<◌, min, length};
+ghost use Rattle.std.specs.Prelude.{◌≡◌, [], ◌+◌, ◌*◌, ◌≤◌, ◌<◌, length};
 ghost use Rattle.std.proofs.lemmas.List.Edits.{sets};
 ghost use Rattle.area.specs.Area.{joined};
 ghost use Rattle.history_sheet.specs.Sheet.{on_page, page_size, filled, ended, operation_line, place_line, page_of};
@@ -27,14 +27,12 @@ fn put_operations(
     requires { (at + count * 73 ≤ length out.old) × Named rows lines (first + count) }
     ensures { out.new ≡ sets out.old at (joined (λ i. ended (operation_line (i + 1) (named rows lines i))) first count) }
 {
-    let mut j: usize = 0;
-    while j < count {
+    for j in 0..count {
         let i = first + j;
         let place = i + 1;
         let line = lines[i] as usize;
         let a = rows[line - 1];
         put_operation(out, at + j * LINE_SIZE, place as u64, a);
-        j += 1;
     }
 }
 
@@ -43,21 +41,9 @@ fn put_blanks(out: &mut [u8], at: usize, count: usize)
     requires { at + count * 73 ≤ length out.old }
     ensures { out.new ≡ sets out.old at (joined (λ i. ended (filled [])) 0 count) }
 {
-    let mut j: usize = 0;
-    while j < count {
+    for j in 0..count {
         put_blank(out, at + j * LINE_SIZE);
-        j += 1;
     }
-}
-
-// How many of the operations that are left a page takes.
-fn taken(left: usize) -> usize
-    ensures { result ≡ min on_page left }
-{
-    if left < ON_PAGE {
-        return left;
-    }
-    ON_PAGE
 }
 
 // Page p, counted from 0, of m operations.
@@ -66,7 +52,7 @@ fn put_page(out: &mut [u8], at: usize, rows: [Operation; 64], lines: [u8; 64], m
     ensures { out.new ≡ sets out.old at (page_of (named_all rows lines m) p) }
 {
     let first = ON_PAGE * p;
-    let count = taken(m - first);
+    let count = ON_PAGE.min(m - first);
     put_operations(out, at, rows, lines, first, count);
     put_blanks(out, at + count * LINE_SIZE, ON_PAGE - count);
     put_field(out, at + ON_PAGE * LINE_SIZE, 72, (p + 1) as u64, 10);
@@ -77,9 +63,7 @@ pub fn put_pages(out: &mut [u8], rows: [Operation; 64], lines: [u8; 64], m: usiz
     requires { (pages * page_size ≤ length out.old) × Named rows lines m × (pages ≤ 2) × (pages * on_page ≤ m + on_page) }
     ensures { out.new ≡ sets out.old 0 (joined (page_of (named_all rows lines m)) 0 pages) }
 {
-    let mut p: usize = 0;
-    while p < pages {
+    for p in 0..pages {
         put_page(out, p * PAGE_SIZE, rows, lines, m, p);
-        p += 1;
     }
 }

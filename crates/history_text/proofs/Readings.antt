@@ -7,41 +7,42 @@ use native.Mathlib.Omega.{arith}
 use lib.ListN.{length, drop, take, drop_of_length-le}
 use lib.Seq.{drop-drop}
 use Rattle.area.specs.Area.{pick}
-use Rattle.order.specs.Histories.{Judgement, refused, judged}
+use Rattle.order.specs.Histories.{Judgement}
 use Rattle.order.specs.declared.operation.Operation.{Operation}
-use Rattle.order.proofs.Picks.{pick_yes, pick_no}
-use Rattle.history_row.specs.Rows.{none, added, added_all}
+use Rattle.order.proofs.Picks.{pick_err}
+use Rattle.std.proofs.Common.{Result, Ok, Err}
+use Rattle.frame.specs.declared.Refusal.{Refusal}
+use Rattle.frame.specs.declared.Refusal.TheVariants.{Record}
+use Rattle.history_row.specs.Rows.{none, added, then_all, added_all, verdict_by}
 use Rattle.history_row.specs.declared.History.{History}
-use Rattle.history_row.proofs.Laws.{verdict_row, verdict_large, verdict_small}
+use Rattle.history_row.proofs.Laws.{verdict_row}
 use Rattle.history_text.specs.Lines.{Lines, Records, Malformed, record_then, lines_of, answer_of, answer_to}
 use Rattle.history_text.specs.ReadLines.{operation_of, lines_read}
 use Rattle.history_text.specs.Readings.{reading_of, answer_by}
 use Rattle.history_text.specs.declared.line.Line.{Line}
 use Rattle.history_text.specs.declared.line.Line.TheVariants as L
-use Rattle.history_text.specs.declared.text.Reading.{Reading}
 use Rattle.history_text.proofs.Lines.{then_record, then_none, lines_at, lines_none}
 use Rattle.history_text.proofs.Link.{read_says}
 
-abbrev pub reading : Bool → History → Reading
-reading malformed history = record { malformed = malformed; history = history }
-
-abbrev bad : Reading
-bad = reading true none
-
 -- what is read in the end, from a history so far and the lines that are left
-unfoldable pub final : History → Lines → Reading
-final h (Records ops) = reading false (added_all h ops)
-final h Malformed = bad
+unfoldable pub final : History → Lines → Result History Refusal
+final h (Records ops) = added_all h ops
+final h Malformed = Err Record
 
 final_none : (l : Lines) → final none l ≡ reading_of l
 unfolding final reading_of
 final_none (Records ops) = refl
 final_none Malformed = refl
 
-final_record : (h : History) (a : Operation) (l : Lines) → final h (record_then a l) ≡ final (added h a) l
-unfolding final record_then added_all
-final_record h a (Records ops) = refl
-final_record h a Malformed = refl
+final_record : (h k : History) (a : Operation) (l : Lines) → Ok k ≡ added h a → final h (record_then a l) ≡ final k l
+unfolding final record_then added_all then_all
+final_record h k a (Records ops) e = ap (then_all (λ z. added_all z ops)) (sym e)
+final_record h k a Malformed e = refl
+
+final_full : (h : History) (r : Refusal) (a : Operation) (l : Lines) → Err r ≡ added h a → final h (record_then a l) ≡ Err r
+unfolding final record_then added_all then_all added
+final_full h r a (Records ops) e = ap (then_all (λ z. added_all z ops)) (sym e)
+final_full h r a Malformed e = let p = pick_err _ _ _ e in let q = p.1 in cc
 
 pub final_start : (h : History) (s : List ℕ) → h ≡ none → final h (lines_read (length s) (drop 0 s)) ≡ reading_of (lines_of s)
 final_start h s e =
@@ -49,53 +50,45 @@ final_start h s e =
 
 -- a malformed line
 pub final_bad : (h : History) (n at : ℕ) (s : List ℕ) {r : Line} → at < length s → length s - at ≤ n → r ≡ operation_of (drop at s) → r ≡ L.Bad
-    → final h (lines_read n (drop at s)) ≡ bad
+    → final h (lines_read n (drop at s)) ≡ Err Record
 unfolding final
 final_bad h zero at s l g e t = absurd (omega arith)
 final_bad h (suc n) at s l g e t = ap (final h) (lines_at n at s l ∙ then_none _ _ _ (sym e ∙ t))
 
+-- a line too many
+pub final_over : (h : History) (n at u : ℕ) (s : List ℕ) (a : Operation) (o : Refusal) {r : Line} → at < length s → length s - at ≤ n
+    → r ≡ operation_of (drop at s) → r ≡ L.Record a u → Err o ≡ added h a → final h (lines_read n (drop at s)) ≡ Err o
+final_over h zero at u s a o l g e t q = absurd (omega arith)
+final_over h (suc n) at u s a o l g e t q =
+    ap (final h) (lines_at n at s l ∙ then_record _ _ _ a u (sym e ∙ t)) ∙ final_full h o a (lines_read n (drop u (drop at s))) q
+
 -- one more line
-final_more : (h : History) (n at u : ℕ) (s : List ℕ) (a : Operation) {r : Line} {k : History} → at < length s → length s - at ≤ suc n
-    → r ≡ operation_of (drop at s) → r ≡ L.Record a u → k ≡ added h a → final k (lines_read n (drop (at + u) s)) ≡ final h (lines_read (suc n) (drop at s))
-final_more h n at u s a l g e t q =
-    ap (λ x. final x (lines_read n (drop (at + u) s))) q
-    ∙ ap (λ x. final (added h a) (lines_read n x)) (sym (drop-drop u at s))
-    ∙ sym (ap (final h) (lines_at n at s l ∙ then_record _ _ _ a u (sym e ∙ t)) ∙ final_record h a (lines_read n (drop u (drop at s))))
+final_more : (h k : History) (n at u : ℕ) (s : List ℕ) (a : Operation) {r : Line} → at < length s → length s - at ≤ suc n
+    → r ≡ operation_of (drop at s) → r ≡ L.Record a u → Ok k ≡ added h a → final k (lines_read n (drop (at + u) s)) ≡ final h (lines_read (suc n) (drop at s))
+final_more h k n at u s a l g e t q =
+    ap (λ x. final k (lines_read n x)) (sym (drop-drop u at s))
+    ∙ sym (ap (final h) (lines_at n at s l ∙ then_record _ _ _ a u (sym e ∙ t)) ∙ final_record h k a (lines_read n (drop u (drop at s))) q)
 
 -- a turn of the loop: some bound on the number of lines is enough for what is left
-pub final_next : (h : History) (n at u : ℕ) (s : List ℕ) (a : Operation) {r : Line} {k : History} {v : Reading} → at < length s → length s - at ≤ n
-    → 1 ≤ u → u ≤ length s - at → r ≡ operation_of (drop at s) → r ≡ L.Record a u → k ≡ added h a → final h (lines_read n (drop at s)) ≡ v
+pub final_next : (h k : History) (n at u : ℕ) (s : List ℕ) (a : Operation) {r : Line} {v : Result History Refusal} → at < length s → length s - at ≤ n
+    → 1 ≤ u → u ≤ length s - at → r ≡ operation_of (drop at s) → r ≡ L.Record a u → Ok k ≡ added h a → final h (lines_read n (drop at s)) ≡ v
     → (m : ℕ) × (length s - (at + u) ≤ m) × (final k (lines_read m (drop (at + u) s)) ≡ v)
-final_next h zero at u s a l g p b e t q i = absurd (omega arith)
-final_next h (suc n) at u s a l g p b e t q i = (n, omega arith, final_more h n at u s a l g e t q ∙ i)
+final_next h k zero at u s a l g p b e t q i = absurd (omega arith)
+final_next h k (suc n) at u s a l g p b e t q i = (n, omega arith, final_more h k n at u s a l g e t q ∙ i)
 
 -- the end
-pub final_end : (h : History) (n at : ℕ) (s : List ℕ) → length s ≤ at → final h (lines_read n (drop at s)) ≡ reading false h
+pub final_end : (h : History) (n at : ℕ) (s : List ℕ) → length s ≤ at → final h (lines_read n (drop at s)) ≡ Ok h
 unfolding final added_all
 final_end h n at s l = ap (λ t. final h (lines_read n t)) (drop_of_length-le s l) ∙ ap (final h) (lines_none n)
 
 -- ---- the answer
 
--- a malformed line; more than 64 operations; at most 64
-pub answer_bad : (x : Reading) {v : Judgement} → x.malformed ≡ true → v ≡ refused 18 → v ≡ answer_by x
-unfolding answer_by
-answer_bad x f q = pick_yes _ _ _ refl f q
-
-pub answer_large : (x : Reading) {v : Judgement} → x.malformed ≡ false → 64 < x.history.count → v ≡ refused 18 → v ≡ answer_by x
-unfolding answer_by
-answer_large x f l q = pick_no _ _ _ refl f (q ∙ sym (verdict_large x.history l))
-
-pub answer_small : (x : Reading) {v : Judgement} → x.malformed ≡ false → x.history.count ≤ 64
-    → v ≡ judged (take x.history.count x.history.rows) → v ≡ answer_by x
-unfolding answer_by
-answer_small x f l q = pick_no _ _ _ refl f (q ∙ sym (verdict_small x.history l))
-
 -- the answer to what is read of lines is that to the lines
 pub answer_reading : (l : Lines) → answer_by (reading_of l) ≡ answer_of l
-unfolding answer_by reading_of answer_of pick
+unfolding answer_by reading_of answer_of verdict_by
 answer_reading (Records ops) = verdict_row ops
 answer_reading Malformed = refl
 
-pub answer_text : (s : List ℕ) (x : Reading) (v : Judgement) → x ≡ reading_of (lines_of s) → v ≡ answer_by x → v ≡ answer_to s
+pub answer_text : (s : List ℕ) (x : Result History Refusal) (v : Judgement) → x ≡ reading_of (lines_of s) → v ≡ answer_by x → v ≡ answer_to s
 unfolding answer_to
 answer_text s x v e q = q ∙ ap answer_by e ∙ answer_reading (lines_of s)

@@ -6,47 +6,35 @@ ghost use Rattle.history_text.specs.Readings.{reading_of, answer_by};
 
 use crate::line::{Line, read_line};
 use frame::Refusal;
-use history_row::{History, add, empty, judge_first};
+use history_row::{History, judge_first};
 use order::judge::{Verdict, refuse};
 
-// What was read of a text: whether a line is malformed, and if none is the operations.
-#[derive(Clone, Copy)]
-pub struct Reading {
-    pub malformed: bool,
-    pub history: History,
-}
-
-// Reads every line.
-pub fn read_text(s: &[u8]) -> Reading
+// Reads every line; a malformed line is refused, and so is a 65th.
+pub fn read_text(s: &[u8]) -> Result<History, Refusal>
     ensures { result ≡ reading_of (lines_of s.now) }
 {
-    let mut history = empty();
+    let mut history = History::empty();
     let mut at: usize = 0;
     while at < s.len() {
         let line = read_line(s, at);
         let Line::Record(a, used) = line else {
-            return Reading {
-                malformed: true,
-                history: empty(),
-            };
+            return Err(Refusal::Record);
         };
-        history = add(history, a);
+        history = history.add(a)?;
         at += used;
     }
-    Reading {
-        malformed: false,
-        history,
-    }
+    Ok(history)
 }
 
 // The answer to what was read; the operations are lent as a slice.
-pub fn judge_reading(reading: Reading) -> Verdict
+#[tactic(auto, unfolding(crate::specs::Readings::answer_by, history_row::specs::Rows::verdict_by, history_row::specs::Rows::verdict_of, area::specs::Area::pick))]
+pub fn judge_reading(reading: Result<History, Refusal>) -> Verdict
     ensures { judgement result ≡ answer_by reading }
 {
-    if reading.malformed {
-        return refuse(Refusal::Record);
-    }
-    let history = reading.history;
+    let history = match reading {
+        Ok(history) => history,
+        Err(why) => return refuse(why),
+    };
     let n = history.count;
     if 64 < n {
         return refuse(Refusal::Record);

@@ -13,8 +13,11 @@ use Rattle.area.specs.Responses.{Response, turned_down, gives}
 use Rattle.order.specs.Histories.{any, offended, later, earlier, blank, Finding, has_order, no_order, judge_response, Judgement, offending, ordered, judged}
 use Rattle.order.specs.Orders.{Order, HasOrder, Accepted, Earliest, Right}
 use Rattle.order.specs.declared.operation.Operation.{Operation}
-use Rattle.order.specs.declared.judge.Answer.{Answer}
-use Rattle.order.specs.declared.judge.Answer.TheVariants.{Ordered, Offending, Refused}
+use Rattle.std.proofs.Common.{Result, Ok, Err}
+use Rattle.frame.specs.Refusals.{number_of, refusal}
+use Rattle.frame.proofs.Responses.{one_each}
+use Rattle.order.specs.declared.judge.Fault.{Fault}
+use Rattle.order.specs.declared.judge.Fault.TheVariants.{Offending, Refused}
 use Rattle.order.proofs.Picks.{pick_yes, pick_no}
 use Rattle.order.proofs.Less.{true_false}
 use Rattle.order.proofs.Lists.{by_test}
@@ -59,18 +62,18 @@ module _ (a b c d : ℕ) where
   same_second e = ap second e
 
 -- the answer of the code that has a response
-unfoldable answer_with : Response Finding → Answer
-answer_with (turned_down x) = Refused x
-answer_with (gives (has_order n)) = Ordered n
-answer_with (gives (no_order a b)) = Offending a b
+unfoldable answer_with : Response Finding → Result ℕ Fault
+answer_with (turned_down x) = Err (Refused (refusal x))
+answer_with (gives (has_order n)) = Ok n
+answer_with (gives (no_order a b)) = Err (Offending (record { earlier = a; later = b }))
 
-answer_back : (x : Answer) → answer_with (judge_response x) ≡ x
+answer_back : (x : Result ℕ Fault) → answer_with (judge_response x) ≡ x
 unfolding answer_with
-answer_back (Ordered n) = refl
-answer_back (Offending a b) = refl
-answer_back (Refused x) = refl
+answer_back (Ok n) = refl
+answer_back (Err (Offending p)) = refl
+answer_back (Err (Refused r)) = ap (λ z. Err (Refused z)) (one_each r)
 
-pub response_injective : (x y : Answer) → judge_response x ≡ judge_response y → x ≡ y
+pub response_injective : (x y : Result ℕ Fault) → judge_response x ≡ judge_response y → x ≡ y
 response_injective x y e = sym (answer_back x) ∙ ap answer_with e ∙ answer_back y
 
 -- ---- the answer

@@ -1,27 +1,38 @@
 // The number that a host is answered for a history.
 ghost use Rattle.std.specs.Prelude.{◌≡◌};
 ghost use Rattle.order.specs.Histories.{judge_response};
-ghost use Rattle.order.specs.Answers.{line_count, history_answer};
+ghost use Rattle.order.specs.Answers.{line_count, history_answer, fault_answer};
 
-use crate::judge::Answer;
+use crate::judge::{Fault, LinePair};
+use frame::refusals::number_of;
 
 // How many line numbers an answer gives.
-pub fn line_count(a: Answer) -> usize
+#[tactic(auto, using(area::proofs::Tests::tests), unfolding(crate::specs::Answers::line_count))]
+pub fn line_count(a: Result<usize, Fault>) -> usize
     ensures { result ≡ line_count (judge_response a) }
 {
-    match a {
-        Answer::Ordered(m) => m,
-        Answer::Offending(x, y) => 0,
-        Answer::Refused(x) => 0,
-    }
+    a.unwrap_or(0)
 }
 
-pub fn history_answer(a: Answer) -> u64
+#[tactic(auto, using(area::proofs::Tests::tests), unfolding(crate::specs::Answers::history_answer, crate::specs::Answers::fault_answer))]
+pub fn history_answer(a: Result<usize, Fault>) -> u64
     ensures { result ≡ history_answer (judge_response a) }
 {
     match a {
-        Answer::Ordered(m) => 65536 * (m as u64 % 256),
-        Answer::Offending(a, b) => { 256 + 65536 * (a as u64 % 256) + 16777216 * (b as u64 % 256) }
-        Answer::Refused(x) => x as u64,
+        Ok(count) => 65536 * (count as u64 % 256),
+        Err(fault) => fault_answer(fault),
+    }
+}
+
+// The number where there is no order.
+#[tactic(auto, using(area::proofs::Tests::tests), unfolding(crate::specs::Answers::fault_answer))]
+pub fn fault_answer(fault: Fault) -> u64
+    ensures { result ≡ fault_answer fault }
+{
+    match fault {
+        Fault::Offending(LinePair { earlier, later }) => {
+            256 + 65536 * (earlier as u64 % 256) + 16777216 * (later as u64 % 256)
+        }
+        Fault::Refused(why) => number_of(why) as u64,
     }
 }

@@ -6,5 +6,5 @@ use Rattle.history_sheet.proofs.page_count.Goals as goal
 pub returns-then-m-eq0 : goal.returns-then-m-eq0
 returns-then-m-eq0 c = no_operations _ (search rules)
 
-pub returns : goal.returns
-returns c = some_operations _ (search rules) (search rules)
+pub returns-else-m-eq0 : goal.returns-else-m-eq0
+returns-else-m-eq0 c = some_operations _ (search rules) (search rules)

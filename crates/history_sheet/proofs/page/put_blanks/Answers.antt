@@ -9,15 +9,15 @@ use borrow.Author.Rules.{rules}
 use Rattle.history_sheet.proofs.page.put_blanks.Goals as goal
 
 pub loop-j-init : goal.loop-j-init
-loop-j-init c = (search rules, refl, no_lines _ _ _ _)
+loop-j-init c = (refl, no_lines _ _ _ _)
 
 pub loop-j-preserved : goal.loop-j-preserved
 loop-j-preserved c =
     let l = c.loop-j in
     let a = c.args in
-    (search rules, c.put_blank.auto.out ∙ l.invariant.1, turn (λ i. ended (filled [])) 73 0 l.j a.out.now l.out _ a.at (λ k p q. length_blank) l.invariant.2 c.put_blank.ensures)
+    (c.put_blank.auto.out ∙ l.invariant.0, turn (λ i. ended (filled [])) 73 0 l.j a.out.now l.out _ a.at (λ k p q. length_blank) l.invariant.1 c.put_blank.ensures)
 
 pub returns : goal.returns
 returns c =
     let l = c.loop-j in
-    all_lines (λ i. ended (filled [])) 0 l.j c.args.count _ _ c.args.at l.invariant.2 (omega arith)
+    all_lines (λ i. ended (filled [])) 0 l.j c.args.count _ _ c.args.at l.invariant.1 (omega arith)

@@ -9,7 +9,4 @@ use Rattle.history_sheet.specs.Sheet.{filled, ended}
 use Rattle.history_sheet.proofs.page.put_blanks.Given as goal
 
 abbrev pub invariant-loop-j : goal.invariant-loop-j
-invariant-loop-j l = (l.j ≤ l.count) × (length l.out ≡ length l.initial.out) × (l.out ≡ sets l.initial.out l.at (joined (λ i. ended (filled [])) 0 l.j))
-
-abbrev pub decreases-loop-j : goal.decreases-loop-j
-decreases-loop-j l = l.count - l.j
+invariant-loop-j l = (length l.out ≡ length l.initial.out) × (l.out ≡ sets l.initial.out l.at (joined (λ i. ended (filled [])) 0 l.j))

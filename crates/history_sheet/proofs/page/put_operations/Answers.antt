@@ -9,7 +9,7 @@ use borrow.Author.Rules.{rules}
 use Rattle.history_sheet.proofs.page.put_operations.Goals as goal
 
 pub loop-j-init : goal.loop-j-init
-loop-j-init c = (search rules, refl, no_lines _ _ _ _)
+loop-j-init c = (refl, no_lines _ _ _ _)
 
 pub put_operation-requires : goal.put_operation-requires
 unfolding named
@@ -27,13 +27,12 @@ loop-j-preserved c =
     let l = c.loop-j in
     let a = c.args in
     let N = c.requires.1 in (
-      search rules,
-      c.put_operation.auto.out ∙ l.invariant.1,
-      turn (λ i. ended (operation_line (i + 1) (named a.rows a.lines i))) 73 a.first l.j a.out.now l.out _ a.at (λ k p q. named_line a.rows a.lines _ N k (omega arith)) l.invariant.2 c.put_operation.ensures,
+      c.put_operation.auto.out ∙ l.invariant.0,
+      turn (λ i. ended (operation_line (i + 1) (named a.rows a.lines i))) 73 a.first l.j a.out.now l.out _ a.at (λ k p q. named_line a.rows a.lines _ N k (omega arith)) l.invariant.1 c.put_operation.ensures,
     )
 
 pub returns : goal.returns
 returns c =
     let l = c.loop-j in
     let a = c.args in
-    all_lines (λ i. ended (operation_line (i + 1) (named a.rows a.lines i))) a.first l.j a.count _ _ a.at l.invariant.2 (omega arith)
+    all_lines (λ i. ended (operation_line (i + 1) (named a.rows a.lines i))) a.first l.j a.count _ _ a.at l.invariant.1 (omega arith)

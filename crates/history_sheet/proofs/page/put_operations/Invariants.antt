@@ -10,7 +10,4 @@ use Rattle.history_sheet.proofs.page.put_operations.Given as goal
 
 abbrev pub invariant-loop-j : goal.invariant-loop-j
 invariant-loop-j l =
-    (l.j ≤ l.count) × (length l.out ≡ length l.initial.out) × (l.out ≡ sets l.initial.out l.at (joined (λ i. ended (operation_line (i + 1) (named l.rows l.lines i))) l.first l.j))
-
-abbrev pub decreases-loop-j : goal.decreases-loop-j
-decreases-loop-j l = l.count - l.j
+    (length l.out ≡ length l.initial.out) × (l.out ≡ sets l.initial.out l.at (joined (λ i. ended (operation_line (i + 1) (named l.rows l.lines i))) l.first l.j))

@@ -10,5 +10,5 @@ put_field-requires c = let d = one_digit c.args.p c.requires.2 in (search rules,
 pub returns : goal.returns
 returns c =
     let a = c.args in
-    page_put a.rows a.lines a.m c.requires.1 a.p _ c.taken-count.ensures c.requires.3 a.out.now _ _ _ a.at
+    page_put a.rows a.lines a.m c.requires.1 a.p _ c.min-count.ensures c.requires.3 a.out.now _ _ _ a.at
     c.put_operations.ensures c.put_blanks.ensures c.put_field.ensures

@@ -10,7 +10,4 @@ use Rattle.history_sheet.proofs.page.put_pages.Given as goal
 
 abbrev pub invariant-loop-p : goal.invariant-loop-p
 invariant-loop-p l =
-    (l.p ≤ l.pages) × (length l.out ≡ length l.initial.out) × (l.out ≡ sets l.initial.out 0 (joined (page_of (named_all l.rows l.lines l.m)) 0 l.p))
-
-abbrev pub decreases-loop-p : goal.decreases-loop-p
-decreases-loop-p l = l.pages - l.p
+    (length l.out ≡ length l.initial.out) × (l.out ≡ sets l.initial.out 0 (joined (page_of (named_all l.rows l.lines l.m)) 0 l.p))

@@ -31,10 +31,7 @@ fn is_malformed(l: &[u8]) -> bool
 fn is_cut(l: &[u8]) -> bool
     ensures { result ≡ cut l.now }
 {
-    if l.len() < 2 {
-        return true;
-    }
-    l.len() < 2 + area::read2(l, 0) as usize
+    l.len() < 2 || l.len() < 2 + area::read2(l, 0) as usize
 }
 
 // What is at the front of l: an entry, or how the trace closes there.

@@ -1,7 +1,6 @@
 // What the out area gets for an entry: the answer's number, how many frames were sent, and each of these after its receiver.
 ghost use Rattle.std.specs.Prelude.{◌≡◌, ◌+◌, ◌*◌, ◌≤◌, ◌<◌, length, drop};
 ghost use Rattle.std.proofs.lemmas.List.Edits.{sets};
-ghost use Rattle.area.specs.Area.{part};
 ghost use Rattle.server_rules.specs.Delivery.{reply_response, reply_number, reply_count};
 ghost use Rattle.playback.specs.Stages.{sent_in, Lie, report_in};
 
@@ -28,18 +27,6 @@ fn reply_count(a: Result<usize, Refusal>) -> usize
     }
 }
 
-// Copies n bytes within the area, from index from on to index at on, which is not before it: the last byte first.
-fn copy_up(area: &mut [u8], at: usize, from: usize, n: usize)
-    requires { (from ≤ at) × (at + n ≤ length area.old) }
-    ensures { area.new ≡ sets area.old at (part area.old from n) }
-{
-    let mut j = n;
-    while 0 < j {
-        j -= 1;
-        area[at + j] = area[from + j];
-    }
-}
-
 // The frames that are left lie end to end from index from on. They move up to index at on, each after its receiver: the last first, so that none is
 // written over before it has moved. Receiver i, which lies in to, is the first one's. The answer is where they end.
 fn spread(out: &mut [u8], from: usize, at: usize, to: &[u8], i: usize, left: usize) -> usize
@@ -53,7 +40,7 @@ fn spread(out: &mut [u8], from: usize, at: usize, to: &[u8], i: usize, left: usi
     }
     let size = 2 + area::read2(out, from) as usize;
     let end = spread(out, from + size, at + 2 + size, to, i + 1, left - 1);
-    copy_up(out, at + 2, from, size);
+    out.copy_within(from..from + size, at + 2);
     let k = 2 * i;
     area::put(out, at, &to[k..k + 2]);
     end

@@ -23,37 +23,28 @@ use Rattle.frame.proofs.Verdicts.{fine_is, fine_not}
 use Rattle.server_rules.specs.declared.Slot.{Slot}
 use Rattle.server_rules.specs.declared.Server.{Server}
 use Rattle.server_rules.specs.declared.Scope.{Scope}
-use Rattle.server.specs.declared.Taken.{Taken}
 use Rattle.frame.specs.declared.Place.{Place}
-use Rattle.server_rules.specs.Scopes.{scope_of, with_scope}
+use Rattle.server_rules.specs.Scopes.{with_scope}
 use Rattle.server_rules.specs.Tests.{from_owner, open_test}
 use Rattle.server_rules.specs.Steps.{Effect, send_only}
-use Rattle.server_rules.specs.Delivery.{reply_response}
 use Rattle.server.specs.Stages.{Progress, progress, moved, outcome_in, stepped, answered}
 use Rattle.frame.proofs.PartyLaws.{server_number}
-use Rattle.server.proofs.Scopes.{as_it_was}
 
 -- turned down
-pub refused_is : (v u : Verdict) (r : Refusal) (w : Server) (c : ℕ) (s : Scope) (a : List ℕ) (x : Effect) (out to : List ℕ) → s ≡ scope_of w c → v ≡ u
-    → v ≡ Err r → outcome_in w c (record { reply = Err r; scope = s }) a out to ≡ answered u w a x out to
+pub refused_is : (v u : Verdict) (r : Refusal) (w : Server) (c : ℕ) (a : List ℕ) (x : Effect) (out to : List ℕ) → v ≡ u → v ≡ Err r
+    → outcome_in w c (Err r) a out to ≡ answered u w a x out to
 unfolding answered
-refused_is v u r w c s a x out to h e f =
-    ap (λ (z : Server). answered (Err r) z a x out to) (as_it_was w c s h) ∙ ap (λ (z : Verdict). answered z w a x out to) (sym f ∙ e)
+refused_is v u r w c a x out to e f = ap (λ (z : Verdict). answered z w a x out to) (sym f ∙ e)
 
 -- a step
-pub step_is : (v u : Verdict) (s : Server) (a a' : List ℕ) (x : Effect) (out to out' to' : List ℕ) (c : ℕ) (y : Scope) (p : Place) (r : Taken) → v ≡ u
+pub step_is : (v u : Verdict) (s : Server) (a a' : List ℕ) (x : Effect) (out to out' to' : List ℕ) (c : ℕ) (y : Scope) (p : Place) → v ≡ u
     → v ≡ fine → progress (with_scope s c y) a' (outbox out' to' p) ≡ moved x (outbox out to first_place)
-    → r.reply ≡ Ok p.count → r.scope ≡ y
-    → outcome_in s c r a' out' to' ≡ answered u s a x out to
+    → outcome_in s c (Ok (record { scope = y; place = p })) a' out' to' ≡ answered u s a x out to
 unfolding answered stepped moved sent
-step_is v u s a a' x out to out' to' c y p r e f h i j =
+step_is v u s a a' x out to out' to' c y p e f h =
     let k : p.count ≡ length x.sends = ap (λ (w : Progress). w.box.place.count) h ∙ zero-add (length x.sends) in
-    let b₀ : reply_response r.reply ≡ gives (length x.sends) = ap reply_response i ∙ ap gives k in
-    let q : with_scope s c r.scope ≡ x.server = ap (with_scope s c) j ∙ ap (λ (w : Progress). w.server) h in
-    let b = ap (λ (w : Progress). w.area) h in
-    let o = ap (λ (w : Progress). w.box.out) h in
-    let t = ap (λ (w : Progress). w.box.to) h in
-    let z : outcome_in s c r a' out' to' ≡ stepped x out to = λ l. record { reply = b₀ l; server = q l; area = b l; out = o l; to = t l } in
+    let z : outcome_in s c (Ok (record { scope = y; place = p })) a' out' to' ≡ stepped x out to =
+    λ l. record { reply = gives (k l); server = (h l).server; area = (h l).area; out = (h l).box.out; to = (h l).box.to } in
     z ∙ ap (λ (w : Verdict). answered w s a x out to) (sym f ∙ e)
 
 -- the open write

@@ -1,27 +1,28 @@
 -- How the code takes a step: stage by stage, each with what it leaves and its outbox. The entry points' promises (Delivery.antt of server_rules) do not speak
 -- of stages. These are definitions.
-use Rattle.std.specs.Prelude.{ℕ, ◌≤◌, ◌≡◌, List, length, Ok, Err}
+use Rattle.std.specs.Prelude.{ℕ, ◌≤◌, ◌≡◌, List, length, Result, Ok, Err}
 use Rattle.std.proofs.lemmas.List.Edits.{sets}
 use Rattle.area.specs.Area.{pick}
 use Rattle.area.specs.Responses.{turned_down, gives}
 use Rattle.blocks.specs.declared.Params.{Params}
 use Rattle.frame.specs.declared.Place.{Place}
+use Rattle.frame.specs.declared.Refusal.{Refusal}
 use Rattle.frame.specs.Refusals.{number_of, refused, Verdict, fine}
 use Rattle.frame.specs.Params.{Bounded, largest_frame}
 use Rattle.frame.specs.Messages.{Offer, Stage, Body, block_is, number_in}
-use Rattle.frame.specs.Outbox.{frames, receivers, Outbox, outbox, sent, Room}
+use Rattle.frame.specs.Outbox.{frames, receivers, Outbox, outbox, sent, first_place, Room}
 use Rattle.frame.specs.Chunks.{area_bytes}
 use Rattle.server_rules.specs.declared.Slot.{Slot}
 use Rattle.server_rules.specs.declared.Reader.{Reader}
 use Rattle.server_rules.specs.declared.Server.{Server}
 use Rattle.server_rules.specs.declared.Scope.{Scope}
 use Rattle.server.specs.declared.Call.{Call}
-use Rattle.server.specs.declared.Counted.{Counted}
+use Rattle.server.specs.declared.Moved.{Moved}
 use Rattle.server.specs.declared.Taken.{Taken}
 use Rattle.server_rules.specs.Scopes.{scope_of, with_scope}
 use Rattle.server_rules.specs.Tests.{sender_right, block_test}
 use Rattle.server_rules.specs.Steps.{Effect, Counting, on_block}
-use Rattle.server_rules.specs.Delivery.{Outcome, reply_response}
+use Rattle.server_rules.specs.Delivery.{Outcome}
 
 -- ---- of a scope
 
@@ -53,14 +54,19 @@ unfoldable pub counts : Counting → Outbox → Left
 counts p q = record { slot = p.slot; area = p.area; box = sent q p.sends }
 
 -- the same with the verdict: turned down, and all as it was, or counted
+-- (of a frame that reached the slot x, before any frame was sent)
 pub record Handled : Type 0 where
   pub verdict : Verdict
   pub slot : Slot
   pub area : List ℕ
   pub box : Outbox
 
-abbrev pub handled : Counted → List ℕ → List ℕ → List ℕ → Handled
-handled r a out to = record { verdict = r.verdict; slot = r.slot; area = a; box = outbox out to r.place }
+abbrev pub Counted : Type 0
+Counted = Result Moved Refusal
+
+abbrev pub handled : Slot → Counted → List ℕ → List ℕ → List ℕ → Handled
+handled x (Err r) a out to = record { verdict = Err r; slot = x; area = a; box = outbox out to first_place }
+handled x (Ok m) a out to = record { verdict = fine; slot = m.slot; area = a; box = outbox out to m.place }
 
 unfoldable pub handled_by : Verdict → Slot → List ℕ → Counting → Outbox → Handled
 handled_by (Err r) x a p q = record { verdict = Err r; slot = x; area = a; box = q }
@@ -101,9 +107,10 @@ pub record Lent (g : Params) (c area : ℕ) (p : Place) (m out to : ℕ) : Type 
 
 -- ---- a frame that opened, the lent areas being long enough
 
--- the outcome for server s of a step that left r of client c's scope
-abbrev pub outcome_in : Server → ℕ → Taken → List ℕ → List ℕ → List ℕ → Outcome
-outcome_in s c r area out to = record { reply = reply_response r.reply; server = with_scope s c r.scope; area = area; out = out; to = to }
+-- the outcome for server s of a step that was turned down, or left x of client c's scope
+abbrev pub outcome_in : Server → ℕ → Result Taken Refusal → List ℕ → List ℕ → List ℕ → Outcome
+outcome_in s c (Err r) area out to = record { reply = turned_down (number_of r); server = s; area = area; out = out; to = to }
+outcome_in s c (Ok x) area out to = record { reply = gives x.place.count; server = with_scope s c x.scope; area = area; out = out; to = to }
 
 -- the outcome of a step
 unfoldable pub stepped : Effect → List ℕ → List ℕ → Outcome

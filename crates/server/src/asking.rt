@@ -15,8 +15,6 @@ ghost use Rattle.server.specs.Stages.{outcome_in, answered};
 
 use crate::Taken;
 use crate::reads::send_present;
-use crate::replies::taken;
-use crate::state::reader_in;
 use crate::tests::{done_test, from_owner, read_test};
 use blocks::Params;
 use frame::send::send_stamp;
@@ -51,7 +49,7 @@ pub fn on_get_stamp(
     h: Header,
     out: &mut [u8],
     to: &mut [u8],
-) -> Taken
+) -> Result<Taken, Refusal>
     requires { Bounded g × Room first_place (server_frames g) (largest_frame g) (length out.old) (length to.old) }
     ensures { (w : Server) → s ≡ scope_of w h.client → (a : List ℕ)
         → outcome_in w h.client result a out.new to.new
@@ -60,15 +58,11 @@ pub fn on_get_stamp(
         out.old to.old }
 {
     if !from_owner(from, h.client) {
-        return Taken {
-            reply: Err(Refusal::Sender),
-            scope: s,
-        };
+        return Err(Refusal::Sender);
     }
     let p = Place { at: 0, count: 0 };
-    let stamp = s.stamp;
-    let place = send_stamp(out, to, p, h.client, h.sequence, stamp.time);
-    taken(s, place)
+    let place = send_stamp(out, to, p, h.client, h.sequence, s.stamp.time);
+    Ok(Taken { scope: s, place })
 }
 
 // Kind 10: the reader is noted with the present stamp, and answered the present value.
@@ -81,7 +75,7 @@ pub fn on_read<'a>(
     initial: &'a [u8],
     out: &mut [u8],
     to: &mut [u8],
-) -> Taken
+) -> Result<Taken, Refusal>
     requires { Bounded g × (area_bytes ≤ length area.now) × (width g ≤ length initial.now)
         × Room first_place (server_frames g) (largest_frame g) (length out.old) (length to.old) }
     ensures { (w : Server) → s ≡ scope_of w h.client
@@ -89,48 +83,35 @@ pub fn on_read<'a>(
         ≡ answered (message_test digest_of g 0 w from (message h.client h.sequence ask_read)) w area.now
         (on_read digest_of g 0 w area.now initial.now h.client h.sequence) out.old to.old }
 {
-    let old = s.reader;
-    let v = ask_test(from, h, old);
-    if let Err(r) = v {
-        return Taken {
-            reply: Err(r),
-            scope: s,
-        };
-    }
+    ask_test(from, h, s.reader)?;
     let p = Place { at: 0, count: 0 };
-    let noted = s.stamp;
-    let place = send_present(g, noted, h.client, h.sequence, area, initial, out, to, p);
-    let x = Reader {
+    let place = send_present(g, s.stamp, h.client, h.sequence, area, initial, out, to, p);
+    let reader = Reader {
         sequence: h.sequence,
         listening: true,
-        noted,
+        noted: s.stamp,
     };
-    let scope = reader_in(s, x);
-    taken(scope, place)
+    Ok(Taken {
+        scope: Scope { reader, ..s },
+        place,
+    })
 }
 
 // Kind 12: that read and older ones are ended; nothing is sent.
-pub fn on_read_complete(s: Scope, g: Params, from: Party, h: Header) -> Taken
+pub fn on_read_complete(s: Scope, g: Params, from: Party, h: Header) -> Result<Taken, Refusal>
     ensures { (w : Server) → s ≡ scope_of w h.client → (a out to : List ℕ)
         → outcome_in w h.client result a out to
         ≡ answered (message_test digest_of g 0 w from (message h.client h.sequence read_complete)) w a
         (on_read_complete digest_of g 0 w a h.client h.sequence) out to }
 {
-    let old = s.reader;
-    let v = end_test(from, h, old);
-    if let Err(r) = v {
-        return Taken {
-            reply: Err(r),
-            scope: s,
-        };
-    }
-    let noted = old.noted;
-    let x = Reader {
+    end_test(from, h, s.reader)?;
+    let reader = Reader {
         sequence: h.sequence,
         listening: false,
-        noted,
+        ..s.reader
     };
-    let scope = reader_in(s, x);
-    let place = Place { at: 0, count: 0 };
-    taken(scope, place)
+    Ok(Taken {
+        scope: Scope { reader, ..s },
+        place: Place { at: 0, count: 0 },
+    })
 }

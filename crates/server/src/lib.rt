@@ -2,12 +2,11 @@
 #![tactic(auto)]
 
 use blocks::Params;
-use frame::{Header, Party, Place, Refusal};
+use frame::{Header, Party, Place};
 use server_rules::{Scope, Slot};
 
 pub mod asking;
 pub mod reads;
-pub mod replies;
 pub mod setup;
 pub mod state;
 pub mod tests;
@@ -21,14 +20,6 @@ pub struct Call {
     pub header: Header,
 }
 
-// A frame of a write: why it is turned down, or Fine; its client's slot afterwards; where the next frame of the step goes.
-#[derive(Clone, Copy)]
-pub struct Counted {
-    pub verdict: Result<(), Refusal>,
-    pub slot: Slot,
-    pub place: Place,
-}
-
 // What a stage leaves of a slot, and where the next frame of the step goes.
 #[derive(Clone, Copy)]
 pub struct Moved {
@@ -36,9 +27,9 @@ pub struct Moved {
     pub place: Place,
 }
 
-// A reply, and what a step leaves of its scope.
+// What a step leaves of its scope, and where the next frame would go.
 #[derive(Clone, Copy)]
 pub struct Taken {
-    pub reply: Result<usize, Refusal>,
     pub scope: Scope,
+    pub place: Place,
 }

@@ -47,10 +47,7 @@ fn tell_one(
     ensures { outbox out.new to.new result
         ≡ sent (outbox out.old to.old p) (told_to r c x (entry digests.now block.now)) }
 {
-    if !r.listening {
-        return p;
-    }
-    if !is_older(r.noted, x) {
+    if !r.listening || !is_older(r.noted, x) {
         return p;
     }
     send_value(out, to, p, c, r.sequence, x, digests, block)
@@ -71,11 +68,8 @@ fn tell(
         ≡ sent (outbox out.old to.old p) (tell_from readers x (entry digests.now block.now) 1 8) }
 {
     let mut q = p;
-    let mut c: usize = 1;
-    while c < Server::PLACES {
-        let r = readers[c];
-        q = tell_one(r, c as u8, x, digests, block, out, to, q);
-        c += 1;
+    for c in 1..Server::PLACES {
+        q = tell_one(readers[c], c as u8, x, digests, block, out, to, q);
     }
     q
 }
@@ -93,18 +87,6 @@ fn report_if(due: bool, out: &mut [u8], to: &mut [u8], p: Place, g: Params, w: W
     p
 }
 
-// Copies n bytes within the area, from index from on to index at on, which lie before them.
-fn copy_down(area: &mut [u8], at: usize, from: usize, n: usize)
-    requires { (at + n ≤ from) × (from + n ≤ length area.old) }
-    ensures { area.new ≡ sets area.old at (part area.old from n) }
-{
-    let mut j = 0;
-    while j < n {
-        area[at + j] = area[from + j];
-        j += 1;
-    }
-}
-
 // The entry of chunk p becomes the present one, if its stamp is newer.
 fn replace(newer: bool, area: &mut [u8], g: Params, p: usize)
     requires { Bounded g × (1 ≤ p) × (chunk_at p + chunk_bytes ≤ length area.old) }
@@ -112,18 +94,11 @@ fn replace(newer: bool, area: &mut [u8], g: Params, p: usize)
 {
     if newer {
         let w = width(g);
-        copy_down(area, 0, CHUNK_BYTES * p, 32 * g.n);
-        copy_down(area, BLOCK_AT, CHUNK_BYTES * p + BLOCK_AT, w);
+        let list = CHUNK_BYTES * p;
+        let block = list + BLOCK_AT;
+        area.copy_within(list..list + 32 * g.n, 0);
+        area.copy_within(block..block + w, BLOCK_AT);
     }
-}
-
-fn newest(newer: bool, x: Stamp, y: Stamp) -> Stamp
-    ensures { result ≡ pick newer x y }
-{
-    if newer {
-        return x;
-    }
-    y
 }
 
 // The next sequence opens, and the stamp is the larger one.
@@ -131,13 +106,11 @@ fn opens_next(s: Scope, newer: bool, x: Stamp) -> Scope
     requires { s.slot.sequence < 4294967296 }
     ensures { result ≡ opens_in s newer x }
 {
-    let old = s.slot;
-    let stamp = newest(newer, x, s.stamp);
-    let slot = fresh_slot(old.sequence + 1);
-    let mut y = s;
-    y.stamp = stamp;
-    y.slot = slot;
-    y
+    Scope {
+        stamp: if newer { x } else { s.stamp },
+        slot: fresh_slot(s.slot.sequence + 1),
+        ..s
+    }
 }
 
 // Whether a completed write can be accepted: neither its time nor its sequence is past the last, and its time is vouched.
@@ -145,16 +118,9 @@ pub fn is_ripe(time: u64, sequence: u64, own: u64, reports: [u64; 11], g: Params
     requires { Bounded g }
     ensures { result ≡ ripe_at g own reports time sequence }
 {
-    if Server::LAST_TIME <= time {
-        return false;
-    }
-    if sequence > LAST_SEQUENCE as u64 {
-        return false;
-    }
-    if time <= own {
-        return true;
-    }
-    is_backed(reports, g, time)
+    time < Server::LAST_TIME
+        && sequence <= LAST_SEQUENCE as u64
+        && (time <= own || is_backed(reports, g, time))
 }
 
 // The write of client c's scope is accepted, with the time and the entry that were completed.

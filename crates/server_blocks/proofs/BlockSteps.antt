@@ -1,5 +1,5 @@
 -- The tests of a write's frames, and what a counted one leaves. Assumes nothing.
-use Rattle.std.specs.Prelude.{Err}
+use Rattle.std.specs.Prelude.{Ok, Err}
 use Prim.Native.Nat.{ℕ, ◌+◌}
 use mathlib.Core.Path.{◌≡◌, refl, ap, sym, ◌∙◌}
 use mathlib.Core.Bool.{Bool, true, false}
@@ -15,7 +15,7 @@ use Rattle.frame.specs.Refusals.{and_then, Verdict, fine}
 use Rattle.frame.specs.Messages.{Entry, Offer, Stage, message, send, echo, ready, block_is, to_all, number_in, from_server}
 use Rattle.group_rules.specs.Coded.{fit_test}
 use Rattle.frame.specs.Chunks.{store_entry}
-use Rattle.frame.specs.Outbox.{Outbox, outbox, sent}
+use Rattle.frame.specs.Outbox.{Outbox, outbox, sent, first_place}
 use Rattle.frame.proofs.Verdicts.{fine_both}
 use Rattle.frame.proofs.Within.{stop_first, go_second}
 use Rattle.server_rules.specs.declared.Slot.{Slot}
@@ -117,17 +117,17 @@ module _ (k : Call) (x : Slot) (v : Verdict) where
 
     -- ---- the steps
 
-    module _ (z : Stage) (a out to : List ℕ) (p : Place) (h : v ≡ verdict_of k x z o) where
+    module _ (z : Stage) (a out to : List ℕ) (h : v ≡ verdict_of k x z o) where
       pub turned_down_lem : (r : Refusal) → v ≡ Err r
-          → handled (record { verdict = Err r; slot = x; place = p }) a out to ≡ block_frame digest_of k x a z o (outbox out to p)
+          → handled x (Err r) a out to ≡ block_frame digest_of k x a z o (outbox out to first_place)
       unfolding block_frame verdict_of
-      turned_down_lem r f = refused_frame (Err r) (verdict_of k x z o) r x a out to _ p (sym f ∙ h) refl
+      turned_down_lem r f = refused_frame (Err r) (verdict_of k x z o) r x a out to _ (sym f ∙ h) refl
 
-      pub let_in : (y : Slot) (a' : List ℕ) (q : Outbox) → v ≡ fine
+      pub let_in : (y : Slot) (a' : List ℕ) (p : Place) (q : Outbox) → v ≡ fine
           → left y a' (outbox out to p) ≡ counts (on_block digest_of k.params k.me a k.header.client x (number_in k.from) z o) q
-          → handled (record { verdict = fine; slot = y; place = p }) a' out to ≡ block_frame digest_of k x a z o q
+          → handled x (Ok (record { slot = y; place = p })) a' out to ≡ block_frame digest_of k x a z o q
       unfolding block_frame verdict_of
-      let_in y a' q f l = counted_frame fine (verdict_of k x z o) x y a a' out to _ p q (sym f ∙ h) refl l
+      let_in y a' p q f l = counted_frame fine (verdict_of k x z o) x y a a' out to _ p q (sym f ∙ h) refl l
 
 -- the owner's offer is echoed
 pub block_echoed : (k : Call) (a : List ℕ) (j : ℕ) (o : Offer) (x y : Slot) (q q' : Outbox)

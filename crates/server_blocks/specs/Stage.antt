@@ -1,5 +1,5 @@
 -- How the code handles a frame of a write, stage by stage: what each stage asks, and what it leaves. These are definitions.
-use Rattle.std.specs.Prelude.{ℕ, ◌+◌, ◌*◌, ◌-◌, ◌≤◌, ◌≡◌, Bool, false, not, ◌&&◌, List, [], length, get_or, eqb}
+use Rattle.std.specs.Prelude.{ℕ, ◌+◌, ◌*◌, ◌-◌, ◌≤◌, ◌≡◌, Bool, false, not, ◌&&◌, List, [], length, get_or, eqb, Ok}
 use Rattle.area.specs.Area.{pick}
 use Rattle.blocks.specs.declared.Params.{Params}
 use Rattle.sha256.specs.Hash.{digest_of}
@@ -16,8 +16,7 @@ use Rattle.server_rules.specs.Tests.{from_owner, open_test, block_test}
 use Rattle.server_rules.specs.Steps.{Counting, voted_block}
 use Rattle.server.specs.declared.Call.{Call}
 use Rattle.server.specs.declared.Moved.{Moved}
-use Rattle.server.specs.declared.Counted.{Counted}
-use Rattle.server.specs.Stages.{left, counts, handled, sent_by, block_frame, Lent}
+use Rattle.server.specs.Stages.{left, counts, Counted, handled, sent_by, block_frame, Lent}
 use Rattle.server_blocks.specs.declared.Due.{Due}
 
 -- ---- what the stages ask
@@ -110,5 +109,5 @@ module _ (k : Call) (x : Slot) where
 
   -- a frame of the stage z, with the offer o, reached the slot x
   pub record BlockHandled (z : Stage) (o : Offer) (a₀ out₀ to₀ : List ℕ) (r : Counted) (a out to : List ℕ) : Type 0 where
-    pub handles : handled r a out to ≡ block_frame digest_of k x a₀ z o (outbox out₀ to₀ first_place)
-    pub room : Room r.place (freed_frames k.params) (largest_frame k.params) (length out) (length to)
+    pub handles : handled x r a out to ≡ block_frame digest_of k x a₀ z o (outbox out₀ to₀ first_place)
+    pub room : (m : Moved) → r ≡ Ok m → Room m.place (freed_frames k.params) (largest_frame k.params) (length out) (length to)

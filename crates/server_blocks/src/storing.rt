@@ -16,7 +16,7 @@ use frame::{Broadcast, Place, Refusal, WriteTime};
 use group::fitting::fit_test;
 use server::state::{block_echo, block_ready, block_sent};
 use server::tests::{owner_test, server_test};
-use server::{Call, Counted};
+use server::{Call, Moved};
 use server_rules::Slot;
 
 // Refusals 11 to 14 of the owner's frame.
@@ -67,34 +67,22 @@ pub fn on_block_send(
     block: &[u8],
     out: &mut [u8],
     to: &mut [u8],
-) -> Counted
+) -> Result<Moved, Refusal>
     requires { Own k.params k.me × RoomFor k (length out.old) (length to.old) × Carried k.params (length list.now) (length block.now) }
     ensures { (a : List ℕ) → BlockHandled k x send (offer time (entry list.now block.now)) a out.old to.old
         result a out.new to.new }
 {
+    send_test(x, k, list, block)?;
     let p = Place { at: 0, count: 0 };
-    let v = send_test(x, k, list, block);
-    if let Err(r) = v {
-        return Counted {
-            verdict: Err(r),
-            slot: x,
-            place: p,
-        };
-    }
-    let g = k.params;
     let h = k.header;
     let w = WriteTime {
         client: h.client,
         sequence: h.sequence,
         time,
     };
-    let place = block_all(out, to, p, g, Broadcast::Echo, w, list, block);
+    let place = block_all(out, to, p, k.params, Broadcast::Echo, w, list, block);
     let slot = block_sent(x);
-    Counted {
-        verdict: Ok(()),
-        slot,
-        place,
-    }
+    Ok(Moved { slot, place })
 }
 
 // Server j's echo or ready, of this time, is counted.
@@ -130,33 +118,17 @@ pub fn on_block_vote(
     area: &mut [u8],
     out: &mut [u8],
     to: &mut [u8],
-) -> Counted
+) -> Result<Moved, Refusal>
     requires { LentFor k (length area.old) (length out.old) (length to.old) × Carried k.params (length list.now) (length block.now) }
     ensures { BlockHandled k x (vote_stage k.header.kind) (offer time (entry list.now block.now))
         area.old out.old to.old result area.new out.new to.new }
 {
-    let v = vote_test(x, k, list, block);
-    if let Err(r) = v {
-        let place = Place { at: 0, count: 0 };
-        return Counted {
-            verdict: Err(r),
-            slot: x,
-            place,
-        };
-    }
+    vote_test(x, k, list, block)?;
     let h = k.header;
-    let from = k.from;
     let echo = h.kind == 4;
-    let j = number_in(from) as usize;
+    let j = number_in(k.from) as usize;
     let first = votes_from(echo, h.client);
     put_entry(area, first + j, list, block);
     let y = count_vote(x, echo, j, time);
-    let m = voted_block(y, k, time, list, area, out, to);
-    let slot = m.slot;
-    let place = m.place;
-    Counted {
-        verdict: Ok(()),
-        slot,
-        place,
-    }
+    Ok(voted_block(y, k, time, list, area, out, to))
 }

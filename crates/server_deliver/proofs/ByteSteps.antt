@@ -35,17 +35,17 @@ use Rattle.server_rules.proofs.Shapes as L
 use Rattle.server_rules.proofs.Freeing.{freed_readers, freed_reports}
 use Rattle.server_rules.proofs.Within.{slot_within, reader_within, with_slot_lem, with_report_lem, counted_within}
 use Rattle.server.specs.declared.Call.{Call}
-use Rattle.server.specs.declared.Counted.{Counted}
+use Rattle.server.specs.declared.Moved.{Moved}
 use Rattle.server.specs.declared.Taken.{Taken}
-use Rattle.server_rules.specs.Delivery.{Outcome, reply_response}
-use Rattle.server.specs.Stages.{slot_in, Left, left, counts, handled, handled_by, block_frame, outcome_in, stepped, answered}
+use Rattle.server_rules.specs.Delivery.{Outcome}
+use Rattle.server.specs.Stages.{slot_in, Left, left, counts, Counted, handled, handled_by, block_frame, outcome_in, stepped, answered}
 use Rattle.server_blocks.specs.Stage.{vote_stage}
 use Rattle.layout.specs.Left.{left_by}
 use Rattle.layout.specs.Servers.{server_size, server_in, scope_sets, report_sets}
 use Rattle.layout.specs.Typed.{Long, TypedSlot, TypedServer, widths}
 use Rattle.layout.proofs.ScopeBack.{scope_back, report_back}
 use Rattle.layout.proofs.TypedSteps.{typed_in}
-use Rattle.server_deliver.specs.Handed.{step_for, scope_after, byte_step}
+use Rattle.server_deliver.specs.Handed.{step_for, byte_step}
 use Rattle.server_deliver.specs.Records.{ByteOutcome, byte_outcome, frame_sets, accepted_sets, effect_sets, outcome_at}
 use Rattle.server_deliver.specs.Rounds.{Settled, settled, opened_in, freed_in}
 use Rattle.server_deliver.proofs.Finals.{opened_final, scope_final}
@@ -167,22 +167,22 @@ module _ (H : List ℕ → List ℕ) (k : Call) (f a initial st out to : List �
           (scope_sets st c x.server.stamp (slot_of x.server c) (reader_of x.server c)))) (sym none)
 
       module _ (n : Counted) (a₁ o₁ t₁ : List ℕ)
-          (h : handled n a₁ o₁ t₁ ≡ block_frame H k (slot_of s c) a (vote_stage k.header.kind) (offer_in g f) (outbox out to first_place)) where
-        handles : handled n a₁ o₁ t₁ ≡ handled_by (message_test H g k.me s k.from voted) (slot_of s c) a p (outbox out to first_place)
+          (h : handled (slot_of s c) n a₁ o₁ t₁ ≡ block_frame H k (slot_of s c) a (vote_stage k.header.kind) (offer_in g f) (outbox out to first_place)) where
+        handles : handled (slot_of s c) n a₁ o₁ t₁ ≡ handled_by (message_test H g k.me s k.from voted) (slot_of s c) a p (outbox out to first_place)
         handles = h ∙ vote_handled H k a s z (offer_in g f) (slot_of s c) (outbox out to first_place) refl
 
-        pub vote_refused : (r : Refusal) → n.verdict ≡ Err r → byte_outcome (turned_down (number_of r)) a₁ st o₁ t₁ ≡ byte_step H k f a initial st out to
+        pub vote_refused : (r : Refusal) → n ≡ Err r → byte_outcome (turned_down (number_of r)) a₁ st o₁ t₁ ≡ byte_step H k f a initial st out to
         vote_refused r e =
             let (u, x, y, v) = turned_down_lem n (slot_of s c) a a₁ out o₁ to t₁ p _ r handles e in
             (λ i. byte_outcome (turned_down (number_of r)) (x i) st (y i) (v i)) ∙ byte_refused r (ap (message_test H g k.me s k.from) is_voted ∙ u)
 
-        module _ (e : n.verdict ≡ fine) (y : Scope) (q : y ≡ slot_in (scope_of s c) n.slot) (F : Bytes f) (l₁ : List ℕ)
+        module _ (d : Moved) (e : n ≡ Ok d) (y : Scope) (q : y ≡ slot_in (scope_of s c) d.slot) (F : Bytes f) (l₁ : List ℕ)
             (w : l₁ ≡ scope_sets st c y.stamp y.slot y.reader) where
           passes : message_test H g k.me s k.from voted ≡ fine
-          passes = (counted n (slot_of s c) a a₁ out o₁ to t₁ p _ handles e).0
+          passes = (counted n (slot_of s c) a a₁ out o₁ to t₁ p _ d handles e).0
 
-          count : left n.slot a₁ (outbox o₁ t₁ n.place) ≡ counts p (outbox out to first_place)
-          count = (counted n (slot_of s c) a a₁ out o₁ to t₁ p _ handles e).1
+          count : left d.slot a₁ (outbox o₁ t₁ d.place) ≡ counts p (outbox out to first_place)
+          count = (counted n (slot_of s c) a a₁ out o₁ to t₁ p _ d handles e).1
 
           written : l₁ ≡ counts_in
           unfolding counts
@@ -191,15 +191,15 @@ module _ (H : List ℕ → List ℕ) (k : Call) (f a initial st out to : List �
               ∙ ap (λ (x : Scope). scope_sets st c x.stamp x.slot x.reader) q
               ∙ ap (λ (x : Left). scope_sets st c s.stamp x.slot (reader_of s c)) count
 
-          pub vote_taken : (l₂ a₂ o₂ t₂ : List ℕ) (p₂ : Place) → settled l₂ a₂ (outbox o₂ t₂ p₂) ≡ freed_in g 8 l₁ a₁ (outbox o₁ t₁ n.place)
+          pub vote_taken : (l₂ a₂ o₂ t₂ : List ℕ) (p₂ : Place) → settled l₂ a₂ (outbox o₂ t₂ p₂) ≡ freed_in g 8 l₁ a₁ (outbox o₁ t₁ d.place)
               → byte_outcome (gives p₂.count) a₂ l₂ o₂ t₂ ≡ byte_step H k f a initial st out to
           unfolding counts
           vote_taken l₂ a₂ o₂ t₂ p₂ r =
-              let d : a₁ ≡ p.area = ap (λ (x : Left). x.area) count in
-              let b : outbox o₁ t₁ n.place ≡ sent (outbox out to first_place) p.sends = ap (λ (x : Left). x.box) count in
+              let D : a₁ ≡ p.area = ap (λ (x : Left). x.area) count in
+              let b : outbox o₁ t₁ d.place ≡ sent (outbox out to first_place) p.sends = ap (λ (x : Left). x.box) count in
               byte_taken (ap (message_test H g k.me s k.from) is_voted ∙ passes) (behind p x) votes l₂ a₂ o₂ t₂ p₂
-              (settles s₁ l₁ l₂ p.area a₂ o₁ t₁ o₂ t₂ n.place p₂ _ (ap server_in written ∙ vote_back F) b
-              (r ∙ ap (λ y. freed_in g 8 l₁ y (outbox o₁ t₁ n.place)) d)
+              (settles s₁ l₁ l₂ p.area a₂ o₁ t₁ o₂ t₂ d.place p₂ _ (ap server_in written ∙ vote_back F) b
+              (r ∙ ap (λ y. freed_in g 8 l₁ y (outbox o₁ t₁ d.place)) D)
               ∙ ap (λ y. settled (opened_in s₁.stamp x.accepted y) x.area (sent (sent (outbox out to first_place) p.sends) x.sends)) written
               ∙ (λ i. settled (vote_final i) x.area (sent_append (outbox out to first_place) p.sends x.sends i)))
 
@@ -294,13 +294,24 @@ module _ (H : List ℕ → List ℕ) (k : Call) (f a initial st out to : List �
           (scope_sets st c does.server.stamp (slot_of does.server c) (reader_of does.server c)))
           (ne_eqb k.header.kind 13 K)
 
-      pub scope_step : (r : Taken) (a₁ o₁ t₁ l₁ : List ℕ) → outcome_in s c r a₁ o₁ t₁ ≡ step_for H k s a initial f out to
-          → l₁ ≡ scope_after (reply_response r.reply) r.scope c st
-          → byte_outcome (reply_response r.reply) a₁ l₁ o₁ t₁ ≡ byte_step H k f a initial st out to
-      unfolding byte_step step_for outcome_at answered stepped scope_after left_by is_turned_down pick
-      scope_step r a₁ o₁ t₁ l₁ e w = go test e
+      pub scope_refused : (r : Refusal) (a₁ o₁ t₁ : List ℕ) → outcome_in s c (Err r) a₁ o₁ t₁ ≡ step_for H k s a initial f out to
+          → byte_outcome (turned_down (number_of r)) a₁ st o₁ t₁ ≡ byte_step H k f a initial st out to
+      unfolding byte_step step_for outcome_at answered stepped left_by is_turned_down pick
+      scope_refused r a₁ o₁ t₁ e = go test e
         where
-          go : (v : Verdict) → outcome_in s c r a₁ o₁ t₁ ≡ answered v s a does out to → byte_outcome (reply_response r.reply) a₁ l₁ o₁ t₁ ≡ by v does
+          go : (v : Verdict) → outcome_in s c (Err r) a₁ o₁ t₁ ≡ answered v s a does out to → byte_outcome (turned_down (number_of r)) a₁ st o₁ t₁ ≡ by v does
+          go (Err x) e = λ i. byte_outcome (e i).reply (e i).area st (e i).out (e i).to
+          go (Ok _) e =
+              let z : st ≡ effect_sets does k.header k.from st = ap (λ (o : Outcome). left_by o.reply st (effect_sets does k.header k.from st)) e in
+              λ i. byte_outcome (e i).reply (e i).area (z i) (e i).out (e i).to
+
+      pub scope_taken : (r : Taken) (a₁ o₁ t₁ l₁ : List ℕ) → outcome_in s c (Ok r) a₁ o₁ t₁ ≡ step_for H k s a initial f out to
+          → l₁ ≡ scope_sets st c r.scope.stamp r.scope.slot r.scope.reader
+          → byte_outcome (gives r.place.count) a₁ l₁ o₁ t₁ ≡ byte_step H k f a initial st out to
+      unfolding byte_step step_for outcome_at answered stepped left_by is_turned_down pick
+      scope_taken r a₁ o₁ t₁ l₁ e w = go test e
+        where
+          go : (v : Verdict) → outcome_in s c (Ok r) a₁ o₁ t₁ ≡ answered v s a does out to → byte_outcome (gives r.place.count) a₁ l₁ o₁ t₁ ≡ by v does
           go (Err x) e =
               let z : l₁ ≡ st = w ∙ ap (λ (o : Outcome). left_by o.reply st (scope_sets st c r.scope.stamp r.scope.slot r.scope.reader)) e in
               λ i. byte_outcome (e i).reply (e i).area (z i) (e i).out (e i).to
@@ -308,7 +319,6 @@ module _ (H : List ℕ → List ℕ) (k : Call) (f a initial st out to : List �
               let d = ap (λ (o : Outcome). scope_of o.server c) e in
               let z : l₁ ≡ effect_sets does k.header k.from st =
               w
-              ∙ ap (λ (o : Outcome). left_by o.reply st (scope_sets st c r.scope.stamp r.scope.slot r.scope.reader)) e
               ∙ ap (λ (x : Scope). scope_sets st c x.stamp x.slot x.reader) (sym (scope_in st c r.scope few) ∙ d)
               ∙ sym quiet_sets in
               λ i. byte_outcome (e i).reply (e i).area (z i) (e i).out (e i).to

@@ -134,18 +134,14 @@ module _ (H : List ℕ → List ℕ) (k : Call) (s : Server) (a initial f out to
   is_read_complete e p = says read_complete (at 12 read_complete e refl) p
 
 -- kinds 2, 9 and 11 do not go to servers: refusal 11
-abbrev refusing : List ℕ → List ℕ → List ℕ → Server → Outcome
-refusing a out to s = record { reply = turned_down 11; server = s; area = a; out = out; to = to }
-
-module _ (H : List ℕ → List ℕ) (k : Call) (s : Server) (a initial f out to : List ℕ) (x : Scope) (q : x ≡ scope_of s k.header.client) where
+module _ (H : List ℕ → List ℕ) (k : Call) (s : Server) (a initial f out to : List ℕ) where
   abbrev Refuses : Type 0
-  Refuses = outcome_in s k.header.client (record { reply = Err R.Sender; scope = x }) a out to ≡ step_for H k s a initial f out to
+  Refuses = outcome_in s k.header.client (Err R.Sender) a out to ≡ step_for H k s a initial f out to
 
   none_sends : (n : ℕ) (b : Body) → k.header.kind ≡ n → body_in k.params n f ≡ b → sender_right k.params k.from k.header.client b ≡ false → Refuses
   unfolding message_test answered pick
   none_sends n b e m r =
-      ap (refusing a out to) (as_it_was s k.header.client x q)
-      ∙ says H k s a initial f out to _ b (ap (λ (z : ℕ). body_in k.params z f) e ∙ m) (rw r)
+      says H k s a initial f out to _ b (ap (λ (z : ℕ). body_in k.params z f) e ∙ m) (rw r)
 
   is_stamp : k.header.kind ≡ 2 → Refuses
   unfolding body_in pick sender_right

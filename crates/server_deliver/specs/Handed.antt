@@ -1,17 +1,15 @@
 -- A frame that is handed in, stage by stage: what the stages require, and what they promise. The entry point's promise (Records.antt) does not speak of
 -- stages. These are definitions.
-use Rattle.std.specs.Prelude.{ℕ, ◌+◌, ◌≤◌, ◌≡◌, List, false, ltb, Ok, Err}
+use Rattle.std.specs.Prelude.{ℕ, ◌+◌, ◌≤◌, ◌≡◌, List, false, ltb, Result}
 use Rattle.area.specs.Area.{pick}
-use Rattle.area.specs.Responses.{Response}
 use Rattle.blocks.specs.declared.Params.{Params}
 use Rattle.sha256.specs.Hash.{digest_of}
 use Rattle.frame.specs.Frames.{Opened}
+use Rattle.frame.specs.declared.Refusal.{Refusal}
 use Rattle.frame.specs.Refusals.{and_then, refused, Verdict, fine}
-use Rattle.frame.specs.declared.Place.{Place}
 use Rattle.frame.specs.Params.{Bounded, largest_frame, server_frames, params_test}
 use Rattle.frame.specs.Frames.{body_at, retired, body_length, header_in, frame_test, opened_by, message_in}
 use Rattle.frame.specs.Outbox.{first_place, Room}
-use Rattle.server_rules.specs.declared.Slot.{Slot}
 use Rattle.server_rules.specs.declared.Reader.{Reader}
 use Rattle.server_rules.specs.declared.Scope.{Scope}
 use Rattle.server_rules.specs.declared.Server.{Server}
@@ -21,9 +19,8 @@ use Rattle.server_rules.specs.Delivery.{Outcome}
 use Rattle.server.specs.declared.Call.{Call}
 use Rattle.server.specs.declared.Taken.{Taken}
 use Rattle.client_rules.specs.Beginning.{length_test}
-use Rattle.layout.specs.Left.{left_by}
-use Rattle.layout.specs.Servers.{server_size, server_in, scope_sets}
-use Rattle.server.specs.Stages.{slot_in, Holds, outcome_in, answered, Lent}
+use Rattle.layout.specs.Servers.{server_size, server_in}
+use Rattle.server.specs.Stages.{Holds, outcome_in, answered, Lent}
 use Rattle.server_deliver.specs.Records.{ByteOutcome, outcome_at, rooms_test}
 
 -- ---- refusals 1 to 10
@@ -61,14 +58,9 @@ step_for H k s a initial f out to =
     answered (message_test H k.params k.me s k.from m) s a (effect H k.params k.me s a initial k.from m) out to
 
 -- for every server with these readers in which the frame's client has the scope s, what the code leaves is that outcome
-abbrev pub Stepping : Scope → List Reader → Call → List ℕ → List ℕ → List ℕ → List ℕ → List ℕ → Taken → List ℕ → List ℕ → List ℕ → Type 0
+abbrev pub Stepping : Scope → List Reader → Call → List ℕ → List ℕ → List ℕ → List ℕ → List ℕ → Result Taken Refusal → List ℕ → List ℕ → List ℕ → Type 0
 Stepping s rs k a₀ initial f out₀ to₀ r a out to =
     (w : Server) → Holds w k.header.client s rs → outcome_in w k.header.client r a out to ≡ step_for digest_of k w a₀ initial f out₀ to₀
-
--- what a counted frame leaves of its scope where nothing can be accepted after it: s itself, or its slot is x
-unfoldable pub stored_by : Verdict → Scope → Slot → Place → Taken
-stored_by (Err r) s x p = record { reply = Err r; scope = s }
-stored_by (Ok _) s x p = record { reply = Ok p.count; scope = slot_in s x }
 
 -- ---- the record's bytes
 
@@ -77,10 +69,6 @@ pub record Asks (k : Call) : Type 0 where
   pub no_echo : k.header.kind ≡ 4 → ⊥
   pub no_ready : k.header.kind ≡ 5 → ⊥
   pub no_report : k.header.kind ≡ 13 → ⊥
-
--- after a step for client c that leaves the scope x, and accepts nothing
-unfoldable pub scope_after : Response ℕ → Scope → ℕ → List ℕ → List ℕ
-scope_after a x c state = left_by a state (scope_sets state c x.stamp x.slot x.reader)
 
 -- the outcome of a frame f that was let in
 unfoldable pub byte_step : (List ℕ → List ℕ) → Call → List ℕ → List ℕ → List ℕ → List ℕ → List ℕ → List ℕ → ByteOutcome

@@ -7,10 +7,9 @@ ghost use Rattle.server_rules.specs.declared.Reader.{Reader};
 ghost use Rattle.server_rules.specs.Delivery.{reply_response};
 ghost use Rattle.server_blocks.specs.Stage.{vote_stage, BlockHandled};
 ghost use Rattle.layout.specs.Servers.{server_size};
-ghost use Rattle.server_deliver.specs.Handed.{Handed, HandedOwn, Asks, stored_by, Stepping, scope_after, byte_step};
+ghost use Rattle.server_deliver.specs.Handed.{Handed, HandedOwn, Asks, Stepping, byte_step};
 ghost use Rattle.server_deliver.specs.Records.{byte_outcome};
 
-use crate::answers::is_turned_down;
 use crate::rounds::settle;
 use frame::bounds::width;
 use frame::parties::{from_server, number_in};
@@ -18,50 +17,46 @@ use frame::places::{BODY_AT, OFFER_AT};
 use frame::{Place, Refusal};
 use layout::servers::{put_report, put_scope, report_at, scope_at};
 use server::asking::{on_get_stamp, on_read, on_read_complete};
-use server::replies::taken;
-use server::state::slot_in;
-use server::{Call, Counted, Taken};
+use server::{Call, Moved, Taken};
 use server_blocks::storing::{on_block_send, on_block_vote};
 use server_rules::{Scope, Server, Slot};
 
 // ---- the client's own frame of its write: kind 3
 
-// Nothing can be accepted after such a frame: the slot is stored, unless the frame was turned down.
-fn stored(s: Scope, n: Counted) -> Taken
-    ensures { result ≡ stored_by n.verdict s n.slot n.place }
-{
-    let v = n.verdict;
-    if let Err(r) = v {
-        return Taken {
-            reply: Err(r),
-            scope: s,
-        };
-    }
-    let slot = n.slot;
-    let place = n.place;
-    let y = slot_in(s, slot);
-    taken(y, place)
-}
-
-// Kind 3, whose body is a time, a digest list and a block.
-fn step_of_send(s: Scope, k: Call, f: &[u8], out: &mut [u8], to: &mut [u8]) -> Taken
+// Kind 3, whose body is a time, a digest list and a block. Nothing can be accepted after it: the slot is stored.
+fn step_of_send(
+    s: Scope,
+    k: Call,
+    f: &[u8],
+    out: &mut [u8],
+    to: &mut [u8],
+) -> Result<Taken, Refusal>
     requires { HandedOwn k (length f.now) (length out.old) (length to.old) × (k.header.kind ≡ 3) }
     ensures { (rs : List Reader) (a i : List ℕ) → Stepping s rs k a i f.now out.old to.old
         result a out.new to.new }
 {
     let g = k.params;
-    let x = s.slot;
     let time = area::read8(f, BODY_AT);
     let middle = OFFER_AT + 32 * g.n;
     let end = middle + width(g);
-    let n = on_block_send(x, k, time, &f[OFFER_AT..middle], &f[middle..end], out, to);
-    stored(s, n)
+    let m = on_block_send(s.slot, k, time, &f[OFFER_AT..middle], &f[middle..end], out, to)?;
+    Ok(Taken {
+        scope: Scope { slot: m.slot, ..s },
+        place: m.place,
+    })
 }
 
 // ---- servers' frames of a write: kinds 4 and 5
 
 // Such a frame, whose body is a time, a digest list and a block, counted in the slot.
-fn count_vote(x: Slot, k: Call, f: &[u8], area: &mut [u8], out: &mut [u8], to: &mut [u8]) -> Counted
+fn count_vote(
+    x: Slot,
+    k: Call,
+    f: &[u8],
+    area: &mut [u8],
+    out: &mut [u8],
+    to: &mut [u8],
+) -> Result<Moved, Refusal>
     requires { Handed k (length f.now) (length area.old) (length out.old) (length to.old) × (4 ≤ k.header.kind) × (k.header.kind ≤ 5) }
     ensures { BlockHandled k x (vote_stage k.header.kind) (offer_in k.params f.now)
         area.old out.old to.old result area.new out.new to.new }
@@ -93,7 +88,7 @@ fn step_of_kind(
     initial: &[u8],
     out: &mut [u8],
     to: &mut [u8],
-) -> Taken
+) -> Result<Taken, Refusal>
     requires { Handed k (length f.now) (length area.old) (length out.old) (length to.old) × (width k.params ≤ length initial.now)
         × Asks k }
     ensures { (rs : List Reader) → Stepping s rs k area.old initial.now f.now
@@ -101,34 +96,13 @@ fn step_of_kind(
 {
     let g = k.params;
     let h = k.header;
-    let from = k.from;
-    if h.kind == 1 {
-        return on_get_stamp(s, g, from, h, out, to);
+    match h.kind {
+        1 => on_get_stamp(s, g, k.from, h, out, to),
+        10 => on_read(s, g, k.from, h, area, initial, out, to),
+        12 => on_read_complete(s, g, k.from, h),
+        3 => step_of_send(s, k, f, out, to),
+        _ => Err(Refusal::Sender),
     }
-    if h.kind == 10 {
-        return on_read(s, g, from, h, area, initial, out, to);
-    }
-    if h.kind == 12 {
-        return on_read_complete(s, g, from, h);
-    }
-    if h.kind == 3 {
-        return step_of_send(s, k, f, out, to);
-    }
-    Taken {
-        reply: Err(Refusal::Sender),
-        scope: s,
-    }
-}
-
-// Writes what a step for client c left of its scope, unless the frame was turned down.
-fn keep(a: Result<usize, Refusal>, x: Scope, c: usize, state: &mut [u8])
-    requires { (server_size ≤ length state.old) × (c ≤ 8) }
-    ensures { state.new ≡ scope_after (reply_response a) x c state.old }
-{
-    if is_turned_down(a) {
-        return;
-    }
-    put_scope(x, c, state);
 }
 
 // The step of such a frame, in its client's scope.
@@ -149,11 +123,9 @@ fn step_of_scope(
     let h = k.header;
     let c = h.client as usize;
     let s = scope_at(state, c);
-    let done = step_of_kind(s, k, f, area, initial, out, to);
-    let reply = done.reply;
-    let after = done.scope;
-    keep(reply, after, c, state);
-    reply
+    let done = step_of_kind(s, k, f, area, initial, out, to)?;
+    put_scope(done.scope, c, state);
+    Ok(done.place.count)
 }
 
 // ---- frames after which writes may be accepted
@@ -175,17 +147,10 @@ fn step_of_vote(
     let h = k.header;
     let c = h.client as usize;
     let s = scope_at(state, c);
-    let x = s.slot;
-    let n = count_vote(x, k, f, area, out, to);
-    let v = n.verdict;
-    if let Err(r) = v {
-        return Err(r);
-    }
-    let slot = n.slot;
-    let place = n.place;
-    let y = slot_in(s, slot);
+    let m = count_vote(s.slot, k, f, area, out, to)?;
+    let y = Scope { slot: m.slot, ..s };
     put_scope(y, c, state);
-    let last = settle(Server::CLIENTS, k.params, state, area, out, to, place);
+    let last = settle(Server::CLIENTS, k.params, state, area, out, to, m.place);
     Ok(last.count)
 }
 
@@ -236,15 +201,9 @@ pub fn step(
     ensures { byte_outcome (reply_response result) area.new state.new out.new to.new
         ≡ byte_step digest_of k f.now area.old initial.now state.old out.old to.old }
 {
-    let h = k.header;
-    if h.kind == 13 {
-        return step_of_report(k, f, area, state, out, to);
+    match k.header.kind {
+        13 => step_of_report(k, f, area, state, out, to),
+        4 | 5 => step_of_vote(k, f, area, state, out, to),
+        _ => step_of_scope(k, f, area, initial, state, out, to),
     }
-    if h.kind == 4 {
-        return step_of_vote(k, f, area, state, out, to);
-    }
-    if h.kind == 5 {
-        return step_of_vote(k, f, area, state, out, to);
-    }
-    step_of_scope(k, f, area, initial, state, out, to)
 }

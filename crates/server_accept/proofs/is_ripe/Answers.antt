@@ -1,19 +1,39 @@
+use Prim.Native.Nat.{◌<◌}
+use mathlib.Core.Path.{sym, ◌∙◌}
+use borrow.Author.Tests.{le-leb, leb-true, leb-false, ltb-true}
 use Rattle.server_accept.proofs.Acceptance.{last_time_lem, no_sequence, own_reaches, is_vouched}
 use native.Mathlib.Omega.{arith}
 use Rattle.server_accept.proofs.is_ripe.Goals as goal
+use Rattle.server_accept.proofs.is_ripe.Goals.{then-time-lt-LAST_TIME, else-time-lt-LAST_TIME}
 
--- src/lib.rt:158:9
-pub returns-then-time-ge-LAST_TIME : goal.returns-then-time-ge-LAST_TIME
-returns-then-time-ge-LAST_TIME c = let a = c.args in last_time_lem a.g a.own a.reports a.time a.sequence (omega (arith, c.if-time-ge-LAST_TIME.true))
-
--- src/lib.rt:161:9
-pub returns-then-sequence : goal.returns-then-sequence
-returns-then-sequence c = let a = c.args in no_sequence a.g a.own a.reports a.time a.sequence (omega (arith, c.if-sequence.true))
-
--- src/lib.rt:164:9
 pub returns-then-time-own : goal.returns-then-time-own
-returns-then-time-own c = let a = c.args in own_reaches a.g a.own a.reports a.time a.sequence (omega (arith, c.if-time-ge-LAST_TIME.false)) (omega (arith, c.if-sequence.false)) (omega (arith, c.if-time-own.true))
+returns-then-time-own c =
+    let a = c.args in
+    elim c.if-time-lt-LAST_TIME.branch [
+      | then-time-lt-LAST_TIME w ↦
+          le-leb _ _ c.if-time-own.true
+          ∙ own_reaches a.g a.own a.reports a.time a.sequence w.if-time-lt-LAST_TIME.true (leb-true _ _ (sym w.value-is ∙ c.if-sequence.true)) c.if-time-own.true
+      | else-time-lt-LAST_TIME w ↦
+          let t : a.time < 18446744073709551615 = ltb-true _ _ (sym w.value-is ∙ c.if-sequence.true) in
+          absurd (omega (arith, w.if-time-lt-LAST_TIME.false))
+    ]
 
--- src/lib.rt:153:1
-pub returns : goal.returns
-returns c = let a = c.args in is_vouched a.g a.own a.reports a.time a.sequence (omega (arith, c.if-time-ge-LAST_TIME.false)) (omega (arith, c.if-sequence.false)) (omega (arith, c.if-time-own.false)) _ c.is_backed.ensures
+pub returns-else-time-own : goal.returns-else-time-own
+returns-else-time-own c =
+    let a = c.args in
+    elim c.if-time-lt-LAST_TIME.branch [
+      | then-time-lt-LAST_TIME w ↦
+          is_vouched a.g a.own a.reports a.time a.sequence w.if-time-lt-LAST_TIME.true (leb-true _ _ (sym w.value-is ∙ c.if-sequence.true)) c.if-time-own.false _ c.is_backed.ensures
+      | else-time-lt-LAST_TIME w ↦
+          let t : a.time < 18446744073709551615 = ltb-true _ _ (sym w.value-is ∙ c.if-sequence.true) in
+          absurd (omega (arith, w.if-time-lt-LAST_TIME.false))
+    ]
+
+pub returns-else-sequence : goal.returns-else-sequence
+returns-else-sequence c =
+    let a = c.args in
+    let f = c.if-sequence.false in
+    f ∙ elim c.if-time-lt-LAST_TIME.branch [
+      | then-time-lt-LAST_TIME w ↦ no_sequence a.g a.own a.reports a.time a.sequence (leb-false _ _ (sym w.value-is ∙ f))
+      | else-time-lt-LAST_TIME w ↦ last_time_lem a.g a.own a.reports a.time a.sequence w.if-time-lt-LAST_TIME.false
+    ]

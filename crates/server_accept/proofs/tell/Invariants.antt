@@ -1,4 +1,4 @@
-use Prim.Native.Nat.{◌+◌, ◌≤◌, ◌-◌}
+use Prim.Native.Nat.{◌+◌, ◌-◌}
 use mathlib.Core.Path.{◌≡◌}
 use lib.ListN.{length}
 use Rattle.frame.specs.Messages.{entry}
@@ -9,11 +9,6 @@ use Rattle.server_accept.proofs.tell.Given as goal
 abbrev pub invariant-loop-c : goal.invariant-loop-c
 invariant-loop-c l =
     (sent (outbox l.out l.to l.q) (tell_from l.readers l.x (entry l.digests l.block) l.c (9 - l.c)) ≡ sent (outbox l.initial.out l.initial.to l.initial.q) (tell_from l.readers l.x (entry l.digests l.block) 1 8))
-    × (1 ≤ l.c)
-    × (l.c ≤ 9)
     × Room l.q (9 - l.c) (22 + (length l.digests + length l.block)) (length l.out) (length l.to)
     × (length l.out ≡ length l.initial.out)
     × (length l.to ≡ length l.initial.to)
-
-abbrev pub decreases-loop-c : goal.decreases-loop-c
-decreases-loop-c l = 9 - l.c

@@ -22,7 +22,7 @@ pub returns-then-not-from_owner : goal.returns-then-not-from_owner
 unfolding message_test sender_right order_test
 returns-then-not-from_owner c =
     let a = c.args in
-    λ w e z. refused_is (Err R.Sender) _ R.Sender w a.h.client a.s z _ _ _ e (stop_not _ _ R.Sender fine c.from_owner.ensures (ap not c.if-not-from_owner.true)) refl
+    λ w e z. refused_is (Err R.Sender) _ R.Sender w a.h.client z _ _ _ (stop_not _ _ R.Sender fine c.from_owner.ensures (ap not c.if-not-from_owner.true)) refl
 
 pub send_stamp-place-requires : goal.send_stamp-place-requires
 send_stamp-place-requires c =
@@ -32,6 +32,6 @@ pub returns : goal.returns
 unfolding message_test sender_right order_test
 returns c =
     let a = c.args in
-    λ w e z. step_is fine _ w z z _ _ _ _ _ a.h.client a.s c.send_stamp-place.result _
+    λ w e z. step_is fine _ w z z _ _ _ _ _ a.h.client a.s c.send_stamp-place.result
     (go_on _ _ R.Sender fine fine c.from_owner.ensures (ap not c.if-not-from_owner.false) refl) refl
-    (only_sent w _ z _ _ _ (as_it_was w a.h.client a.s e) (c.send_stamp-place.ensures ∙ ap (λ (u : Scope). sent (outbox a.out.now a.to.now first_place) (sending (P.Client a.h.client) (message a.h.client a.h.sequence (stamp_is u.stamp.time)) ∷ [])) e)) c.taken.ensures.0 c.taken.ensures.1
+    (only_sent w _ z _ _ _ (as_it_was w a.h.client a.s e) (c.send_stamp-place.ensures ∙ ap (λ (u : Scope). sent (outbox a.out.now a.to.now first_place) (sending (P.Client a.h.client) (message a.h.client a.h.sequence (stamp_is u.stamp.time)) ∷ [])) e))

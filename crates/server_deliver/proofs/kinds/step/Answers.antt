@@ -1,34 +1,32 @@
 use native.Mathlib.Omega.{arith}
 use Rattle.server_deliver.proofs.kinds.step.Goals as goal
+use Rattle.server_deliver.proofs.kinds.step.Goals.{in_default-via-then-k-lt4, in_default-via-else-k-lt4+else-k-lt6}
 
--- src/kinds.rt:258:9
 pub step_of_report-requires : goal.step_of_report-requires
-step_of_report-requires c = let P = c.requires in (P.0, P.2, c.if-h-eq13.true)
+step_of_report-requires c = let P = c.requires in (P.0, P.2, c.in-13.is)
 
--- src/kinds.rt:258:9
-pub returns-then-h-eq13 : goal.returns-then-h-eq13
-returns-then-h-eq13 c = c.step_of_report.ensures c.args.initial.now
+pub returns-in-13 : goal.returns-in-13
+returns-in-13 c = c.step_of_report.ensures c.args.initial.now
 
--- src/kinds.rt:261:9
 pub step_of_vote-requires : goal.step_of_vote-requires
-step_of_vote-requires c = let P = c.requires in (P.0, P.2, omega (arith, c.if-h-eq4.true), omega (arith, c.if-h-eq4.true))
+step_of_vote-requires c = let P = c.requires in (P.0, P.2, omega arith, omega arith)
 
--- src/kinds.rt:261:9
-pub returns-then-h-eq4 : goal.returns-then-h-eq4
-returns-then-h-eq4 c = c.step_of_vote.ensures c.args.initial.now
+pub returns-in-4 : goal.returns-in-4
+returns-in-4 c = c.step_of_vote.ensures c.args.initial.now
 
--- src/kinds.rt:264:9
-pub step_of_vote-requires-then-h-eq5 : goal.step_of_vote-requires-then-h-eq5
-step_of_vote-requires-then-h-eq5 c = let P = c.requires in (P.0, P.2, omega (arith, c.if-h-eq5.true), omega (arith, c.if-h-eq5.true))
-
--- src/kinds.rt:264:9
-pub returns-then-h-eq5 : goal.returns-then-h-eq5
-returns-then-h-eq5 c = c.step_of_vote-then-h-eq5.ensures c.args.initial.now
-
--- src/kinds.rt:266:5
 pub step_of_scope-requires : goal.step_of_scope-requires
-step_of_scope-requires c = let P = c.requires in (P.0, P.1, P.2, record { no_echo = c.if-h-eq4.false; no_ready = c.if-h-eq5.false; no_report = c.if-h-eq13.false })
+step_of_scope-requires c =
+    let P = c.requires in
+    (
+      P.0,
+      P.1,
+      P.2,
+      record {
+        no_echo = λ e. elim c.in_default.branch [ in_default-via-then-k-lt4 w ↦ omega arith | in_default-via-else-k-lt4+else-k-lt6 w ↦ omega arith ];
+        no_ready = λ e. elim c.in_default.branch [ in_default-via-then-k-lt4 w ↦ omega arith | in_default-via-else-k-lt4+else-k-lt6 w ↦ omega arith ];
+        no_report = λ e. elim c.in_default.branch [ in_default-via-then-k-lt4 w ↦ omega arith | in_default-via-else-k-lt4+else-k-lt6 w ↦ omega arith ];
+      },
+    )
 
--- src/kinds.rt:242:1
-pub returns : goal.returns
-returns c = c.step_of_scope.ensures
+pub returns-in_default : goal.returns-in_default
+returns-in_default c = c.step_of_scope.ensures

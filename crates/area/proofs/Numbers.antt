@@ -8,6 +8,7 @@ use native.Mathlib.Omega.{arith}
 use lib.Arith.{digits_div, digits_mod}
 use lib.ListN.{length, get_or, take, drop, get_or-append}
 use lib.Seq.{drop-cons, drop-drop, take-add}
+use Rattle.std.specs.Int.{w16, w32, w64, from_be_bytes, to_be_bytes}
 use Rattle.area.specs.Area.{part, Bytes}
 use Rattle.area.specs.Numbers.{be2, be4, be8, bytes2, bytes4, bytes8}
 
@@ -141,3 +142,46 @@ be8_bytes l i =
     let g : get_or l (i + 4 + 2) 0 ≡ get_or l (i + 6) 0 = ap (λ (k : ℕ). get_or l k 0) (omega arith) in
     let h : get_or l (i + 4 + 2 + 1) 0 ≡ get_or l (i + 7) 0 = ap (λ (k : ℕ). get_or l k 0) (omega arith) in
     omega (arith, d, f, g, h)
+
+-- ---- the numbers of std
+
+pub be2_is : (l : List ℕ) (i : ℕ) → from_be_bytes w16 (get_or l i 0 ∷ get_or l (i + 1) 0 ∷ []) ≡ be2 l i
+unfolding be2
+be2_is l i = refl
+
+pub be4_is : (l : List ℕ) (i : ℕ) → from_be_bytes w32 (get_or l i 0 ∷ get_or l (i + 1) 0 ∷ get_or l (i + 2) 0 ∷ get_or l (i + 3) 0 ∷ []) ≡ be4 l i
+unfolding be4 be2
+be4_is l i =
+    let d : get_or l (i + 2 + 1) 0 ≡ get_or l (i + 3) 0 = ap (λ (k : ℕ). get_or l k 0) (omega arith) in
+    omega (arith, d)
+
+pub bytes2_is : (x : ℕ) → to_be_bytes w16 x ≡ bytes2 x
+unfolding bytes2
+bytes2_is x = refl
+
+pub bytes4_is : (x : ℕ) → to_be_bytes w32 x ≡ bytes4 x
+unfolding bytes4 bytes2
+bytes4_is x =
+    let a : x / 16777216 % 256 ≡ x / 65536 / 256 % 256 = omega arith in
+    let c : x / 256 % 256 ≡ x % 65536 / 256 % 256 = omega arith in
+    let d : x % 256 ≡ x % 65536 % 256 = omega arith in
+    rw (a, c, d) refl
+
+pub be8_is : (l : List ℕ) (i : ℕ)
+    → from_be_bytes w64
+    (get_or l i 0 ∷ get_or l (i + 1) 0 ∷ get_or l (i + 2) 0 ∷ get_or l (i + 3) 0
+    ∷ get_or l (i + 4) 0 ∷ get_or l (i + 5) 0 ∷ get_or l (i + 6) 0 ∷ get_or l (i + 7) 0 ∷ [])
+    ≡ be8 l i
+be8_is l i = omega (arith, be8_bytes l i)
+
+pub bytes8_is : (x : ℕ) → to_be_bytes w64 x ≡ bytes8 x
+unfolding bytes8
+bytes8_is x =
+    let a : x / 72057594037927936 % 256 ≡ x / 4294967296 / 16777216 % 256 = omega arith in
+    let b : x / 281474976710656 % 256 ≡ x / 4294967296 / 65536 % 256 = omega arith in
+    let c : x / 1099511627776 % 256 ≡ x / 4294967296 / 256 % 256 = omega arith in
+    let d : x / 16777216 % 256 ≡ x % 4294967296 / 16777216 % 256 = omega arith in
+    let e : x / 65536 % 256 ≡ x % 4294967296 / 65536 % 256 = omega arith in
+    let f : x / 256 % 256 ≡ x % 4294967296 / 256 % 256 = omega arith in
+    let g : x % 256 ≡ x % 4294967296 % 256 = omega arith in
+    rw (← bytes4_is (x / 4294967296), ← bytes4_is (x % 4294967296), a, b, c, d, e, f, g) refl

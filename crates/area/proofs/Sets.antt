@@ -7,7 +7,8 @@ use native.Mathlib.Nat.{add-zero, add-suc, suc-add, suc-mul, mul-le-mul_right}
 use native.Mathlib.Numerals.{add-one}
 use native.Mathlib.Omega.{arith}
 use lib.ListN.{length, take, drop, get_or, set, replicate, length-take, length-drop, drop_of_length-le}
-use lib.Seq.{sets, sets-eq, take-suc, take_at, drop_at, length-take-le, drop-set-add, drop-set-lt, take-set-le, get_or-set_other}
+use lib.Seq.{sets, sets-eq, take-suc, take_at, drop_at, length-take-le, drop-set-add, drop-set-lt, take-set-le, get_or-set_other, drop-drop}
+use borrow.Rule.Slice.PartMut.{put_mid}
 use Rattle.area.specs.Area.{part}
 
 -- ---- what is stored
@@ -31,11 +32,6 @@ sets_more d i s j h =
     let h₁ : j ≤ length s = omega arith in
     rw (add-one, take-suc s j 0, sets_append)
     (rw (length-take-le j s) refl)
-
--- one more copy of x stored
-pub sets_copy : (d : List ℕ) (i j x : ℕ) → set (sets d i (replicate j x)) (i + j) x ≡ sets d i (replicate (j + 1) x)
-sets_copy d i zero x = rw add-zero
-sets_copy d i (suc j) x = rw (add-suc i j, ← suc-add i j, suc-add j 1) (sets_copy (set d i x) (suc i) j x)
 
 -- a list that fills the whole
 pub sets_whole : {A : Type 0} (l vs : List A) → length vs ≡ length l → sets l 0 vs ≡ vs
@@ -93,3 +89,7 @@ part_sets_after l i [] j w h = refl
 part_sets_after l i (v ∷ vs) j w h =
     let h₁ : i < j = omega arith in
     part_sets_after (set l i v) (suc i) vs j w (omega arith) ∙ rw (drop-set-lt j l i v h₁)
+
+-- what is left of an area after a write to a slice of it, from index a on
+pub sets_put : {A : Type 0} (a k : ℕ) (l vs ws : List A) → ws ≡ vs → k ≡ length vs → a + length vs ≤ length l → put_mid a k l ws ≡ sets l a vs
+sets_put a k l vs ws e w h = rw (e, w, sets-eq vs l a h, append_assoc, drop-drop)

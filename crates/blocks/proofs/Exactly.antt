@@ -14,9 +14,8 @@ use Rattle.area.proofs.Same.{same_true, same_refl}
 use Rattle.area.proofs.Numbers.{Bytes-take}
 use Rattle.blocks.specs.declared.Params.{Params}
 use Rattle.area.specs.Responses.{turned_down, gives}
-use Rattle.blocks.specs.declared.Coded.{Coded}
-use Rattle.blocks.specs.declared.Coded.TheVariants.{Done}
-use Rattle.blocks.specs.Params.{fault, demand, and_then}
+use Rattle.std.specs.Prelude.{Ok}
+use Rattle.blocks.specs.Params.{Coded, fault, demand, and_then}
 use Rattle.blocks.specs.Poly.{All, Distinct}
 use Rattle.blocks.specs.Code.{block_length, block_of, value_of, blocks_of, candidate, agree, decoded_all}
 use Rattle.blocks.specs.Calls.{Outcome, told, written, decode_test, agree_test, decoding}
@@ -120,7 +119,7 @@ has_none k L js w h f = by_agree k L js w h (agree k L js w) refl f
 
 -- ---- the call
 
-module _ (g : Params) (js w out : List ℕ) (e : decode_test g js (length w) (length out) ≡ Done) where
+module _ (g : Params) (js w out : List ℕ) (e : decode_test g js (length w) (length out) ≡ Ok tt) where
   value : List ℕ
   value = candidate g.k g.size js w
 
@@ -132,7 +131,7 @@ module _ (g : Params) (js w out : List ℕ) (e : decode_test g js (length w) (le
       record { one = d.within.blocks_low; enough = d.enough; numbers = f.0; different = f.1; whole = d.whole }
 
   outcome_by : Coded → Bool → Outcome
-  outcome_by t b = written (and_then t (demand b (fault 21) Done)) out value
+  outcome_by t b = written (and_then t (demand b (fault 21) (Ok tt))) out value
 
   valued : agree g.k g.size js w ≡ true → decoding g js w out ≡ told (gives tt) (sets out 0 value)
   unfolding decoding agree_test written and_then demand value outcome_by

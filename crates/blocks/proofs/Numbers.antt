@@ -1,19 +1,19 @@
 -- The numbers of the blocks to decode: the turns of the loops that test them, and what holds where a test is passed. Assumes nothing.
-use Prim.Native.Nat.{ℕ, suc, ◌+◌, ◌<◌, ◌≤◌}
-use mathlib.Core.Path.{◌≡◌, sym, ap, ap₂, ◌∙◌}
-use mathlib.Core.Bool.{Bool, true, false, ◌&&◌, not}
+use Prim.Native.Nat.{ℕ, suc, ◌+◌, ◌-◌, ◌<◌, ◌≤◌}
+use mathlib.Core.Path.{◌≡◌, refl, sym, ap, ap₂, ◌∙◌}
+use mathlib.Core.Bool.{Bool, true, false, ◌&&◌, ◌||◌, not}
 use mathlib.Core.List.{List, [], ◌∷◌}
 use native.Mathlib.Numerals.{add-one}
 use native.Mathlib.Omega.{arith}
 use lib.Dec.{leb, eqb}
-use lib.ListN.{length, drop, get_or, drop_of_length-le}
-use lib.Seq.{drop-cons}
-use borrow.Author.Tests.{eq-eqb, ne_eqb, le-leb, leb-true, eqb-false, not-true, not-false}
+use lib.ListN.{length, drop, take, get_or, drop_of_length-le, length-drop}
+use lib.Seq.{drop-cons, take_all}
+use Rattle.std.specs.List.{list_any}
+use borrow.Author.Tests.{leb-true, eqb-false, not-true, not-false}
 use Rattle.area.specs.Area.{Bytes}
 use Rattle.area.proofs.Tests.{and_left, and_right}
 use Rattle.blocks.specs.Poly.{All, Distinct}
 use Rattle.blocks.specs.Calls.{number_fits, absent, numbers_fit}
-use Rattle.blocks.proofs.Parameters.{refuted}
 
 -- ---- a number
 
@@ -21,26 +21,27 @@ pub number_facts : (n j : ℕ) → number_fits n j ≡ true → (1 ≤ j) × (j 
 unfolding number_fits
 number_facts n j e = (leb-true 1 j (and_left (leb 1 j) (leb j n) e), leb-true j n (and_right (leb 1 j) (leb j n) e))
 
-pub number_yes : (n j : ℕ) → 1 ≤ j → j ≤ n → true ≡ number_fits n j
-unfolding number_fits
-number_yes n j a b = sym (simp (le-leb 1 j a, le-leb j n b))
-
-pub number_no : (n j : ℕ) → (1 ≤ j → j ≤ n → ⊥) → false ≡ number_fits n j
-number_no n j h = refuted (number_fits n j) (λ e. let f = number_facts n j e in h f.0 f.1)
-
 -- ---- a number that is not among the others
 
-pub absent_turn : (j : ℕ) (js : List ℕ) (m : ℕ) → m < length js → (get_or js m 0 ≡ j → ⊥) → absent j (drop m js) ≡ absent j (drop (m + 1) js)
+any_absent : (j : ℕ) (js : List ℕ) → list_any (λ y. eqb y j) js ≡ not (absent j js)
 unfolding absent
-absent_turn j js m h ne = rw (add-one, drop-cons js m 0) (simp (ne_eqb _ _ ne))
+any_absent j [] = refl
+any_absent j (i ∷ js) = ap (λ b. eqb i j || b) (any_absent j js) ∙ joined (eqb i j) (absent j js)
+  where
+    joined : (b c : Bool) → (b || not c) ≡ not (not b && c)
+    joined true c = refl
+    joined false c = refl
 
-pub absent_found : (j : ℕ) (js : List ℕ) (m : ℕ) → m < length js → get_or js m 0 ≡ j → absent j (drop m js) ≡ false
-unfolding absent
-absent_found j js m h e = rw (drop-cons js m 0) (simp (eq-eqb _ _ e))
-
-pub absent_end : (j : ℕ) (js : List ℕ) (m : ℕ) → length js ≤ m → absent j (drop m js) ≡ true
-unfolding absent
-absent_end j js m h = rw (drop_of_length-le js)
+-- what `contains` says of the numbers after the m-th
+pub others : (j : ℕ) (js : List ℕ) (m : ℕ) (s : Bool) → s ≡ list_any (λ y. eqb y j) (take (length js - (m + 1)) (drop (m + 1) js))
+    → not s ≡ absent j (drop (m + 1) js)
+others j js m s e =
+    ap not (e ∙ ap (list_any (λ y. eqb y j)) (take_all _ (drop (m + 1) js) (simp length-drop (omega arith))) ∙ any_absent j (drop (m + 1) js))
+    ∙ twice (absent j (drop (m + 1) js))
+  where
+    twice : (b : Bool) → not (not b) ≡ b
+    twice true = refl
+    twice false = refl
 
 -- ---- all numbers
 

@@ -1,7 +1,9 @@
 -- Blocks and stripes: how many there are, where a stripe is in the value, and that the padding need not be stored. Assumes nothing.
 use mathlib.Core.Path.{◌≡◌, refl, sym, ap, ap₂, ◌∙◌}
 use mathlib.Core.List.{List, [], ◌∷◌, ◌++◌}
-use Prim.Native.Nat.{ℕ, zero, suc, ◌+◌, ◌-◌, ◌*◌, ◌/◌, ◌<◌, ◌≤◌}
+use Prim.Native.Nat.{ℕ, zero, suc, ◌+◌, ◌-◌, ◌*◌, ◌/◌, ◌<◌, ◌≤◌, min}
+use mathlib.Core.Logic.{inl, inr}
+use Rattle.std.proofs.lemmas.Bool.{cases_lt}
 use native.Mathlib.Numerals.{add-one}
 use native.Mathlib.Nat.{suc-mul, mul-le-mul, le-div_iff_mul-le, mul-le-mul_left, mul-one, mul_comm, div-lt_iff_lt-mul, lt-suc_self}
 use native.Mathlib.Omega.{arith}
@@ -73,16 +75,19 @@ part_short v s k h =
     take_all (length v - s) (drop s v) (simp length-drop (omega arith))
     ∙ sym (take_all k (drop s v) (simp length-drop (omega arith)))
 
-pub stripe_full : (v : List ℕ) (k r x : ℕ) → r * k ≤ length v → eval (take (r * k + k - r * k) (drop (r * k) v)) x ≡ block_byte k v x r
+pub stripe_value : (v : List ℕ) (k r x e : ℕ) → r * k ≤ length v → e ≡ min (length v) (r * k + k)
+    → eval (take (e - r * k) (drop (r * k) v)) x ≡ block_byte k v x r
 unfolding block_byte
-stripe_full v k r x h =
-    ap (λ (l : List ℕ). eval l x) (part_full v (r * k) k) ∙ sym (stripe_eval v k (k * block_length (length v) k) r x h)
-
-pub stripe_short : (v : List ℕ) (k r x : ℕ) → r * k ≤ length v → length v ≤ r * k + k
-    → eval (take (length v - r * k) (drop (r * k) v)) x ≡ block_byte k v x r
-unfolding block_byte
-stripe_short v k r x h l =
-    ap (λ (w : List ℕ). eval w x) (part_short v (r * k) k l) ∙ sym (stripe_eval v k (k * block_length (length v) k) r x h)
+stripe_value v k r x e h m =
+    ap (λ (l : List ℕ). eval l x) (elim (cases_lt (length v) (r * k + k)) [
+      | inl l ↦
+        let w : e - r * k ≡ length v - r * k = omega arith in
+        ap (λ (n : ℕ). take n (drop (r * k) v)) w ∙ part_short v (r * k) k (omega arith)
+      | inr l ↦
+        let w : e - r * k ≡ r * k + k - r * k = omega arith in
+        ap (λ (n : ℕ). take n (drop (r * k) v)) w ∙ part_full v (r * k) k
+    ])
+    ∙ sym (stripe_eval v k (k * block_length (length v) k) r x h)
 
 -- ---- the turns of the loops that store
 

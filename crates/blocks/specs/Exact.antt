@@ -1,13 +1,12 @@
 -- What is proved of blocks (`Exact`; its proof is in proofs/Exactly.antt), without a word on how decoding is done. Demand 2: "any k blocks of one value give
 -- that value". Request F-7: "gives the value exactly if all lie on one encoding with zero padding; otherwise they disagree". Assumes nothing: these are
 -- definitions and statements.
-use Rattle.std.specs.Prelude.{ℕ, ◌*◌, ◌<◌, ◌≤◌, ◌≡◌, List, length}
+use Rattle.std.specs.Prelude.{ℕ, ◌*◌, ◌<◌, ◌≤◌, ◌≡◌, List, length, Ok}
 use Rattle.std.proofs.Math.Option.{none, some}
 use Rattle.std.proofs.lemmas.List.Edits.{sets}
 use Rattle.area.specs.Area.{Bytes}
 use Rattle.area.specs.Responses.{turned_down, gives}
 use Rattle.blocks.specs.declared.Params.{Params}
-use Rattle.blocks.specs.declared.Coded.TheVariants.{Done}
 use Rattle.blocks.specs.Poly.{Distinct}
 use Rattle.blocks.specs.Code.{block_length, blocks_of, value_of, decoded_all}
 use Rattle.blocks.specs.Calls.{told, decode_test, decoding}
@@ -46,4 +45,4 @@ pub record Exact : Type 0 where
   pub none_has : (k L : ℕ) (js w : List ℕ) → Given k L js w → decoded_all k L js w ≡ none → (v : List ℕ) → BlocksOf k L js w v → ⊥
   pub has_none : (k L : ℕ) (js w : List ℕ) → Given k L js w → ((v : List ℕ) → BlocksOf k L js w v → ⊥) → decoded_all k L js w ≡ none
   -- the same of the call
-  pub called : (g : Params) (js w out : List ℕ) → decode_test g js (length w) (length out) ≡ Done → Called g js w out
+  pub called : (g : Params) (js w out : List ℕ) → decode_test g js (length w) (length out) ≡ Ok tt → Called g js w out

@@ -1,7 +1,6 @@
-// From k blocks to the value. The tables ps and ls are lent by the entry point.
-ghost use Rattle.std.specs.Prelude.{◌≡◌, ◌+◌, ◌-◌, ◌*◌, ◌<◌, ◌≤◌, min, length, take, replicate};
+// From k blocks to the value.
+ghost use Rattle.std.specs.Prelude.{◌≡◌, ◌+◌, ◌-◌, ◌*◌, ◌<◌, ◌≤◌, length, take, replicate};
 ghost use Rattle.std.proofs.lemmas.List.Edits.{sets};
-ghost use Rattle.field.specs.Field.{Tables};
 ghost use Rattle.blocks.specs.Poly.{through, basis, Basis};
 ghost use Rattle.blocks.specs.Code.{block_length, row, value_of, candidate, agree};
 
@@ -10,81 +9,47 @@ use crate::encoder::blocks_stand;
 use crate::polynomial::{add_scaled, interpolate};
 
 // The polynomial that is 1 at number i of js and 0 at the others, into row i of the table, whose rows have as many bytes as there are numbers.
-fn put_unit(js: &[u8], i: usize, table: &mut [u8], ps: &[u8; 255], ls: &[u8; 256])
-    requires { (length js.now ≤ 8) × (i < length js.now) × (i * length js.now + length js.now ≤ length table.old) × Tables ps.now ls.now }
+fn put_unit(js: &[u8], i: usize, table: &mut [u8])
+    requires { (length js.now ≤ 8) × (i < length js.now) × (i * length js.now + length js.now ≤ length table.old) }
     ensures { table.new ≡ sets table.old (i * length js.now) (basis js.now i) }
 {
     let k = js.len();
     let n = k + 1;
     let at = i * k;
     let mut ys = [0u8; 8];
-    let mut p = [0u8; 8];
     let mut m = [0u8; 9];
     ys[i] = 1;
-    interpolate(js, &ys[..k], &mut p[..k], &mut m[..n], ps, ls);
-    area::put(table, at, &p[..k]);
+    interpolate(js, &ys[..k], &mut table[at..at + k], &mut m[..n]);
 }
 
 // The polynomials that are 1 at one of the numbers js and 0 at the others, as rows of the table.
-fn put_basis(js: &[u8], table: &mut [u8], ps: &[u8; 255], ls: &[u8; 256])
-    requires { (length js.now ≤ 8) × (length js.now * length js.now ≤ length table.old) × Tables ps.now ls.now }
+fn put_basis(js: &[u8], table: &mut [u8])
+    requires { (length js.now ≤ 8) × (length js.now * length js.now ≤ length table.old) }
     ensures { Basis js.now table.new }
 {
-    let mut i = 0;
-    while i < js.len() {
-        put_unit(js, i, table, ps, ls);
-        i += 1;
+    for i in 0..js.len() {
+        put_unit(js, i, table);
     }
 }
 
 // The coefficients of stripe r, from the blocks with the numbers js: the sum of the table's rows, each times byte r of its block, into p, which holds zeros.
-fn combine(
-    js: &[u8],
-    table: &[u8],
-    w: &[u8],
-    b: usize,
-    r: usize,
-    p: &mut [u8],
-    ps: &[u8; 255],
-    ls: &[u8; 256],
-)
+fn combine(js: &[u8], table: &[u8], w: &[u8], b: usize, r: usize, p: &mut [u8])
     requires { (length js.now ≤ 8) × (b ≤ 256) × (r < b) × (length w.now ≡ length js.now * b) × (p.old ≡ replicate (length js.now) 0)
-        × Basis js.now table.now × Tables ps.now ls.now }
+        × Basis js.now table.now }
     ensures { p.new ≡ through js.now (row (length js.now) b w.now r) }
 {
     let k = js.len();
-    let mut i = 0;
-    while i < k {
+    for i in 0..k {
         let at = i * k;
         let end = at + k;
-        add_scaled(p, &table[at..end], w[i * b + r], ps, ls);
-        i += 1;
+        add_scaled(p, &table[at..end], w[i * b + r]);
     }
-}
-
-// The smaller of two numbers.
-fn smaller(a: usize, b: usize) -> usize
-    ensures { result ≡ min a b }
-{
-    if a <= b {
-        return a;
-    }
-    b
 }
 
 // Stripe r of a value into its place; its padding is left out.
-fn put_stripe(
-    js: &[u8],
-    table: &[u8],
-    w: &[u8],
-    b: usize,
-    r: usize,
-    value: &mut [u8],
-    ps: &[u8; 255],
-    ls: &[u8; 256],
-)
+fn put_stripe(js: &[u8], table: &[u8], w: &[u8], b: usize, r: usize, value: &mut [u8])
     requires { (length js.now ≤ 8) × (b ≤ 256) × (r < b) × (length w.now ≡ length js.now * b)
-        × (r * length js.now ≤ length value.old) × (length value.old ≤ 256) × Basis js.now table.now × Tables ps.now ls.now }
+        × (r * length js.now ≤ length value.old) × (length value.old ≤ 256) × Basis js.now table.now }
     ensures { value.new
         ≡ sets value.old (r * length js.now)
         (take (length value.old - r * length js.now)
@@ -93,42 +58,33 @@ fn put_stripe(
     let k = js.len();
     let start = r * k;
     let mut p = [0u8; 8];
-    combine(js, table, w, b, r, &mut p[..k], ps, ls);
-    let n = smaller(k, value.len() - start);
+    combine(js, table, w, b, r, &mut p[..k]);
+    let n = k.min(value.len() - start);
     area::put(value, start, &p[..n]);
 }
 
 // The value from the blocks with the numbers js, which lie end to end in w. The numbers are the same for all stripes, so the table is computed once.
-pub fn decode_into(js: &[u8], w: &[u8], value: &mut [u8], ps: &[u8; 255], ls: &[u8; 256])
+pub fn decode_into(js: &[u8], w: &[u8], value: &mut [u8])
     requires { (0 < length js.now) × (length js.now ≤ 8) × (length value.old ≤ 256)
-        × (length w.now ≡ length js.now * block_length (length value.old) (length js.now)) × Tables ps.now ls.now }
+        × (length w.now ≡ length js.now * block_length (length value.old) (length js.now)) }
     ensures { value.new ≡ value_of js.now (length value.old) w.now }
 {
     let b = block_length(value.len(), js.len());
     let mut table = [0u8; 64];
-    put_basis(js, &mut table, ps, ls);
-    let mut r = 0;
-    while r < b {
-        put_stripe(js, &table, w, b, r, value, ps, ls);
-        r += 1;
+    put_basis(js, &mut table);
+    for r in 0..b {
+        put_stripe(js, &table, w, b, r, value);
     }
 }
 
 // Decodes the first k of the blocks with the numbers js, which lie end to end in w, into value; whether all of the blocks are blocks of that value.
-pub fn decode_all(
-    js: &[u8],
-    w: &[u8],
-    k: usize,
-    value: &mut [u8],
-    ps: &[u8; 255],
-    ls: &[u8; 256],
-) -> bool
+pub fn decode_all(js: &[u8], w: &[u8], k: usize, value: &mut [u8]) -> bool
     requires { (0 < k) × (k ≤ 8) × (k ≤ length js.now) × (length js.now ≤ 10) × (length value.old ≤ 256)
-        × (length w.now ≡ length js.now * block_length (length value.old) k) × Tables ps.now ls.now }
+        × (length w.now ≡ length js.now * block_length (length value.old) k) }
     ensures { (result ≡ agree k (length value.old) js.now w.now)
         × (value.new ≡ candidate k (length value.old) js.now w.now) }
 {
     let end = k * block_length(value.len(), k);
-    decode_into(&js[..k], &w[..end], value, ps, ls);
-    blocks_stand(value, k, js, w, ps, ls)
+    decode_into(&js[..k], &w[..end], value);
+    blocks_stand(value, k, js, w)
 }

@@ -24,7 +24,7 @@ pub struct Params {
 }
 
 // Why a call is turned down. `number_of` gives document 01's number.
-#[derive(Clone, Copy)]
+#[derive(Clone, Copy, PartialEq, Eq, Debug)]
 pub enum Fault {
     Parties,
     Threshold,
@@ -34,45 +34,24 @@ pub enum Fault {
     Disagreement,
 }
 
-// What a call answers.
-#[derive(Clone, Copy)]
-pub enum Coded {
-    Done,
-    Refused(Fault),
-}
-
 // The n blocks of a value, end to end in the front of out.
-pub fn encode(g: Params, value: &[u8], out: &mut [u8]) -> Coded
+pub fn encode(g: Params, value: &[u8], out: &mut [u8]) -> Result<(), Fault>
     ensures { outcome result out.new ≡ encoding g value.now out.old }
 {
-    let tested = bounds::encode_test(g, value.len(), out.len());
-    let Coded::Done = tested else {
-        return tested;
-    };
-    let ps = field::powers();
-    let ls = field::logs();
-    let n = g.n;
-    let k = g.k;
-    encode_blocks(value, n, k, out, &ps, &ls);
-    Coded::Done
+    bounds::encode_test(g, value.len(), out.len())?;
+    encode_blocks(value, g.n, g.k, out);
+    Ok(())
 }
 
 // Decodes k to n blocks, which lie end to end in blocks: if they are all blocks of one value, that value goes to the front of out.
-pub fn decode(g: Params, numbers: &[u8], blocks: &[u8], out: &mut [u8]) -> Coded
+pub fn decode(g: Params, numbers: &[u8], blocks: &[u8], out: &mut [u8]) -> Result<(), Fault>
     ensures { outcome result out.new ≡ decoding g numbers.now blocks.now out.old }
 {
-    let tested = bounds::decode_test(g, numbers, blocks.len(), out.len());
-    let Coded::Done = tested else {
-        return tested;
-    };
-    let ps = field::powers();
-    let ls = field::logs();
-    let k = g.k;
-    let size = g.size;
+    bounds::decode_test(g, numbers, blocks.len(), out.len())?;
     let mut value = [0u8; 256];
-    if !decode_all(numbers, blocks, k, &mut value[..size], &ps, &ls) {
-        return Coded::Refused(Fault::Disagreement);
+    if !decode_all(numbers, blocks, g.k, &mut value[..g.size]) {
+        return Err(Fault::Disagreement);
     }
-    area::put(out, 0, &value[..size]);
-    Coded::Done
+    area::put(out, 0, &value[..g.size]);
+    Ok(())
 }

@@ -1,5 +1,6 @@
 -- What is counted of a write's stamps and acks. hs, ts and rs are the servers' flags, their stamps' times and their reports. Assumes nothing.
 use Prim.Native.Nat.{ℕ, ◌+◌, ◌≤◌, max}
+use mir.Val.{bool_byte}
 use native.Mathlib.Omega.{arith}
 use native.Mathlib.Numerals.{add-one}
 use mathlib.Core.Bool.{Bool, true, false, not, ◌&&◌}
@@ -26,11 +27,13 @@ quorate_law g h c e = ap (λ k. leb g.n (k + g.t)) e
 
 -- ---- a stamp
 
-pub not_heard : (h x : Bool) → not h ≡ true → false ≡ (h && x)
-not_heard h x q = let e : h ≡ false = not-true h q in rw e
+-- true counts 1
+pub bit_of : (b : Bool) (x : ℕ) → x ≡ bool_byte b → (x ≡ bit b) × (x ≤ 1)
+bit_of true x e = (e, omega (arith, e))
+bit_of false x e = (e, omega (arith, e))
 
-pub was_heard : (h x y : Bool) → not h ≡ false → y ≡ x → y ≡ (h && x)
-was_heard h x y q d = let e : h ≡ true = not-false h q in rw e d
+pub swap : (a b : ℕ) → a + b ≡ b + a
+swap a b = omega arith
 
 module _ (g : Params) (hs : List Bool) (ts rs : List ℕ) where
   -- whether server j's counts

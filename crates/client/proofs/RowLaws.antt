@@ -1,8 +1,10 @@
 -- The loops over a row's stamps. Assumes nothing.
-use Prim.Native.Nat.{ℕ, suc, ◌+◌, ◌≤◌, ◌<◌}
+use Prim.Native.Nat.{ℕ, zero, suc, ◌+◌, ◌≤◌, ◌<◌}
+use native.Mathlib.Numerals.{add-one}
+use native.Mathlib.Decide.{dec_le}
 use native.Mathlib.Omega.{arith}
-use mathlib.Core.Bool.{Bool, true, false}
-use mathlib.Core.Path.{◌≡◌, ap, sym, ◌∙◌}
+use mathlib.Core.Bool.{Bool, true, false, ◌||◌}
+use mathlib.Core.Path.{◌≡◌, refl, ap, sym, ◌∙◌}
 use mathlib.Core.List.{List}
 use lib.ListN.{get_or, set}
 use lib.Dec.{ltb}
@@ -11,31 +13,32 @@ use Rattle.area.specs.Area.{pick}
 use Rattle.frame.specs.declared.Stamp.{Stamp}
 use Rattle.frame.specs.Stamps.{older, same_stamp, zero_stamp}
 use Rattle.client_rules.specs.declared.Row.{Row}
-use Rattle.client.specs.declared.Spot.TheVariants.{At, Nowhere}
+use Rattle.std.specs.Prelude.{Some, None}
 use Rattle.client_rules.specs.Rows.{has_stamp, smallest, place_for, row_with}
 use Rattle.client.specs.Stages.{spot_of}
 
--- ---- whether a stamp is there: from the last place down
+-- ---- whether a stamp is there
 
-module _ (l : List Stamp) (x : Stamp) (i k m : ℕ) (b : Bool) (w : i ≡ suc k) (e : b ≡ same_stamp (get_or l k zero_stamp) x)
-    (q : has_stamp l i x ≡ has_stamp l m x) where
-  pub has_found : b ≡ true → true ≡ has_stamp l m x
-  unfolding has_stamp
-  has_found t =
-      let s : same_stamp (get_or l k zero_stamp) x ≡ true = sym e ∙ t in
-      let z : has_stamp l (suc k) x ≡ true = rw s in
-      sym (sym q ∙ ap (λ n. has_stamp l n x) w ∙ z)
+or_true : (b : Bool) → b || true ≡ true
+or_true true = refl
+or_true false = refl
 
-  pub has_next : b ≡ false → has_stamp l k x ≡ has_stamp l m x
-  unfolding has_stamp
-  has_next t =
-      let s : same_stamp (get_or l k zero_stamp) x ≡ false = sym e ∙ t in
-      let z : has_stamp l (suc k) x ≡ has_stamp l k x = rw s in
-      sym z ∙ sym (ap (λ n. has_stamp l n x) w) ∙ q
-
-pub has_none : (l : List Stamp) (x : Stamp) (i m : ℕ) → i ≤ 0 → has_stamp l i x ≡ has_stamp l m x → false ≡ has_stamp l m x
+-- it is at place i, one of the first m
+pub has_found : (l : List Stamp) (x : Stamp) (i m : ℕ) → i < m → same_stamp (get_or l i zero_stamp) x ≡ true → true ≡ has_stamp l m x
 unfolding has_stamp
-has_none l x i m h q = let e : i ≡ 0 = omega arith in sym (ap (λ n. has_stamp l n x) e) ∙ q
+has_found l x i zero h t = absurd (omega arith)
+has_found l x i (suc m) h t = go (has_found l x i m) (dec_le m i)
+  where
+    go : (i < m → same_stamp (get_or l i zero_stamp) x ≡ true → true ≡ has_stamp l m x) → Dec (m ≤ i)
+        → true ≡ same_stamp (get_or l m zero_stamp) x || has_stamp l m x
+    go f (yes k) = let e : i ≡ m = omega (arith, h, k) in let s : same_stamp (get_or l m zero_stamp) x ≡ true = ap (λ n. same_stamp (get_or l n zero_stamp) x) (sym e) ∙ t in rw s
+    go f (no n) = sym (ap (λ b. same_stamp (get_or l m zero_stamp) x || b) (sym (f (omega (arith, n)) t)) ∙ or_true (same_stamp (get_or l m zero_stamp) x))
+
+-- it is not among the first i, nor at place i
+pub has_next : (l : List Stamp) (x : Stamp) (i : ℕ) → has_stamp l i x ≡ false → same_stamp (get_or l i zero_stamp) x ≡ false
+    → has_stamp l (i + 1) x ≡ false
+unfolding has_stamp
+has_next l x i e t = ap (λ n. has_stamp l n x) (add-one i) ∙ rw (t, e)
 
 -- ---- the smallest of four
 
@@ -52,20 +55,20 @@ smallest_law l a b r p q s =
 -- ---- where a new stamp goes
 
 module _ (r : Row) (x : Stamp) where
-  pub place_behind : r.count < 4 → At r.count ≡ spot_of (place_for r x)
+  pub place_behind : r.count < 4 → Some r.count ≡ spot_of (place_for r x)
   unfolding place_for pick
   place_behind h = let e : ltb r.count 4 ≡ true = lt-ltb _ _ h in rw e
 
   module _ (i : ℕ) (b : Bool) (h : 4 ≤ r.count) (p : i ≡ smallest r.stamps 3) (q : b ≡ older (get_or r.stamps i zero_stamp) x) where
-    pub place_smallest : b ≡ true → At i ≡ spot_of (place_for r x)
+    pub place_smallest : b ≡ true → Some i ≡ spot_of (place_for r x)
     unfolding place_for pick
     place_smallest t =
         let e : ltb r.count 4 ≡ false = le-ltb _ _ h in
         let d : older (get_or r.stamps (smallest r.stamps 3) zero_stamp) x ≡ true =
         ap (λ k. older (get_or r.stamps k zero_stamp) x) (sym p) ∙ sym q ∙ t in
-        rw (e, d) (ap At p)
+        rw (e, d) (ap Some p)
 
-    pub place_nowhere : b ≡ false → Nowhere ≡ spot_of (place_for r x)
+    pub place_nowhere : b ≡ false → None ≡ spot_of (place_for r x)
     unfolding place_for pick
     place_nowhere t =
         let e : ltb r.count 4 ≡ false = le-ltb _ _ h in

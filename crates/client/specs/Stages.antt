@@ -1,6 +1,6 @@
 -- What inner functions of the code ask and promise. The entry points' promises (Delivery.antt, Beginning.antt) do not speak of these. These are definitions.
-use Rattle.std.specs.Prelude.{ℕ, ◌≤◌, ◌<◌, List, length, Ok, Err}
-use Rattle.std.proofs.Math.Option.{Option, none, some}
+use Rattle.std.specs.Prelude.{ℕ, ◌≤◌, ◌<◌, List, length, Option, Some, None, Ok, Err}
+use Rattle.std.proofs.Math.Option as M
 use Rattle.std.proofs.lemmas.List.Edits.{sets}
 use Rattle.area.specs.Responses.{turned_down, gives}
 use Rattle.blocks.specs.declared.Params.{Params}
@@ -11,15 +11,13 @@ use Rattle.frame.specs.Frames.{body_at}
 use Rattle.frame.specs.Outbox.{frames, receivers, Room, first_place}
 use Rattle.frame.specs.Chunks.{rows_bytes}
 use Rattle.client_rules.specs.declared.Client.{Client}
-use Rattle.client.specs.declared.Spot.{Spot}
-use Rattle.client.specs.declared.Spot.TheVariants.{At, Nowhere}
 use Rattle.client_rules.specs.Steps.{Effect}
 use Rattle.client_rules.specs.Delivery.{Outcome, progress_by, result_of}
 
--- the code's name of a place in a row, or of none
-abbrev pub spot_of : Option ℕ → Spot
-spot_of none = Nowhere
-spot_of (some i) = At i
+-- a place in a row, or none, as the code returns it
+abbrev pub spot_of : M.Option ℕ → Option ℕ
+spot_of M.none = None
+spot_of (M.some i) = Some i
 
 -- an operation can begin: a number is left, and a question to all servers has room
 pub record Opening (g : Params) (last out to : ℕ) : Type 0 where

@@ -17,7 +17,14 @@ use frame::send::ask_all;
 use frame::{Ask, Place, Refusal};
 
 // Refusals 1, 2, 3, 10, 15 and 16 of a read; last is the last number used.
-fn read_test(g: Params, me: usize, p: Phase, last: u32, out: usize, to: usize) -> Result<(), Refusal>
+fn read_test(
+    g: Params,
+    me: usize,
+    p: Phase,
+    last: u32,
+    out: usize,
+    to: usize,
+) -> Result<(), Refusal>
     ensures { result ≡ and_then (params_test g me last_client) (and_then (send_room g out to) (idle_test p last)) }
 {
     params_test(g, me, CLIENTS)?;
@@ -59,21 +66,14 @@ fn open_read(g: Params, me: u8, s: Client, out: &mut [u8], to: &mut [u8]) -> Ans
     ensures { begun result out.new to.new ≡ begun_of g me fine (open_read g me s) out.old to.old }
 {
     let reads = s.reads + 1;
-    let heard = s.heard;
-    let times = s.times;
-    let reports = s.reports;
     let rows = fresh_rows();
     let start = Place { at: 0, count: 0 };
     let end = ask_all(out, to, start, g, Ask::Read, me, reads);
     let client = Client {
-        writes: s.writes,
         reads,
-        closed: s.closed,
         phase: Phase::Reading,
-        heard,
-        times,
         rows,
-        reports,
+        ..s
     };
     Answered {
         answer: Answer::Sent(end.count),
@@ -88,20 +88,15 @@ fn open_write(g: Params, me: u8, s: Client, out: &mut [u8], to: &mut [u8]) -> An
 {
     let writes = s.writes + 1;
     let heard = [false; 11];
-    let times = [0u64; 11];
-    let rows = s.rows;
-    let reports = s.reports;
+    let times = [0; 11];
     let start = Place { at: 0, count: 0 };
     let end = ask_all(out, to, start, g, Ask::GetStamp, me, writes);
     let client = Client {
         writes,
-        reads: s.reads,
-        closed: s.closed,
         phase: Phase::Asking,
         heard,
         times,
-        rows,
-        reports,
+        ..s
     };
     Answered {
         answer: Answer::Sent(end.count),

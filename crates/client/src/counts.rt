@@ -1,5 +1,5 @@
 // What is counted of an open write: whether n - t servers are marked, whether n - t stamps count, and the largest time of these.
-ghost use Rattle.std.specs.Prelude.{◌≡◌, ◌&&◌, max, get_or};
+ghost use Rattle.std.specs.Prelude.{◌≡◌, ◌&&◌, get_or};
 ghost use Rattle.area.specs.Area.{pick};
 ghost use Rattle.frame.specs.Params.{Bounded};
 ghost use Rattle.group_rules.specs.Vouching.{backed};
@@ -7,7 +7,7 @@ ghost use Rattle.client_rules.specs.Steps.{quorate, gathered, largest_counted};
 
 use blocks::Params;
 use client_rules::Client;
-use group::matching::{one, tally};
+use group::matching::tally;
 use group::vouching::is_backed;
 
 // Whether n - t servers are marked.
@@ -18,24 +18,12 @@ pub fn is_quorate(g: Params, heard: [bool; 11]) -> bool
     g.n <= tally(heard, g.n) + g.t
 }
 
-pub fn larger(a: u64, b: u64) -> u64
-    ensures { result ≡ max a b }
-{
-    if a <= b {
-        return b;
-    }
-    a
-}
-
 // Whether a server's stamp counts: one was heard, and t + 1 servers reported its time or more.
 fn is_counted(g: Params, heard: bool, time: u64, reports: [u64; 11]) -> bool
     requires { Bounded g }
     ensures { result ≡ (heard && backed g (λ j. get_or reports j 0) time) }
 {
-    if !heard {
-        return false;
-    }
-    is_backed(reports, g, time)
+    heard && is_backed(reports, g, time)
 }
 
 // Whether n - t stamps count.
@@ -46,12 +34,10 @@ pub fn is_gathered(s: Client, g: Params) -> bool
     let heard = s.heard;
     let times = s.times;
     let reports = s.reports;
-    let mut r: usize = 0;
-    let mut j: usize = 0;
-    while j < g.n {
-        j += 1;
-        let counts = is_counted(g, heard[j], times[j], reports);
-        r = one(counts) + r;
+    let mut r = 0;
+    for j in 0..g.n {
+        let counts = is_counted(g, heard[j + 1], times[j + 1], reports);
+        r += usize::from(counts);
     }
     g.n <= r + g.t
 }
@@ -60,10 +46,7 @@ pub fn is_gathered(s: Client, g: Params) -> bool
 fn time_if(counts: bool, time: u64) -> u64
     ensures { result ≡ pick counts time 0 }
 {
-    if counts {
-        return time;
-    }
-    0
+    if counts { time } else { 0 }
 }
 
 // The largest time of those that count.
@@ -75,11 +58,9 @@ pub fn largest_counted(s: Client, g: Params) -> u64
     let times = s.times;
     let reports = s.reports;
     let mut r = 0;
-    let mut j: usize = 0;
-    while j < g.n {
-        j += 1;
-        let counts = is_counted(g, heard[j], times[j], reports);
-        r = larger(time_if(counts, times[j]), r);
+    for j in 0..g.n {
+        let counts = is_counted(g, heard[j + 1], times[j + 1], reports);
+        r = time_if(counts, times[j + 1]).max(r);
     }
     r
 }

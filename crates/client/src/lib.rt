@@ -20,10 +20,3 @@ pub struct Call {
     pub from: Party,
     pub header: Header,
 }
-
-// Where a new stamp goes in a row.
-#[derive(Clone, Copy)]
-pub enum Spot {
-    At(usize),
-    Nowhere,
-}

@@ -7,55 +7,30 @@ use client_rules::Phase;
 pub fn is_idle(p: Phase) -> bool
     ensures { result ≡ idle p }
 {
-    match p {
-        Phase::Idle => true,
-        Phase::Asking => false,
-        Phase::Acking => false,
-        Phase::Reading => false,
-    }
+    matches!(p, Phase::Idle)
 }
 
 pub fn is_asking(p: Phase) -> bool
     ensures { result ≡ asking p }
 {
-    match p {
-        Phase::Idle => false,
-        Phase::Asking => true,
-        Phase::Acking => false,
-        Phase::Reading => false,
-    }
+    matches!(p, Phase::Asking)
 }
 
 pub fn is_acking(p: Phase) -> bool
     ensures { result ≡ acking p }
 {
-    match p {
-        Phase::Idle => false,
-        Phase::Asking => false,
-        Phase::Acking => true,
-        Phase::Reading => false,
-    }
+    matches!(p, Phase::Acking)
 }
 
 pub fn is_reading(p: Phase) -> bool
     ensures { result ≡ reading p }
 {
-    match p {
-        Phase::Idle => false,
-        Phase::Asking => false,
-        Phase::Acking => false,
-        Phase::Reading => true,
-    }
+    matches!(p, Phase::Reading)
 }
 
 // Whether a write is open.
 pub fn is_writing(p: Phase) -> bool
     ensures { result ≡ writing p }
 {
-    match p {
-        Phase::Idle => false,
-        Phase::Asking => true,
-        Phase::Acking => true,
-        Phase::Reading => false,
-    }
+    matches!(p, Phase::Asking | Phase::Acking)
 }

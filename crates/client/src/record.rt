@@ -2,24 +2,17 @@
 ghost use Rattle.std.specs.Prelude.{◌≡◌, ◌<◌};
 ghost use Rattle.client_rules.specs.State.{in_phase, shut, with_row, with_report};
 
-use crate::counts::larger;
 use client_rules::{Client, Phase, Row};
 
 // In a phase, with what that phase counts.
 pub fn in_phase(s: Client, phase: Phase, heard: [bool; 11], times: [u64; 11]) -> Client
     ensures { result ≡ in_phase s phase heard times }
 {
-    let rows = s.rows;
-    let reports = s.reports;
     Client {
-        writes: s.writes,
-        reads: s.reads,
-        closed: s.closed,
         phase,
         heard,
         times,
-        rows,
-        reports,
+        ..s
     }
 }
 
@@ -27,19 +20,10 @@ pub fn in_phase(s: Client, phase: Phase, heard: [bool; 11], times: [u64; 11]) ->
 pub fn shut(s: Client) -> Client
     ensures { result ≡ shut s }
 {
-    let heard = s.heard;
-    let times = s.times;
-    let rows = s.rows;
-    let reports = s.reports;
     Client {
-        writes: s.writes,
-        reads: s.reads,
         closed: true,
         phase: Phase::Idle,
-        heard,
-        times,
-        rows,
-        reports,
+        ..s
     }
 }
 
@@ -60,6 +44,6 @@ pub fn with_report(s: Client, j: usize, time: u64) -> Client
 {
     let mut y = s;
     let old = y.reports[j];
-    y.reports[j] = larger(old, time);
+    y.reports[j] = old.max(time);
     y
 }

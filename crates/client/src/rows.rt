@@ -5,7 +5,6 @@ ghost use Rattle.frame.specs.Stamps.{older, zero_stamp};
 ghost use Rattle.client_rules.specs.Rows.{used, has_stamp, smallest, place_for, row_with};
 ghost use Rattle.client.specs.Stages.{spot_of};
 
-use crate::Spot;
 use client_rules::Row;
 use frame::Stamp;
 use frame::stamps::{is_older, is_same};
@@ -14,10 +13,7 @@ use frame::stamps::{is_older, is_same};
 pub fn used_places(r: Row) -> usize
     ensures { (result ≡ used r) × (result ≤ 4) }
 {
-    if r.count < 4 {
-        return r.count;
-    }
-    4
+    r.count.min(4)
 }
 
 // Whether x is among the first m stamps.
@@ -25,13 +21,10 @@ pub fn has_stamp(stamps: [Stamp; 4], m: usize, x: Stamp) -> bool
     requires { m ≤ 4 }
     ensures { result ≡ has_stamp stamps m x }
 {
-    let mut i = m;
-    while 0 < i {
-        let y = stamps[i - 1];
-        if is_same(y, x) {
+    for i in 0..m {
+        if is_same(stamps[i], x) {
             return true;
         }
-        i -= 1;
     }
     false
 }
@@ -43,10 +36,7 @@ fn smaller(stamps: [Stamp; 4], i: usize, least: usize) -> usize
 {
     let x = stamps[i];
     let y = stamps[least];
-    if is_older(x, y) {
-        return i;
-    }
-    least
+    if is_older(x, y) { i } else { least }
 }
 
 // The place of the smallest of four stamps.
@@ -59,29 +49,26 @@ fn smallest_of(stamps: [Stamp; 4]) -> usize
 }
 
 // Where a new stamp goes: after the others, in place of the smallest of four, or nowhere.
-pub fn place_for(r: Row, x: Stamp) -> Spot
+pub fn place_for(r: Row, x: Stamp) -> Option<usize>
     ensures { result ≡ spot_of (place_for r x) }
 {
     if r.count < 4 {
-        return Spot::At(r.count);
+        return Some(r.count);
     }
     let stamps = r.stamps;
     let i = smallest_of(stamps);
     let y = stamps[i];
     if is_older(y, x) {
-        return Spot::At(i);
+        return Some(i);
     }
-    Spot::Nowhere
+    None
 }
 
 // One more, up to four; a larger count stays.
 fn more(count: usize) -> usize
     ensures { result ≡ pick (ltb count 4) (count + 1) count }
 {
-    if count < 4 {
-        return count + 1;
-    }
-    count
+    if count < 4 { count + 1 } else { count }
 }
 
 // The row with stamp x at place i.

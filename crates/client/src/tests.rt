@@ -7,9 +7,9 @@ ghost use Rattle.client_rules.specs.Beginning.{idle_test, closed_test, length_te
 use crate::phases::{is_idle, is_writing};
 use blocks::Params;
 use client_rules::Phase;
+use frame::Refusal;
 use frame::bounds::{out_room, to_room};
 use frame::places::{LAST_SEQUENCE, ROWS_BYTES};
-use frame::Refusal;
 
 // Refusal 10: whether the out and to areas, given by their lengths, are long enough.
 pub fn send_room(g: Params, out: usize, to: usize) -> Result<(), Refusal>

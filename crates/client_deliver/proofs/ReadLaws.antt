@@ -17,8 +17,7 @@ use Rattle.frame.specs.Messages.{Entry, message, value_is, from_server, number_i
 use Rattle.frame.specs.Chunks.{store_entry, place_at}
 use Rattle.client_rules.specs.declared.Row.{Row}
 use Rattle.client_rules.specs.declared.Client.{Client}
-use Rattle.client.specs.declared.Spot.{Spot}
-use Rattle.client.specs.declared.Spot.TheVariants as S
+use Rattle.std.specs.Prelude as P
 use Rattle.client_rules.specs.State.{row_of, with_row}
 use Rattle.client_rules.specs.Rows.{place_for, row_with}
 use Rattle.client_rules.specs.Tests.{kept_test, answers, owner_right, order_test, message_test}
@@ -28,27 +27,27 @@ use Rattle.client.specs.Stages.{spot_of, stepped}
 use Rattle.client_rules.proofs.Views.{goes}
 
 -- what the code's name of a place tells
-none_of : (o : Option ℕ) → spot_of o ≡ S.Nowhere → o ≡ none
+none_of : (o : Option ℕ) → spot_of o ≡ P.None → o ≡ none
 none_of none e = refl
 none_of (some i) e = impossible (cc)
 
-some_of : (o : Option ℕ) (i : ℕ) → spot_of o ≡ S.At i → o ≡ some i
+some_of : (o : Option ℕ) (i : ℕ) → spot_of o ≡ P.Some i → o ≡ some i
 some_of none i e = impossible (cc)
 some_of (some k) i e = let q : k ≡ i = cc in ap some q
 
 -- a place is one of four
-pub place_small : (r : Row) (x : Stamp) (p : Spot) (i : ℕ) → p ≡ spot_of (place_for r x) → p ≡ S.At i → i < 4
+pub place_small : (r : Row) (x : Stamp) (p : P.Option ℕ) (i : ℕ) → p ≡ spot_of (place_for r x) → p ≡ P.Some i → i < 4
 place_small r x p i e q = (goes r x i (some_of (place_for r x) i (sym e ∙ q))).small
 
-module _ (g : Params) (me : ℕ) (s : Client) (a l out to : List ℕ) (j : ℕ) (x : Stamp) (e : Entry) (p : Spot)
+module _ (g : Params) (me : ℕ) (s : Client) (a l out to : List ℕ) (j : ℕ) (x : Stamp) (e : Entry) (p : P.Option ℕ)
     (at : p ≡ spot_of (place_for (row_of s j) x)) (r : Outcome) where
-  pub not_kept : p ≡ S.Nowhere → r ≡ stepped (settle digest_of g me s a) l out to → r ≡ stepped (on_value digest_of g me s a j x e) l out to
+  pub not_kept : p ≡ P.None → r ≡ stepped (settle digest_of g me s a) l out to → r ≡ stepped (on_value digest_of g me s a j x e) l out to
   unfolding on_value keep_by
   not_kept q f =
       let d = none_of (place_for (row_of s j) x) (sym at ∙ q) in
       f ∙ ap (λ o. stepped (keep_by digest_of g me o s a j x e) l out to) (sym d)
 
-  pub value_kept : (i : ℕ) (w : Row) (y : Client) (b : List ℕ) → p ≡ S.At i → w ≡ row_with (row_of s j) i x → y ≡ with_row s j w
+  pub value_kept : (i : ℕ) (w : Row) (y : Client) (b : List ℕ) → p ≡ P.Some i → w ≡ row_with (row_of s j) i x → y ≡ with_row s j w
       → b ≡ store_entry a (place_at j i) e → r ≡ stepped (settle digest_of g me y b) l out to → r ≡ stepped (on_value digest_of g me s a j x e) l out to
   unfolding on_value keep_by
   value_kept i w y b q k m n f =

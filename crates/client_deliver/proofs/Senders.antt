@@ -54,14 +54,6 @@ report_sender g from w v i e f k =
     let n = server_number g from (fine_is (from_server g from) R.Sender w (sym e ∙ f)).0 in
     (omega (arith, n.0, k), omega (arith, n.1, k))
 
--- ---- refusal 11
-
-pub not_sender : (b t e : Bool) → b ≡ t → not b ≡ true → false ≡ (t && e)
-not_sender b t e p q = let d : t ≡ false = sym p ∙ not-true b q in rw d
-
-pub same_client : (b t e : Bool) → b ≡ t → not b ≡ false → e ≡ (t && e)
-same_client b t e p q = let d : t ≡ true = sym p ∙ not-false b q in rw d
-
 -- ---- refusal 12
 
 pub awaited_at : (v : Verdict) (fit : Bool) (q last i j : ℕ) (heard : List Bool) → v ≡ awaited (fit && (eqb q last && not (get_or heard i false))) → i ≡ j

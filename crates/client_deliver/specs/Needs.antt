@@ -1,6 +1,5 @@
 -- What inner functions of the code ask. The entry point's promise does not speak of these. These are definitions.
 use Rattle.std.specs.Prelude.{ℕ, ◌+◌, ◌≤◌, true, false, ◌≡◌, List, length}
-use Rattle.field.specs.Field.{Tables}
 use Rattle.sha256.specs.Hash.{digest_of}
 use Rattle.blocks.specs.declared.Params.{Params}
 use Rattle.frame.specs.Params.{Bounded, largest_frame}
@@ -12,11 +11,10 @@ use Rattle.client_rules.specs.State.{writing}
 use Rattle.client.specs.Stages.{Lent}
 
 -- the blocks of a value v go out, d being the list of their digests
-pub record Dispersing (g : Params) (v d ps ls : List ℕ) : Type 0 where
+pub record Dispersing (g : Params) (v d : List ℕ) : Type 0 where
   pub bounded : Bounded g
   pub whole : length v ≡ g.size
   pub list_is : d ≡ digests_of digest_of g v
-  pub tables : Tables ps ls
 
 -- a stamp of a write, or a report: where a write is open its value is whole, and n largest frames have room
 pub record Stamping (g : Params) (s : Client) (value out to : ℕ) : Type 0 where

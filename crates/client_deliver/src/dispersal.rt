@@ -34,10 +34,8 @@ fn send_own(
     out: &mut [u8],
     to: &mut [u8],
     p: Place,
-    ps: &[u8; 255],
-    ls: &[u8; 256],
 ) -> Place
-    requires { Dispersing d.params value.now list.now ps.now ls.now ×
+    requires { Dispersing d.params value.now list.now ×
         Room p 1 (offer_at + entry_length d.params) (length out.old) (length to.old) }
     ensures { outbox out.new to.new result ≡ sent (outbox out.old to.old p)
         (sending (P.Server j) (message d.write.client d.write.sequence
@@ -48,7 +46,7 @@ fn send_own(
     let b = width(g);
     let mut block = [0u8; 256];
     let w = d.write;
-    encode_block(value, k, j, &mut block, 0, ps, ls);
+    encode_block(value, k, j, &mut block, 0);
     send_block(out, to, p, j, w, list, &block[..b])
 }
 
@@ -60,20 +58,16 @@ fn own_blocks(
     out: &mut [u8],
     to: &mut [u8],
     p: Place,
-    ps: &[u8; 255],
-    ls: &[u8; 256],
 ) -> Place
-    requires { Dispersing d.params value.now list.now ps.now ls.now ×
+    requires { Dispersing d.params value.now list.now ×
         Room p d.params.n (offer_at + entry_length d.params) (length out.old) (length to.old) }
     ensures { outbox out.new to.new result ≡ sent (outbox out.old to.old p)
         (dispersal digest_of d.params d.write.client d.write.sequence value.now d.write.time) }
 {
     let g = d.params;
     let mut r = p;
-    let mut j: usize = 0;
-    while j < g.n {
-        j += 1;
-        r = send_own(value, d, list, j as u8, out, to, r, ps, ls);
+    for j in 0..g.n {
+        r = send_own(value, d, list, (j + 1) as u8, out, to, r);
     }
     r
 }
@@ -86,11 +80,9 @@ pub fn disperse(value: &[u8], d: Dispersal, out: &mut [u8], to: &mut [u8]) -> Pl
         (dispersal digest_of d.params d.write.client d.write.sequence value.now d.write.time) }
 {
     let g = d.params;
-    let ps = field::powers();
-    let ls = field::logs();
     let mut list = [0u8; BLOCK_AT];
-    digests(value, g, &mut list, 0, &ps, &ls);
+    digests(value, g, &mut list, 0);
     let listed = 32 * g.n;
     let start = Place { at: 0, count: 0 };
-    own_blocks(value, d, &list[..listed], out, to, start, &ps, &ls)
+    own_blocks(value, d, &list[..listed], out, to, start)
 }

@@ -10,16 +10,16 @@ ghost use Rattle.client_rules.specs.Delivery.{outcome};
 ghost use Rattle.client.specs.Stages.{Lent, stepped, answered};
 
 use crate::tests::entry_test;
+use client::Call;
 use client::record::with_row;
 use client::rows::{place_for, row_with};
-use client::{Call, Spot};
 use client_rules::{Answer, Answered, Client};
 use client_search::settle;
+use frame::Stamp;
 use frame::entries::keep_entry;
 use frame::opener::stamp_in;
 use frame::parties::number_in;
 use frame::places::VALUE_AT;
-use frame::Stamp;
 
 // A value from server j with stamp x is kept, if there is a place for it; then the rows are searched.
 fn keep(
@@ -40,8 +40,7 @@ fn keep(
         res.old out.old to.old }
 {
     let row = s.rows[j];
-    let spot = place_for(row, x);
-    let Spot::At(i) = spot else {
+    let Some(i) = place_for(row, x) else {
         return settle(s, k.params, k.me, area, res, out, to);
     };
     keep_entry(area, 4 * j - 4 + i, k.params, f, VALUE_AT);

@@ -24,10 +24,7 @@ use group::fitting::fit_test;
 pub fn sender_right(g: Params, from: Party, c: u8, me: u8) -> bool
     ensures { result ≡ (from_server g from && eqb c me) }
 {
-    if !from_server(g, from) {
-        return false;
-    }
-    c == me
+    from_server(g, from) && c == me
 }
 
 // Refusals 11 and 12 of a stamp or an ack: last is the open write's number, fit says that it is in the right phase;

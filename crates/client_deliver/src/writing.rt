@@ -21,9 +21,9 @@ use client::counts::{is_gathered, is_quorate, largest_counted};
 use client::phases::{is_acking, is_asking};
 use client::record::{in_phase, shut, with_report};
 use client_rules::{Answer, Answered, Client, Phase};
+use frame::WriteTime;
 use frame::parties::number_in;
 use frame::places::{BODY_AT, LAST_TIME};
-use frame::WriteTime;
 
 // "the largest counted time is taken": it goes out with the blocks, or the write closes as out of stamps.
 fn send_largest(

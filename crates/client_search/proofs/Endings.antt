@@ -10,7 +10,6 @@ use lib.Seq.{sets}
 use borrow.Author.Tests.{leb-true, not-true, not-false}
 use Rattle.area.specs.Area.{pick}
 use Rattle.quorum.specs.Quorum.{count}
-use Rattle.field.specs.Field.{Powers, Logs}
 use Rattle.area.specs.Responses.{gives}
 use Rattle.blocks.specs.declared.Params.{Params}
 use Rattle.sha256.specs.Hash.{digest_of}
@@ -40,8 +39,7 @@ use Rattle.frame.proofs.Rooms.{room_within}
 use Rattle.client_rules.specs.Answers.{goes_on, answer_response}
 use Rattle.client_rules.specs.Delivery.{Outcome, read_progress, read_result, progress_by, result_of}
 use Rattle.client_search.specs.declared.Hits.{Hits}
-use Rattle.client_search.specs.declared.Stop.{Stop}
-use Rattle.client_search.specs.declared.Stop.TheVariants.{At, Nowhere}
+use Rattle.std.specs.Prelude as P
 use Rattle.client_search.specs.AtStamp.{hits_of}
 use Rattle.client_search.specs.Search.{view, holders_of, kept_at, standing, Inside, Searching, Regaining, Finishing}
 use Rattle.client_search.proofs.Firsts.{hits_within}
@@ -67,25 +65,24 @@ module _ (g : Params) (rows : List Row) (a : List ℕ) (x : Stamp) (p result : �
   unfolding holders_of
   within = rw all (hits_within rows x a q.searching.whole)
 
-  pub regaining : (out : ℕ) (ps ls : List ℕ) → out ≡ g.size → Powers ps → Logs ls → Decoding g k.on k.at a out ps ls
-  regaining out ps ls o u v = record {
+  pub regaining : (out : ℕ) → out ≡ g.size → Decoding g k.on k.at a out
+  regaining out o = record {
     bounded = q.searching.bounded;
     within = within;
     enough = enough;
     whole = o;
-    tables = record { powers = u; logs = v };
   }
 
   -- what the k lowest give
-  module _ (l : List ℕ) (l-is : l ≡ value_from g k.on k.at a) (ps ls : List ℕ) (pw : Powers ps) (lg : Logs ls) where
+  module _ (l : List ℕ) (l-is : l ≡ value_from g k.on k.at a) where
     abbrev at_row : ℕ → Option Entry
     at_row j = at_stamp (view g rows a j) x
 
     pub value_length : length l ≡ g.size
-    value_length = ap length l-is ∙ length_value g k.on k.at a g.size ps ls (regaining g.size ps ls refl pw lg)
+    value_length = ap length l-is ∙ length_value g k.on k.at a g.size (regaining g.size refl)
 
-    pub valued : Valued g l ps ls × Within k.at a
-    valued = (record { bounded = q.searching.bounded; whole = value_length; tables = record { powers = pw; logs = lg } }, within)
+    pub valued : Valued g l × Within k.at a
+    valued = (record { bounded = q.searching.bounded; whole = value_length }, within)
 
     lowest_is : l ≡ lowest_value g at_row (entry_at g a p).digests
     lowest_is = l-is ∙ ap (λ (z : Hits). value_from g z.on z.at a) all ∙ holders_value g rows a x p q.searching
@@ -127,7 +124,7 @@ module _ (g : Params) (rows : List Row) (a : List ℕ) (result out to : ℕ) (le
       let l : 9 ≤ largest_frame g = omega arith in
       room_within first_place g.n g.n (largest_frame g) 9 out to (omega arith) l lent.room
 
-  pub finishing : (s : Stop) (j i : ℕ) → s ≡ At j i
+  pub finishing : (s : P.Option (ℕ × ℕ)) (j i : ℕ) → s ≡ P.Some (j, i)
       → (standing g rows a s ≡ first_agreed g (view g rows a) (rows_from (view g rows a) 1 g.n)) × Inside s
       → Finishing g rows a j i result out to
   finishing s j i e q =
@@ -183,24 +180,24 @@ module _ (g : Params) (me : ℕ) (s : Client) (a result out to : List ℕ) where
         to = w z;
       }
 
-  module _ (p : Stop)
+  module _ (p : P.Option (ℕ × ℕ))
       (q : (standing g s.rows a p ≡ first_agreed g (view g s.rows a) (rows_from (view g s.rows a) 1 g.n)) × Inside p) where
     -- the step, by where the search stopped
-    stopped : (y : Stop) → p ≡ y → settle digest_of g me s a ≡ complete_by digest_of g me (found_by g (view g s.rows a) (standing g s.rows a y)) s a
+    stopped : (y : P.Option (ℕ × ℕ)) → p ≡ y → settle digest_of g me s a ≡ complete_by digest_of g me (found_by g (view g s.rows a) (standing g s.rows a y)) s a
     unfolding settle search row_view
     stopped y e = ap (λ o. complete_by digest_of g me (found_by g (view g s.rows a) o) s a) (sym q.0 ∙ ap (standing g s.rows a) e)
 
     -- nothing is found
-    pub settle_none : p ≡ Nowhere
+    pub settle_none : p ≡ P.None
         → ◌≡◌ {A = Outcome}
         (record { answer = gives (goes_on 0); client = s; area = a; result = result; out = out; to = to })
         (stepped (settle digest_of g me s a) result out to)
     unfolding stepped complete_by found_by progress_by result_of frames receivers
-    settle_none e = sym (ap (λ x. stepped x result out to) (stopped Nowhere e))
+    settle_none e = sym (ap (λ x. stepped x result out to) (stopped P.None e))
 
     -- the read ends
-    pub settle_some : (j i : ℕ) (b : Outcome) → p ≡ At j i
+    pub settle_some : (j i : ℕ) (b : Outcome) → p ≡ P.Some (j, i)
         → b ≡ stepped (complete_by digest_of g me (some (found_of g (view g s.rows a) (kept_at g s.rows a j i))) s a) result out to
         → b ≡ stepped (settle digest_of g me s a) result out to
     unfolding found_by
-    settle_some j i b e d = d ∙ sym (ap (λ x. stepped x result out to) (stopped (At j i) e))
+    settle_some j i b e d = d ∙ sym (ap (λ x. stepped x result out to) (stopped (P.Some (j, i)) e))

@@ -22,7 +22,7 @@ use Rattle.group.specs.Entries.{marked, entries, Within}
 use Rattle.client_rules.specs.declared.Row.{Row}
 use Rattle.client_rules.specs.State.{no_row}
 use Rattle.client_rules.specs.Rows.{used, places_from, at_stamp}
-use Rattle.client_search.specs.declared.Hit.{Hit}
+use Rattle.std.specs.Prelude.{Option, Some, None, is_some, unwrap_or}
 use Rattle.client_search.specs.declared.Hits.{Hits}
 use Rattle.client_search.specs.AtStamp.{first_from, first_in, hit_at, hits_of}
 
@@ -50,8 +50,8 @@ module _ (l : List Stamp) (x : Stamp) (i m : ℕ) where
 
 -- ---- what a row has at a stamp
 
-abbrev no_hit : Hit
-no_hit = record { found = false; chunk = 0 }
+abbrev no_hit : Option ℕ
+no_hit = None
 
 module _ (j : ℕ) (r : Row) (x : Stamp) where
   pub hit_zero : j < 1 → no_hit ≡ hit_at j r x
@@ -71,21 +71,21 @@ module _ (j : ℕ) (r : Row) (x : Stamp) where
         let f : ltb (first_in r x) (used r) ≡ false = le-ltb _ _ d in
         rw (e, f)
 
-    pub hit_some : i < m → ◌≡◌ {A = Hit} (record { found = true; chunk = place_at j i }) (hit_at j r x)
+    pub hit_some : i < m → Some (place_at j i) ≡ hit_at j r x
     unfolding hit_at pick
     hit_some h =
         let w = in_row in
         let d : first_in r x < used r = omega arith in
         let e : leb 1 j ≡ true = le-leb _ _ low in
         let f : ltb (first_in r x) (used r) ≡ true = lt-ltb _ _ d in
-        rw (e, f) (λ k. record { found = true; chunk = place_at j (w k) })
+        rw (e, f) (λ k. Some (place_at j (w k)))
 
   -- its chunk is one of the 40
-  pub hit_chunk : j ≤ 10 → (hit_at j r x).chunk ≤ 39
+  pub hit_chunk : j ≤ 10 → unwrap_or (hit_at j r x) 0 ≤ 39
   unfolding hit_at pick
   hit_chunk h = go (leb 1 j && ltb (first_in r x) (used r)) refl
     where
-      go : (b : Bool) → leb 1 j && ltb (first_in r x) (used r) ≡ b → (pick b (record { found = true; chunk = place_at j (first_in r x) }) no_hit).chunk ≤ 39
+      go : (b : Bool) → leb 1 j && ltb (first_in r x) (used r) ≡ b → unwrap_or (pick b (Some (place_at j (first_in r x))) no_hit) 0 ≤ 39
       go true e =
           let f : first_in r x < used r = ltb-true _ _ (and_right (leb 1 j) (ltb (first_in r x) (used r)) e) in
           omega arith
@@ -115,13 +115,13 @@ module _ (g : Params) (a : List ℕ) (j : ℕ) (r : Row) (x : Stamp) where
           h ∙ ap (λ n. kept (ltb (first_from r.stamps (suc i) m x) n) (entry_at g a (place_at j (first_from r.stamps (suc i) m x)))) e
 
   -- the entry of a hit is what the row has at the stamp
-  pub hit_entry : 1 ≤ j → kept (hit_at j r x).found (entry_at g a (hit_at j r x).chunk) ≡ at_stamp (places_from g a j r 0 (used r)) x
+  pub hit_entry : 1 ≤ j → kept (is_some (hit_at j r x)) (entry_at g a (unwrap_or (hit_at j r x) 0)) ≡ at_stamp (places_from g a j r 0 (used r)) x
   unfolding hit_at pick
   hit_entry low = rw (le-leb 1 j low) (go (ltb (first_in r x) (used r)) refl)
     where
       go : (b : Bool) → ltb (first_in r x) (used r) ≡ b
-          → kept (pick b (record { found = true; chunk = place_at j (first_in r x) }) no_hit).found
-          (entry_at g a (pick b (record { found = true; chunk = place_at j (first_in r x) }) no_hit).chunk)
+          → kept (is_some (pick b (Some (place_at j (first_in r x))) no_hit))
+          (entry_at g a (unwrap_or (pick b (Some (place_at j (first_in r x))) no_hit) 0))
           ≡ at_stamp (places_from g a j r 0 (used r)) x
       go true e = ap (λ c. kept c (entry_at g a (place_at j (first_in r x)))) (sym e) ∙ sym (at_places 0 (used r) ∙ rw zero-add refl)
       go false e = ap (λ c. kept c (entry_at g a (place_at j (first_in r x)))) (sym e) ∙ sym (at_places 0 (used r) ∙ rw zero-add refl)
@@ -129,21 +129,21 @@ module _ (g : Params) (a : List ℕ) (j : ℕ) (r : Row) (x : Stamp) where
 -- ---- what all rows have
 
 module _ (rows : List Row) (x : Stamp) where
-  pub hits_law : (on : List Bool) (at : List ℕ) → on ≡ table 11 (λ j. (hit_at j (get_or rows j no_row) x).found)
-      → at ≡ table 11 (λ j. (hit_at j (get_or rows j no_row) x).chunk) → ◌≡◌ {A = Hits} (record { on = on; at = at }) (hits_of rows x)
+  pub hits_law : (on : List Bool) (at : List ℕ) → on ≡ table 11 (λ j. is_some (hit_at j (get_or rows j no_row) x))
+      → at ≡ table 11 (λ j. unwrap_or (hit_at j (get_or rows j no_row) x) 0) → ◌≡◌ {A = Hits} (record { on = on; at = at }) (hits_of rows x)
   unfolding hits_of
   hits_law on at p q = λ i. record { on = p i; at = q i }
 
-  chunk_law : (j : ℕ) → j ≤ 10 → get_or (hits_of rows x).at j 0 ≡ (hit_at j (get_or rows j no_row) x).chunk
+  chunk_law : (j : ℕ) → j ≤ 10 → get_or (hits_of rows x).at j 0 ≡ unwrap_or (hit_at j (get_or rows j no_row) x) 0
   unfolding hits_of
-  chunk_law j h = let k : j < 11 = omega arith in get_d_table 11 (λ i. (hit_at i (get_or rows i no_row) x).chunk) j 0 k
+  chunk_law j h = let k : j < 11 = omega arith in get_d_table 11 (λ i. unwrap_or (hit_at i (get_or rows i no_row) x) 0) j 0 k
 
   no_chunk : (j : ℕ) → 11 ≤ j → get_or (hits_of rows x).at j 0 ≡ 0
   unfolding hits_of
   no_chunk j h =
-      let n = length_table 11 (λ i. (hit_at i (get_or rows i no_row) x).chunk) in
-      let k : length (table 11 (λ i. (hit_at i (get_or rows i no_row) x).chunk)) ≤ j = omega arith in
-      get_or-eq_default (table 11 (λ i. (hit_at i (get_or rows i no_row) x).chunk)) 0 k
+      let n = length_table 11 (λ i. unwrap_or (hit_at i (get_or rows i no_row) x) 0) in
+      let k : length (table 11 (λ i. unwrap_or (hit_at i (get_or rows i no_row) x) 0)) ≤ j = omega arith in
+      get_or-eq_default (table 11 (λ i. unwrap_or (hit_at i (get_or rows i no_row) x) 0)) 0 k
 
   -- every chunk lies in the rows area
   pub hits_within : (a : List ℕ) → rows_bytes ≤ length a → Within (hits_of rows x).at a
@@ -160,6 +160,6 @@ module _ (rows : List Row) (x : Stamp) where
   unfolding entries marked hits_of
   hits_entry g a j low h =
       let k : j < 11 = omega arith in
-      let p = get_d_table 11 (λ i. (hit_at i (get_or rows i no_row) x).found) j false k in
-      let q = get_d_table 11 (λ i. (hit_at i (get_or rows i no_row) x).chunk) j 0 k in
+      let p = get_d_table 11 (λ i. is_some (hit_at i (get_or rows i no_row) x)) j false k in
+      let q = get_d_table 11 (λ i. unwrap_or (hit_at i (get_or rows i no_row) x) 0) j 0 k in
       (λ i. kept (p i) (entry_at g a (q i))) ∙ hit_entry g a j (get_or rows j no_row) x low

@@ -25,9 +25,7 @@ use Rattle.client_rules.specs.State.{no_row}
 use Rattle.client_rules.specs.Rows.{Kept, used, places_from, at_stamp, rows_from, agreed, first_by, first_agreed}
 use Rattle.client_search.specs.declared.Hits.{Hits}
 use Rattle.client_search.specs.AtStamp.{hits_of}
-use Rattle.client_search.specs.declared.Stop.{Stop}
-use Rattle.client_search.specs.declared.Stop.TheVariants.{Nowhere}
-use Rattle.client_search.specs.Search.{view, holders_of, kept_at, standing, Inside, Searching}
+use Rattle.client_search.specs.Search.{view, holders_of, kept_at, Searching}
 use Rattle.client_search.proofs.Firsts.{hits_within, hits_entry}
 
 -- ---- a candidate: stamp x, and the digest list in chunk p
@@ -150,7 +148,3 @@ module _ (g : Params) (rows : List Row) (a : List ℕ) where
     pub place_found : b ≡ true → first (places j i m l) ≡ some (kept_at g rows a j i)
     unfolding first_by
     place_found q = open_place ∙ rw q
-
-  -- the ends, where the search stopped
-  pub stop_nowhere : (s : Stop) (o : Option Kept) → s ≡ Nowhere → o ≡ none → (standing g rows a s ≡ o) × Inside s
-  stop_nowhere s o e q = (ap (standing g rows a) e ∙ sym q, rw e tt)

@@ -14,8 +14,7 @@ use Rattle.client_rules.specs.declared.Row.{Row}
 use Rattle.client_rules.specs.State.{no_row}
 use Rattle.client_rules.specs.Rows.{Kept, used, places_from, agreed}
 use Rattle.client_search.specs.declared.Hits.{Hits}
-use Rattle.client_search.specs.declared.Stop.{Stop}
-use Rattle.client_search.specs.declared.Stop.TheVariants.{At, Nowhere}
+use Rattle.std.specs.Prelude as P
 
 -- server j's row, in the order of its places
 abbrev pub view : Params → List Row → List ℕ → ℕ → List Kept
@@ -30,14 +29,14 @@ abbrev pub kept_at : Params → List Row → List ℕ → ℕ → ℕ → Kept
 kept_at g rows a j i = record { stamp = get_or (get_or rows j no_row).stamps i zero_stamp; entry = entry_at g a (place_at j i) }
 
 -- what is where the search stopped
-abbrev pub standing : Params → List Row → List ℕ → Stop → Option Kept
-standing g rows a Nowhere = none
-standing g rows a (At j i) = some (kept_at g rows a j i)
+abbrev pub standing : Params → List Row → List ℕ → P.Option (ℕ × ℕ) → Option Kept
+standing g rows a P.None = none
+standing g rows a (P.Some p) = some (kept_at g rows a p.0 p.1)
 
 -- that place is one of the four of a server's row
-abbrev pub Inside : Stop → Type 0
-Inside Nowhere = Unit {0}
-Inside (At j i) = (1 ≤ j) × (j ≤ 10) × (i < 4)
+abbrev pub Inside : P.Option (ℕ × ℕ) → Type 0
+Inside P.None = Unit {0}
+Inside (P.Some p) = (1 ≤ p.0) × (p.0 ≤ 10) × (p.1 < 4)
 
 -- what the search asks: the rows area is whole
 pub record Searching (g : Params) (area : ℕ) : Type 0 where

@@ -34,11 +34,9 @@ fn regain_value(rows: [Row; 11], x: Stamp, p: usize, area: &[u8], g: Params, res
     let on = k.on;
     let at = k.at;
     let size = g.size;
-    let ps = field::powers();
-    let ls = field::logs();
     let mut value = [0u8; 256];
-    regain(on, at, area, g, &mut value[..size], &ps, &ls);
-    if !all_of(&value[..size], on, at, area, g, &ps, &ls) {
+    regain(on, at, area, g, &mut value[..size]);
+    if !all_of(&value[..size], on, at, area, g) {
         return false;
     }
     area::put(res, 0, &value[..size]);
@@ -50,9 +48,10 @@ fn read_answer(agree: bool, x: Stamp) -> Answer
     ensures { result ≡ pick agree (Value x) Disagreement }
 {
     if agree {
-        return Answer::Value(x);
+        Answer::Value(x)
+    } else {
+        Answer::Disagreement
     }
-    Answer::Disagreement
 }
 
 // The read ends with what is at place i of server j's row.

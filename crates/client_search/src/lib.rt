@@ -16,25 +16,12 @@ use client_rules::{Answer, Answered, Client};
 use ending::finish;
 use searching::search;
 
-// What a server's row has at a stamp: whether there is an entry, and the chunk of the rows area in which it lies.
-#[derive(Clone, Copy)]
-pub struct Hit {
-    pub found: bool,
-    pub chunk: usize,
-}
-
-// The same of all servers, place j for server j; place 0 stays empty.
+// What the servers' rows have at a stamp, place j for server j: whether there is an entry, and the chunk of the rows area in which it lies; place 0 stays
+// empty.
 #[derive(Clone, Copy)]
 pub struct Hits {
     pub on: [bool; 11],
     pub at: [usize; 11],
-}
-
-// Where a search stops: at a place of a server's row, or nowhere.
-#[derive(Clone, Copy)]
-pub enum Stop {
-    At(usize, usize),
-    Nowhere,
 }
 
 // After a value was kept or dropped: the rows are searched, and the read ends if n - t of them agree.
@@ -51,9 +38,7 @@ pub fn settle(
     ensures { outcome result area.now res.new out.new to.new
         ≡ stepped (settle digest_of g me s area.now) res.old out.old to.old }
 {
-    let rows = s.rows;
-    let stop = search(rows, area, g);
-    let Stop::At(j, i) = stop else {
+    let Some((j, i)) = search(s.rows, area, g) else {
         return Answered {
             answer: Answer::Sent(0),
             client: s,

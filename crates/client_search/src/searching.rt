@@ -5,8 +5,8 @@ ghost use Rattle.group.specs.Needs.{Comparing};
 ghost use Rattle.client_rules.specs.Rows.{rows_from, agreed, first_agreed};
 ghost use Rattle.client_search.specs.Search.{view, holders_of, Searching, standing, Inside};
 
+use crate::Hits;
 use crate::at_stamp::hits;
-use crate::{Hits, Stop};
 use blocks::Params;
 use client::rows::used_places;
 use client_rules::Row;
@@ -42,24 +42,21 @@ fn is_agreed(rows: [Row; 11], x: Stamp, p: usize, area: &[u8], g: Params) -> boo
 }
 
 // The first place, by rising server and place, whose stamp and digest list are in n - t rows.
-pub fn search(rows: [Row; 11], area: &[u8], g: Params) -> Stop
+pub fn search(rows: [Row; 11], area: &[u8], g: Params) -> Option<(usize, usize)>
     requires { Searching g (length area.now) }
     ensures { (standing g rows area.now result
         ≡ first_agreed g (view g rows area.now) (rows_from (view g rows area.now) 1 g.n)) × Inside result }
 {
-    let n = g.n;
-    let mut stop = Stop::Nowhere;
-    'search: for j in 1..n + 1 {
+    for j in 1..g.n + 1 {
         let r = rows[j];
         let m = used_places(r);
         let stamps = r.stamps;
         for i in 0..m {
             let x = stamps[i];
             if is_agreed(rows, x, 4 * j - 4 + i, area, g) {
-                stop = Stop::At(j, i);
-                break 'search;
+                return Some((j, i));
             }
         }
     }
-    stop
+    None
 }

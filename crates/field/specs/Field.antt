@@ -39,7 +39,7 @@ Powers l = (e : ℕ) → e < 255 → get_or l e 0 ≡ power_of 3 e
 unfoldable pub Logs : List ℕ → Type 0
 Logs l = (get_or l 0 0 ≡ 0) × ((a : ℕ) → 0 < a → a < 256 → (get_or l a 0 < 255) × (power_of 3 (get_or l a 0) ≡ a))
 
--- the two tables that are lent to a product
+-- the two tables of a product
 pub record Tables (ps ls : List ℕ) : Type 0 where
   pub powers : Powers ps
   pub logs : Logs ls

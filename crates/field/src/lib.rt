@@ -1,12 +1,11 @@
 // The byte field of FIPS 197 (polynomial 11B): products by the two tables of document 01, and the inverse as the 254th power.
-// A constant table is built anew wherever it is named, so an entry point takes both tables once and lends them down.
 #![tactic(auto)]
 
 ghost use Rattle.std.specs.Prelude.{◌≡◌, ◌<◌};
-ghost use Rattle.field.specs.Field.{◌⊗◌, power_of, Powers, Logs, Tables};
+ghost use Rattle.field.specs.Field.{◌⊗◌, power_of, Powers, Logs};
 
 // The powers of 03 with the exponents 0 to 254.
-const POWERS: [u8; 255] = *b"\
+static POWERS: [u8; 255] = *b"\
     \x01\x03\x05\x0f\x11\x33\x55\xff\x1a\x2e\x72\x96\xa1\xf8\x13\x35\
     \x5f\xe1\x38\x48\xd8\x73\x95\xa4\xf7\x02\x06\x0a\x1e\x22\x66\xaa\
     \xe5\x34\x5c\xe4\x37\x59\xeb\x26\x6a\xbe\xd9\x70\x90\xab\xe6\x31\
@@ -25,7 +24,7 @@ const POWERS: [u8; 255] = *b"\
     \x39\x4b\xdd\x7c\x84\x97\xa2\xfd\x1c\x24\x6c\xb4\xc7\x52\xf6";
 
 // The logarithms to the base 03 of the bytes 01 to FF. The entry for 00 is 0 and unused.
-const LOGS: [u8; 256] = *b"\
+static LOGS: [u8; 256] = *b"\
     \x00\x00\x19\x01\x32\x02\x1a\xc6\x4b\xc7\x1b\x68\x33\xee\xdf\x03\
     \x64\x04\xe0\x0e\x34\x8d\x81\xef\x4c\x71\x08\xc8\xf8\x69\x1c\xc1\
     \x7d\xc2\x1d\xb5\xf9\xb9\x27\x6a\x4d\xe4\xa6\x72\x9a\xc9\x09\x78\
@@ -44,50 +43,44 @@ const LOGS: [u8; 256] = *b"\
     \x67\x4a\xed\xde\xc5\x31\xfe\x18\x0d\x63\x8c\x80\xc0\xf7\x70\x07";
 
 // The table of powers.
-pub fn powers() -> [u8; 255]
-    ensures { Powers result }
+pub fn powers() -> &'static [u8; 255]
+    ensures { Powers result.now }
 {
-    POWERS
+    &POWERS
 }
 
 // The table of logarithms.
-pub fn logs() -> [u8; 256]
-    ensures { Logs result }
+pub fn logs() -> &'static [u8; 256]
+    ensures { Logs result.now }
 {
-    LOGS
+    &LOGS
 }
 
 // The exponent below 255 of the power of 03 that a is.
-fn log(a: u8, ls: &[u8; 256]) -> usize
-    requires { (0 < a) × Logs ls.now }
+fn log(a: u8) -> usize
+    requires { 0 < a }
     ensures { (result < 255) × (power_of 3 result ≡ a) }
 {
-    let i = a as usize;
-    ls[i] as usize
+    logs()[a as usize] as usize
 }
 
-// The product of two bytes, by the lent tables.
-pub fn mul(a: u8, b: u8, ps: &[u8; 255], ls: &[u8; 256]) -> u8
-    requires { Tables ps.now ls.now }
+// The product of two bytes: the power of 03 whose exponent is the sum of theirs, less a period.
+pub fn product(a: u8, b: u8) -> u8
     ensures { result ≡ a ⊗ b }
 {
-    if a == 0 {
+    if a == 0 || b == 0 {
         return 0;
     }
-    if b == 0 {
-        return 0;
-    }
-    let e = log(a, ls) + log(b, ls);
+    let e = log(a) + log(b);
     if e < 255 {
-        return ps[e];
+        powers()[e]
+    } else {
+        powers()[e - 255]
     }
-    let d = e - 255;
-    ps[d]
 }
 
 // The inverse of a byte, which is 00 for 00: its 254th power, by halving the exponent. After each turn the answer is r times s to the power e.
-pub fn inverse(a: u8, ps: &[u8; 255], ls: &[u8; 256]) -> u8
-    requires { Tables ps.now ls.now }
+pub fn inverse(a: u8) -> u8
     ensures { result ≡ power_of a 254 }
 {
     let mut r: u8 = 1;
@@ -95,19 +88,10 @@ pub fn inverse(a: u8, ps: &[u8; 255], ls: &[u8; 256]) -> u8
     let mut e: u8 = 254;
     while 0 < e {
         if e % 2 == 1 {
-            r = mul(r, s, ps, ls);
+            r = product(r, s);
         }
-        s = mul(s, s, ps, ls);
+        s = product(s, s);
         e /= 2;
     }
     r
-}
-
-// The product of two bytes, with tables of its own.
-pub fn product(a: u8, b: u8) -> u8
-    ensures { result ≡ a ⊗ b }
-{
-    let ps = powers();
-    let ls = logs();
-    mul(a, b, &ps, &ls)
 }

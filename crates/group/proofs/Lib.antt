@@ -5,5 +5,6 @@ pub mod Collecting
 pub mod Unanimous
 pub mod Digests
 pub mod Comparing
+pub mod Counted
 pub mod Regaining
 pub mod Matched

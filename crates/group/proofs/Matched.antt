@@ -87,20 +87,6 @@ count_turn p j r x e q =
     ∙ ap (λ t. bit (p t) + count p j) (add-one j)
     ∙ sym (ap (count p) (add-one j) ∙ count_suc p j)
 
--- whether server j reported the time T or more
-unfoldable pub reaching : List ℕ → ℕ → ℕ → Bool
-reaching rs T j = leb T (get_or rs j 0)
-
--- server j + 1's report was counted
-pub backed_turn : (rs : List ℕ) (T j r x : ℕ) → r ≡ count (reaching rs T) j → x ≡ bit (leb T (get_or rs (j + 1) 0)) → x + r ≡ count (reaching rs T) (j + 1)
-unfolding reaching
-backed_turn rs T j r x e q = count_turn (reaching rs T) j r x e q
-
--- server j + 1 was counted
-pub tally_turn : (on : List Bool) (j r x : ℕ) → r ≡ count (marked on) j → x ≡ bit (get_or on (j + 1) false) → x + r ≡ count (marked on) (j + 1)
-unfolding marked
-tally_turn on j r x e q = count_turn (marked on) j r x e q
-
 pub tally_end : (p : ℕ → Bool) (j n r : ℕ) → r ≡ count p j → n ≤ j → j ≤ n → r ≡ count p n
 tally_end p j n r e a b = let q : j ≡ n = omega arith in e ∙ ap (count p) q
 

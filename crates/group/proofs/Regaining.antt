@@ -23,7 +23,7 @@ pub all_blocks : (L k : ℕ) → k * block_length L k ≤ L + (k - 1)
 unfolding block_length
 all_blocks L k = mul-div-le (L + (k - 1)) k
 
-module _ (g : Params) (on : List Bool) (at a : List ℕ) (out : ℕ) (ps ls : List ℕ) (D : Decoding g on at a out ps ls) where
+module _ (g : Params) (on : List Bool) (at a : List ℕ) (out : ℕ) (D : Decoding g on at a out) where
   -- the numbers and their blocks fit the buffers
   pub few : g.k ≤ 8
   few = omega (arith, D.bounded.servers_high, D.bounded.faults_low, D.bounded.blocks_high)

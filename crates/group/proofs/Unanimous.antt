@@ -24,14 +24,6 @@ pub from_start : (b : ℕ) (w u : List ℕ) (r : Bool) → length w ≡ b → r 
 from_start b w u r e q = q ∙ ap (λ (l : List ℕ). same l u) (take_all b w (omega arith))
 
 -- a server that is not flagged, and one that is
-pub unflagged : (m x : Bool) → not m ≡ true → true ≡ pick m x true
-unfolding pick
-unflagged m x t = sym (ap (λ (b : Bool). pick b x true) (not-true m t))
-
-pub flagged : (m x r : Bool) → not m ≡ false → r ≡ x → r ≡ pick m x true
-unfolding pick
-flagged m x r t q = q ∙ sym (ap (λ (b : Bool). pick b x true) (not-false m t))
-
 pub within_at : (at a : List ℕ) → Within at a → (j : ℕ) → chunk_at (get_or at j 0) + chunk_bytes ≤ length a
 unfolding Within
 within_at at a W j = W j

@@ -1,6 +1,5 @@
 -- What the functions of this crate ask of their callers. Assumes nothing: these are definitions.
 use Rattle.std.specs.Prelude.{ℕ, ◌*◌, ◌≤◌, ◌≡◌, Bool, List, length, get_or}
-use Rattle.field.specs.Field.{Tables}
 use Rattle.quorum.specs.Quorum.{count}
 use Rattle.blocks.specs.declared.Params.{Params}
 use Rattle.frame.specs.Params.{width, Bounded}
@@ -21,21 +20,18 @@ pub record Collecting (g : Params) (js at a : List ℕ) (b out : ℕ) : Type 0 w
   pub room : length js * b ≤ out
 
 -- k servers are flagged, and the value fills an area
-pub record Decoding (g : Params) (on : List Bool) (at a : List ℕ) (out : ℕ) (ps ls : List ℕ) : Type 0 where
+pub record Decoding (g : Params) (on : List Bool) (at a : List ℕ) (out : ℕ) : Type 0 where
   pub bounded : Bounded g
   pub within : Within at a
   pub enough : g.k ≤ count (marked on) g.n
   pub whole : out ≡ g.size
-  pub tables : Tables ps ls
 
 -- a value is encoded
-pub record Encoding (g : Params) (v ps ls : List ℕ) : Type 0 where
+pub record Encoding (g : Params) (v : List ℕ) : Type 0 where
   pub bounded : Bounded g
   pub short : length v ≤ 256
-  pub tables : Tables ps ls
 
 -- a value of its full length
-pub record Valued (g : Params) (v ps ls : List ℕ) : Type 0 where
+pub record Valued (g : Params) (v : List ℕ) : Type 0 where
   pub bounded : Bounded g
   pub whole : length v ≡ g.size
-  pub tables : Tables ps ls

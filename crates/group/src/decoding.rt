@@ -2,7 +2,6 @@
 ghost use Rattle.std.specs.Prelude.{◌≡◌, true, ◌&&◌, ◌+◌, ◌*◌, ◌≤◌, ◌<◌, length, set, ltb};
 ghost use Rattle.std.proofs.lemmas.List.Edits.{sets};
 ghost use Rattle.area.specs.Area.{pick, same};
-ghost use Rattle.field.specs.Field.{Tables};
 ghost use Rattle.blocks.specs.Code.{block_length, block_of};
 ghost use Rattle.frame.specs.Params.{width, Bounded};
 ghost use Rattle.frame.specs.Chunks.{chunk_at, entry_at, chunk_bytes};
@@ -16,31 +15,18 @@ use blocks::decoder::decode_into;
 use blocks::encoder::block_stands;
 use frame::entries::block_at;
 
-// Adds server j to the c numbers collected so far, if it is flagged and they are fewer than k; returns how many there are then.
-fn add_number(mark: bool, j: u8, c: usize, k: usize, numbers: &mut [u8; 8]) -> usize
-    requires { (c ≤ k) × (k ≤ 8) }
-    ensures { (result ≡ pick (mark && ltb c k) (c + 1) c)
-        × (numbers.new ≡ pick (mark && ltb c k) (set numbers.old c j) numbers.old) }
-{
-    if mark {
-        if c < k {
-            numbers[c] = j;
-            return c + 1;
-        }
-    }
-    c
-}
-
 // The k lowest flagged servers of 1 to n.
 fn choose(on: [bool; 11], n: usize, k: usize, numbers: &mut [u8; 8])
     requires { (n ≤ 10) × (k ≤ 8) }
     ensures { numbers.new ≡ sets numbers.old 0 (lowest (marked on) k n) }
 {
     let mut c = 0;
-    let mut j = 0;
-    while j < n {
-        c = add_number(on[j + 1], (j + 1) as u8, c, k, numbers);
-        j += 1;
+    for j in 0..n {
+        let mark = on[j + 1];
+        if mark && c < k {
+            numbers[c] = (j + 1) as u8;
+            c += 1;
+        }
     }
 }
 
@@ -58,25 +44,15 @@ fn collect(js: &[u8], at: [usize; 11], area: &[u8], g: Params, b: usize, out: &m
     requires { Collecting g js.now at area.now b (length out.old) }
     ensures { out.new ≡ sets out.old 0 (blocks_in g at area.now js.now) }
 {
-    let mut i = 0;
-    while i < js.len() {
+    for i in 0..js.len() {
         let j = js[i] as usize;
         put_block(area, at[j], g, out, i * b);
-        i += 1;
     }
 }
 
 // The value from the blocks of the k lowest flagged servers.
-pub fn regain(
-    on: [bool; 11],
-    at: [usize; 11],
-    area: &[u8],
-    g: Params,
-    value: &mut [u8],
-    ps: &[u8; 255],
-    ls: &[u8; 256],
-)
-    requires { Decoding g on at area.now (length value.old) ps.now ls.now }
+pub fn regain(on: [bool; 11], at: [usize; 11], area: &[u8], g: Params, value: &mut [u8])
+    requires { Decoding g on at area.now (length value.old) }
     ensures { value.new ≡ value_from g on at area.now }
 {
     let n = g.n;
@@ -88,50 +64,29 @@ pub fn regain(
     let mut w = [0u8; 264];
     choose(on, n, k, &mut js);
     collect(&js[..k], at, area, g, b, &mut w);
-    decode_into(&js[..k], &w[..end], value, ps, ls);
+    decode_into(&js[..k], &w[..end], value);
 }
 
 // Whether own, a server's block, is block j of the value; so it is where the server is not flagged.
-fn is_block(
-    mark: bool,
-    own: &[u8],
-    value: &[u8],
-    k: usize,
-    j: u8,
-    ps: &[u8; 255],
-    ls: &[u8; 256],
-) -> bool
-    requires { (0 < k) × (k ≤ 8) × (length value.now ≤ 256) × (length own.now ≡ block_length (length value.now) k) × Tables ps.now ls.now }
+fn is_block(mark: bool, own: &[u8], value: &[u8], k: usize, j: u8) -> bool
+    requires { (0 < k) × (k ≤ 8) × (length value.now ≤ 256) × (length own.now ≡ block_length (length value.now) k) }
     ensures { result ≡ pick mark (same own.now (block_of k value.now j)) true }
 {
-    if !mark {
-        return true;
-    }
-    block_stands(value, k, j, own, 0, ps, ls)
+    !mark || block_stands(value, k, j, own, 0)
 }
 
 // Whether the blocks of all flagged servers of 1 to n are those of the value.
-pub fn all_of(
-    value: &[u8],
-    on: [bool; 11],
-    at: [usize; 11],
-    area: &[u8],
-    g: Params,
-    ps: &[u8; 255],
-    ls: &[u8; 256],
-) -> bool
-    requires { Valued g value.now ps.now ls.now × Within at area.now }
+pub fn all_of(value: &[u8], on: [bool; 11], at: [usize; 11], area: &[u8], g: Params) -> bool
+    requires { Valued g value.now × Within at area.now }
     ensures { result ≡ all_of g on at area.now value.now }
 {
     let n = g.n;
     let k = g.k;
-    let mut j = 0;
-    while j < n {
+    for j in 0..n {
         let own = block_at(area, at[j + 1], g);
-        if !is_block(on[j + 1], own, value, k, (j + 1) as u8, ps, ls) {
+        if !is_block(on[j + 1], own, value, k, (j + 1) as u8) {
             return false;
         }
-        j += 1;
     }
     true
 }

@@ -2,7 +2,6 @@
 ghost use Rattle.std.specs.Prelude.{◌≡◌, true, ◌&&◌, ◌+◌, ◌*◌, ◌≤◌, ◌<◌, length};
 ghost use Rattle.std.proofs.lemmas.List.Edits.{sets};
 ghost use Rattle.area.specs.Area.{pick, same};
-ghost use Rattle.field.specs.Field.{Tables};
 ghost use Rattle.blocks.specs.Code.{block_of};
 ghost use Rattle.sha256.specs.Hash.{digest_of};
 ghost use Rattle.frame.specs.Params.{listed};
@@ -19,49 +18,38 @@ use blocks::encoder::encode_block;
 use frame::entries::block_at;
 
 // The digest of block j of a value.
-fn block_digest(value: &[u8], k: usize, j: u8, ps: &[u8; 255], ls: &[u8; 256]) -> [u8; 32]
-    requires { (1 ≤ k) × (k ≤ 8) × (length value.now ≤ 256) × Tables ps.now ls.now }
+fn block_digest(value: &[u8], k: usize, j: u8) -> [u8; 32]
+    requires { (1 ≤ k) × (k ≤ 8) × (length value.now ≤ 256) }
     ensures { result ≡ digest_of (block_of k value.now j) }
 {
     let b = block_length(value.len(), k);
     let mut block = [0u8; 256];
-    encode_block(value, k, j, &mut block, 0, ps, ls);
+    encode_block(value, k, j, &mut block, 0);
     sha256::digest(&block[..b])
 }
 
 // The digests of the n blocks of a value, end to end, into out from index at on.
-pub fn digests(value: &[u8], g: Params, out: &mut [u8], at: usize, ps: &[u8; 255], ls: &[u8; 256])
-    requires { Encoding g value.now ps.now ls.now × (at + listed g ≤ length out.old) }
+pub fn digests(value: &[u8], g: Params, out: &mut [u8], at: usize)
+    requires { Encoding g value.now × (at + listed g ≤ length out.old) }
     ensures { out.new ≡ sets out.old at (digests_of digest_of g value.now) }
 {
     let n = g.n;
     let k = g.k;
-    let mut j = 0;
-    while j < n {
-        let d = block_digest(value, k, (j + 1) as u8, ps, ls);
+    for j in 0..n {
+        let d = block_digest(value, k, (j + 1) as u8);
         area::put(out, at + 32 * j, &d);
-        j += 1;
     }
 }
 
 // Whether block j of a value has its digest in the list, and is own, a server's block, if the server is flagged.
-fn agrees_at(
-    value: &[u8],
-    k: usize,
-    j: u8,
-    mark: bool,
-    own: &[u8],
-    list: &[u8],
-    ps: &[u8; 255],
-    ls: &[u8; 256],
-) -> bool
-    requires { (1 ≤ k) × (k ≤ 8) × (length value.now ≤ 256) × (1 ≤ j) × (32 * j ≤ length list.now) × Tables ps.now ls.now }
+fn agrees_at(value: &[u8], k: usize, j: u8, mark: bool, own: &[u8], list: &[u8]) -> bool
+    requires { (1 ≤ k) × (k ≤ 8) × (length value.now ≤ 256) × (1 ≤ j) × (32 * j ≤ length list.now) }
     ensures { result ≡ pick mark (same own.now (block_of k value.now j)) true
         && fits digest_of (entry list.now (block_of k value.now j)) j }
 {
     let b = block_length(value.len(), k);
     let mut block = [0u8; 256];
-    encode_block(value, k, j, &mut block, 0, ps, ls);
+    encode_block(value, k, j, &mut block, 0);
     if !block_fits(list, &block[..b], j as usize) {
         return false;
     }
@@ -79,21 +67,17 @@ pub fn agrees(
     at: [usize; 11],
     area: &[u8],
     g: Params,
-    ps: &[u8; 255],
-    ls: &[u8; 256],
 ) -> bool
-    requires { Valued g value.now ps.now ls.now × Within at area.now × (length list.now ≡ listed g) }
+    requires { Valued g value.now × Within at area.now × (length list.now ≡ listed g) }
     ensures { result ≡ all_of g on at area.now value.now && same (digests_of digest_of g value.now) list.now }
 {
     let n = g.n;
     let k = g.k;
-    let mut j = 0;
-    while j < n {
+    for j in 0..n {
         let own = block_at(area, at[j + 1], g);
-        if !agrees_at(value, k, (j + 1) as u8, on[j + 1], own, list, ps, ls) {
+        if !agrees_at(value, k, (j + 1) as u8, on[j + 1], own, list) {
             return false;
         }
-        j += 1;
     }
     true
 }

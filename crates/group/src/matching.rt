@@ -1,7 +1,7 @@
 // Which servers sent a time, which a digest list, and how many.
 ghost use Rattle.std.specs.Prelude.{◌≡◌, ◌&&◌, ◌+◌, ◌≤◌, length, leb, eqb};
 ghost use Rattle.area.specs.Area.{same};
-ghost use Rattle.quorum.specs.Quorum.{bit, count};
+ghost use Rattle.quorum.specs.Quorum.{count};
 ghost use Rattle.frame.specs.Params.{Bounded};
 ghost use Rattle.frame.specs.Chunks.{chunk_at, entry_at, chunk_bytes};
 ghost use Rattle.group.specs.Entries.{marked, timed, sent_list, flags, places_from};
@@ -10,38 +10,12 @@ ghost use Rattle.group.specs.Needs.{Comparing};
 use blocks::Params;
 use frame::entries::digests_at;
 
-// 1 for true, 0 for false.
-pub fn one(b: bool) -> usize
-    ensures { (result ≡ bit b) × (result ≤ 1) }
-{
-    if b {
-        return 1;
-    }
-    0
-}
-
 // How many of servers 1 to n are flagged.
 pub fn tally(on: [bool; 11], n: usize) -> usize
     requires { n ≤ 10 }
     ensures { (result ≡ count (marked on) n) × (result ≤ n) }
 {
-    let mut r = 0;
-    let mut j = 0;
-    while j < n {
-        r = one(on[j + 1]) + r;
-        j += 1;
-    }
-    r
-}
-
-// Whether the flag is set and the time beside it is this one.
-fn is_timed(mark: bool, kept: u64, time: u64) -> bool
-    ensures { result ≡ (mark && eqb kept time) }
-{
-    if mark {
-        return kept == time;
-    }
-    false
+    on[1..n + 1].iter().filter(|mark| **mark).count()
 }
 
 // The flags of the servers that sent this time; server j's is at place j of times.
@@ -49,10 +23,8 @@ pub fn at_time(on: [bool; 11], times: [u64; 11], time: u64) -> [bool; 11]
     ensures { result ≡ timed on times time }
 {
     let mut r = [false; 11];
-    let mut j = 0;
-    while j < 11 {
-        r[j] = is_timed(on[j], times[j], time);
-        j += 1;
+    for j in 0..11 {
+        r[j] = on[j] && times[j] == time;
     }
     r
 }
@@ -62,11 +34,9 @@ pub fn places(first: usize) -> [usize; 11]
     requires { first ≤ 1000 }
     ensures { result ≡ places_from first }
 {
-    let mut r = [0usize; 11];
-    let mut j = 0;
-    while j < 11 {
+    let mut r = [0; 11];
+    for j in 0..11 {
         r[j] = first + j;
-        j += 1;
     }
     r
 }
@@ -76,18 +46,7 @@ fn sent_list(j: usize, mark: bool, p: usize, area: &[u8], list: &[u8], g: Params
     requires { Bounded g × (chunk_at p + chunk_bytes ≤ length area.now) }
     ensures { result ≡ leb 1 j && (leb j g.n && (mark && same (entry_at g area.now p).digests list.now)) }
 {
-    let n = g.n;
-    if j < 1 {
-        return false;
-    }
-    if n < j {
-        return false;
-    }
-    if mark {
-        let d = digests_at(area, p, g);
-        return area::equal(d, list);
-    }
-    false
+    1 <= j && j <= g.n && mark && area::equal(digests_at(area, p, g), list)
 }
 
 // The flags of the servers that sent the list.
@@ -96,10 +55,8 @@ pub fn matching(on: [bool; 11], at: [usize; 11], area: &[u8], list: &[u8], g: Pa
     ensures { result ≡ flags (sent_list g on at area.now list.now) g.n }
 {
     let mut r = [false; 11];
-    let mut j = 0;
-    while j < 11 {
+    for j in 0..11 {
         r[j] = sent_list(j, on[j], at[j], area, list, g);
-        j += 1;
     }
     r
 }

@@ -3,7 +3,6 @@ ghost use Rattle.std.specs.Prelude.{◌≡◌, get_or};
 ghost use Rattle.frame.specs.Params.{Bounded};
 ghost use Rattle.group_rules.specs.Vouching.{backed};
 
-use crate::matching::one;
 use blocks::Params;
 
 // Whether t + 1 servers have reported the time or more; server j's highest report is at place j.
@@ -11,12 +10,6 @@ pub fn is_backed(reports: [u64; 11], g: Params, time: u64) -> bool
     requires { Bounded g }
     ensures { result ≡ backed g (λ j. get_or reports j 0) time }
 {
-    let n = g.n;
-    let mut r: usize = 0;
-    let mut j: usize = 0;
-    while j < n {
-        r = one(time <= reports[j + 1]) + r;
-        j += 1;
-    }
-    g.t + 1 <= r
+    let backing = reports[1..g.n + 1].iter().filter(|report| time <= **report);
+    g.t + 1 <= backing.count()
 }

@@ -1,19 +1,14 @@
--- After j turns j copies are stored. Assumes nothing.
-use mathlib.Core.Path.{◌≡◌, refl, ◌∙◌}
-use lib.ListN.{length-set}
-use Rattle.area.proofs.Sets.{sets_copy}
+-- n copies in place of what the slice held. Assumes nothing.
+use Prim.Native.Nat.{◌+◌, ◌-◌}
+use mathlib.Core.Path.{◌≡◌, ◌∙◌, ap}
+use lib.ListN.{length, length-replicate, replicate}
+use Rattle.area.specs.Area.{part}
+use Rattle.area.proofs.Sets.{sets_put, length_part}
 use native.Mathlib.Omega.{arith}
-use borrow.Author.Rules.{rules}
 use Rattle.area.proofs.fill.Goals as goal
 
-pub loop-j-init : goal.loop-j-init
-loop-j-init c = (refl, omega arith, refl)
-
-pub bounds-area-at : goal.bounds-area-at
-bounds-area-at c = omega arith
-
-pub loop-j-preserved : goal.loop-j-preserved
-loop-j-preserved c = (rw c.loop-j.invariant.0 (sets_copy c.args.area.now c.args.at c.loop-j.j c.args.b), omega arith, simp length-set (search rules))
-
 pub returns : goal.returns
-returns c = let e : c.loop-j.j ≡ c.args.n = omega arith in c.loop-j.invariant.0 ∙ rw e
+returns c =
+    let w = c.args.at + c.args.n - c.args.at in
+    let e : length (part c.args.area.now c.args.at w) ≡ c.args.n = omega (arith, length_part c.args.area.now c.args.at w (omega arith)) in
+    sets_put _ _ _ _ _ (c.fill.ensures.after (λ y e. e) ∙ ap (λ k. replicate k c.args.b) e) (simp length-replicate (omega arith)) (simp length-replicate c.requires)

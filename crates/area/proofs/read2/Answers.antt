@@ -1,8 +1,7 @@
--- The two bytes, as be2 reads them. Assumes nothing.
-use Rattle.area.specs.Numbers.{be2}
-use borrow.Author.Rules.{rules}
+-- By the number of std. Assumes nothing.
+use mathlib.Core.Path.{◌∙◌}
+use Rattle.area.proofs.Numbers.{be2_is}
 use Rattle.area.proofs.read2.Goals as goal
 
 pub returns : goal.returns
-unfolding be2
-returns c = search rules
+returns c = c.from_be_bytes.ensures ∙ be2_is _ _

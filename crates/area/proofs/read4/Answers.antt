@@ -1,8 +1,7 @@
--- The two halves, as be4 reads them. Assumes nothing.
-use Rattle.area.specs.Numbers.{be4}
-use borrow.Author.Rules.{rules}
+-- By the number of std. Assumes nothing.
+use mathlib.Core.Path.{◌∙◌}
+use Rattle.area.proofs.Numbers.{be4_is}
 use Rattle.area.proofs.read4.Goals as goal
 
 pub returns : goal.returns
-unfolding be4
-returns c = search rules
+returns c = c.from_be_bytes.ensures ∙ be4_is _ _

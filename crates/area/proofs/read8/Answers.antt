@@ -1,7 +1,7 @@
--- The eight bytes, as be8 reads them. Assumes nothing.
-use native.Mathlib.Omega.{arith}
-use Rattle.area.proofs.Numbers.{be8_bytes}
+-- By the number of std. Assumes nothing.
+use mathlib.Core.Path.{◌∙◌}
+use Rattle.area.proofs.Numbers.{be8_is}
 use Rattle.area.proofs.read8.Goals as goal
 
 pub returns : goal.returns
-returns c = omega (arith, be8_bytes c.args.s.now c.args.i)
+returns c = c.from_be_bytes.ensures ∙ be8_is _ _

@@ -1,13 +1,8 @@
--- Two stores, one place apart. Assumes nothing.
-use native.Mathlib.Numerals.{add-one}
-use lib.ListN.{length-set}
-use Rattle.area.specs.Numbers.{bytes2}
-use native.Mathlib.Omega.{arith}
+-- By the bytes of std. Assumes nothing.
+use mathlib.Core.Path.{◌∙◌, ap}
+use lib.Seq.{sets}
+use Rattle.area.proofs.Numbers.{bytes2_is}
 use Rattle.area.proofs.write2.Goals as goal
 
-pub bounds-area-at-2 : goal.bounds-area-at-2
-bounds-area-at-2 c = simp length-set (omega arith)
-
 pub returns : goal.returns
-unfolding bytes2
-returns c = rw add-one
+returns c = c.put.ensures ∙ ap (sets c.args.area.now c.args.at) (c.to_be_bytes.ensures ∙ bytes2_is c.args.x)

@@ -1,11 +1,8 @@
--- Two stores of four bytes, one after the other. Assumes nothing.
-use Prim.Native.Nat.{◌/◌, ◌%◌}
-use mathlib.Core.Path.{◌∙◌}
-use Rattle.area.specs.Numbers.{bytes4, bytes8}
-use Rattle.area.proofs.Sets.{sets_next}
-use Rattle.area.proofs.Numbers.{length_bytes4}
+-- By the bytes of std. Assumes nothing.
+use mathlib.Core.Path.{◌∙◌, ap}
+use lib.Seq.{sets}
+use Rattle.area.proofs.Numbers.{bytes8_is}
 use Rattle.area.proofs.write8.Goals as goal
 
 pub returns : goal.returns
-unfolding bytes8
-returns c = c.write4-2.ensures ∙ rw c.write4.ensures (sets_next _ _ (bytes4 (c.args.x / 4294967296)) (bytes4 (c.args.x % 4294967296)) 4 (length_bytes4 _))
+returns c = c.put.ensures ∙ ap (sets c.args.area.now c.args.at) (c.to_be_bytes.ensures ∙ bytes8_is c.args.x)

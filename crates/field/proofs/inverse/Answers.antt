@@ -14,8 +14,8 @@ loop-e-init c = (one_left _ (power_byte _ 254), search rules)
 pub loop-e-preserved : goal.loop-e-preserved
 loop-e-preserved c =
     elim c.if-e-eq1.branch [
-      | then-e-eq1 w ↦ turn_odd _ _ _ _ _ _ w.if-e-eq1.true (w.r-is ∙ w.mul-r.ensures) c.mul-s.ensures c.loop-e.invariant.0
-      | else-e-eq1 w ↦ turn_even _ _ _ _ _ _ w.if-e-eq1.false w.r-is c.mul-s.ensures c.loop-e.invariant.1 c.loop-e.invariant.0
+      | then-e-eq1 w ↦ turn_odd _ _ _ _ _ _ w.if-e-eq1.true (w.r-is ∙ w.product-r.ensures) c.product-s.ensures c.loop-e.invariant.0
+      | else-e-eq1 w ↦ turn_even _ _ _ _ _ _ w.if-e-eq1.false w.r-is c.product-s.ensures c.loop-e.invariant.1 c.loop-e.invariant.0
     ]
 
 pub returns : goal.returns

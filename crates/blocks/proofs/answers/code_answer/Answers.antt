@@ -4,10 +4,10 @@ use Rattle.blocks.specs.Calls.{code_response}
 use Rattle.blocks.specs.Answers.{code_answer}
 use Rattle.blocks.proofs.answers.code_answer.Goals as goal
 
-pub returns-in-Done : goal.returns-in-Done
+pub returns-in-Ok : goal.returns-in-Ok
 unfolding code_answer
-returns-in-Done c = sym (ap (λ z. code_answer (code_response z)) c.in-Done.is)
+returns-in-Ok c = sym (ap (λ z. code_answer (code_response z)) c.in-Ok.is)
 
-pub returns-in-Refused : goal.returns-in-Refused
+pub returns-in-Err : goal.returns-in-Err
 unfolding code_answer
-returns-in-Refused c = c.fault_number.ensures ∙ sym (ap (λ z. code_answer (code_response z)) c.in-Refused.is)
+returns-in-Err c = c.fault_number.ensures ∙ sym (ap (λ z. code_answer (code_response z)) c.in-Err.is)

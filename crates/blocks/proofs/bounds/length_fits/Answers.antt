@@ -1,13 +1,13 @@
--- Each test of the code is one of the definition. Assumes nothing.
-use Rattle.blocks.proofs.Parameters.{length_yes, length_no}
+-- The tests of the code are those of the definition. Assumes nothing.
 use native.Mathlib.Omega.{arith}
+use Rattle.std.proofs.lemmas.Bool.Decides.{nat_tests}
+use Rattle.blocks.specs.Params.{length_fits}
 use Rattle.blocks.proofs.bounds.length_fits.Goals as goal
 
-pub returns-then-size-eq0 : goal.returns-then-size-eq0
-returns-then-size-eq0 c = length_no _ (λ a b. omega arith)
+pub returns-then-size-ge1 : goal.returns-then-size-ge1
+unfolding length_fits
+returns-then-size-ge1 c = grind (arith, nat_tests)
 
-pub returns-then-size-gt256 : goal.returns-then-size-gt256
-returns-then-size-gt256 c = length_no _ (λ a b. omega arith)
-
-pub returns : goal.returns
-returns c = length_yes _ (omega arith) (omega arith)
+pub returns-else-size-ge1 : goal.returns-else-size-ge1
+unfolding length_fits
+returns-else-size-ge1 c = grind (arith, nat_tests)

@@ -1,13 +1,13 @@
--- Each test of the code is one of the definition. Assumes nothing.
-use Rattle.blocks.proofs.Numbers.{number_yes, number_no}
+-- The tests of the code are those of the definition. Assumes nothing.
 use native.Mathlib.Omega.{arith}
+use Rattle.std.proofs.lemmas.Bool.Decides.{nat_tests}
+use Rattle.blocks.specs.Calls.{number_fits}
 use Rattle.blocks.proofs.bounds.number_fits.Goals as goal
 
-pub returns-then-j-eq0 : goal.returns-then-j-eq0
-returns-then-j-eq0 c = number_no _ _ (λ a b. omega arith)
+pub returns-then-j-ge1 : goal.returns-then-j-ge1
+unfolding number_fits
+returns-then-j-ge1 c = grind (arith, nat_tests)
 
-pub returns-then-n-j : goal.returns-then-n-j
-returns-then-n-j c = number_no _ _ (λ a b. omega arith)
-
-pub returns : goal.returns
-returns c = number_yes _ _ (omega arith) (omega arith)
+pub returns-else-j-ge1 : goal.returns-else-j-ge1
+unfolding number_fits
+returns-else-j-ge1 c = grind (arith, nat_tests)

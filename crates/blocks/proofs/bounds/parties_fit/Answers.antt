@@ -1,19 +1,13 @@
--- Each test of the code is one of the definition. Assumes nothing.
-use Rattle.blocks.proofs.Parameters.{parties_yes, parties_no}
+-- The tests of the code are those of the definition. Assumes nothing.
 use native.Mathlib.Omega.{arith}
+use Rattle.std.proofs.lemmas.Bool.Decides.{nat_tests}
+use Rattle.blocks.specs.Params.{parties_fit}
 use Rattle.blocks.proofs.bounds.parties_fit.Goals as goal
 
-pub returns-then-n-lt4 : goal.returns-then-n-lt4
-returns-then-n-lt4 c = parties_no _ _ (λ a b d e. omega arith)
+pub returns-then-t-ge1 : goal.returns-then-t-ge1
+unfolding parties_fit
+returns-then-t-ge1 c = grind (arith, nat_tests)
 
-pub returns-then-n-gt10 : goal.returns-then-n-gt10
-returns-then-n-gt10 c = parties_no _ _ (λ a b d e. omega arith)
-
-pub returns-then-t-eq0 : goal.returns-then-t-eq0
-returns-then-t-eq0 c = parties_no _ _ (λ a b d e. omega arith)
-
-pub returns-then-n-t : goal.returns-then-n-t
-returns-then-n-t c = parties_no _ _ (λ a b d e. omega arith)
-
-pub returns : goal.returns
-returns c = parties_yes _ _ (omega arith) (omega arith) (omega arith) (omega arith)
+pub returns-else-t-ge1 : goal.returns-else-t-ge1
+unfolding parties_fit
+returns-else-t-ge1 c = grind (arith, nat_tests)

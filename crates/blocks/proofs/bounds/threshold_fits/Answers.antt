@@ -1,16 +1,13 @@
--- Each test of the code is one of the definition. Assumes nothing.
-use Rattle.blocks.proofs.Parameters.{threshold_yes, threshold_no}
+-- The tests of the code are those of the definition. Assumes nothing.
 use native.Mathlib.Omega.{arith}
+use Rattle.std.proofs.lemmas.Bool.Decides.{nat_tests}
+use Rattle.blocks.specs.Params.{threshold_fits}
 use Rattle.blocks.proofs.bounds.threshold_fits.Goals as goal
 
-pub returns-then-k-eq0 : goal.returns-then-k-eq0
-returns-then-k-eq0 c = threshold_no _ _ _ (λ a b. omega arith)
+pub returns-then-k-n : goal.returns-then-k-n
+unfolding threshold_fits
+returns-then-k-n c = grind (arith, nat_tests)
 
-pub returns-then-n-k : goal.returns-then-n-k
-returns-then-n-k c = threshold_no _ _ _ (λ a b. omega arith)
-
-pub returns-then-n-k-2 : goal.returns-then-n-k-2
-returns-then-n-k-2 c = threshold_no _ _ _ (λ a b. omega arith)
-
-pub returns : goal.returns
-returns c = threshold_yes _ _ _ (omega arith) (omega arith)
+pub returns-else-k-n : goal.returns-else-k-n
+unfolding threshold_fits
+returns-else-k-n c = grind (arith, nat_tests)

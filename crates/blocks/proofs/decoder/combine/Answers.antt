@@ -1,5 +1,5 @@
 -- After i turns the sum of the first i rows, each times its block's byte, is the polynomial with these values, and 0 at the other points. Assumes nothing.
-use mathlib.Core.Path.{sym, ap, ◌∙◌}
+use mathlib.Core.Path.{ap, ◌∙◌}
 use Prim.Native.Nat.{ℕ, ◌+◌, ◌*◌}
 use lib.ListN.{length, length-replicate}
 use Rattle.blocks.proofs.Stripes.{product_small}
@@ -10,8 +10,7 @@ use Rattle.blocks.proofs.decoder.combine.Goals as goal
 
 pub loop-i-init : goal.loop-i-init
 loop-i-init c =
-    let k : ℕ = length c.args.js.now in
-    (omega arith, ap length c.requires.4 ∙ length-replicate k 0, c.requires.4 ∙ basis_start c.args.js.now _ (row_length k c.args.b c.args.w.now c.args.r))
+    c.requires.4 ∙ basis_start c.args.js.now _ (row_length (length c.args.js.now) c.args.b c.args.w.now c.args.r)
 
 pub overflow_mul-at : goal.overflow_mul-at
 overflow_mul-at c =
@@ -39,26 +38,17 @@ bounds-w-i c =
 
 pub add_scaled-requires : goal.add_scaled-requires
 add_scaled-requires c =
-    (c.loop-i.invariant.1 ∙ sym (row_is_long c.args.js.now c.args.table.now c.loop-i.i c.requires.5 c.loop-i-test.true), c.requires.6)
-
-pub loop-i-smaller : goal.loop-i-smaller
-loop-i-smaller c = omega arith
+    let n = ap length c.requires.4 ∙ length-replicate (length c.args.js.now) 0 in
+    omega (arith, n, row_is_long c.args.js.now c.args.table.now c.loop-i.i c.requires.5 c.loop-i-test.true)
 
 pub loop-i-preserved : goal.loop-i-preserved
 loop-i-preserved c =
     let i : ℕ = c.loop-i.i in
-    let y = c.type_inv.w (i * c.args.b + c.args.r) in (
-      omega arith,
-      c.add_scaled.auto.p ∙ c.loop-i.invariant.1,
-      combine_turn c.args.js.now c.args.table.now c.args.w.now c.loop-i.p _ c.args.b c.args.r i c.requires.5 c.loop-i-test.true (omega (arith, y))
-          c.loop-i.invariant.2 c.add_scaled.ensures,
-    )
-
-pub shape_of-p : goal.shape_of-p
-shape_of-p c =
-    c.loop-i.invariant.1 ∙ sym (ap length c.requires.4 ∙ length-replicate (length c.args.js.now) 0)
+    let y = c.type_inv.w (i * c.args.b + c.args.r) in
+    combine_turn c.args.js.now c.args.table.now c.args.w.now c.loop-i.p _ c.args.b c.args.r i c.requires.5 c.loop-i-test.true (omega (arith, y))
+    c.loop-i.invariant c.add_scaled.ensures
 
 pub returns : goal.returns
 returns c =
     let n = row_length (length c.args.js.now) c.args.b c.args.w.now c.args.r in
-    c.loop-i.invariant.2 ∙ basis_end c.args.js.now _ c.loop-i.i (omega (arith, n))
+    c.loop-i.invariant ∙ basis_end c.args.js.now _ c.loop-i.i (omega (arith, n))

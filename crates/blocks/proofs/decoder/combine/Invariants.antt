@@ -1,6 +1,5 @@
 -- After i turns the sum of the first i rows, each times its block's byte, is the polynomial with these values, and 0 at the other points. Assumes nothing.
 use mathlib.Core.Path.{◌≡◌}
-use Prim.Native.Nat.{◌-◌, ◌≤◌}
 use lib.ListN.{length}
 use Rattle.blocks.specs.Poly.{through}
 use Rattle.blocks.specs.Code.{row}
@@ -8,7 +7,4 @@ use Rattle.blocks.proofs.Linear.{first_values}
 use Rattle.blocks.proofs.decoder.combine.Given as goal
 
 abbrev pub invariant-loop-i : goal.invariant-loop-i
-invariant-loop-i l = (l.i ≤ length l.js) × (length l.p ≡ length l.js) × (l.p ≡ through l.js (first_values (row (length l.js) l.b l.w l.r) l.i))
-
-abbrev pub decreases-loop-i : goal.decreases-loop-i
-decreases-loop-i l = length l.js - l.i
+invariant-loop-i l = l.p ≡ through l.js (first_values (row (length l.js) l.b l.w l.r) l.i)

@@ -28,7 +28,6 @@ decode_into-requires c =
       omega arith,
       c.requires.4,
       first_whole c.args.k c.args.js.now c.args.w.now c.args.value.now _ c.requires.0 c.requires.2 c.requires.5 c.block_length.ensures,
-      c.requires.6,
     )
 
 pub blocks_stand-requires : goal.blocks_stand-requires
@@ -39,7 +38,6 @@ blocks_stand-requires c =
       omega arith,
       c.requires.3,
       c.requires.5 ∙ ap (λ (x : ℕ). length c.args.js.now * block_length x c.args.k) (sym n),
-      c.requires.6,
     )
 
 pub returns : goal.returns

@@ -1,5 +1,5 @@
 -- After r turns the first r stripes are stored. Assumes nothing.
-use mathlib.Core.Path.{◌≡◌, refl, sym, ap, ap₂, ◌∙◌}
+use mathlib.Core.Path.{◌≡◌, sym, ap, ap₂, ◌∙◌}
 use mathlib.Core.List.{List}
 use Prim.Native.Nat.{ℕ, ◌-◌, ◌*◌}
 use native.Mathlib.Nat.{mul-le-mul}
@@ -17,12 +17,12 @@ use Rattle.blocks.proofs.decoder.decode_into.Goals as goal
 pub put_basis-requires : goal.put_basis-requires
 put_basis-requires c =
     let s = mul-le-mul c.requires.1 c.requires.1 in
-    (c.requires.1, omega (arith, s), c.requires.4)
+    (c.requires.1, omega (arith, s))
 
 pub loop-r-init : goal.loop-r-init
 loop-r-init c =
     let L : ℕ = length c.args.value.now in
-    (c.block_length-b.ensures, omega arith, refl, value_start (stripes c.args.js.now L c.args.w.now) L c.args.value.now)
+    value_start (stripes c.args.js.now L c.args.w.now) L c.args.value.now
 
 pub put_stripe-requires : goal.put_stripe-requires
 put_stripe-requires c =
@@ -30,10 +30,7 @@ put_stripe-requires c =
     let L : ℕ = length c.args.value.now in
     let s = starts L k c.loop-r.r c.requires.0 (omega arith) in
     let small = block_small L k c.requires.0 in
-    (c.requires.1, omega arith, c.loop-r-test.true, c.requires.3 ∙ ap (λ (x : ℕ). k * x) (sym c.loop-r.invariant.0), omega arith, omega arith, c.put_basis.ensures, c.requires.4)
-
-pub loop-r-smaller : goal.loop-r-smaller
-loop-r-smaller c = omega arith
+    (c.requires.1, omega arith, c.loop-r-test.true, c.requires.3 ∙ ap (λ (x : ℕ). k * x) (sym c.block_length-b.ensures), omega arith, omega arith, c.put_basis.ensures)
 
 pub loop-r-preserved : goal.loop-r-preserved
 unfolding stripes
@@ -44,16 +41,9 @@ loop-r-preserved c =
     let k : ℕ = length js in
     let L : ℕ = length c.args.value.now in
     let r : ℕ = c.loop-r.r in
-    let s = starts L k r c.requires.0 (omega arith) in (
-      c.loop-r.invariant.0,
-      omega arith,
-      p.auto.value ∙ c.loop-r.invariant.2,
-      p.ensures ∙ ap₂ (λ (n b : ℕ). sets c.loop-r.value (r * k) (take (n - r * k) (through js (row k b w r)))) c.loop-r.invariant.2 c.loop-r.invariant.0
-          ∙ stripe_turn (stripes js L w) k L r c.args.value.now c.loop-r.value (through_row_length js w (block_length L k)) (omega arith) c.loop-r.invariant.3,
-    )
-
-pub shape_of-value : goal.shape_of-value
-shape_of-value c = c.loop-r.invariant.2
+    let s = starts L k r c.requires.0 (omega arith) in
+    p.ensures ∙ ap₂ (λ (n b : ℕ). sets c.loop-r.value (r * k) (take (n - r * k) (through js (row k b w r)))) c.loop-r.auto.value c.block_length-b.ensures
+    ∙ stripe_turn (stripes js L w) k L r c.args.value.now c.loop-r.value (through_row_length js w (block_length L k)) (omega arith) c.loop-r.invariant
 
 pub returns : goal.returns
 unfolding value_of stripes
@@ -62,5 +52,5 @@ returns c =
     let w : List ℕ = c.args.w.now in
     let L : ℕ = length c.args.value.now in
     let e : c.loop-r.r ≡ block_length L (length js) = omega arith in
-    c.loop-r.invariant.3 ∙ ap (λ m. sets c.args.value.now 0 (take L (joined (stripes js L w) 0 m))) e
+    c.loop-r.invariant ∙ ap (λ m. sets c.args.value.now 0 (take L (joined (stripes js L w) 0 m))) e
     ∙ sets_whole c.args.value.now (value_of js L w) (length_value_of js w L c.requires.0)

@@ -1,16 +1,10 @@
 -- After r turns the first r stripes are stored. Assumes nothing.
 use mathlib.Core.Path.{◌≡◌}
-use Prim.Native.Nat.{◌≤◌, ◌-◌}
 use lib.ListN.{length, take}
 use lib.Seq.{sets}
 use Rattle.area.specs.Area.{joined}
-use Rattle.blocks.specs.Code.{block_length}
 use Rattle.blocks.proofs.Values.{stripes}
 use Rattle.blocks.proofs.decoder.decode_into.Given as goal
 
 abbrev pub invariant-loop-r : goal.invariant-loop-r
-invariant-loop-r l = (l.b ≡ block_length (length l.initial.value) (length l.js)) × (l.r ≤ l.b) × (length l.value ≡ length l.initial.value)
-    × (l.value ≡ sets l.initial.value 0 (take (length l.initial.value) (joined (stripes l.js (length l.initial.value) l.w) 0 l.r)))
-
-abbrev pub decreases-loop-r : goal.decreases-loop-r
-decreases-loop-r l = l.b - l.r
+invariant-loop-r l = l.value ≡ sets l.initial.value 0 (take (length l.initial.value) (joined (stripes l.js (length l.initial.value) l.w) 0 l.r))

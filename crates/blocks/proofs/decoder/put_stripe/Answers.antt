@@ -13,22 +13,22 @@ slice_bounds-combine-end c = sym (length-take-le (length c.args.js.now) (zeros 8
 
 pub combine-requires : goal.combine-requires
 combine-requires c =
-    (c.requires.0, c.requires.1, c.requires.2, c.requires.3, zeros_front (length c.args.js.now) 8 c.requires.0, c.requires.6, c.requires.7)
+    (c.requires.0, c.requires.1, c.requires.2, c.requires.3, zeros_front (length c.args.js.now) 8 c.requires.0, c.requires.6)
 
 pub slice_bounds-p-end-2 : goal.slice_bounds-p-end-2
 slice_bounds-p-end-2 c =
     let g = c.combine in
-    omega (arith, length_front (zeros 8) g.new.p (length c.args.js.now) g.auto.p, c.smaller-n.ensures)
+    omega (arith, length_front (zeros 8) g.new.p (length c.args.js.now) g.auto.p, c.min-n.ensures)
 
 pub slice_bounds-put-end : goal.slice_bounds-put-end
 slice_bounds-put-end c =
     let g = c.combine in
-    sym (part_length (zeros 8) g.new.p (length c.args.js.now) _ _ c.requires.0 g.auto.p c.smaller-n.ensures)
+    sym (part_length (zeros 8) g.new.p (length c.args.js.now) _ _ c.requires.0 g.auto.p c.min-n.ensures)
 
 pub put-requires : goal.put-requires
 put-requires c =
     let g = c.combine in
-    omega (arith, part_length (zeros 8) g.new.p (length c.args.js.now) _ _ c.requires.0 g.auto.p c.smaller-n.ensures, c.smaller-n.ensures)
+    omega (arith, part_length (zeros 8) g.new.p (length c.args.js.now) _ _ c.requires.0 g.auto.p c.min-n.ensures, c.min-n.ensures)
 
 pub returns : goal.returns
 returns c =
@@ -37,4 +37,4 @@ returns c =
     let left : ℕ = length c.args.value.now - c.args.r * k in
     c.put.ensures
     ∙ ap (sets c.args.value.now (c.args.r * k))
-    (part_read (zeros 8) g.new.p k left _ c.requires.0 g.auto.p c.smaller-n.ensures ∙ ap (take left) g.ensures)
+    (part_read (zeros 8) g.new.p k left _ c.requires.0 g.auto.p c.min-n.ensures ∙ ap (take left) g.ensures)

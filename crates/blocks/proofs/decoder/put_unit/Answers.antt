@@ -1,57 +1,29 @@
--- The polynomial of a unit vector is built in a local array and stored. Assumes nothing.
-use mathlib.Core.Path.{sym, ap, ◌∙◌}
-use Prim.Native.Nat.{ℕ, ◌+◌, ◌*◌}
+-- The polynomial of a unit vector is built in its row. Assumes nothing.
+use mathlib.Core.Path.{◌≡◌, ap, ◌∙◌}
+use Prim.Native.Nat.{ℕ, ◌+◌, ◌-◌, ◌*◌}
 use lib.ListN.{length}
-use lib.Seq.{sets, length-take-le, length_front}
-use Rattle.blocks.specs.Poly.{through, basis}
-use Rattle.blocks.proofs.Values.{front_back, zeros}
+use lib.Seq.{length-take-le}
+use Rattle.area.proofs.Sets.{sets_put, length_part}
+use Rattle.blocks.specs.Poly.{through, unit, basis}
+use Rattle.blocks.proofs.Values.{zeros}
 use Rattle.blocks.proofs.Linear.{unit_front, unit_length}
 use native.Mathlib.Omega.{arith}
 use Rattle.blocks.proofs.decoder.put_unit.Goals as goal
 
-pub slice_bounds-interpolate-end : goal.slice_bounds-interpolate-end
-slice_bounds-interpolate-end c =
-    sym (ap length (unit_front (length c.args.js.now) 8 c.args.i c.requires.0) ∙ unit_length (length c.args.js.now) c.args.i)
-
-pub slice_bounds-interpolate-end-2 : goal.slice_bounds-interpolate-end-2
-slice_bounds-interpolate-end-2 c = sym (length-take-le (length c.args.js.now) (zeros 8) c.requires.0)
-
-pub slice_bounds-interpolate-end-3 : goal.slice_bounds-interpolate-end-3
-slice_bounds-interpolate-end-3 c =
-    sym (length-take-le (length c.args.js.now + 1) (zeros 9) (omega arith))
-
 pub interpolate-requires : goal.interpolate-requires
-interpolate-requires c = (
-  ap length (unit_front (length c.args.js.now) 8 c.args.i c.requires.0) ∙ unit_length (length c.args.js.now) c.args.i,
-  length-take-le (length c.args.js.now) (zeros 8) c.requires.0,
-  length-take-le (length c.args.js.now + 1) (zeros 9) (omega arith),
-  c.requires.3,
-)
-
-pub slice_bounds-p-end-2 : goal.slice_bounds-p-end-2
-slice_bounds-p-end-2 c =
-    let g = c.interpolate in
-    omega (arith, length_front (zeros 8) g.new.p (length c.args.js.now) g.auto.p)
-
-pub slice_bounds-put-end : goal.slice_bounds-put-end
-slice_bounds-put-end c =
-    let g = c.interpolate in
-    sym (ap length (front_back (zeros 8) g.new.p (length c.args.js.now) c.requires.0 g.auto.p)
-    ∙ g.auto.p ∙ length-take-le (length c.args.js.now) (zeros 8) c.requires.0)
-
-pub put-requires : goal.put-requires
-put-requires c =
-    let g = c.interpolate in
-    let n = ap length (front_back (zeros 8) g.new.p (length c.args.js.now) c.requires.0 g.auto.p)
-    ∙ g.auto.p ∙ length-take-le (length c.args.js.now) (zeros 8) c.requires.0 in
-    omega arith
+interpolate-requires c =
+    let k : ℕ = length c.args.js.now in (
+      ap length (unit_front k 8 c.args.i c.requires.0) ∙ unit_length k c.args.i,
+      omega (arith, length_part c.args.table.now (c.args.i * k) (c.args.i * k + k - c.args.i * k) (omega arith)),
+      length-take-le (k + 1) (zeros 9) (omega arith),
+    )
 
 pub returns : goal.returns
 unfolding basis
 returns c =
     let g = c.interpolate in
     let k : ℕ = length c.args.js.now in
-    c.put.ensures
-    ∙ ap (sets c.args.table.now (c.args.i * k))
-    (front_back (zeros 8) g.new.p k c.requires.0 g.auto.p ∙ g.ensures.0
-    ∙ ap (through c.args.js.now) (unit_front k 8 c.args.i c.requires.0))
+    let e : g.new.p ≡ through c.args.js.now (unit k c.args.i) = g.ensures.0 ∙ ap (through c.args.js.now) (unit_front k 8 c.args.i c.requires.0) in
+    let n = length_part c.args.table.now (c.args.i * k) (c.args.i * k + k - c.args.i * k) (omega arith) in
+    let m : length (through c.args.js.now (unit k c.args.i)) ≡ k = omega (arith, n, g.auto.p, ap length e) in
+    sets_put _ _ _ _ _ e (omega arith) (omega arith)

@@ -10,7 +10,7 @@ pub encode_block-requires : goal.encode_block-requires
 encode_block-requires c =
     let p = c.requires in
     let s = block_small (length c.args.v.now) c.args.k p.0 in
-    (p.0, p.1, p.2, omega arith, p.4)
+    (p.0, p.1, p.2, omega arith)
 
 pub slice_bounds-block-end : goal.slice_bounds-block-end
 slice_bounds-block-end c = buffer_room _ _ _ _ _ _ c.requires.0 c.requires.2 c.block_length-b.ensures refl c.encode_block.ensures

@@ -1,5 +1,5 @@
 -- After each turn, what is left of the blocks gives the same answer as all of them. Assumes nothing.
-use Prim.Native.Nat.{◌-◌, ◌*◌, ◌≤◌}
+use Prim.Native.Nat.{◌*◌}
 use mathlib.Core.Path.{◌≡◌}
 use lib.ListN.{length, drop}
 use Rattle.area.specs.Area.{same}
@@ -8,8 +8,4 @@ use Rattle.blocks.proofs.encoder.blocks_stand.Given as goal
 
 abbrev pub invariant-loop-i : goal.invariant-loop-i
 invariant-loop-i l =
-    (l.b ≡ block_length (length l.v) l.k) × (l.i ≤ length l.js) × (l.at ≡ l.i * block_length (length l.v) l.k)
-    × (same (blocks_of l.k l.v l.js) l.w ≡ same (blocks_of l.k l.v (drop l.i l.js)) (drop l.at l.w))
-
-abbrev pub decreases-loop-i : goal.decreases-loop-i
-decreases-loop-i l = length l.js - l.i
+    same (blocks_of l.k l.v l.js) l.w ≡ same (blocks_of l.k l.v (drop l.i l.js)) (drop (l.i * block_length (length l.v) l.k) l.w)

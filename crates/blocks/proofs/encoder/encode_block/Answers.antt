@@ -1,27 +1,22 @@
 -- After r turns the first r bytes of the block are stored. Assumes nothing.
 use mathlib.Core.Path.{◌≡◌, refl, ap, ◌∙◌}
-use lib.ListN.{length, length-set}
+use lib.ListN.{length}
 use lib.Seq.{sets}
 use Rattle.area.specs.Area.{table, table_from}
 use Rattle.blocks.specs.Code.{block_length, block_byte, block_of}
 use Rattle.blocks.proofs.Stripes.{table_turn}
 use native.Mathlib.Omega.{arith}
-use borrow.Author.Rules.{rules}
 use Rattle.blocks.proofs.encoder.encode_block.Goals as goal
 
 pub loop-r-init : goal.loop-r-init
 unfolding table table_from
-loop-r-init c = (c.block_length-b.ensures, search rules, refl, refl)
-
-pub bounds-out-at : goal.bounds-out-at
-bounds-out-at c = omega arith
+loop-r-init c = refl
 
 pub loop-r-preserved : goal.loop-r-preserved
-loop-r-preserved c =
-    (c.loop-r.invariant.0, omega arith, simp length-set c.loop-r.invariant.2, table_turn _ _ _ _ _ _ c.loop-r.invariant.3 c.stripe_value.ensures)
+loop-r-preserved c = table_turn _ _ _ _ _ _ c.loop-r.invariant c.stripe_value.ensures
 
 pub returns : goal.returns
 unfolding block_of
 returns c =
     let e : c.loop-r.r ≡ block_length (length c.args.v.now) c.args.k = omega arith in
-    c.loop-r.invariant.3 ∙ ap (λ n. sets c.args.out.now c.args.at (table n (block_byte c.args.k c.args.v.now c.args.j))) e
+    c.loop-r.invariant ∙ ap (λ n. sets c.args.out.now c.args.at (table n (block_byte c.args.k c.args.v.now c.args.j))) e

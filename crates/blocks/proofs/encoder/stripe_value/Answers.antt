@@ -1,22 +1,20 @@
+-- The stripe of the value, without the zeros of the padding. Assumes nothing.
 use mathlib.Core.Path.{◌∙◌}
 use native.Mathlib.Omega.{arith}
-use Rattle.blocks.proofs.Stripes.{starts, stripe_full, stripe_short}
+use Rattle.blocks.proofs.Stripes.{starts, stripe_value}
 use Rattle.blocks.proofs.encoder.stripe_value.Goals as goal
 
 pub overflow_mul-start : goal.overflow_mul-start
 overflow_mul-start c = record { fits = omega (arith, starts _ _ _ c.requires.0 c.requires.3) }
 
-pub overflow_add-end : goal.overflow_add-end
-overflow_add-end c = record { fits = omega (arith, starts _ _ _ c.requires.0 c.requires.3) }
+pub overflow_add-start : goal.overflow_add-start
+overflow_add-start c = record { fits = omega (arith, starts _ _ _ c.requires.0 c.requires.3) }
 
-pub slice_bounds-value_at-count-2 : goal.slice_bounds-value_at-count-2
-slice_bounds-value_at-count-2 c = omega (arith, starts _ _ _ c.requires.0 c.requires.3)
+pub slice_bounds-value_at-count : goal.slice_bounds-value_at-count
+slice_bounds-value_at-count c = omega (arith, starts _ _ _ c.requires.0 c.requires.3, c.min-end.ensures)
 
-pub slice_bounds-value_at-start-2 : goal.slice_bounds-value_at-start-2
-slice_bounds-value_at-start-2 c = omega (arith, starts _ _ _ c.requires.0 c.requires.3)
-
-pub returns-then-end-v : goal.returns-then-end-v
-returns-then-end-v c = c.value_at.ensures ∙ stripe_full _ _ _ _ (omega arith)
+pub slice_bounds-value_at-start : goal.slice_bounds-value_at-start
+slice_bounds-value_at-start c = omega (arith, starts _ _ _ c.requires.0 c.requires.3, c.min-end.ensures)
 
 pub returns : goal.returns
-returns c = c.value_at-2.ensures ∙ stripe_short _ _ _ _ (omega (arith, starts _ _ _ c.requires.0 c.requires.3)) (omega arith)
+returns c = c.value_at.ensures ∙ stripe_value _ _ _ _ _ (omega (arith, starts _ _ _ c.requires.0 c.requires.3)) c.min-end.ensures

@@ -8,7 +8,7 @@ use Rattle.blocks.proofs.polynomial.newton_step.Goals as goal
 pub returns-then-gap-eq0 : goal.returns-then-gap-eq0
 unfolding ◌⊕◌
 returns-then-gap-eq0 c =
-    sym (no_step c.args.p.now c.args.m.now c.args.x c.args.y c.requires.0
+    sym (no_step c.args.p.now c.args.m.now c.args.x c.args.y c.requires
     (ap (λ z. c.args.y ⊕ z) (sym c.value_at.ensures) ∙ c.if-gap-eq0.true))
 
 pub returns : goal.returns

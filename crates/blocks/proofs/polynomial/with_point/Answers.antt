@@ -2,17 +2,16 @@ use mathlib.Core.Path.{◌∙◌}
 use native.Mathlib.Omega.{arith}
 use lib.ListN.{length, length-set, length-take, take}
 use Rattle.blocks.proofs.Point.{step_front, root_front}
-use borrow.Author.Rules.{rules}
 use Rattle.blocks.proofs.polynomial.with_point.Goals as goal
 
 pub slice_bounds-newton_step-end-2 : goal.slice_bounds-newton_step-end-2
 slice_bounds-newton_step-end-2 c = simp length-take (omega arith)
 
 pub newton_step-requires : goal.newton_step-requires
-newton_step-requires c = (simp (length-set, length-take) (omega arith), search rules)
+newton_step-requires c = simp (length-set, length-take) (omega arith)
 
 pub with_root-requires : goal.with_root-requires
-with_root-requires c = (simp length-set (omega arith), search rules)
+with_root-requires c = simp length-set (omega arith)
 
 pub shape_of-p : goal.shape_of-p
 shape_of-p c = c.newton_step.auto.p ∙ simp length-set

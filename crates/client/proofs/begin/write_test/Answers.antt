@@ -22,7 +22,7 @@ pub returns-in_err-send_room : goal.returns-in_err-send_room
 returns-in_err-send_room c =
     let e : c.from_residual-in_err-send_room.result ≡ Err c.in_err-send_room.field-0.0 = search rules in
     e ∙ go_second _ _ _ _ c.params_test.ensures c.in_ok-params_test.was
-        (go_second _ _ _ _ c.length_test.ensures c.in_ok-length_test.was (stop_first _ _ _ _ c.send_room.ensures c.in_err-send_room.was))
+    (go_second _ _ _ _ c.length_test.ensures c.in_ok-length_test.was (stop_first _ _ _ _ c.send_room.ensures c.in_err-send_room.was))
 
 pub returns : goal.returns
 returns c =

@@ -6,7 +6,4 @@ use Rattle.client.proofs.Countings.{counts}
 use Rattle.client.proofs.counts.is_gathered.Given as goal
 
 abbrev pub invariant-loop-j : goal.invariant-loop-j
-invariant-loop-j l = (l.r ≡ count (counts l.g l.heard l.times l.reports) l.j) × (l.r ≤ l.j) × (l.j ≤ l.g.n)
-
-abbrev pub decreases-loop-j : goal.decreases-loop-j
-decreases-loop-j l = l.g.n - l.j
+invariant-loop-j l = (l.r ≡ count (counts l.g l.heard l.times l.reports) l.j) × (l.r ≤ l.j)

@@ -6,7 +6,4 @@ use Rattle.client.proofs.Countings.{time_at}
 use Rattle.client.proofs.counts.largest_counted.Given as goal
 
 abbrev pub invariant-loop-j : goal.invariant-loop-j
-invariant-loop-j l = (l.r ≡ largest (time_at l.g l.heard l.times l.reports) l.j) × (l.j ≤ l.g.n)
-
-abbrev pub decreases-loop-j : goal.decreases-loop-j
-decreases-loop-j l = l.g.n - l.j
+invariant-loop-j l = (l.r ≡ largest (time_at l.g l.heard l.times l.reports) l.j)

@@ -7,6 +7,6 @@ pub returns-then-counts : goal.returns-then-counts
 unfolding pick
 returns-then-counts c = search rules
 
-pub returns : goal.returns
+pub returns-else-counts : goal.returns-else-counts
 unfolding pick
-returns c = search rules
+returns-else-counts c = search rules

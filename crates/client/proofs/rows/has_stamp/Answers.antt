@@ -1,26 +1,19 @@
-use Rattle.client.proofs.RowLaws.{has_found, has_next, has_none}
-use Prim.Native.Nat.{suc, ◌-◌}
-use mathlib.Core.Path.{◌≡◌, refl}
+-- After i turns the stamp was not found among the first i. Assumes nothing.
+use mathlib.Core.Path.{◌≡◌, refl, sym, ap, ◌∙◌}
 use native.Mathlib.Omega.{arith}
+use Rattle.client_rules.specs.Rows.{has_stamp}
+use Rattle.client.proofs.RowLaws.{has_found, has_next}
 use Rattle.client.proofs.rows.has_stamp.Goals as goal
 
 pub loop-i-init : goal.loop-i-init
-loop-i-init c = (omega arith, refl)
+unfolding has_stamp
+loop-i-init c = refl
 
 pub returns-then-is_same : goal.returns-then-is_same
-returns-then-is_same c =
-    let l = c.loop-i in
-    let w : l.i ≡ suc (l.i - 1) = omega arith in
-    has_found _ _ _ _ _ _ w c.is_same.ensures l.invariant.1 c.if-is_same.true
-
-pub loop-i-smaller : goal.loop-i-smaller
-loop-i-smaller c = omega arith
+returns-then-is_same c = has_found _ _ _ _ c.loop-i-test.true (sym c.is_same.ensures ∙ c.if-is_same.true)
 
 pub loop-i-preserved : goal.loop-i-preserved
-loop-i-preserved c =
-    let l = c.loop-i in
-    let w : l.i ≡ suc (l.i - 1) = omega arith in
-    (omega arith, has_next _ _ _ _ _ _ w c.is_same.ensures l.invariant.1 c.if-is_same.false)
+loop-i-preserved c = has_next _ _ _ c.loop-i.invariant (sym c.is_same.ensures ∙ c.if-is_same.false)
 
 pub returns : goal.returns
-returns c = has_none _ _ _ _ c.loop-i-test.false c.loop-i.invariant.1
+returns c = let e : c.loop-i.i ≡ c.args.m = omega arith in sym (ap (λ n. has_stamp c.args.stamps n c.args.x) (sym e) ∙ c.loop-i.invariant)

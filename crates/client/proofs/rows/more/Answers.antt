@@ -6,6 +6,6 @@ pub returns-then-count-lt4 : goal.returns-then-count-lt4
 unfolding pick
 returns-then-count-lt4 c = search tests
 
-pub returns : goal.returns
+pub returns-else-count-lt4 : goal.returns-else-count-lt4
 unfolding pick
-returns c = search tests
+returns-else-count-lt4 c = search tests

@@ -6,5 +6,5 @@ use Rattle.client.proofs.rows.smaller.Goals as goal
 pub returns-then-is_older : goal.returns-then-is_older
 returns-then-is_older c = (pick_yes _ _ _ c.is_older.ensures c.if-is_older.true refl, omega arith)
 
-pub returns : goal.returns
-returns c = (pick_no _ _ _ c.is_older.ensures c.if-is_older.false refl, omega arith)
+pub returns-else-is_older : goal.returns-else-is_older
+returns-else-is_older c = (pick_no _ _ _ c.is_older.ensures c.if-is_older.false refl, omega arith)

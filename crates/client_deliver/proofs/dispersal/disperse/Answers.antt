@@ -10,7 +10,7 @@ use Rattle.client_deliver.proofs.dispersal.disperse.Goals as goal
 pub digests-requires : goal.digests-requires
 digests-requires c =
     let B = c.requires.0 in (
-      record { bounded = B; short = omega (arith, c.requires.1, B.size_high); tables = record { powers = c.powers-ps.ensures; logs = c.logs-ls.ensures } },
+      record { bounded = B; short = omega (arith, c.requires.1, B.size_high) },
       omega (arith, B.servers_high),
     )
 
@@ -29,7 +29,6 @@ own_blocks-requires c =
         bounded = B;
         whole = c.requires.1;
         list_is = list_front c.args.d.params c.args.value.now _ _ B (omega arith) c.digests.ensures;
-        tables = record { powers = c.powers-ps.ensures; logs = c.logs-ls.ensures };
       },
       block_room c.args.d.params _ _ _ c.requires.2,
     )

@@ -8,7 +8,4 @@ use Rattle.client_deliver.proofs.dispersal.own_blocks.Given as goal
 
 abbrev pub invariant-loop-j : goal.invariant-loop-j
 invariant-loop-j l =
-    (l.j ≤ l.d.params.n) × (outbox l.out l.to l.r ≡ sent (outbox l.initial.out l.initial.to l.initial.r) (to_from (own l.d.params l.value l.d.write) 1 l.j))
-
-abbrev pub decreases-loop-j : goal.decreases-loop-j
-decreases-loop-j l = l.d.params.n - l.j
+    outbox l.out l.to l.r ≡ sent (outbox l.initial.out l.initial.to l.initial.r) (to_from (own l.d.params l.value l.d.write) 1 l.j)

@@ -17,7 +17,7 @@ encode_block-requires c =
     let D = c.requires.0 in
     let B = D.bounded in
     let M = small c.args.d.params B in
-    (B.blocks_low, omega (arith, B.blocks_high, B.faults_low, B.servers_high), omega (arith, D.whole, B.size_high), rw D.whole (omega (arith, M.block_room)), D.tables)
+    (B.blocks_low, omega (arith, B.blocks_high, B.faults_low, B.servers_high), omega (arith, D.whole, B.size_high), rw D.whole (omega (arith, M.block_room)))
 
 pub slice_bounds-block-end : goal.slice_bounds-block-end
 slice_bounds-block-end c = omega (arith, c.width-b.ensures.2, c.encode_block.auto.out)

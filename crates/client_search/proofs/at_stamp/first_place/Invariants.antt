@@ -5,7 +5,4 @@ use Rattle.client_search.specs.AtStamp.{first_from}
 use Rattle.client_search.proofs.at_stamp.first_place.Given as goal
 
 abbrev pub invariant-loop-i : goal.invariant-loop-i
-invariant-loop-i l = (l.i ≤ l.m) × (first_from l.stamps 0 l.m l.x ≡ first_from l.stamps l.i (l.m - l.i) l.x)
-
-abbrev pub decreases-loop-i : goal.decreases-loop-i
-decreases-loop-i l = l.m - l.i
+invariant-loop-i l = first_from l.stamps 0 l.m l.x ≡ first_from l.stamps l.i (l.m - l.i) l.x

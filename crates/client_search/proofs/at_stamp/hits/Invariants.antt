@@ -1,4 +1,5 @@
 -- After j turns the flags and chunks of servers 0 to j - 1 are stored. Assumes nothing.
+use Rattle.std.specs.Prelude.{is_some, unwrap_or}
 use Prim.Native.Nat.{◌≤◌, ◌-◌}
 use mathlib.Core.Bool.{false}
 use mathlib.Core.Path.{◌≡◌}
@@ -11,9 +12,5 @@ use Rattle.client_search.proofs.at_stamp.hits.Given as goal
 
 abbrev pub invariant-loop-j : goal.invariant-loop-j
 invariant-loop-j l =
-    (l.on ≡ sets (replicate 11 false) 0 (table l.j (λ i. (hit_at i (get_or l.rows i no_row) l.x).found)))
-    × (l.at ≡ sets (replicate 11 0) 0 (table l.j (λ i. (hit_at i (get_or l.rows i no_row) l.x).chunk)))
-    × (l.j ≤ 11)
-
-abbrev pub decreases-loop-j : goal.decreases-loop-j
-decreases-loop-j l = 11 - l.j
+    (l.on ≡ sets (replicate 11 false) 0 (table l.j (λ i. is_some (hit_at i (get_or l.rows i no_row) l.x))))
+    × (l.at ≡ sets (replicate 11 0) 0 (table l.j (λ i. unwrap_or (hit_at i (get_or l.rows i no_row) l.x) 0)))

@@ -6,5 +6,5 @@ use Rattle.client_search.proofs.ending.read_answer.Goals as goal
 pub returns-then-agree : goal.returns-then-agree
 returns-then-agree c = pick_yes _ _ _ refl c.if-agree.true refl
 
-pub returns : goal.returns
-returns c = pick_no _ _ _ refl c.if-agree.false refl
+pub returns-else-agree : goal.returns-else-agree
+returns-else-agree c = pick_no _ _ _ refl c.if-agree.false refl

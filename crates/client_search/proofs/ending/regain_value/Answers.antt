@@ -22,8 +22,7 @@ slice_bounds-regain-end c = sym (length-take-le _ (zeros 256) c.requires.searchi
 pub regain-requires : goal.regain-requires
 regain-requires c =
     let P = c.requires in
-    regaining _ _ _ _ _ _ P _ _ c.hits-h.ensures c.holders-k.ensures _ _ _ (length-take-le _ (zeros 256) P.searching.bounded.size_high) c.powers-ps.ensures
-    c.logs-ls.ensures
+    regaining _ _ _ _ _ _ P _ _ c.hits-h.ensures c.holders-k.ensures _ (length-take-le _ (zeros 256) P.searching.bounded.size_high)
 
 pub slice_bounds-value-end-2 : goal.slice_bounds-value-end-2
 slice_bounds-value-end-2 c =
@@ -36,21 +35,21 @@ slice_bounds-all_of-end c =
     let P = c.requires in
     let d = c.regain in
     let f = front_back (zeros 256) d.new.value _ P.searching.bounded.size_high d.auto.value ∙ d.ensures in
-    sym (value_length _ _ _ _ _ _ P _ _ c.hits-h.ensures c.holders-k.ensures _ f _ _ c.powers-ps.ensures c.logs-ls.ensures)
+    sym (value_length _ _ _ _ _ _ P _ _ c.hits-h.ensures c.holders-k.ensures _ f)
 
 pub all_of-requires : goal.all_of-requires
 all_of-requires c =
     let P = c.requires in
     let d = c.regain in
     let f = front_back (zeros 256) d.new.value _ P.searching.bounded.size_high d.auto.value ∙ d.ensures in
-    valued _ _ _ _ _ _ P _ _ c.hits-h.ensures c.holders-k.ensures _ f _ _ c.powers-ps.ensures c.logs-ls.ensures
+    valued _ _ _ _ _ _ P _ _ c.hits-h.ensures c.holders-k.ensures _ f
 
 pub returns-then-not-all_of : goal.returns-then-not-all_of
 returns-then-not-all_of c =
     let P = c.requires in
     let d = c.regain in
     let f = front_back (zeros 256) d.new.value _ P.searching.bounded.size_high d.auto.value ∙ d.ensures in
-    disagreed _ _ _ _ _ _ P _ _ c.hits-h.ensures c.holders-k.ensures _ f _ _ c.powers-ps.ensures c.logs-ls.ensures _ c.all_of.ensures _ (ap not c.if-not-all_of.true)
+    disagreed _ _ _ _ _ _ P _ _ c.hits-h.ensures c.holders-k.ensures _ f _ c.all_of.ensures _ (ap not c.if-not-all_of.true)
 
 pub slice_bounds-value-end-3 : goal.slice_bounds-value-end-3
 slice_bounds-value-end-3 c =
@@ -63,18 +62,18 @@ slice_bounds-put-end c =
     let P = c.requires in
     let d = c.regain in
     let f = front_back (zeros 256) d.new.value _ P.searching.bounded.size_high d.auto.value ∙ d.ensures in
-    sym (value_length _ _ _ _ _ _ P _ _ c.hits-h.ensures c.holders-k.ensures _ f _ _ c.powers-ps.ensures c.logs-ls.ensures)
+    sym (value_length _ _ _ _ _ _ P _ _ c.hits-h.ensures c.holders-k.ensures _ f)
 
 pub put-requires : goal.put-requires
 put-requires c =
     let P = c.requires in
     let d = c.regain in
     let f = front_back (zeros 256) d.new.value _ P.searching.bounded.size_high d.auto.value ∙ d.ensures in
-    omega (arith, value_length _ _ _ _ _ _ P _ _ c.hits-h.ensures c.holders-k.ensures _ f _ _ c.powers-ps.ensures c.logs-ls.ensures, P.value_room)
+    omega (arith, value_length _ _ _ _ _ _ P _ _ c.hits-h.ensures c.holders-k.ensures _ f, P.value_room)
 
 pub returns : goal.returns
 returns c =
     let P = c.requires in
     let d = c.regain in
     let f = front_back (zeros 256) d.new.value _ P.searching.bounded.size_high d.auto.value ∙ d.ensures in
-    unanimous _ _ _ _ _ _ P _ _ c.hits-h.ensures c.holders-k.ensures _ f _ _ c.powers-ps.ensures c.logs-ls.ensures _ c.all_of.ensures _ _ (ap not c.if-not-all_of.false) c.put.ensures
+    unanimous _ _ _ _ _ _ P _ _ c.hits-h.ensures c.holders-k.ensures _ f _ c.all_of.ensures _ _ (ap not c.if-not-all_of.false) c.put.ensures

@@ -9,7 +9,7 @@ use Rattle.group.proofs.decoding.all_of.Goals as goal
 pub loop-j-init : goal.loop-j-init
 loop-j-init c =
     let p = c.requires in
-    (left_start _ _ _ p.0.bounded p.1 _ _ p.0.whole, omega arith)
+    left_start _ _ _ p.0.bounded p.1 _ _ p.0.whole
 
 pub block_at-own-requires : goal.block_at-own-requires
 block_at-own-requires c =
@@ -20,26 +20,21 @@ pub is_block-requires : goal.is_block-requires
 is_block-requires c =
     let p = c.requires in
     let h = p.0.bounded in
-    (h.blocks_low, omega (arith, h.servers_high, h.faults_low, h.blocks_high), omega (arith, p.0.whole, h.size_high), own_long _ _ _ h p.1 c.args.value.now _ (c.loop-j.j + 1) p.0.whole c.block_at-own.ensures, p.0.tables)
+    (h.blocks_low, omega (arith, h.servers_high, h.faults_low, h.blocks_high), omega (arith, p.0.whole, h.size_high), own_long _ _ _ h p.1 c.args.value.now _ (c.loop-j.j + 1) p.0.whole c.block_at-own.ensures)
 
 pub returns-then-not-is_block : goal.returns-then-not-is_block
 returns-then-not-is_block c =
     let p = c.requires in
     left_out _ _ _ p.0.bounded p.1 _ _ p.0.whole _ _ c.loop-j-test.true (in_order_lem _ _ _ p.0.bounded p.1 _ _ p.0.whole _ (c.loop-j.j + 1) _ c.block_at-own.ensures c.is_block.ensures) (ap not c.if-not-is_block.true)
-    c.loop-j.invariant.0
-
-pub loop-j-smaller : goal.loop-j-smaller
-loop-j-smaller c = omega arith
+    c.loop-j.invariant
 
 pub loop-j-preserved : goal.loop-j-preserved
 loop-j-preserved c =
-    let p = c.requires in (
-      left_turn _ _ _ p.0.bounded p.1 _ _ p.0.whole _ _ c.loop-j-test.true (in_order_lem _ _ _ p.0.bounded p.1 _ _ p.0.whole _ (c.loop-j.j + 1) _ c.block_at-own.ensures c.is_block.ensures) (ap not c.if-not-is_block.false)
-          c.loop-j.invariant.0,
-      omega arith,
-    )
+    let p = c.requires in
+    left_turn _ _ _ p.0.bounded p.1 _ _ p.0.whole _ _ c.loop-j-test.true (in_order_lem _ _ _ p.0.bounded p.1 _ _ p.0.whole _ (c.loop-j.j + 1) _ c.block_at-own.ensures c.is_block.ensures) (ap not c.if-not-is_block.false)
+    c.loop-j.invariant
 
 pub returns : goal.returns
 returns c =
     let p = c.requires in
-    sym (c.loop-j.invariant.0 ∙ left_end _ _ _ p.0.bounded p.1 _ _ p.0.whole _ c.loop-j-test.false)
+    sym (c.loop-j.invariant ∙ left_end _ _ _ p.0.bounded p.1 _ _ p.0.whole _ (omega arith))

@@ -6,7 +6,4 @@ use Rattle.group.proofs.Unanimous.{left}
 use Rattle.group.proofs.decoding.all_of.Given as goal
 
 abbrev pub invariant-loop-j : goal.invariant-loop-j
-invariant-loop-j l = (all_of l.g l.on l.at l.area l.value ≡ left l.g l.at l.area l.on l.value l.j) × (l.j ≤ l.g.n)
-
-abbrev pub decreases-loop-j : goal.decreases-loop-j
-decreases-loop-j l = l.g.n - l.j
+invariant-loop-j l = (all_of l.g l.on l.at l.area l.value ≡ left l.g l.at l.area l.on l.value l.j)

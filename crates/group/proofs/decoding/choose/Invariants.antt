@@ -8,7 +8,4 @@ use Rattle.group.specs.Choice.{lowest}
 use Rattle.group.proofs.decoding.choose.Given as goal
 
 abbrev pub invariant-loop-j : goal.invariant-loop-j
-invariant-loop-j l = (l.numbers ≡ sets l.initial.numbers 0 (lowest (marked l.on) l.k l.j)) × (l.c ≡ length (lowest (marked l.on) l.k l.j)) × (l.c ≤ l.k) × (l.j ≤ l.n)
-
-abbrev pub decreases-loop-j : goal.decreases-loop-j
-decreases-loop-j l = l.n - l.j
+invariant-loop-j l = (l.numbers ≡ sets l.initial.numbers 0 (lowest (marked l.on) l.k l.j)) × (l.c ≡ length (lowest (marked l.on) l.k l.j)) × (l.c ≤ l.k)

@@ -12,7 +12,7 @@ use Rattle.group.proofs.decoding.collect.Goals as goal
 
 pub loop-i-init : goal.loop-i-init
 unfolding blocks_in
-loop-i-init c = (refl, omega arith, refl)
+loop-i-init c = (refl, refl)
 
 pub overflow_cast-j : goal.overflow_cast-j
 overflow_cast-j c = omega (arith, c.requires.numbers c.loop-i.i)
@@ -38,7 +38,7 @@ pub loop-i-preserved : goal.loop-i-preserved
 loop-i-preserved c =
     let inv = c.loop-i.invariant in
     let p = c.put_block in
-    (p.ensures ∙ block_turn _ _ _ c.requires.bounded c.requires.within _ _ _ _ _ c.requires.width_is inv.0 c.loop-i-test.true, omega arith, omega arith)
+    (p.ensures ∙ block_turn _ _ _ c.requires.bounded c.requires.within _ _ _ _ _ c.requires.width_is inv.0 c.loop-i-test.true, omega arith)
 
 pub returns : goal.returns
-returns c = c.loop-i.invariant.0 ∙ rw (take_all _ _ c.loop-i-test.false)
+returns c = c.loop-i.invariant.0 ∙ rw (take_all c.loop-i.i c.args.js.now (omega arith))

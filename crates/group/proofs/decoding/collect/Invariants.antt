@@ -7,7 +7,4 @@ use Rattle.group.specs.Choice.{blocks_in}
 use Rattle.group.proofs.decoding.collect.Given as goal
 
 abbrev pub invariant-loop-i : goal.invariant-loop-i
-invariant-loop-i l = (l.out ≡ sets l.initial.out 0 (blocks_in l.g l.at l.area (take l.i l.js))) × (l.i ≤ length l.js) × (length l.out ≡ length l.initial.out)
-
-abbrev pub decreases-loop-i : goal.decreases-loop-i
-decreases-loop-i l = length l.js - l.i
+invariant-loop-i l = (l.out ≡ sets l.initial.out 0 (blocks_in l.g l.at l.area (take l.i l.js))) × (length l.out ≡ length l.initial.out)

@@ -10,7 +10,4 @@ use Rattle.group.proofs.Comparing.{to_compare}
 use Rattle.group.proofs.digesting.agrees.Given as goal
 
 abbrev pub invariant-loop-j : goal.invariant-loop-j
-invariant-loop-j l = (all_of l.g l.on l.at l.area l.value && same (digests_of digest_of l.g l.value) l.list ≡ to_compare l.g l.at l.area l.on l.value l.list l.j) × (l.j ≤ l.g.n)
-
-abbrev pub decreases-loop-j : goal.decreases-loop-j
-decreases-loop-j l = l.g.n - l.j
+invariant-loop-j l = (all_of l.g l.on l.at l.area l.value && same (digests_of digest_of l.g l.value) l.list ≡ to_compare l.g l.at l.area l.on l.value l.list l.j)

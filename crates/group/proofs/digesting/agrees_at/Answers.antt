@@ -11,7 +11,7 @@ pub encode_block-requires : goal.encode_block-requires
 encode_block-requires c =
     let p = c.requires in
     let h = short_block _ _ p.0 p.2 in
-    (p.0, p.1, p.2, omega (arith, h), p.5)
+    (p.0, p.1, p.2, omega (arith, h))
 
 pub slice_bounds-block-end : goal.slice_bounds-block-end
 slice_bounds-block-end c = buffer_room _ _ _ _ _ _ c.requires.0 c.requires.2 c.block_length-b.ensures refl c.encode_block.ensures

@@ -10,7 +10,7 @@ use Rattle.group.proofs.digesting.block_digest.Goals as goal
 pub encode_block-requires : goal.encode_block-requires
 encode_block-requires c =
     let h = short_block _ _ c.requires.0 c.requires.2 in
-    (c.requires.0, c.requires.1, c.requires.2, omega (arith, h), c.requires.3)
+    (c.requires.0, c.requires.1, c.requires.2, omega (arith, h))
 
 pub slice_bounds-block-end : goal.slice_bounds-block-end
 slice_bounds-block-end c =

@@ -9,7 +9,4 @@ use Rattle.sha256.specs.Hash.{digest_of}
 use Rattle.group.proofs.digesting.digests.Given as goal
 
 abbrev pub invariant-loop-j : goal.invariant-loop-j
-invariant-loop-j l = (l.out ≡ sets l.initial.out l.at (joined (λ i. digest_of (block_of l.k l.value i)) 1 l.j)) × (l.j ≤ l.n) × (length l.out ≡ length l.initial.out)
-
-abbrev pub decreases-loop-j : goal.decreases-loop-j
-decreases-loop-j l = l.n - l.j
+invariant-loop-j l = (l.out ≡ sets l.initial.out l.at (joined (λ i. digest_of (block_of l.k l.value i)) 1 l.j)) × (length l.out ≡ length l.initial.out)

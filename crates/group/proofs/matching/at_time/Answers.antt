@@ -1,6 +1,7 @@
 -- After j turns the flags of places 0 to j - 1 are stored. Assumes nothing.
 use Prim.Native.Nat.{◌-◌}
 use mathlib.Core.Path.{refl}
+use borrow.Author.Rules.{rules}
 use mathlib.Core.Bool.{false}
 use Rattle.area.specs.Area.{table, table_from}
 use Rattle.group.specs.Entries.{marked, timed}
@@ -10,12 +11,12 @@ use Rattle.group.proofs.matching.at_time.Goals as goal
 
 pub loop-j-init : goal.loop-j-init
 unfolding table table_from
-loop-j-init c = (refl, omega arith)
+loop-j-init c = refl
 
 pub loop-j-preserved : goal.loop-j-preserved
 unfolding marked
-loop-j-preserved c = (table_turn _ _ _ _ _ c.loop-j.invariant.0 c.is_timed.ensures, omega arith)
+loop-j-preserved c = table_turn _ _ _ _ _ c.loop-j.invariant (search rules)
 
 pub returns : goal.returns
 unfolding timed
-returns c = table_end _ _ _ _ _ refl c.loop-j-test.false c.loop-j.invariant.1 c.loop-j.invariant.0
+returns c = table_end _ _ _ _ _ refl (omega arith) (omega arith) c.loop-j.invariant

@@ -10,7 +10,4 @@ use Rattle.group.specs.Entries.{marked}
 use Rattle.group.proofs.matching.at_time.Given as goal
 
 abbrev pub invariant-loop-j : goal.invariant-loop-j
-invariant-loop-j l = (l.r ≡ sets (replicate 11 false) 0 (table l.j (λ i. marked l.on i && eqb (get_or l.times i 0) l.time))) × (l.j ≤ 11)
-
-abbrev pub decreases-loop-j : goal.decreases-loop-j
-decreases-loop-j l = 11 - l.j
+invariant-loop-j l = (l.r ≡ sets (replicate 11 false) 0 (table l.j (λ i. marked l.on i && eqb (get_or l.times i 0) l.time)))

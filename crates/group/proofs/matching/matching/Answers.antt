@@ -11,7 +11,7 @@ use Rattle.group.proofs.matching.matching.Goals as goal
 
 pub loop-j-init : goal.loop-j-init
 unfolding table table_from
-loop-j-init c = (refl, omega arith)
+loop-j-init c = refl
 
 pub sent_list-requires : goal.sent_list-requires
 unfolding Within
@@ -20,8 +20,8 @@ sent_list-requires c =
     (p.bounded, p.within c.loop-j.j)
 
 pub loop-j-preserved : goal.loop-j-preserved
-loop-j-preserved c = (table_turn _ _ _ _ _ c.loop-j.invariant.0 (flag_law _ _ _ _ _ _ _ c.sent_list.ensures), omega arith)
+loop-j-preserved c = table_turn _ _ _ _ _ c.loop-j.invariant (flag_law _ _ _ _ _ _ _ c.sent_list.ensures)
 
 pub returns : goal.returns
 unfolding flags
-returns c = table_end _ _ _ _ _ refl c.loop-j-test.false c.loop-j.invariant.1 c.loop-j.invariant.0
+returns c = table_end _ _ _ _ _ refl (omega arith) (omega arith) c.loop-j.invariant

@@ -9,7 +9,4 @@ use Rattle.group.specs.Entries.{sent_list, passing}
 use Rattle.group.proofs.matching.matching.Given as goal
 
 abbrev pub invariant-loop-j : goal.invariant-loop-j
-invariant-loop-j l = (l.r ≡ sets (replicate 11 false) 0 (table l.j (passing (sent_list l.g l.on l.at l.area l.list) l.g.n))) × (l.j ≤ 11)
-
-abbrev pub decreases-loop-j : goal.decreases-loop-j
-decreases-loop-j l = 11 - l.j
+invariant-loop-j l = (l.r ≡ sets (replicate 11 false) 0 (table l.j (passing (sent_list l.g l.on l.at l.area l.list) l.g.n)))

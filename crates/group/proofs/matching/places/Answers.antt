@@ -9,11 +9,11 @@ use Rattle.group.proofs.matching.places.Goals as goal
 
 pub loop-j-init : goal.loop-j-init
 unfolding table table_from
-loop-j-init c = (refl, omega arith)
+loop-j-init c = refl
 
 pub loop-j-preserved : goal.loop-j-preserved
-loop-j-preserved c = (table_turn (λ i. c.args.first + i) _ _ _ _ c.loop-j.invariant.0 refl, omega arith)
+loop-j-preserved c = table_turn (λ i. c.args.first + i) _ _ _ _ c.loop-j.invariant refl
 
 pub returns : goal.returns
 unfolding places_from
-returns c = table_end _ _ _ _ _ refl c.loop-j-test.false c.loop-j.invariant.1 c.loop-j.invariant.0
+returns c = table_end _ _ _ _ _ refl (omega arith) (omega arith) c.loop-j.invariant

@@ -7,7 +7,4 @@ use Rattle.area.specs.Area.{table}
 use Rattle.group.proofs.matching.places.Given as goal
 
 abbrev pub invariant-loop-j : goal.invariant-loop-j
-invariant-loop-j l = (l.r ≡ sets (replicate 11 0) 0 (table l.j (λ i. l.first + i))) × (l.j ≤ 11)
-
-abbrev pub decreases-loop-j : goal.decreases-loop-j
-decreases-loop-j l = 11 - l.j
+invariant-loop-j l = (l.r ≡ sets (replicate 11 0) 0 (table l.j (λ i. l.first + i)))

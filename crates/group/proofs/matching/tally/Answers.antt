@@ -1,20 +1,19 @@
--- After j turns r counts the flagged servers of 1 to j. Assumes nothing.
-use Prim.Native.Nat.{◌-◌}
-use mathlib.Core.Path.{refl}
-use Rattle.quorum.specs.Quorum.{count}
-use Rattle.group.proofs.Matched.{tally_turn, tally_end}
+-- The chain counts the marks behind place 0. Assumes nothing.
+use mathlib.Core.Path.{◌≡◌, ◌∙◌, sym}
+use mathlib.Core.Bool.{Bool, false}
 use native.Mathlib.Omega.{arith}
+use borrow.Author.Rules.{rules}
+use lib.ListN.{take, drop}
+use Rattle.std.specs.List.{count_by}
+use Rattle.quorum.proofs.Counting.{count_le}
+use Rattle.group.specs.Entries.{marked}
+use Rattle.group.proofs.Counted.{counted_from_one}
 use Rattle.group.proofs.matching.tally.Goals as goal
 
-pub loop-j-init : goal.loop-j-init
-unfolding count
-loop-j-init c = (refl, omega arith, omega arith)
-
-pub overflow_add-r : goal.overflow_add-r
-overflow_add-r c = omega arith
-
-pub loop-j-preserved : goal.loop-j-preserved
-loop-j-preserved c = (tally_turn _ _ _ _ c.loop-j.invariant.0 c.one-r.ensures.0, omega arith, omega arith)
-
 pub returns : goal.returns
-returns c = (tally_end _ _ _ _ c.loop-j.invariant.0 c.loop-j-test.false c.loop-j.invariant.2, omega arith)
+unfolding marked
+returns c =
+    let e : c.count.result ≡ count_by (λ (x : Bool). x) (take c.args.n (drop 1 c.args.on)) = search rules in
+    let k = counted_from_one (λ (x : Bool). x) false c.args.on c.args.n (omega (arith, c.requires)) in
+    let l = count_le (marked c.args.on) c.args.n in
+    (e ∙ k, rw (e ∙ k) l)

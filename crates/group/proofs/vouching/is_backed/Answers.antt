@@ -1,31 +1,18 @@
--- After j turns r counts the servers of 1 to j that reported the time. Assumes nothing.
-use Prim.Native.Nat.{◌-◌, ◌+◌}
-use mathlib.Core.Path.{refl, ap, ◌∙◌}
-use lib.Dec.{leb}
-use Rattle.quorum.specs.Quorum.{count}
-use Rattle.group_rules.specs.Vouching.{backed}
-use Rattle.group.proofs.Matched.{reaching, backed_turn, tally_end}
+-- The chain counts the reports behind place 0. Assumes nothing.
+use mathlib.Core.Path.{◌≡◌, ◌∙◌, ap}
+use Prim.Native.Nat.{◌+◌}
 use native.Mathlib.Omega.{arith}
+use borrow.Author.Rules.{rules}
+use lib.Dec.{leb}
+use lib.ListN.{take, drop}
+use Rattle.std.specs.List.{count_by}
+use Rattle.group_rules.specs.Vouching.{backed}
+use Rattle.group.proofs.Counted.{counted_from_one}
 use Rattle.group.proofs.vouching.is_backed.Goals as goal
 
-pub loop-j-init : goal.loop-j-init
-unfolding count
-loop-j-init c = (refl, omega arith, omega arith, refl)
-
-pub overflow_add-r : goal.overflow_add-r
-overflow_add-r c = omega arith
-
-pub loop-j-preserved : goal.loop-j-preserved
-loop-j-preserved c = (
-  backed_turn _ _ _ _ _ c.loop-j.invariant.0 c.one-r.ensures.0,
-  omega arith,
-  omega arith,
-  c.loop-j.invariant.3,
-)
-
 pub returns : goal.returns
-unfolding backed reaching
+unfolding backed
 returns c =
-    let i = c.loop-j.invariant in
-    let e = tally_end _ _ _ _ i.0 c.loop-j-test.false i.2 ∙ ap (count _) i.3 in
-    ap (leb (c.args.g.t + 1)) e
+    let e : c.count.result ≡ count_by (leb c.args.time) (take c.args.g.n (drop 1 c.args.reports)) = search rules in
+    let k = counted_from_one (leb c.args.time) 0 c.args.reports c.args.g.n (omega (arith, c.requires.servers_high)) in
+    ap (leb (c.args.g.t + 1)) (e ∙ k)

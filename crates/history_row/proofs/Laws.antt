@@ -12,8 +12,7 @@ use Rattle.area.specs.Area.{pick}
 use Rattle.order.specs.Histories.{refused, judged}
 use Rattle.order.proofs.Lists.{by_test}
 use Rattle.order.specs.declared.operation.Operation.{Operation}
-use Rattle.std.proofs.Common.{Result, Ok, Err}
-use Rattle.frame.specs.declared.Refusal.{Refusal}
+use Rattle.std.proofs.Common.{Ok, Err}
 use Rattle.frame.specs.declared.Refusal.TheVariants.{Record}
 use Rattle.history_row.specs.Rows.{none, added, then_all, added_all, verdict_of, verdict_by}
 use Rattle.history_row.specs.declared.History.{History}

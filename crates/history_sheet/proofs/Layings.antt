@@ -30,7 +30,7 @@ use Rattle.order.proofs.Less.{true_false}
 use Rattle.order.proofs.Rows.{no_entry, row_length}
 use Rattle.order.proofs.Arranged.{the_row, size, stands, row_is_row}
 use Rattle.order.proofs.Judgements.{is_order, first}
-use Rattle.history_row.specs.Rows.{none, added, then_all, added_all, verdict_by}
+use Rattle.history_row.specs.Rows.{none, then_all, added_all, verdict_by}
 use Rattle.history_row.specs.declared.History.{History}
 use Rattle.history_row.proofs.Laws.{added_fits}
 use Rattle.history_text.specs.Lines.{Lines, Records, Malformed, lines_of, answer_of}
@@ -268,7 +268,7 @@ read_err (Err e) f p = (e, refl, p)
 module _ (text : List ℕ) where
   -- a text that is not read
   pub text_unread : (why : Refusal) (out : List ℕ) → Err why ≡ reading_of (lines_of text) → outcome (turned_down (number_of why)) out ≡ laying text out
-  unfolding laying answer_by verdict_by refused
+  unfolding laying verdict_by refused
   text_unread why out e = refusal_laid (Err why) (refused (number_of why)) (lines_of text) (number_of why) out e refl refl
 
 -- by the answer of the code

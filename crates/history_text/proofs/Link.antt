@@ -1,4 +1,6 @@
 -- The code reads a text as Lines.antt says it (`read_says`). Assumes nothing.
+use Rattle.std.proofs.Common.{Option, Some, None}
+use Rattle.history_text.specs.ReadLines.{line_with}
 use mathlib.Core.Path.{◌≡◌, refl, sym, ap, subst, ◌∙◌}
 use mathlib.Core.Bool.{true, false}
 use mathlib.Core.List.{List, [], ◌∷◌, ◌++◌, append_assoc}
@@ -13,24 +15,23 @@ use Rattle.history_text.specs.Lines.{split, is_formed, record_of, Records, Malfo
 use Rattle.history_text.specs.Printed.{join, fields_of, printed}
 use Rattle.history_text.specs.ReadLines.{operation_of, lines_read}
 use Rattle.history_text.specs.declared.line.Line.{Line}
-use Rattle.history_text.specs.declared.line.Line.TheVariants as L
 use Rattle.history_text.proofs.Lines.{then_record, then_none, lines_at, lines_none}
 use Rattle.history_text.proofs.Pieces.{pieces, join_split, join_more, join_one}
 use Rattle.history_text.proofs.Forms.{formed_printed, says_printed}
 use Rattle.history_text.proofs.ReadsBack.{line_reads_back}
 use Rattle.history_text.proofs.Converse.{SaysLine, line_says}
 
-unfoldable is_record : Line → Type 0
-is_record (L.Record a u) = Unit {0}
-is_record L.Bad = ⊥
+unfoldable is_record : Option Line → Type 0
+is_record (Some l) = Unit {0}
+is_record None = ⊥
 
-not_bad : (a : Operation) (u : ℕ) → L.Record a u ≡ L.Bad → ⊥
+not_bad : (a : Operation) (u : ℕ) → line_with a u ≡ None → ⊥
 unfolding is_record
 not_bad a u e = subst is_record e tt
 
-by_line : {X : Type 0} (r : Line) → ((a : Operation) (u : ℕ) → r ≡ L.Record a u → X) → (r ≡ L.Bad → X) → X
-by_line (L.Record a u) f g = f a u refl
-by_line L.Bad f g = g refl
+by_line : {X : Type 0} (r : Option Line) → ((a : Operation) (u : ℕ) → r ≡ line_with a u → X) → (r ≡ None → X) → X
+by_line (Some l) f g = f l.operation l.used refl
+by_line None f g = g refl
 
 -- ---- a text that the code does not read
 
@@ -48,7 +49,7 @@ records_none = refl
 
 -- a text whose first line says a record is read
 formed_read : (line next : List ℕ) (lines : List (List ℕ)) (text : List ℕ) → split 10 text ≡ line ∷ next ∷ lines → is_formed (split 32 line) ≡ true
-    → (u : ℕ) × (operation_of text ≡ L.Record (record_of (split 32 line)) u)
+    → (u : ℕ) × (operation_of text ≡ line_with (record_of (split 32 line)) u)
 formed_read line next lines text e f =
     let p = formed_printed line f in
     let rest = join 10 (next ∷ lines) in
@@ -57,7 +58,7 @@ formed_read line next lines text e f =
     sym (join_split 10 text) ∙ ap (join 10) e ∙ join_more 10 line next lines ∙ sym (append_assoc line (10 ∷ []) rest) ∙ ap (λ l. l ++ rest) p.1 in
     (length (printed a), ap operation_of whole ∙ line_reads_back a rest p.0)
 
-malformed_pieces : (c : ℕ) (t : List ℕ) (line : List ℕ) (lines : List (List ℕ)) → operation_of (c ∷ t) ≡ L.Bad → split 10 (c ∷ t) ≡ line ∷ lines
+malformed_pieces : (c : ℕ) (t : List ℕ) (line : List ℕ) (lines : List (List ℕ)) → operation_of (c ∷ t) ≡ None → split 10 (c ∷ t) ≡ line ∷ lines
     → records_of (line ∷ lines) ≡ Malformed
 malformed_pieces c t line [] b e =
     let q : c ∷ t ≡ line = sym (join_split 10 (c ∷ t)) ∙ ap (join 10) e ∙ join_one 10 line in
@@ -67,7 +68,7 @@ malformed_pieces c t line (next ∷ lines) b e =
     (λ f. let r = formed_read line next lines (c ∷ t) e f in absurd (not_bad _ r.0 (sym r.1 ∙ b)))
     (λ f. records_other line next lines f)
 
-malformed_says : (c : ℕ) (t : List ℕ) → operation_of (c ∷ t) ≡ L.Bad → lines_of (c ∷ t) ≡ Malformed
+malformed_says : (c : ℕ) (t : List ℕ) → operation_of (c ∷ t) ≡ None → lines_of (c ∷ t) ≡ Malformed
 unfolding lines_of
 malformed_says c t b = let w = pieces 10 (c ∷ t) in ap records_of w.is ∙ malformed_pieces c t w.first w.others b w.is
 

@@ -1,12 +1,12 @@
 -- The turns and the end of the loop that reads a text, and the answer to what was read. Assumes nothing.
+use Rattle.std.proofs.Common.{Option, None}
+use Rattle.history_text.specs.ReadLines.{line_with}
 use mathlib.Core.Path.{◌≡◌, refl, sym, ap, ◌∙◌}
-use mathlib.Core.Bool.{Bool, true, false}
 use mathlib.Core.List.{List}
 use Prim.Native.Nat.{ℕ, zero, suc, ◌+◌, ◌-◌, ◌<◌, ◌≤◌}
 use native.Mathlib.Omega.{arith}
-use lib.ListN.{length, drop, take, drop_of_length-le}
+use lib.ListN.{length, drop, drop_of_length-le}
 use lib.Seq.{drop-drop}
-use Rattle.area.specs.Area.{pick}
 use Rattle.order.specs.Histories.{Judgement}
 use Rattle.order.specs.declared.operation.Operation.{Operation}
 use Rattle.order.proofs.Picks.{pick_err}
@@ -20,7 +20,6 @@ use Rattle.history_text.specs.Lines.{Lines, Records, Malformed, record_then, lin
 use Rattle.history_text.specs.ReadLines.{operation_of, lines_read}
 use Rattle.history_text.specs.Readings.{reading_of, answer_by}
 use Rattle.history_text.specs.declared.line.Line.{Line}
-use Rattle.history_text.specs.declared.line.Line.TheVariants as L
 use Rattle.history_text.proofs.Lines.{then_record, then_none, lines_at, lines_none}
 use Rattle.history_text.proofs.Link.{read_says}
 
@@ -49,29 +48,29 @@ final_start h s e =
     ap (λ k. final k (lines_read (length s) s)) e ∙ final_none (lines_read (length s) s) ∙ ap reading_of (read_says (length s) s (omega arith))
 
 -- a malformed line
-pub final_bad : (h : History) (n at : ℕ) (s : List ℕ) {r : Line} → at < length s → length s - at ≤ n → r ≡ operation_of (drop at s) → r ≡ L.Bad
+pub final_bad : (h : History) (n at : ℕ) (s : List ℕ) {r : Option Line} → at < length s → length s - at ≤ n → r ≡ operation_of (drop at s) → r ≡ None
     → final h (lines_read n (drop at s)) ≡ Err Record
 unfolding final
 final_bad h zero at s l g e t = absurd (omega arith)
 final_bad h (suc n) at s l g e t = ap (final h) (lines_at n at s l ∙ then_none _ _ _ (sym e ∙ t))
 
 -- a line too many
-pub final_over : (h : History) (n at u : ℕ) (s : List ℕ) (a : Operation) (o : Refusal) {r : Line} → at < length s → length s - at ≤ n
-    → r ≡ operation_of (drop at s) → r ≡ L.Record a u → Err o ≡ added h a → final h (lines_read n (drop at s)) ≡ Err o
+pub final_over : (h : History) (n at u : ℕ) (s : List ℕ) (a : Operation) (o : Refusal) {r : Option Line} → at < length s → length s - at ≤ n
+    → r ≡ operation_of (drop at s) → r ≡ line_with a u → Err o ≡ added h a → final h (lines_read n (drop at s)) ≡ Err o
 final_over h zero at u s a o l g e t q = absurd (omega arith)
 final_over h (suc n) at u s a o l g e t q =
     ap (final h) (lines_at n at s l ∙ then_record _ _ _ a u (sym e ∙ t)) ∙ final_full h o a (lines_read n (drop u (drop at s))) q
 
 -- one more line
-final_more : (h k : History) (n at u : ℕ) (s : List ℕ) (a : Operation) {r : Line} → at < length s → length s - at ≤ suc n
-    → r ≡ operation_of (drop at s) → r ≡ L.Record a u → Ok k ≡ added h a → final k (lines_read n (drop (at + u) s)) ≡ final h (lines_read (suc n) (drop at s))
+final_more : (h k : History) (n at u : ℕ) (s : List ℕ) (a : Operation) {r : Option Line} → at < length s → length s - at ≤ suc n
+    → r ≡ operation_of (drop at s) → r ≡ line_with a u → Ok k ≡ added h a → final k (lines_read n (drop (at + u) s)) ≡ final h (lines_read (suc n) (drop at s))
 final_more h k n at u s a l g e t q =
     ap (λ x. final k (lines_read n x)) (sym (drop-drop u at s))
     ∙ sym (ap (final h) (lines_at n at s l ∙ then_record _ _ _ a u (sym e ∙ t)) ∙ final_record h k a (lines_read n (drop u (drop at s))) q)
 
 -- a turn of the loop: some bound on the number of lines is enough for what is left
-pub final_next : (h k : History) (n at u : ℕ) (s : List ℕ) (a : Operation) {r : Line} {v : Result History Refusal} → at < length s → length s - at ≤ n
-    → 1 ≤ u → u ≤ length s - at → r ≡ operation_of (drop at s) → r ≡ L.Record a u → Ok k ≡ added h a → final h (lines_read n (drop at s)) ≡ v
+pub final_next : (h k : History) (n at u : ℕ) (s : List ℕ) (a : Operation) {r : Option Line} {v : Result History Refusal} → at < length s → length s - at ≤ n
+    → 1 ≤ u → u ≤ length s - at → r ≡ operation_of (drop at s) → r ≡ line_with a u → Ok k ≡ added h a → final h (lines_read n (drop at s)) ≡ v
     → (m : ℕ) × (length s - (at + u) ≤ m) × (final k (lines_read m (drop (at + u) s)) ≡ v)
 final_next h k zero at u s a l g p b e t q i = absurd (omega arith)
 final_next h k (suc n) at u s a l g p b e t q i = (n, omega arith, final_more h k n at u s a l g e t q ∙ i)
@@ -85,7 +84,7 @@ final_end h n at s l = ap (λ t. final h (lines_read n t)) (drop_of_length-le s 
 
 -- the answer to what is read of lines is that to the lines
 pub answer_reading : (l : Lines) → answer_by (reading_of l) ≡ answer_of l
-unfolding answer_by reading_of answer_of verdict_by
+unfolding reading_of answer_of verdict_by
 answer_reading (Records ops) = verdict_row ops
 answer_reading Malformed = refl
 

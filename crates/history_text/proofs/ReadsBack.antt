@@ -1,10 +1,13 @@
 -- The code reads the line that is printed for a record as that record (`line_reads_back`). Assumes nothing.
+use Rattle.std.proofs.Common.{Some, None}
+use Rattle.history_text.specs.ReadNumbers.{number_with}
+use Rattle.history_text.specs.ReadLines.{interval_with, stamp_with, line_with}
 use mathlib.Core.Path.{◌≡◌, refl, sym, ap, ap₂, ◌∙◌}
 use mathlib.Core.List.{List, [], ◌∷◌, ◌++◌, append_assoc}
 use Prim.Native.Nat.{ℕ, zero, suc, ◌+◌, ◌-◌, ◌*◌, ◌/◌, ◌%◌, ◌^◌, ◌<◌, ◌≤◌}
 use native.Mathlib.Nat.{pow-suc}
 use native.Mathlib.Omega.{arith}
-use lib.Dec.{eqb, ltb, lit<}
+use lib.Dec.{ltb}
 use lib.ListN.{length, get_or, drop, length-append}
 use lib.Seq.{get_or-append_seam, drop-append_seam, drop-drop}
 use borrow.Author.Tests.{ltb-true, ltb-false, le-ltb, le-leb}
@@ -17,10 +20,6 @@ use Rattle.history_text.specs.Decimals.{decimal_of, decimal}
 use Rattle.history_text.specs.Lines.{widths}
 use Rattle.history_text.specs.Printed.{printed, InWidth}
 use Rattle.history_text.specs.ReadLines.{kind_at, interval_of, stamp_of, operation_of}
-use Rattle.history_text.specs.declared.number.Field.TheVariants.{Number}
-use Rattle.history_text.specs.declared.line.Interval.TheVariants as I
-use Rattle.history_text.specs.declared.line.Stamp.TheVariants as S
-use Rattle.history_text.specs.declared.line.Line.TheVariants as L
 use Rattle.history_text.proofs.Decimals.{decimal_small, decimal_large, below_all, head}
 use Rattle.history_text.proofs.Shown.{shown, printed_shown, printed_length}
 use Rattle.history_text.proofs.Lines.{line_whole}
@@ -28,18 +27,18 @@ use Rattle.history_text.proofs.Laws.{digits_stop, digits_more, number_zero, numb
 
 -- ---- digits
 
-digit_of_lem : (n : ℕ) → n < 10 → digit_of (n + 48) ≡ n
+digit_of_lem : (n : ℕ) → n < 10 → digit_of (n + 48) ≡ Some n
 unfolding digit_of
 digit_of_lem n h =
     let a : 48 ≤ n + 48 = omega arith in
     let b : n + 48 ≤ 57 = omega arith in
     let e : n + 48 - 48 ≡ n = omega arith in
-    sym (pick_no _ _ _ refl (le-ltb (n + 48) 48 a) (pick_no _ _ _ refl (le-ltb 57 (n + 48) b) (sym e)))
+    sym (pick_no _ _ _ refl (le-ltb (n + 48) 48 a) (pick_no _ _ _ refl (le-ltb 57 (n + 48) b) (ap (λ k. Some k) (sym e))))
 
 -- one digit read
 digit_read : (limit v u d : ℕ) (t : List ℕ) → d < 10 → v * 10 + d ≤ limit → digits_of limit v u ((d + 48) ∷ t) ≡ digits_of limit (v * 10 + d) (u + 1) t
 digit_read limit v u d t h l =
-    digits_more limit v u 0 ((d + 48) ∷ t) (omega arith) (sym (digit_of_lem d h)) (omega arith) (sym (le-leb (v * 10 + d) limit l)) refl
+    digits_more limit v u 0 d ((d + 48) ∷ t) (omega arith) (sym (digit_of_lem d h)) (sym (le-leb (v * 10 + d) limit l)) refl
 
 digits_none : (n limit u : ℕ) (t : List ℕ) → n < 1 → digits_of limit 0 u (decimal_of 0 n ++ t) ≡ digits_of limit n (u + length (decimal_of 0 n)) t
 unfolding decimal_of
@@ -79,8 +78,8 @@ digits_read (suc k) n limit u t h l =
 
 -- ---- a number, and a number with the byte after it
 
-number_read : (n limit c : ℕ) (t : List ℕ) → n ≤ limit → limit ≤ 18446744073709551615 → 9 < digit_of c
-    → number_of limit (decimal n ++ c ∷ t) ≡ Number n (length (decimal n))
+number_read : (n limit c : ℕ) (t : List ℕ) → n ≤ limit → limit ≤ 18446744073709551615 → None ≡ digit_of c
+    → number_of limit (decimal n ++ c ∷ t) ≡ number_with n (length (decimal n))
 unfolding decimal
 number_read n limit c t h g d =
     by_test (ltb 0 n)
@@ -92,21 +91,21 @@ number_read n limit c t h g d =
     let high = w.high in
     let y : x - 48 < 10 = omega arith in
     let z : x - 48 + 48 ≡ x = omega arith in
-    let e : x - 48 ≡ digit_of x = sym (digit_of_lem (x - 48) y) ∙ ap digit_of z in
+    let e : Some (x - 48) ≡ digit_of x = sym (digit_of_lem (x - 48) y) ∙ ap digit_of z in
     sym (ap (λ l. number_of limit (l ++ c ∷ t)) (sym w.is))
-    ∙ sym (number_digits limit 0 (x ∷ (w.rest ++ c ∷ t)) (omega arith) (λ q. omega arith) e (omega arith) refl)
+    ∙ sym (number_digits limit 0 (x - 48) (x ∷ (w.rest ++ c ∷ t)) (omega arith) (λ q. omega arith) e refl)
     ∙ ap (λ l. digits_of limit 0 0 (l ++ c ∷ t)) (sym w.is)
     ∙ digits_read 20 n limit 0 (c ∷ t) (below_all n limit h g) h
-    ∙ digits_stop limit n (0 + length (decimal_of 20 n)) 0 (c ∷ t) (omega arith) refl d
-    ∙ ap (Number n) (let o : 0 + length (decimal_of 20 n) ≡ length (decimal_of 20 n) = omega arith in o))
+    ∙ digits_stop limit n (0 + length (decimal_of 20 n)) 0 (c ∷ t) (omega arith) d
+    ∙ ap (number_with n) (let o : 0 + length (decimal_of 20 n) ≡ length (decimal_of 20 n) = omega arith in o))
     (λ b.
     let p : n ≡ 0 = (let q = ltb-false 0 n b in omega arith) in
     let e : decimal_of 20 n ≡ 48 ∷ [] = ap (decimal_of 20) p ∙ decimal_small 19 0 (omega arith) in
     ap (λ l. number_of limit (l ++ c ∷ t)) e ∙ number_zero limit 0 (48 ∷ c ∷ t) (omega arith) refl
-    ∙ ap₂ Number (sym p) (ap length (sym e)))
+    ∙ ap₂ number_with (sym p) (ap length (sym e)))
 
-field_read : (n limit c : ℕ) (t : List ℕ) → n ≤ limit → limit ≤ 18446744073709551615 → 9 < digit_of c
-    → field_of limit c (shown n c ++ t) ≡ Number n (length (shown n c))
+field_read : (n limit c : ℕ) (t : List ℕ) → n ≤ limit → limit ≤ 18446744073709551615 → None ≡ digit_of c
+    → field_of limit c (shown n c ++ t) ≡ number_with n (length (shown n c))
 unfolding shown
 field_read n limit c t h g d =
     let a = append_assoc (decimal n) (c ∷ []) t in
@@ -114,15 +113,15 @@ field_read n limit c t h g d =
     ap (field_of limit c) a
     ∙ sym (field_found limit c 0 n (length (decimal n)) (decimal n ++ c ∷ t) (sym (number_read n limit c t h g d)) refl
     (ap (λ i. get_or (decimal n ++ c ∷ t) i 0) z ∙ get_or-append_seam (decimal n) c t 0))
-    ∙ ap (Number n) (sym (length-append (decimal n) (c ∷ [])))
+    ∙ ap (number_with n) (sym (length-append (decimal n) (c ∷ [])))
 
-space : 9 < digit_of 32
+space : None ≡ digit_of 32
 unfolding digit_of pick
-space = lit< tt
+space = refl
 
-newline : 9 < digit_of 10
+newline : None ≡ digit_of 10
 unfolding digit_of pick
-newline = lit< tt
+newline = refl
 
 -- ---- the parts of a line, and what follows them
 
@@ -131,7 +130,7 @@ behind_two f g t =
     sym (drop-drop (length g) (length f) (f ++ (g ++ t))) ∙ ap (drop (length g)) (drop-append_seam f (g ++ t)) ∙ drop-append_seam g t
 
 interval_read : (x y : ℕ) (t : List ℕ) → x ≤ 4294967295 → y ≤ 4294967295
-    → interval_of (shown x 32 ++ (shown y 32 ++ t)) ≡ I.Times x y (length (shown x 32) + length (shown y 32))
+    → interval_of (shown x 32 ++ (shown y 32 ++ t)) ≡ interval_with x y (length (shown x 32) + length (shown y 32))
 unfolding interval_of
 interval_read x y t h g =
     sym (then_number_lem _ _ _ x (length (shown x 32)) (sym (field_read x 4294967295 32 (shown y 32 ++ t) h (omega arith) space)) refl
@@ -139,7 +138,7 @@ interval_read x y t h g =
     (sym (ap (field_of 4294967295 32) (drop-append_seam (shown x 32) (shown y 32 ++ t)) ∙ field_read y 4294967295 32 t g (omega arith) space)) refl refl))
 
 stamp_read : (m w n : ℕ) (t : List ℕ) → m ≤ 18446744073709551615 → w ≤ 8 → n ≤ 4294967295
-    → stamp_of (shown m 32 ++ (shown w 32 ++ (shown n 32 ++ t))) ≡ S.Parts m w n (length (shown m 32) + length (shown w 32) + length (shown n 32))
+    → stamp_of (shown m 32 ++ (shown w 32 ++ (shown n 32 ++ t))) ≡ stamp_with m w n (length (shown m 32) + length (shown w 32) + length (shown n 32))
 unfolding stamp_of
 stamp_read m w n t h g k =
     let u = shown w 32 ++ (shown n 32 ++ t) in
@@ -158,11 +157,11 @@ behind_stamp m w n t =
 
 -- ---- a line
 
-kind_of_lem : (a : Operation) → (kind_at (pick a.write 87 82) ≤ 1) × (eqb (kind_at (pick a.write 87 82)) 1 ≡ a.write)
+kind_of_lem : (a : Operation) → Some a.write ≡ kind_at (pick a.write 87 82)
 unfolding kind_at pick
-kind_of_lem a = by_test a.write (λ t. rw t (omega arith, refl)) (λ t. rw t (omega arith, refl))
+kind_of_lem a = by_test a.write (λ t. rw t) (λ t. rw t)
 
-pub line_reads_back : (a : Operation) (t : List ℕ) → InWidth a → operation_of (printed a ++ t) ≡ L.Record a (length (printed a))
+pub line_reads_back : (a : Operation) (t : List ℕ) → InWidth a → operation_of (printed a ++ t) ≡ line_with a (length (printed a))
 unfolding widths
 line_reads_back a t h =
     let k = pick {A = ℕ} a.write 87 82 in
@@ -178,9 +177,6 @@ line_reads_back a t h =
     let e : drop (0 + 2 + n + m) s ≡ last = sym (drop-drop m (0 + 2 + n) s) ∙ ap (drop m) d ∙ behind_stamp a.time a.writer a.sequence last in
     let c = ap (field_of 8 10) e ∙ field_read a.caller 8 10 t h.1.1.1.1.1.0 (omega arith) newline in
     ap operation_of (printed_shown a t)
-    ∙ sym (line_whole s 0 (omega arith) refl (kind_of_lem a).0 refl a.start a.end n a.time a.writer a.sequence m (sym i) refl (sym p) refl (sym c)
+    ∙ sym (line_whole s 0 (omega arith) (kind_of_lem a) refl a.start a.end n a.time a.writer a.sequence m (sym i) refl (sym p) refl (sym c)
     a.caller (length (shown a.caller 10)) refl)
-    ∙ ap₂ L.Record
-    (ap (λ w. record { write = w; start = a.start; end = a.end; time = a.time; writer = a.writer; sequence = a.sequence; caller = a.caller })
-    (kind_of_lem a).1)
-    (sym (printed_length a))
+    ∙ ap (line_with a) (sym (printed_length a))

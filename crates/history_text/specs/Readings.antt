@@ -1,6 +1,6 @@
 -- What the code has read of a text, and the answer to that. These are stages of `judge_text`; Lines.antt says what a text says, and what is answered.
 -- Assumes nothing: these are definitions.
-use Rattle.std.specs.Prelude.{Result, Ok, Err}
+use Rattle.std.specs.Prelude.{Result, Err}
 use Rattle.frame.specs.declared.Refusal.{Refusal}
 use Rattle.frame.specs.declared.Refusal.TheVariants.{Record}
 use Rattle.order.specs.Histories.{Judgement}
@@ -13,5 +13,5 @@ unfoldable pub reading_of : Lines → Result History Refusal
 reading_of (Records ops) = added_all none ops
 reading_of Malformed = Err Record
 
-unfoldable pub answer_by : Result History Refusal → Judgement
+abbrev pub answer_by : Result History Refusal → Judgement
 answer_by x = verdict_by x

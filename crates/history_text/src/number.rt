@@ -1,25 +1,23 @@
 // Decimal numbers in text.
-ghost use Rattle.std.specs.Prelude.{◌≡◌, ◌+◌, ◌-◌, ◌*◌, ◌<◌, ◌≤◌, leb, length, drop};
+ghost use Rattle.std.specs.Prelude.{◌≡◌, ◌+◌, ◌-◌, ◌*◌, ◌<◌, ◌≤◌, leb, length, drop, IfSome};
 ghost use Rattle.history_text.specs.ReadNumbers.{digit_of, digits_of, number_of, field_of, WithinField};
 
-// A number and how many bytes it takes, or no number.
+// A number and how many bytes it takes.
 #[derive(Clone, Copy)]
-pub enum Field {
-    Number(u64, usize),
-    Bad,
+pub struct Field {
+    pub value: u64,
+    pub used: usize,
 }
 
-// The value of a digit, 10 for another byte.
-fn digit(c: u8) -> u64
-    ensures { (result ≡ digit_of c) × (result ≤ 10) }
+// The value of a digit.
+#[tactic(auto, unfolding(crate::specs::ReadNumbers::digit_of, area::specs::Area::pick))]
+fn digit(c: u8) -> Option<u64>
+    ensures { (result ≡ digit_of c) × IfSome result (λ d. d < 10) }
 {
-    if c < 48 {
-        return 10;
+    match c {
+        b'0'..=b'9' => Some(u64::from(c - b'0')),
+        _ => None,
     }
-    if 57 < c {
-        return 10;
-    }
-    (c - 48) as u64
 }
 
 // Whether value with the digit d after it is at most limit.
@@ -38,59 +36,59 @@ fn fits(value: u64, d: u64, limit: u64) -> bool
 }
 
 // The number that the digits from index at on make.
-fn read_digits(s: &[u8], at: usize, limit: u64) -> Field
+fn read_digits(s: &[u8], at: usize, limit: u64) -> Option<Field>
     requires { at ≤ length s.now }
     ensures { (result ≡ digits_of limit 0 0 (drop at s.now)) × WithinField limit (length s.now - at) result }
 {
     let mut value: u64 = 0;
-    let mut used: usize = 0;
-    while used < s.len() - at {
-        let d = digit(s[at + used]);
-        if 9 < d {
-            return Field::Number(value, used);
-        }
+    for used in 0..s.len() - at {
+        let Some(d) = digit(s[at + used]) else {
+            return Some(Field { value, used });
+        };
         if fits(value, d, limit) {
             value = value * 10 + d;
-            used += 1;
         } else {
-            return Field::Bad;
+            return None;
         }
     }
-    Field::Number(value, used)
+    Some(Field {
+        value,
+        used: s.len() - at,
+    })
 }
 
 // The number from index at on, without leading zeros.
-fn read_number(s: &[u8], at: usize, limit: u64) -> Field
+fn read_number(s: &[u8], at: usize, limit: u64) -> Option<Field>
     requires { at ≤ length s.now }
     ensures { (result ≡ number_of limit (drop at s.now)) × WithinField limit (length s.now - at) result }
 {
     if s.len() <= at {
-        return Field::Bad;
+        return None;
     }
     let c = s[at];
     if c == 48 {
-        return Field::Number(0, 1);
+        return Some(Field { value: 0, used: 1 });
     }
-    if 9 < digit(c) {
-        return Field::Bad;
+    if digit(c).is_none() {
+        return None;
     }
     read_digits(s, at, limit)
 }
 
 // The number from index at on, with the byte end after it.
-pub fn read_field(s: &[u8], at: usize, limit: u64, end: u8) -> Field
+pub fn read_field(s: &[u8], at: usize, limit: u64, end: u8) -> Option<Field>
     requires { (at ≤ length s.now) × (0 < end) }
     ensures { (result ≡ field_of limit end (drop at s.now)) × WithinField limit (length s.now - at) result }
 {
-    let n = read_number(s, at, limit);
-    let Field::Number(value, used) = n else {
-        return Field::Bad;
-    };
-    if s.len() - at <= used {
-        return Field::Bad;
+    let number = read_number(s, at, limit)?;
+    if s.len() - at <= number.used {
+        return None;
     }
-    if s[at + used] == end {
-        return Field::Number(value, used + 1);
+    if s[at + number.used] == end {
+        return Some(Field {
+            used: number.used + 1,
+            ..number
+        });
     }
-    Field::Bad
+    None
 }

@@ -4,7 +4,7 @@ ghost use Rattle.order.specs.Histories.{judgement};
 ghost use Rattle.history_text.specs.Lines.{lines_of, answer_to};
 ghost use Rattle.history_text.specs.Readings.{reading_of, answer_by};
 
-use crate::line::{Line, read_line};
+use crate::line::read_line;
 use frame::Refusal;
 use history_row::{History, judge_first};
 use order::judge::{Verdict, refuse};
@@ -16,18 +16,17 @@ pub fn read_text(s: &[u8]) -> Result<History, Refusal>
     let mut history = History::empty();
     let mut at: usize = 0;
     while at < s.len() {
-        let line = read_line(s, at);
-        let Line::Record(a, used) = line else {
+        let Some(line) = read_line(s, at) else {
             return Err(Refusal::Record);
         };
-        history = history.add(a)?;
-        at += used;
+        history = history.add(line.operation)?;
+        at += line.used;
     }
     Ok(history)
 }
 
 // The answer to what was read; the operations are lent as a slice.
-#[tactic(auto, unfolding(crate::specs::Readings::answer_by, history_row::specs::Rows::verdict_by, history_row::specs::Rows::verdict_of, area::specs::Area::pick))]
+#[tactic(auto, unfolding(history_row::specs::Rows::verdict_by, history_row::specs::Rows::verdict_of, area::specs::Area::pick))]
 pub fn judge_reading(reading: Result<History, Refusal>) -> Verdict
     ensures { judgement result ≡ answer_by reading }
 {

@@ -14,7 +14,7 @@ use Rattle.order.specs.Histories.{any, offended, later, earlier, blank, Finding,
 use Rattle.order.specs.Orders.{Order, HasOrder, Accepted, Earliest, Right}
 use Rattle.order.specs.declared.operation.Operation.{Operation}
 use Rattle.std.proofs.Common.{Result, Ok, Err}
-use Rattle.frame.specs.Refusals.{number_of, refusal}
+use Rattle.frame.specs.Refusals.{refusal}
 use Rattle.frame.proofs.Responses.{one_each}
 use Rattle.order.specs.declared.judge.Fault.{Fault}
 use Rattle.order.specs.declared.judge.Fault.TheVariants.{Offending, Refused}

@@ -1,7 +1,7 @@
 -- Outcomes of tests: a value is the outcome that a test picks. Assumes nothing.
 use mathlib.Core.Path.{◌≡◌, refl}
 use mathlib.Core.Bool.{Bool, true, false}
-use Rattle.std.proofs.Common.{Result, Ok, Err}
+use Rattle.std.proofs.Common.{Ok, Err}
 use Rattle.area.specs.Area.{pick}
 use Rattle.area.proofs.Tests.{impossible}
 pub use Rattle.area.proofs.Tests.{pick_yes, pick_no}

@@ -7,14 +7,14 @@ use crate::judge::{Fault, LinePair};
 use frame::refusals::number_of;
 
 // How many line numbers an answer gives.
-#[tactic(auto, using(area::proofs::Tests::tests), unfolding(crate::specs::Answers::line_count))]
+#[tactic(auto, unfolding(crate::specs::Answers::line_count))]
 pub fn line_count(a: Result<usize, Fault>) -> usize
     ensures { result ≡ line_count (judge_response a) }
 {
     a.unwrap_or(0)
 }
 
-#[tactic(auto, using(area::proofs::Tests::tests), unfolding(crate::specs::Answers::history_answer, crate::specs::Answers::fault_answer))]
+#[tactic(auto, unfolding(crate::specs::Answers::history_answer, crate::specs::Answers::fault_answer))]
 pub fn history_answer(a: Result<usize, Fault>) -> u64
     ensures { result ≡ history_answer (judge_response a) }
 {
@@ -25,7 +25,7 @@ pub fn history_answer(a: Result<usize, Fault>) -> u64
 }
 
 // The number where there is no order.
-#[tactic(auto, using(area::proofs::Tests::tests), unfolding(crate::specs::Answers::fault_answer))]
+#[tactic(auto, unfolding(crate::specs::Answers::fault_answer))]
 pub fn fault_answer(fault: Fault) -> u64
     ensures { result ≡ fault_answer fault }
 {

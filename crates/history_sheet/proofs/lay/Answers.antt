@@ -1,5 +1,5 @@
 -- By the answer to the history. Assumes nothing.
-use Rattle.std.proofs.Common.{◌≡◌, ◌∙◌, Ok, Err}
+use Rattle.std.proofs.Common.{◌∙◌}
 use Rattle.std.proofs.lemmas.Result.{err_from_is_err_and}
 use Rattle.history_sheet.proofs.Layings.{read_ok, read_err, text_unread, text_ready, text_laid, text_fault}
 use Rattle.history_sheet.proofs.lay.Goals as goal

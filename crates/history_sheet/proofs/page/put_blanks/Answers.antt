@@ -5,7 +5,6 @@ use Rattle.history_sheet.specs.Sheet.{filled, ended}
 use Rattle.history_sheet.proofs.Lines.{length_blank}
 use Rattle.history_sheet.proofs.Pages.{no_lines, turn, all_lines}
 use native.Mathlib.Omega.{arith}
-use borrow.Author.Rules.{rules}
 use Rattle.history_sheet.proofs.page.put_blanks.Goals as goal
 
 pub loop-j-init : goal.loop-j-init

@@ -4,7 +4,6 @@ use Rattle.history_sheet.specs.Sheet.{page_size, page_of}
 use Rattle.history_sheet.specs.Stages.{named_all}
 use Rattle.history_sheet.proofs.Pages.{no_lines, turn_front, all_lines, length_page, named_fits}
 use native.Mathlib.Omega.{arith}
-use borrow.Author.Rules.{rules}
 use Rattle.history_sheet.proofs.page.put_pages.Goals as goal
 
 pub loop-p-init : goal.loop-p-init

@@ -1,6 +1,5 @@
 -- Each turn stores one more page. Assumes nothing.
 use mathlib.Core.Path.{◌≡◌}
-use Prim.Native.Nat.{◌-◌, ◌≤◌}
 use lib.ListN.{length}
 use lib.Seq.{sets}
 use Rattle.area.specs.Area.{joined}

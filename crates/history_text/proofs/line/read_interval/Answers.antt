@@ -1,34 +1,30 @@
-use mathlib.Core.Path.{refl, subst}
-use Prim.Native.Nat.{◌+◌, ◌-◌}
-use lib.ListN.{length}
-use Rattle.history_text.specs.ReadNumbers.{WithinField}
+use mathlib.Core.Path.{refl}
 use Rattle.history_text.proofs.Laws.{then_number_lem, then_bad, further}
 use Rattle.history_text.specs.ReadLines.{interval_of}
 use native.Mathlib.Omega.{arith}
 use Rattle.history_text.proofs.line.read_interval.Goals as goal
 
-pub returns-in_default : goal.returns-in_default
+pub returns-in_err-f : goal.returns-in_err-f
 unfolding interval_of
-returns-in_default c = (then_bad _ _ _ c.read_field-f.ensures.0 c.in_default.is, tt)
+returns-in_err-f c = rw c.from_residual.ensures (then_bad _ _ _ c.in_err-f.ensures.0 refl, tt)
 
-pub returns-in_default-g : goal.returns-in_default-g
+pub returns-in_err-g : goal.returns-in_err-g
 unfolding interval_of
-returns-in_default-g c =
+returns-in_err-g c =
     let a = c.args in
-    let s = a.s.now in
-    let r = c.read_field-f in
-    let f = c.in-Number in
-    (then_number_lem _ _ _ f.start f.a r.ensures.0 f.is (then_bad _ _ _ (further 4294967295 32 a.at f.a s c.read_field-g.ensures.0) c.in_default-g.is), tt)
+    let f = c.in_ok-f.f in
+    rw c.from_residual-in_err-g.ensures
+    (then_number_lem _ _ _ f.value f.used c.in_ok-f.ensures.0 refl (then_bad _ _ _ (further 4294967295 32 a.at f.used a.s.now c.in_err-g.ensures.0) refl), tt)
 
 pub returns : goal.returns
 unfolding interval_of
 returns c =
     let a = c.args in
-    let s = a.s.now in
-    let r = c.read_field-f in
-    let f = c.in-Number in
-    let w = subst (WithinField 4294967295 (length s - a.at)) f.is r.ensures.1 in
-    let r₂ = c.read_field-g in
-    let g = c.in-Number-g in
-    let w₂ = subst (WithinField 4294967295 (length s - (a.at + f.a))) g.is r₂.ensures.1 in
-    (then_number_lem _ _ _ f.start f.a r.ensures.0 f.is (then_number_lem _ _ _ g.end g.b (further 4294967295 32 a.at f.a s r₂.ensures.0) g.is refl), omega arith)
+    let f = c.in_ok-f.f in
+    let g = c.in_ok-g.g in
+    let w = c.in_ok-f.ensures.1 in
+    let w₂ = c.in_ok-g.ensures.1 in (
+      then_number_lem _ _ _ f.value f.used c.in_ok-f.ensures.0 refl
+          (then_number_lem _ _ _ g.value g.used (further 4294967295 32 a.at f.used a.s.now c.in_ok-g.ensures.0) refl refl),
+      omega (arith, w.1, w₂.1),
+    )

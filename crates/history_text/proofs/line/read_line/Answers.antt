@@ -1,8 +1,6 @@
-use mathlib.Core.Path.{subst}
-use Prim.Native.Nat.{◌+◌, ◌-◌, ◌≤◌}
+use mathlib.Core.Path.{refl}
+use Prim.Native.Nat.{◌-◌, ◌≤◌}
 use lib.ListN.{length}
-use Rattle.history_text.specs.ReadNumbers.{WithinField}
-use Rattle.history_text.specs.ReadLines.{WithinInterval, WithinStamp}
 use Rattle.history_text.proofs.Lines.{line_short, line_kind, line_space, line_interval, line_stamp, line_caller, line_whole}
 use native.Mathlib.Omega.{arith}
 use Rattle.history_text.proofs.line.read_line.Goals as goal
@@ -10,64 +8,61 @@ use Rattle.history_text.proofs.line.read_line.Goals as goal
 pub returns-then-s-at-lt2 : goal.returns-then-s-at-lt2
 returns-then-s-at-lt2 c = let a = c.args in (line_short a.s.now a.at c.if-s-at-lt2.true, tt)
 
-pub returns-then-k-gt1 : goal.returns-then-k-gt1
-returns-then-k-gt1 c =
+pub returns-in_err-write : goal.returns-in_err-write
+returns-in_err-write c =
     let a = c.args in
     let s = a.s.now in
     let h : 2 ≤ length s - a.at = omega arith in
-    (line_kind s a.at h c.kind-k.ensures c.if-k-gt1.true, tt)
+    rw c.from_residual.ensures (line_kind s a.at h c.in_err-write.ensures, tt)
 
 pub returns-then-s-at-ne32 : goal.returns-then-s-at-ne32
 returns-then-s-at-ne32 c =
     let a = c.args in
     let s = a.s.now in
     let h : 2 ≤ length s - a.at = omega arith in
-    let g : c.kind-k.result ≤ 1 = omega arith in
-    (line_space s a.at h c.kind-k.ensures g c.if-s-at-ne32.true, tt)
+    (line_space s a.at h c.in_ok-write.ensures c.if-s-at-ne32.true, tt)
 
-pub returns-in_default : goal.returns-in_default
-returns-in_default c =
+pub returns-in_err-i : goal.returns-in_err-i
+returns-in_err-i c =
     let a = c.args in
     let s = a.s.now in
     let h : 2 ≤ length s - a.at = omega arith in
-    let g : c.kind-k.result ≤ 1 = omega arith in
-    (line_interval s a.at h c.kind-k.ensures g c.if-s-at-ne32.false c.read_interval-i.ensures.0 c.in_default.is, tt)
+    rw c.from_residual-in_err-i.ensures (line_interval s a.at h c.in_ok-write.ensures c.if-s-at-ne32.false c.in_err-i.ensures.0 refl, tt)
 
-pub returns-in_default-p : goal.returns-in_default-p
-returns-in_default-p c =
+pub returns-in_err-p : goal.returns-in_err-p
+returns-in_err-p c =
     let a = c.args in
     let s = a.s.now in
     let h : 2 ≤ length s - a.at = omega arith in
-    let g : c.kind-k.result ≤ 1 = omega arith in
-    let r = c.read_interval-i in
-    let i = c.in-Times in
-    (line_stamp s a.at h c.kind-k.ensures g c.if-s-at-ne32.false i.start i.end i.a r.ensures.0 i.is c.read_stamp-p.ensures.0 c.in_default-p.is, tt)
+    let i = c.in_ok-i.i in
+    rw c.from_residual-in_err-p.ensures
+    (line_stamp s a.at h c.in_ok-write.ensures c.if-s-at-ne32.false i.start i.end i.used c.in_ok-i.ensures.0 refl c.in_err-p.ensures.0 refl, tt)
 
-pub returns-in_default-f : goal.returns-in_default-f
-returns-in_default-f c =
+pub returns-in_err-f : goal.returns-in_err-f
+returns-in_err-f c =
     let a = c.args in
     let s = a.s.now in
-    let r = c.read_interval-i in
-    let i = c.in-Times in
-    let v = c.read_stamp-p in
-    let p = c.in-Parts in
-    let h : 2 ≤ length s - a.at = omega arith in
-    let g : c.kind-k.result ≤ 1 = omega arith in
-    (line_caller s a.at h c.kind-k.ensures g c.if-s-at-ne32.false i.start i.end i.a p.time p.writer p.sequence p.b r.ensures.0 i.is v.ensures.0 p.is c.read_field-f.ensures.0 c.in_default-f.is, tt)
+    let i = c.in_ok-i.i in
+    let p = c.in_ok-p.p in
+    let h : 2 ≤ length s - a.at = c.if-s-at-lt2.false in
+    rw c.from_residual-in_err-f.ensures (
+      line_caller s a.at h c.in_ok-write.ensures c.if-s-at-ne32.false i.start i.end i.used p.time p.writer p.sequence p.used
+          c.in_ok-i.ensures.0 refl c.in_ok-p.ensures.0 refl c.in_err-f.ensures.0 refl,
+      tt,
+    )
 
 pub returns : goal.returns
 returns c =
     let a = c.args in
     let s = a.s.now in
-    let r = c.read_interval-i in
-    let i = c.in-Times in
-    let w = subst (WithinInterval (length s - (a.at + 2))) i.is r.ensures.1 in
-    let v = c.read_stamp-p in
-    let p = c.in-Parts in
-    let w₂ = subst (WithinStamp (length s - (a.at + 2 + i.a))) p.is v.ensures.1 in
-    let n = c.read_field-f in
-    let f = c.in-Number in
-    let w₃ = subst (WithinField 8 (length s - (a.at + 2 + i.a + p.b))) f.is n.ensures.1 in
-    let h : 2 ≤ length s - a.at = c.if-s-at-lt2.false in
-    let g : c.kind-k.result ≤ 1 = c.if-k-gt1.false in
-    (line_whole s a.at h c.kind-k.ensures g c.if-s-at-ne32.false i.start i.end i.a p.time p.writer p.sequence p.b r.ensures.0 i.is v.ensures.0 p.is n.ensures.0 f.caller f.d f.is, (omega (arith, w, w₂, w₃.1), omega (arith, h, w, w₂, w₃.1)))
+    let i = c.in_ok-i.i in
+    let p = c.in_ok-p.p in
+    let f = c.in_ok-f.f in
+    let w = c.in_ok-i.ensures.1 in
+    let w₂ = c.in_ok-p.ensures.1 in
+    let w₃ = c.in_ok-f.ensures.1 in
+    let h : 2 ≤ length s - a.at = c.if-s-at-lt2.false in (
+      line_whole s a.at h c.in_ok-write.ensures c.if-s-at-ne32.false i.start i.end i.used p.time p.writer p.sequence p.used
+          c.in_ok-i.ensures.0 refl c.in_ok-p.ensures.0 refl c.in_ok-f.ensures.0 f.value f.used refl,
+      (omega (arith, w, w₂, w₃.1), omega (arith, h, w, w₂, w₃.1)),
+    )

@@ -1,23 +1,23 @@
 use mathlib.Core.Path.{◌≡◌, sym, ap, ◌∙◌}
-use Prim.Native.Nat.{suc, ◌+◌, ◌*◌, ◌<◌, ◌≤◌}
+use Prim.Native.Nat.{suc, ◌+◌, ◌-◌, ◌*◌, ◌<◌, ◌≤◌}
 use lib.ListN.{length, drop}
 use borrow.Author.Tests.{leb-true}
-use Rattle.history_text.specs.ReadNumbers.{digits_of}
+use Rattle.history_text.specs.ReadNumbers.{number_with, digits_of}
 use Rattle.history_text.proofs.Laws.{digits_stop, digits_over, digits_more, digits_end}
 use native.Mathlib.Omega.{arith}
 use Rattle.history_text.proofs.number.read_digits.Goals as goal
 
 pub loop-used-init : goal.loop-used-init
-loop-used-init c = (omega arith, omega arith, ap (λ i. digits_of c.args.limit 0 0 (drop i c.args.s.now)) (let e : c.args.at + 0 ≡ c.args.at = omega arith in e))
+loop-used-init c = (omega arith, ap (λ i. digits_of c.args.limit 0 0 (drop i c.args.s.now)) (let e : c.args.at + 0 ≡ c.args.at = omega arith in e))
 
-pub returns-then-d-gt9 : goal.returns-then-d-gt9
-returns-then-d-gt9 c =
+pub returns-in_default : goal.returns-in_default
+returns-in_default c =
     let a = c.args in
     let l = c.loop-used in
     let s = a.s.now in
     let h : a.at + l.used < length s = omega arith in
-    let e = digits_stop a.limit l.value l.used (a.at + l.used) s h c.digit-d.ensures.0 c.if-d-gt9.true in
-    (sym e ∙ l.invariant.2, (omega arith, omega arith))
+    let e = digits_stop a.limit l.value l.used (a.at + l.used) s h c.in_default.ensures.0 in
+    (sym e ∙ l.invariant.1, (omega arith, omega arith))
 
 pub loop-used-preserved : goal.loop-used-preserved
 loop-used-preserved c =
@@ -25,12 +25,11 @@ loop-used-preserved c =
     let l = c.loop-used in
     let s = a.s.now in
     let h : a.at + l.used < length s = omega arith in
-    let d = c.digit-d.result in
-    let g : d ≤ 9 = omega arith in
+    let d = c.in-Some.d in
     let k : l.value * 10 + d ≤ a.limit = leb-true _ _ (sym c.fits.ensures ∙ c.if-fits.true) in
-    let e = digits_more a.limit l.value l.used (a.at + l.used) s h c.digit-d.ensures.0 g c.fits.ensures c.if-fits.true in
+    let e = digits_more a.limit l.value l.used (a.at + l.used) d s h c.in-Some.ensures.0 c.fits.ensures c.if-fits.true in
     let n : a.at + (l.used + 1) ≡ suc (a.at + l.used) = omega arith in
-    (omega arith, k, ap (λ i. digits_of a.limit (l.value * 10 + d) (l.used + 1) (drop i s)) n ∙ sym e ∙ l.invariant.2)
+    (k, ap (λ i. digits_of a.limit (l.value * 10 + d) (l.used + 1) (drop i s)) n ∙ sym e ∙ l.invariant.1)
 
 pub returns-else-fits : goal.returns-else-fits
 returns-else-fits c =
@@ -38,9 +37,8 @@ returns-else-fits c =
     let l = c.loop-used in
     let s = a.s.now in
     let h : a.at + l.used < length s = omega arith in
-    let g : c.digit-d.result ≤ 9 = omega arith in
-    let e = digits_over a.limit l.value l.used (a.at + l.used) s h c.digit-d.ensures.0 g c.fits.ensures c.if-fits.false in
-    (sym e ∙ l.invariant.2, tt)
+    let e = digits_over a.limit l.value l.used (a.at + l.used) c.in-Some.d s h c.in-Some.ensures.0 c.fits.ensures c.if-fits.false in
+    (sym e ∙ l.invariant.1, tt)
 
 pub returns : goal.returns
 returns c =
@@ -49,4 +47,5 @@ returns c =
     let s = a.s.now in
     let h : length s ≤ a.at + l.used = omega arith in
     let e = digits_end a.limit l.value l.used (a.at + l.used) s h in
-    (sym e ∙ l.invariant.2, (omega arith, omega arith))
+    let k : l.used ≡ length s - a.at = omega arith in
+    (ap (λ u. number_with l.value u) (sym k) ∙ sym e ∙ l.invariant.1, (omega arith, omega arith))

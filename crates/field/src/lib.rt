@@ -71,12 +71,9 @@ pub fn product(a: u8, b: u8) -> u8
     if a == 0 || b == 0 {
         return 0;
     }
-    let e = log(a) + log(b);
-    if e < 255 {
-        powers()[e]
-    } else {
-        powers()[e - 255]
-    }
+    let sum = log(a) + log(b);
+    let e = if sum < 255 { sum } else { sum - 255 };
+    powers()[e]
 }
 
 // The inverse of a byte, which is 00 for 00: its 254th power, by halving the exponent. After each turn the answer is r times s to the power e.

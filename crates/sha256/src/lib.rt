@@ -3,13 +3,11 @@
 
 ghost use Rattle.std.specs.Prelude.{◌≡◌, ◌+◌, ◌*◌, ◌<◌, ◌≤◌, length};
 ghost use Rattle.std.proofs.lemmas.List.Edits.{sets};
-ghost use Rattle.sha256.specs.Words.{rotr, ch, maj, big_sigma0, big_sigma1, sigma0, sigma1};
+ghost use Rattle.sha256.specs.Words.{ch, maj, big_sigma0, big_sigma1, sigma0, sigma1};
 ghost use Rattle.sha256.specs.Constants.{constants, initial_hash};
 ghost use Rattle.sha256.specs.Hash.{schedule as scheduleOf, t1, t2, round as roundOf, rounds as roundsOf};
 ghost use Rattle.sha256.specs.Hash.{added, compressed, hashed, concatenated, digest_of};
 ghost use Rattle.sha256.specs.Steps.{zeros, laid, four, word_from, stored, stored_from, four_words};
-
-use std::num::wrapping_add_u32;
 
 // The hash value between blocks, and the working variables within one.
 #[derive(Clone, Copy)]
@@ -25,7 +23,7 @@ pub struct State {
 }
 
 // The constants of section 4.2.2.
-const K: [u32; 64] = [
+static K: [u32; 64] = [
     0x428a2f98, 0x71374491, 0xb5c0fbcf, 0xe9b5dba5, 0x3956c25b, 0x59f111f1, 0x923f82a4, 0xab1c5ed5,
     0xd807aa98, 0x12835b01, 0x243185be, 0x550c7dc3, 0x72be5d74, 0x80deb1fe, 0x9bdc06a7, 0xc19bf174,
     0xe49b69c1, 0xefbe4786, 0x0fc19dc6, 0x240ca1cc, 0x2de92c6f, 0x4a7484aa, 0x5cb0a9dc, 0x76f988da,
@@ -35,14 +33,6 @@ const K: [u32; 64] = [
     0x19a4c116, 0x1e376c08, 0x2748774c, 0x34b0bcb5, 0x391c0cb3, 0x4ed8aa4a, 0x5b9cca4f, 0x682e6ff3,
     0x748f82ee, 0x78a5636f, 0x84c87814, 0x8cc70208, 0x90befffa, 0xa4506ceb, 0xbef9a3f7, 0xc67178f2,
 ];
-
-// x rotated to the right by n bits.
-fn rotate(x: u32, n: u32) -> u32
-    requires { (1 ≤ n) × (n < 32) }
-    ensures { result ≡ rotr n x }
-{
-    (x >> n) | (x << (32 - n))
-}
 
 fn choose(x: u32, y: u32, z: u32) -> u32
     ensures { result ≡ ch x y z }
@@ -59,34 +49,35 @@ fn majority(x: u32, y: u32, z: u32) -> u32
 fn big_sigma0(x: u32) -> u32
     ensures { result ≡ big_sigma0 x }
 {
-    rotate(x, 2) ^ rotate(x, 13) ^ rotate(x, 22)
+    x.rotate_right(2) ^ x.rotate_right(13) ^ x.rotate_right(22)
 }
 
 fn big_sigma1(x: u32) -> u32
     ensures { result ≡ big_sigma1 x }
 {
-    rotate(x, 6) ^ rotate(x, 11) ^ rotate(x, 25)
+    x.rotate_right(6) ^ x.rotate_right(11) ^ x.rotate_right(25)
 }
 
 fn small_sigma0(x: u32) -> u32
     ensures { result ≡ sigma0 x }
 {
-    rotate(x, 7) ^ rotate(x, 18) ^ (x >> 3)
+    x.rotate_right(7) ^ x.rotate_right(18) ^ (x >> 3)
 }
 
 fn small_sigma1(x: u32) -> u32
     ensures { result ≡ sigma1 x }
 {
-    rotate(x, 17) ^ rotate(x, 19) ^ (x >> 10)
+    x.rotate_right(17) ^ x.rotate_right(19) ^ (x >> 10)
 }
 
 // A word of the schedule from those 2, 7, 15 and 16 before it.
 fn next_word(x: u32, y: u32, z: u32, u: u32) -> u32
     ensures { result ≡ word_from x y z u }
 {
-    let p = wrapping_add_u32(small_sigma1(x), y);
-    let q = wrapping_add_u32(p, small_sigma0(z));
-    wrapping_add_u32(q, u)
+    small_sigma1(x)
+        .wrapping_add(y)
+        .wrapping_add(small_sigma0(z))
+        .wrapping_add(u)
 }
 
 // Stores word 16 + t of the schedule.
@@ -123,97 +114,107 @@ fn schedule(p: &[u8], at: usize) -> [u32; 64]
     w
 }
 
-fn first_sum(s: State, k: u32, w: u32) -> u32
-    ensures { result ≡ t1 s k w }
-{
-    let x = wrapping_add_u32(s.h, big_sigma1(s.e));
-    let y = wrapping_add_u32(x, choose(s.e, s.f, s.g));
-    wrapping_add_u32(wrapping_add_u32(y, k), w)
-}
-
-fn second_sum(s: State) -> u32
-    ensures { result ≡ t2 s }
-{
-    wrapping_add_u32(big_sigma0(s.a), majority(s.a, s.b, s.c))
-}
-
-fn round(s: State, k: u32, w: u32) -> State
-    ensures { result ≡ roundOf s k w }
-{
-    let x = first_sum(s, k, w);
-    let y = second_sum(s);
-    let a = wrapping_add_u32(x, y);
-    let e = wrapping_add_u32(s.d, x);
-    State {
-        a,
-        b: s.a,
-        c: s.b,
-        d: s.c,
-        e,
-        f: s.e,
-        g: s.f,
-        h: s.g,
+impl State {
+    fn initial() -> State
+        ensures { result ≡ initial_hash }
+    {
+        State {
+            a: 0x6a09e667,
+            b: 0xbb67ae85,
+            c: 0x3c6ef372,
+            d: 0xa54ff53a,
+            e: 0x510e527f,
+            f: 0x9b05688c,
+            g: 0x1f83d9ab,
+            h: 0x5be0cd19,
+        }
     }
-}
 
-// Four rounds, from round t on. The caller lends the constants: a constant array is built anew wherever it is named.
-fn four_rounds(s: State, w: &[u32; 64], k: &[u32; 64], t: usize) -> State
-    requires { (t + 4 ≤ 64) × (k.now ≡ constants) }
-    ensures { result ≡ four s w.now t }
-{
-    let x1 = round(s, k[t], w[t]);
-    let x2 = round(x1, k[t + 1], w[t + 1]);
-    let x3 = round(x2, k[t + 2], w[t + 2]);
-    round(x3, k[t + 3], w[t + 3])
-}
-
-fn rounds(s: State, w: &[u32; 64]) -> State
-    ensures { result ≡ roundsOf 64 w.now s }
-{
-    let k = K;
-    let mut x = s;
-    for j in 0..16 {
-        x = four_rounds(x, w, &k, j * 4);
+    fn first_sum(self, k: u32, w: u32) -> u32
+        ensures { result ≡ t1 self k w }
+    {
+        self.h
+            .wrapping_add(big_sigma1(self.e))
+            .wrapping_add(choose(self.e, self.f, self.g))
+            .wrapping_add(k)
+            .wrapping_add(w)
     }
-    x
-}
 
-fn add(v: State, s: State) -> State
-    ensures { result ≡ added v s }
-{
-    State {
-        a: wrapping_add_u32(v.a, s.a),
-        b: wrapping_add_u32(v.b, s.b),
-        c: wrapping_add_u32(v.c, s.c),
-        d: wrapping_add_u32(v.d, s.d),
-        e: wrapping_add_u32(v.e, s.e),
-        f: wrapping_add_u32(v.f, s.f),
-        g: wrapping_add_u32(v.g, s.g),
-        h: wrapping_add_u32(v.h, s.h),
+    fn second_sum(self) -> u32
+        ensures { result ≡ t2 self }
+    {
+        big_sigma0(self.a).wrapping_add(majority(self.a, self.b, self.c))
     }
-}
 
-// The hash value after the block that starts at index at.
-fn compress(s: State, p: &[u8], at: usize) -> State
-    requires { at + 64 ≤ length p.now }
-    ensures { result ≡ compressed s p.now at }
-{
-    let w = schedule(p, at);
-    add(rounds(s, &w), s)
-}
+    fn round(self, k: u32, w: u32) -> State
+        ensures { result ≡ roundOf self k w }
+    {
+        let x = self.first_sum(k, w);
+        State {
+            a: x.wrapping_add(self.second_sum()),
+            b: self.a,
+            c: self.b,
+            d: self.c,
+            e: self.d.wrapping_add(x),
+            f: self.e,
+            g: self.f,
+            h: self.g,
+        }
+    }
 
-fn initial() -> State
-    ensures { result ≡ initial_hash }
-{
-    State {
-        a: 0x6a09e667,
-        b: 0xbb67ae85,
-        c: 0x3c6ef372,
-        d: 0xa54ff53a,
-        e: 0x510e527f,
-        f: 0x9b05688c,
-        g: 0x1f83d9ab,
-        h: 0x5be0cd19,
+    // Four rounds, from round t on.
+    fn four_rounds(self, w: &[u32; 64], t: usize) -> State
+        requires { t + 4 ≤ 64 }
+        ensures { result ≡ four self w.now t }
+    {
+        let x1 = self.round(K[t], w[t]);
+        let x2 = x1.round(K[t + 1], w[t + 1]);
+        let x3 = x2.round(K[t + 2], w[t + 2]);
+        x3.round(K[t + 3], w[t + 3])
+    }
+
+    fn rounds(self, w: &[u32; 64]) -> State
+        ensures { result ≡ roundsOf 64 w.now self }
+    {
+        let mut x = self;
+        for j in 0..16 {
+            x = x.four_rounds(w, j * 4);
+        }
+        x
+    }
+
+    fn add(self, s: State) -> State
+        ensures { result ≡ added self s }
+    {
+        State {
+            a: self.a.wrapping_add(s.a),
+            b: self.b.wrapping_add(s.b),
+            c: self.c.wrapping_add(s.c),
+            d: self.d.wrapping_add(s.d),
+            e: self.e.wrapping_add(s.e),
+            f: self.f.wrapping_add(s.f),
+            g: self.g.wrapping_add(s.g),
+            h: self.h.wrapping_add(s.h),
+        }
+    }
+
+    // The hash value after the block that starts at index at.
+    fn compress(self, p: &[u8], at: usize) -> State
+        requires { at + 64 ≤ length p.now }
+        ensures { result ≡ compressed self p.now at }
+    {
+        let w = schedule(p, at);
+        self.rounds(&w).add(self)
+    }
+
+    // The eight words of a hash value, one after the other.
+    fn concatenate(self) -> [u8; 32]
+        ensures { result ≡ concatenated self }
+    {
+        let mut d = [0u8; 32];
+        put_words(&mut d, 0, self.a, self.b, self.c, self.d);
+        put_words(&mut d, 16, self.e, self.f, self.g, self.h);
+        d
     }
 }
 
@@ -222,9 +223,9 @@ fn hash(p: &[u8], n: usize) -> State
     requires { n * 64 ≤ length p.now }
     ensures { result ≡ hashed n p.now }
 {
-    let mut s = initial();
+    let mut s = State::initial();
     for i in 0..n {
-        s = compress(s, p, i * 64);
+        s = s.compress(p, i * 64);
     }
     s
 }
@@ -251,16 +252,6 @@ fn put_words(d: &mut [u8; 32], at: usize, x: u32, y: u32, z: u32, u: u32)
     area::write4(d, at + 12, u);
 }
 
-// The eight words of a hash value, one after the other.
-fn concatenate(s: State) -> [u8; 32]
-    ensures { result ≡ concatenated s }
-{
-    let mut d = [0u8; 32];
-    put_words(&mut d, 0, s.a, s.b, s.c, s.d);
-    put_words(&mut d, 16, s.e, s.f, s.g, s.h);
-    d
-}
-
 // The SHA-256 digest of a message of at most 256 bytes.
 pub fn digest(message: &[u8]) -> [u8; 32]
     requires { length message.now ≤ 256 }
@@ -270,5 +261,5 @@ pub fn digest(message: &[u8]) -> [u8; 32]
     pad(message, &mut p);
     let n = (message.len() + 72) / 64;
     let end = n * 64;
-    concatenate(hash(&p[..end], n))
+    hash(&p[..end], n).concatenate()
 }

@@ -5,16 +5,13 @@ use Rattle.sha256.proofs.hash.Goals as goal
 
 pub loop-i-init : goal.loop-i-init
 unfolding hashed
-loop-i-init c = (omega arith, c.initial-s.ensures)
-
-pub loop-i-smaller : goal.loop-i-smaller
-loop-i-smaller c = omega arith
+loop-i-init c = c.initial-s.ensures
 
 pub loop-i-preserved : goal.loop-i-preserved
 unfolding hashed
-loop-i-preserved c = (omega arith, rw add-one (cc))
+loop-i-preserved c = rw add-one (cc)
 
 pub returns : goal.returns
 returns c =
     let e : c.loop-i.i ≡ c.args.n = omega arith in
-    c.loop-i.invariant.1 ∙ rw e
+    c.loop-i.invariant ∙ rw e

@@ -4,7 +4,4 @@ use Rattle.sha256.specs.Hash.{hashed}
 use Rattle.sha256.proofs.hash.Given as goal
 
 abbrev pub invariant-loop-i : goal.invariant-loop-i
-invariant-loop-i l = (l.i ≤ l.n) × (l.s ≡ hashed l.i l.p)
-
-abbrev pub decreases-loop-i : goal.decreases-loop-i
-decreases-loop-i l = l.n - l.i
+invariant-loop-i l = l.s ≡ hashed l.i l.p

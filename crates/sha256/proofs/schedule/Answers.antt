@@ -7,25 +7,19 @@ use Rattle.sha256.proofs.schedule.Goals as goal
 
 pub loop-j-init : goal.loop-j-init
 unfolding table table_from
-loop-j-init c = (omega arith, refl)
-
-pub loop-j-smaller : goal.loop-j-smaller
-loop-j-smaller c = omega arith
+loop-j-init c = refl
 
 pub loop-j-preserved : goal.loop-j-preserved
-loop-j-preserved c = (omega arith, word_turn _ _ _ _ _ _ c.loop-j.invariant.1 c.read4.ensures)
+loop-j-preserved c = word_turn _ _ _ _ _ _ c.loop-j.invariant c.read4.ensures
 
 pub loop-q-init : goal.loop-q-init
-loop-q-init c = (omega arith, words_done _ _ _ _ (omega arith) c.loop-j.invariant.1)
-
-pub loop-q-smaller : goal.loop-q-smaller
-loop-q-smaller c = omega arith
+loop-q-init c = words_done _ _ _ _ (omega arith) c.loop-j.invariant
 
 pub loop-q-preserved : goal.loop-q-preserved
-loop-q-preserved c = (omega arith, store_turn _ (length_block_words _ _) _ _ _ (omega arith) c.loop-q.invariant.1 c.store_four.ensures)
+loop-q-preserved c = store_turn _ (length_block_words _ _) _ _ _ (omega arith) c.loop-q.invariant c.store_four.ensures
 
 pub returns : goal.returns
 unfolding schedule
 returns c =
     let e : c.loop-q.q ≡ 12 = omega arith in
-    c.loop-q.invariant.1 ∙ rw e (append-nil _)
+    c.loop-q.invariant ∙ rw e (append-nil _)

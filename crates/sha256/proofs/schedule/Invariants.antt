@@ -7,13 +7,7 @@ use Rattle.area.specs.Area.{table}
 use Rattle.sha256.proofs.schedule.Given as goal
 
 abbrev pub invariant-loop-j : goal.invariant-loop-j
-invariant-loop-j l = (l.j ≤ 16) × (l.w ≡ sets (replicate 64 0) 0 (table l.j (λ t. be4 l.p (l.at + t * 4))))
-
-abbrev pub decreases-loop-j : goal.decreases-loop-j
-decreases-loop-j l = 16 - l.j
+invariant-loop-j l = l.w ≡ sets (replicate 64 0) 0 (table l.j (λ t. be4 l.p (l.at + t * 4)))
 
 abbrev pub invariant-loop-q : goal.invariant-loop-q
-invariant-loop-q l = (l.q ≤ 12) × (l.w ≡ extended (l.q * 4) (block_words l.p l.at) ++ replicate (48 - l.q * 4) 0)
-
-abbrev pub decreases-loop-q : goal.decreases-loop-q
-decreases-loop-q l = 12 - l.q
+invariant-loop-q l = l.w ≡ extended (l.q * 4) (block_words l.p l.at) ++ replicate (48 - l.q * 4) 0

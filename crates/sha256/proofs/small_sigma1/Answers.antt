@@ -1,7 +1,9 @@
 -- By the definition. Assumes nothing.
-use Rattle.sha256.specs.Words.{sigma1}
+use Rattle.std.proofs.Common.{bit_xor, ◌/◌}
+use mathlib.Core.Path.{ap, ap₂}
+use Rattle.sha256.specs.Words.{rotr, sigma1}
 use Rattle.sha256.proofs.small_sigma1.Goals as goal
 
 pub returns : goal.returns
-unfolding sigma1
-returns c = cc
+unfolding sigma1 rotr
+returns c = ap (λ y. bit_xor y (c.args.x / 1024)) (ap₂ bit_xor c.rotate_right.ensures c.rotate_right-2.ensures)

@@ -1,6 +1,6 @@
 -- By the definition. Assumes nothing.
 use Rattle.sha256.specs.Hash.{compressed}
-use Rattle.sha256.proofs.compress.Goals as goal
+use Rattle.sha256.proofs.State.compress.Goals as goal
 
 pub returns : goal.returns
 unfolding compressed

@@ -1,6 +1,6 @@
 -- By the definition. Assumes nothing.
 use Rattle.sha256.specs.Hash.{t2}
-use Rattle.sha256.proofs.second_sum.Goals as goal
+use Rattle.sha256.proofs.State.second_sum.Goals as goal
 
 pub returns : goal.returns
 unfolding t2

@@ -1,7 +1,7 @@
 -- The outcome of a frame handed to a client by a host, from what the code's calls promise. Assumes nothing.
 use Rattle.frame.specs.Refusals.{Verdict}
 use Prim.Native.Nat.{ℕ, ◌<◌, ◌≤◌}
-use mathlib.Core.Path.{◌≡◌, sym, ap, ap₂, ◌∙◌}
+use mathlib.Core.Path.{◌≡◌, refl, sym, ap, ap₂, ◌∙◌}
 use mathlib.Core.List.{List}
 use lib.ListN.{length}
 use lib.Dec.{ltb}
@@ -10,8 +10,10 @@ use Rattle.area.specs.Area.{pick}
 use Rattle.sha256.specs.Hash.{digest_of}
 use Rattle.blocks.specs.declared.Params.{Params}
 use Rattle.frame.specs.declared.Party.{Party}
+use Rattle.frame.specs.declared.Stamp.{Stamp}
 use Rattle.frame.specs.Stamps.{last_client}
 use Rattle.client_rules.specs.declared.Answer.{Answer}
+use Rattle.client_rules.specs.declared.Answer.TheVariants as A
 use Rattle.client_rules.specs.Answers.{Progress, answer_response}
 use Rattle.client_rules.specs.declared.Client.{Client}
 use Rattle.client_rules.specs.Delivery.{Outcome, delivery}
@@ -28,6 +30,16 @@ use Rattle.semduoli.proofs.Laws.{enough, short}
 -- the answer a is the case b
 pub stamp_case : (a b : Answer) (l o : List ℕ) → a ≡ b → o ≡ stamp_after (answer_response b) l → o ≡ stamp_after (answer_response a) l
 stamp_case a b l o e p = p ∙ sym (ap (λ x. stamp_after (answer_response x) l) e)
+
+-- every other answer leaves the area
+pub stamp_kept : (a : Answer) (l : List ℕ) → ((x : Stamp) → a ≡ A.Value x → ⊥) → l ≡ stamp_after (answer_response a) l
+unfolding stamp_after
+stamp_kept (A.Sent m) l n = refl
+stamp_kept A.Written l n = refl
+stamp_kept A.OutOfStamps l n = refl
+stamp_kept (A.Value x) l n = absurd (n x refl)
+stamp_kept A.Disagreement l n = refl
+stamp_kept (A.Refused r) l n = refl
 
 -- ---- a client
 

@@ -23,8 +23,7 @@ pub fn semduoli_index_insert(value: &[u8], index: &mut [u8]) -> u64
     if index.len() < 577 {
         return 10;
     }
-    let done = accession_bytes::insert(index, value);
-    insertion_answer(done)
+    insertion_answer(accession_bytes::insert(index, value))
 }
 
 // The place of the last inserted value of a number.
@@ -34,6 +33,5 @@ pub fn semduoli_index_search(number: u64, index: &[u8]) -> u64
     if index.len() < 577 {
         return 10;
     }
-    let found = accession_bytes::search(index, number);
-    search_answer(found)
+    search_answer(accession_bytes::search(index, number))
 }

@@ -3,9 +3,10 @@ ghost use Rattle.std.specs.Prelude.{◌≡◌};
 ghost use Rattle.semduoli.specs.Calls.{wrote};
 ghost use Rattle.semduoli.specs.Asked.{header_version, client_open_call, server_stamp_call, server_open_call};
 
+use frame::Stamp;
 use frame::places::CLIENTS;
 use layout::clients::{CLIENT_SIZE, client_at};
-use layout::fields::{STAMP_SIZE, put_stamp, stamp_at};
+use layout::fields::{Field, STAMP_SIZE};
 use layout::servers::{SERVER_SIZE, scope_at};
 use site::answers::open_answer;
 
@@ -24,22 +25,18 @@ pub fn semduoli_client_open(state: &[u8]) -> u64
         return 10;
     }
     let s = client_at(state, 0);
-    let p = s.phase;
-    open_answer(p, s.writes, s.reads)
+    open_answer(s.phase, s.writes, s.reads)
 }
 
 // Writes the stamp that a server holds.
 pub fn semduoli_server_stamp(state: &[u8], stamp: &mut [u8]) -> u64
     ensures { wrote result stamp.new ≡ server_stamp_call state.now stamp.old }
 {
-    if state.len() < SERVER_SIZE {
+    if state.len() < SERVER_SIZE || stamp.len() < STAMP_SIZE {
         return 10;
     }
-    if stamp.len() < STAMP_SIZE {
-        return 10;
-    }
-    let x = stamp_at(state, 0);
-    put_stamp(x, stamp, 0);
+    let x = Stamp::get(state, 0);
+    x.put(stamp, 0);
     0
 }
 
@@ -47,16 +44,12 @@ pub fn semduoli_server_stamp(state: &[u8], stamp: &mut [u8]) -> u64
 pub fn semduoli_server_open(client: usize, state: &[u8]) -> u64
     ensures { result ≡ server_open_call client state.now }
 {
-    if client < 1 {
-        return 7;
-    }
-    if CLIENTS < client {
+    if client < 1 || CLIENTS < client {
         return 7;
     }
     if state.len() < SERVER_SIZE {
         return 10;
     }
     let x = scope_at(state, client);
-    let slot = x.slot;
-    65536 * (slot.sequence % 281474976710656)
+    65536 * (x.slot.sequence % 281474976710656)
 }

@@ -13,7 +13,7 @@ use client::fresh::fresh_client;
 use client_rules::{Answer, Client};
 use frame::places::CLIENTS;
 use layout::clients::{CLIENT_SIZE, client_at, put_client};
-use layout::fields::{STAMP_SIZE, put_stamp};
+use layout::fields::{Field, STAMP_SIZE};
 use site::answers::{client_answer, is_refusal, test_answer};
 use site::short::{frame_short, read_short, stamp_short, value_short};
 
@@ -36,10 +36,9 @@ fn keep(a: Answer, s: Client, state: &mut [u8], n: usize) -> u64
     requires { client_size ≤ length state.old }
     ensures { wrote result state.new ≡ wrote (client_answer n (answer_response a)) (state_after (answer_response a) s state.old) }
 {
-    if is_refusal(a) {
-        return client_answer(a, n);
+    if !is_refusal(a) {
+        put_client(s, state, 0);
     }
-    put_client(s, state, 0);
     client_answer(a, n)
 }
 
@@ -70,9 +69,7 @@ pub fn semduoli_begin_read(
     }
     let s = client_at(state, 0);
     let done = client::begin::begin_read(g, own, s, out, to);
-    let answer = done.answer;
-    let after = done.client;
-    keep(answer, after, state, n)
+    keep(done.answer, done.client, state, n)
 }
 
 // Begins the write of a value of size bytes.
@@ -101,9 +98,7 @@ pub fn semduoli_begin_write(
     }
     let s = client_at(state, 0);
     let done = client::begin::begin_write(g, own, s, value, out, to);
-    let answer = done.answer;
-    let after = done.client;
-    keep(answer, after, state, n)
+    keep(done.answer, done.client, state, n)
 }
 
 // ---- a frame is handed in
@@ -113,13 +108,8 @@ fn put_read(a: Answer, stamp: &mut [u8])
     requires { stamp_size ≤ length stamp.old }
     ensures { stamp.new ≡ stamp_after (answer_response a) stamp.old }
 {
-    match a {
-        Answer::Sent(m) => {}
-        Answer::Written => {}
-        Answer::OutOfStamps => {}
-        Answer::Value(x) => put_stamp(x, stamp, 0),
-        Answer::Disagreement => {}
-        Answer::Refused(r) => {}
+    if let Answer::Value(x) = a {
+        x.put(stamp, 0);
     }
 }
 
@@ -161,8 +151,6 @@ pub fn semduoli_client_deliver(
     }
     let from = sender_of(class, sender);
     let done = site::lend(s, g, own, value, from, f, rows, res, out, to);
-    let answer = done.answer;
-    let after = done.client;
-    put_read(answer, stamp);
-    keep(answer, after, state, n)
+    put_read(done.answer, stamp);
+    keep(done.answer, done.client, state, n)
 }

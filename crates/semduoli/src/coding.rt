@@ -15,8 +15,7 @@ pub fn semduoli_digest(message: &[u8], out: &mut [u8]) -> u64
     if out.len() < 32 {
         return 10;
     }
-    let d = sha256::digest(message);
-    area::put(out, 0, &d);
+    area::put(out, 0, &sha256::digest(message));
     0
 }
 
@@ -32,8 +31,7 @@ pub fn semduoli_encode(
     ensures { wrote result out.new ≡ encode_call (params n t k size) value.now out.old }
 {
     let g = Params { n, t, k, size };
-    let done = blocks::encode(g, value, out);
-    code_answer(done)
+    code_answer(blocks::encode(g, value, out))
 }
 
 // Decodes k to n blocks, which lie end to end in blocks: the value that has them all goes to the front of out; refusal 21 if there is none.
@@ -49,6 +47,5 @@ pub fn semduoli_decode(
     ensures { wrote result out.new ≡ decode_call (params n t k size) numbers.now blocks.now out.old }
 {
     let g = Params { n, t, k, size };
-    let done = blocks::decode(g, numbers, blocks, out);
-    code_answer(done)
+    code_answer(blocks::decode(g, numbers, blocks, out))
 }

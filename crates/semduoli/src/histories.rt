@@ -13,9 +13,7 @@ pub fn semduoli_judge(text: &[u8], lines: &mut [u8]) -> u64
         return 10;
     }
     let verdict = judge_text(text);
-    let answer = verdict.answer;
-    let count = line_count(answer);
-    let row = verdict.lines;
-    area::put(lines, 0, &row[..count]);
-    history_answer(answer)
+    let count = line_count(verdict.answer);
+    area::put(lines, 0, &verdict.lines[..count]);
+    history_answer(verdict.answer)
 }

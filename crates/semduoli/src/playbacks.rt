@@ -27,8 +27,7 @@ pub fn semduoli_playback(
         out.old }
 {
     let g = Params { n, t, k, size };
-    let answer = play(g, me, value, trace, area, initial, state, out);
-    playback_answer(answer)
+    playback_answer(play(g, me, value, trace, area, initial, state, out))
 }
 
 // Server me goes on from the record in state: the entries of a trace are handed to it. Each step writes its frames into out over those of the step before.
@@ -50,6 +49,5 @@ pub fn semduoli_server_resume(
         out.old to.old }
 {
     let g = Params { n, t, k, size };
-    let answer = resume(g, me, trace, area, initial, state, out, to);
-    playback_answer(answer)
+    playback_answer(resume(g, me, trace, area, initial, state, out, to))
 }

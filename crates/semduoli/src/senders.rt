@@ -9,10 +9,7 @@ use frame::parties::party_in;
 pub fn sender_of(class: usize, number: usize) -> Party
     ensures { result ≡ sender_of class number }
 {
-    if 255 < number {
-        return Party::Client(255);
-    }
-    if 1 < class {
+    if 255 < number || 1 < class {
         return Party::Client(255);
     }
     party_in(class as u8, number as u8)

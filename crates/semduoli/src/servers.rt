@@ -26,8 +26,7 @@ pub fn semduoli_server_fresh(
         ≡ make_call (params n t k size) me value.now area.old initial.old state.old }
 {
     let g = Params { n, t, k, size };
-    let reply = fresh(g, me, value, area, initial, state);
-    server_answer(reply)
+    server_answer(fresh(g, me, value, area, initial, state))
 }
 
 // Delivers a frame to server me.
@@ -52,6 +51,5 @@ pub fn semduoli_server_deliver(
 {
     let g = Params { n, t, k, size };
     let from = sender_of(class, sender);
-    let reply = deliver(g, me, from, f, area, initial, state, out, to);
-    server_answer(reply)
+    server_answer(deliver(g, me, from, f, area, initial, state, out, to))
 }

@@ -10,6 +10,5 @@ use history_sheet::lay;
 pub fn semduoli_sheet(text: &[u8], out: &mut [u8]) -> u64
     ensures { wrote result out.new ≡ sheet_call text.now out.old }
 {
-    let laid = lay(text, out);
-    sheet_answer(laid)
+    sheet_answer(lay(text, out))
 }

@@ -11,4 +11,4 @@ unfolding index_insert_call pick
 returns-then-index-lt577 c = search tests
 
 pub returns : goal.returns
-returns c = index_inserted _ _ _ _ _ (search rules) c.insert-done.ensures c.insertion_answer.ensures
+returns c = index_inserted _ _ _ _ _ (search rules) c.insert.ensures c.insertion_answer.ensures

@@ -11,4 +11,4 @@ unfolding index_search_call pick
 returns-then-index-lt577 c = search tests
 
 pub returns : goal.returns
-returns c = index_searched _ _ _ _ (search rules) c.search-found.ensures c.search_answer.ensures
+returns c = index_searched _ _ _ _ (search rules) c.search.ensures c.search_answer.ensures

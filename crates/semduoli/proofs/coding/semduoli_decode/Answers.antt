@@ -5,4 +5,4 @@ use Rattle.semduoli.proofs.coding.semduoli_decode.Goals as goal
 
 pub returns : goal.returns
 unfolding decode_call
-returns c = code_done _ _ _ _ c.decode-done.ensures c.code_answer.ensures
+returns c = code_done _ _ _ _ c.decode.ensures c.code_answer.ensures

@@ -14,4 +14,4 @@ unfolding digest_call pick
 returns-then-out-lt32 c = search tests
 
 pub returns : goal.returns
-returns c = digest_done _ _ _ _ c.if-message-gt256.false c.if-out-lt32.false c.digest-d.ensures c.put.ensures
+returns c = digest_done _ _ _ _ c.if-message-gt256.false c.if-out-lt32.false c.digest.ensures c.put.ensures

@@ -5,4 +5,4 @@ use Rattle.semduoli.proofs.coding.semduoli_encode.Goals as goal
 
 pub returns : goal.returns
 unfolding encode_call
-returns c = code_done _ _ _ _ c.encode-done.ensures c.code_answer.ensures
+returns c = code_done _ _ _ _ c.encode.ensures c.code_answer.ensures

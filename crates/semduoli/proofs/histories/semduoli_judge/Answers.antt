@@ -13,8 +13,8 @@ pub returns-then-lines-lt64 : goal.returns-then-lines-lt64
 unfolding history_call pick
 returns-then-lines-lt64 c = search tests
 
-pub slice_bounds-row-end : goal.slice_bounds-row-end
-slice_bounds-row-end c =
+pub shared_ref_as_front-put : goal.shared_ref_as_front-put
+shared_ref_as_front-put c =
     let e = c.judge_text-verdict.ensures in
     let w = whole_answer _ _ e in
     let f = few_answer _ _ _ e c.line_count-count.ensures in

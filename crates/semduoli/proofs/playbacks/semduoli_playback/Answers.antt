@@ -3,4 +3,4 @@ use Rattle.semduoli.proofs.ServerCalls.{playback_done}
 use Rattle.semduoli.proofs.playbacks.semduoli_playback.Goals as goal
 
 pub returns : goal.returns
-returns c = playback_done _ _ _ _ _ _ _ _ _ _ _ _ _ _ c.play-answer.ensures c.playback_answer.ensures
+returns c = playback_done _ _ _ _ _ _ _ _ _ _ _ _ _ _ c.play.ensures c.playback_answer.ensures

@@ -47,16 +47,19 @@ pub fn search(rows: [Row; 11], area: &[u8], g: Params) -> Option<(usize, usize)>
     ensures { (standing g rows area.now result
         ≡ first_agreed g (view g rows area.now) (rows_from (view g rows area.now) 1 g.n)) × Inside result }
 {
-    for j in 1..g.n + 1 {
+    let mut found = None;
+    // document 01 names this form: nested loops, left from inside by a label
+    'search: for j in 1..g.n + 1 {
         let r = rows[j];
         let m = used_places(r);
         let stamps = r.stamps;
         for i in 0..m {
             let x = stamps[i];
             if is_agreed(rows, x, 4 * j - 4 + i, area, g) {
-                return Some((j, i));
+                found = Some((j, i));
+                break 'search;
             }
         }
     }
-    None
+    found
 }

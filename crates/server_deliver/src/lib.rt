@@ -35,7 +35,11 @@ pub fn admit(
     ensures { result ≡ admitted g me f.now state area initial out to }
 {
     params_test(g, me, g.n)?;
-    let h = open_frame(g, f)?;
+    let opened = open_frame(g, f);
+    // document 01 names this form: the else branch hands back what does not open
+    let Ok(h) = opened else {
+        return opened;
+    };
     if state < SERVER_SIZE {
         return Err(Refusal::Room);
     }

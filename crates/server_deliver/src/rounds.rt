@@ -80,13 +80,13 @@ pub fn settle(
     ensures { settled state.new area.new (outbox out.new to.new result)
         ≡ freed_in g rounds state.old area.old (outbox out.old to.old p) }
 {
-    if rounds == 0 {
-        return p;
+    let mut q = p;
+    for _ in 0..rounds {
+        let c = lowest(state, g);
+        if c == 0 {
+            return q;
+        }
+        q = accept_at(c, g, state, area, out, to, q);
     }
-    let c = lowest(state, g);
-    if c == 0 {
-        return p;
-    }
-    let q = accept_at(c, g, state, area, out, to, p);
-    settle(rounds - 1, g, state, area, out, to, q)
+    q
 }

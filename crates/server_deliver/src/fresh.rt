@@ -6,7 +6,6 @@ ghost use Rattle.layout.specs.Servers.{server_size};
 ghost use Rattle.server_deliver.specs.Handed.{fresh_test};
 ghost use Rattle.server_deliver.specs.Records.{fresh_after, byte_constructed, byte_construction};
 
-use crate::answers::is_turned_down;
 use blocks::Params;
 use frame::bounds::params_test;
 use frame::Refusal;
@@ -33,7 +32,7 @@ fn keep_fresh(a: Result<usize, Refusal>, s: Server, state: &mut [u8])
     requires { server_size ≤ length state.old }
     ensures { state.new ≡ fresh_after (reply_response a) s state.old }
 {
-    if is_turned_down(a) {
+    if a.is_err() {
         return;
     }
     put_server(s, state, 0);
@@ -51,13 +50,8 @@ pub fn fresh(
     ensures { byte_constructed (reply_response result) area.new initial.new state.new
         ≡ byte_construction digest_of g me value.now area.old initial.old state.old }
 {
-    let test = fresh_test(g, me, value.len(), state.len());
-    if let Err(r) = test {
-        return Err(r);
-    }
+    fresh_test(g, me, value.len(), state.len())?;
     let done = construct(g, me as u8, value, area, initial);
-    let reply = done.reply;
-    let after = done.server;
-    keep_fresh(reply, after, state);
-    reply
+    keep_fresh(done.reply, done.server, state);
+    done.reply
 }

@@ -36,12 +36,10 @@ fn lowest(state: &[u8], g: Params) -> usize
     requires { Bounded g × (server_size ≤ length state.now) }
     ensures { result ≡ lowest_from g (server_in state.now) 1 8 }
 {
-    let mut c: usize = 1;
-    while c < Server::PLACES {
+    for c in 1..Server::PLACES {
         if may_accept(state, g, c) {
             return c;
         }
-        c += 1;
     }
     0
 }
@@ -64,10 +62,7 @@ fn accept_at(
     let s = scope_at(state, c);
     let readers = readers_at(state, READERS_AT);
     let m = accept(s, readers, g, c as u8, area, out, to, p);
-    let scope = m.scope;
-    let stamp = scope.stamp;
-    let slot = scope.slot;
-    put_opened(stamp, slot, c, state);
+    put_opened(m.scope.stamp, m.scope.slot, c, state);
     m.place
 }
 
@@ -85,13 +80,13 @@ pub fn settle(
     ensures { settled state.new area.new (outbox out.new to.new result)
         ≡ freed_in g rounds state.old area.old (outbox out.old to.old p) }
 {
-    if rounds == 0 {
-        return p;
+    let mut q = p;
+    for _ in 0..rounds {
+        let c = lowest(state, g);
+        if c == 0 {
+            return q;
+        }
+        q = accept_at(c, g, state, area, out, to, q);
     }
-    let c = lowest(state, g);
-    if c == 0 {
-        return p;
-    }
-    let q = accept_at(c, g, state, area, out, to, p);
-    settle(rounds - 1, g, state, area, out, to, q)
+    q
 }

@@ -56,22 +56,15 @@ fn step(
         (effect digest_of k.params k.me s area.old value.now k.from (message_in k.params k.header f.now))
         res.old out.old to.old }
 {
-    let h = k.header;
-    if h.kind == 2 {
-        return on_stamp(s, k, value, f, out, to);
-    }
-    if h.kind == 9 {
-        return on_ack(s, k);
-    }
-    if h.kind == 11 {
-        return on_value(s, k, f, area, res, out, to);
-    }
-    if h.kind == 13 {
-        return on_report(s, k, value, f, out, to);
-    }
-    Answered {
-        answer: Answer::Refused(Refusal::Sender),
-        client: s,
+    match k.header.kind {
+        2 => on_stamp(s, k, value, f, out, to),
+        9 => on_ack(s, k),
+        11 => on_value(s, k, f, area, res, out, to),
+        13 => on_report(s, k, value, f, out, to),
+        _ => Answered {
+            answer: Answer::Refused(Refusal::Sender),
+            client: s,
+        },
     }
 }
 

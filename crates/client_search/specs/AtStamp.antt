@@ -1,5 +1,5 @@
 -- What the rows of a read have at a stamp, by flags and chunks: the code's form of `at_stamp`. These are definitions.
-use Rattle.std.specs.Prelude.{ℕ, zero, suc, Bool, true, false, ◌&&◌, List, get_or, leb, ltb, Option, Some, None, is_some, unwrap_or}
+use Rattle.std.specs.Prelude.{ℕ, zero, suc, ◌&&◌, List, get_or, leb, ltb, Option, Some, None, is_some, unwrap_or}
 use Rattle.area.specs.Area.{pick, table}
 use Rattle.frame.specs.declared.Stamp.{Stamp}
 use Rattle.frame.specs.Stamps.{same_stamp, zero_stamp}

@@ -3,7 +3,6 @@ use Rattle.std.specs.Prelude.{ℕ, zero, suc, Bool, List, [], ◌∷◌, ◌++�
 use Rattle.area.specs.Area.{pick, same}
 use Rattle.blocks.specs.declared.Params.{Params}
 use Rattle.blocks.specs.Code.{value_of, blocks_of}
-use Rattle.frame.specs.Messages.{Entry}
 use Rattle.frame.specs.Chunks.{entry_at}
 use Rattle.group.specs.Entries.{marked}
 

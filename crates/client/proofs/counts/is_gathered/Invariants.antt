@@ -1,5 +1,5 @@
 -- After j turns r counts the stamps of servers 1 to j that count. Assumes nothing.
-use Prim.Native.Nat.{◌-◌, ◌≤◌}
+use Prim.Native.Nat.{◌≤◌}
 use mathlib.Core.Path.{◌≡◌}
 use Rattle.quorum.specs.Quorum.{count}
 use Rattle.client.proofs.Countings.{counts}

@@ -1,5 +1,4 @@
 -- After j turns r is the largest of the times that count, of servers 1 to j. Assumes nothing.
-use Prim.Native.Nat.{◌-◌, ◌≤◌}
 use mathlib.Core.Path.{◌≡◌}
 use Rattle.client_rules.specs.State.{largest}
 use Rattle.client.proofs.Countings.{time_at}

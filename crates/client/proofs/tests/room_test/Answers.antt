@@ -1,4 +1,4 @@
-use Rattle.client_rules.specs.Tests.{send_room, room_test}
+use Rattle.client_rules.specs.Tests.{room_test}
 use Rattle.area.proofs.Tests.{tests}
 use Rattle.area.specs.Area.{pick}
 use Rattle.client.proofs.Choices.{room_rest}

@@ -1,5 +1,4 @@
 -- After j turns servers 1 to j were sent their blocks. Assumes nothing.
-use Prim.Native.Nat.{◌-◌, ◌≤◌}
 use mathlib.Core.Path.{◌≡◌}
 use Rattle.frame.specs.Messages.{to_from}
 use Rattle.frame.specs.Outbox.{outbox, sent}

@@ -1,5 +1,4 @@
 -- The places before i have other stamps. Assumes nothing.
-use Prim.Native.Nat.{◌-◌}
 use native.Mathlib.Nat.{sub-zero}
 use mathlib.Core.Path.{◌≡◌, refl, sym, ◌∙◌}
 use Rattle.client_search.proofs.Firsts.{first_next, first_found, first_end}

@@ -1,5 +1,5 @@
 -- The places before i have other stamps. Assumes nothing.
-use Prim.Native.Nat.{◌≤◌, ◌-◌}
+use Prim.Native.Nat.{◌-◌}
 use mathlib.Core.Path.{◌≡◌}
 use Rattle.client_search.specs.AtStamp.{first_from}
 use Rattle.client_search.proofs.at_stamp.first_place.Given as goal

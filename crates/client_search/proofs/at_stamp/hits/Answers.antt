@@ -1,6 +1,4 @@
 -- After j turns the flags and chunks of servers 0 to j - 1 are stored. Assumes nothing.
-use Prim.Native.Nat.{◌-◌}
-use mathlib.Core.Bool.{false}
 use mathlib.Core.Path.{refl, ap, ◌∙◌}
 use Rattle.std.specs.Prelude.{is_some, unwrap_or}
 use Rattle.area.specs.Area.{table, table_from}

@@ -1,6 +1,5 @@
 -- After j turns the flags and chunks of servers 0 to j - 1 are stored. Assumes nothing.
 use Rattle.std.specs.Prelude.{is_some, unwrap_or}
-use Prim.Native.Nat.{◌≤◌, ◌-◌}
 use mathlib.Core.Bool.{false}
 use mathlib.Core.Path.{◌≡◌}
 use lib.ListN.{get_or, replicate}

@@ -1,6 +1,5 @@
 -- What is left of the rows, and of the row at hand, gives the same as all rows: outer and inner loop. Assumes nothing.
-use Prim.Native.Nat.{◌-◌}
-use mathlib.Core.Path.{refl, sym, ◌∙◌}
+use mathlib.Core.Path.{sym, ◌∙◌}
 use Rattle.client_search.proofs.Searches.{rows_start, rows_end, row_start, row_end, place_next, place_found}
 use native.Mathlib.Omega.{arith}
 use Rattle.client_search.proofs.searching.search.Goals as goal

@@ -1,5 +1,5 @@
 -- What is left of the rows, and of the row at hand, gives the same as all rows: outer and inner loop. Assumes nothing.
-use Prim.Native.Nat.{◌+◌, ◌-◌, ◌≤◌}
+use Prim.Native.Nat.{◌+◌, ◌-◌}
 use mathlib.Core.Path.{◌≡◌}
 use mathlib.Core.List.{◌++◌}
 use lib.ListN.{get_or}

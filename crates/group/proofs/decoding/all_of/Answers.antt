@@ -1,6 +1,6 @@
 -- After j turns the first j servers are in order, and what is left decides. Assumes nothing.
 use mathlib.Core.Bool.{not}
-use Prim.Native.Nat.{◌+◌, ◌-◌}
+use Prim.Native.Nat.{◌+◌}
 use mathlib.Core.Path.{ap, sym, ◌∙◌}
 use Rattle.group.proofs.Unanimous.{within_at, in_order_lem, left_start, own_long, left_turn, left_out, left_end}
 use native.Mathlib.Omega.{arith}

@@ -1,5 +1,4 @@
 -- After j turns the first j servers are in order, and what is left decides. Assumes nothing.
-use Prim.Native.Nat.{◌-◌, ◌≤◌}
 use mathlib.Core.Path.{◌≡◌}
 use Rattle.group.specs.Choice.{all_of}
 use Rattle.group.proofs.Unanimous.{left}

@@ -1,5 +1,4 @@
 -- After i turns the blocks of the first i servers are stored. Assumes nothing.
-use Prim.Native.Nat.{◌-◌}
 use mathlib.Core.Path.{refl, ◌∙◌}
 use lib.ListN.{length}
 use lib.Seq.{take_all}

@@ -1,7 +1,7 @@
 -- After j turns the first j servers and digests are in order, and what is left decides. Assumes nothing.
 use mathlib.Core.Bool.{not}
 use mathlib.Core.Path.{ap}
-use Prim.Native.Nat.{◌+◌, ◌-◌}
+use Prim.Native.Nat.{◌+◌}
 use Rattle.group.proofs.Unanimous.{within_at}
 use Rattle.group.proofs.Comparing.{compare_start, step_is, compare_turn, compare_out, compare_end}
 use native.Mathlib.Omega.{arith}

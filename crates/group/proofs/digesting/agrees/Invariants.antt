@@ -1,5 +1,4 @@
 -- After j turns the first j servers and digests are in order, and what is left decides. Assumes nothing.
-use Prim.Native.Nat.{◌-◌, ◌≤◌}
 use mathlib.Core.Path.{◌≡◌}
 use mathlib.Core.Bool.{◌&&◌}
 use Rattle.area.specs.Area.{same}

@@ -1,5 +1,4 @@
 -- After j turns the first j digests are stored. Assumes nothing.
-use Prim.Native.Nat.{◌-◌}
 use mathlib.Core.Path.{refl, ◌∙◌}
 use Rattle.area.specs.Area.{joined}
 use Rattle.group_rules.specs.Coded.{digests_of}

@@ -1,8 +1,6 @@
 -- After j turns the flags of places 0 to j - 1 are stored. Assumes nothing.
-use Prim.Native.Nat.{◌-◌}
 use mathlib.Core.Path.{refl}
 use borrow.Author.Rules.{rules}
-use mathlib.Core.Bool.{false}
 use Rattle.area.specs.Area.{table, table_from}
 use Rattle.group.specs.Entries.{marked, timed}
 use Rattle.group.proofs.Lists.{table_turn, table_end}

@@ -1,5 +1,4 @@
 -- After j turns the flags of places 0 to j - 1 are stored. Assumes nothing.
-use Prim.Native.Nat.{◌-◌, ◌≤◌}
 use mathlib.Core.Path.{◌≡◌}
 use mathlib.Core.Bool.{false, ◌&&◌}
 use lib.ListN.{get_or, replicate}

@@ -1,9 +1,7 @@
 -- After j turns the flags of places 0 to j - 1 are stored. Assumes nothing.
-use Prim.Native.Nat.{◌-◌}
 use mathlib.Core.Path.{refl}
-use mathlib.Core.Bool.{false}
 use Rattle.area.specs.Area.{table, table_from}
-use Rattle.group.specs.Entries.{sent_list, flags, Within}
+use Rattle.group.specs.Entries.{flags, Within}
 use Rattle.group.proofs.Lists.{table_turn, table_end}
 use Rattle.group.proofs.Matched.{flag_law}
 use native.Mathlib.Omega.{arith}

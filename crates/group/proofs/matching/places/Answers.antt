@@ -1,5 +1,5 @@
 -- After j turns places 0 to j - 1 are stored. Assumes nothing.
-use Prim.Native.Nat.{◌+◌, ◌-◌}
+use Prim.Native.Nat.{◌+◌}
 use mathlib.Core.Path.{refl}
 use Rattle.area.specs.Area.{table, table_from}
 use Rattle.group.specs.Entries.{places_from}

@@ -2,7 +2,7 @@
 use Rattle.std.specs.Prelude.{Err}
 use borrow.Author.Rules.{rules}
 use mathlib.Core.Path.{◌≡◌, ◌∙◌}
-use Rattle.site.proofs.ShortLaws.{bounded_by, frame_refused, frame_opened}
+use Rattle.site.proofs.ShortLaws.{bounded_by, frame_refused, frame_bad, frame_good}
 use Rattle.site.proofs.short.frame_short.Goals as goal
 
 pub returns-in_err-params_test : goal.returns-in_err-params_test
@@ -10,8 +10,13 @@ returns-in_err-params_test c =
     let e : c.from_residual.result ≡ Err c.in_err-params_test.field-0.0 = search rules in
     e ∙ frame_refused _ _ _ _ _ c.params_test.ensures _ c.in_err-params_test.was
 
-pub open_frame-opened-requires : goal.open_frame-opened-requires
-open_frame-opened-requires c = bounded_by _ _ _ _ c.params_test.ensures c.in_ok-params_test.was
+pub open_frame-requires : goal.open_frame-requires
+open_frame-requires c = bounded_by _ _ _ _ c.params_test.ensures c.in_ok-params_test.was
+
+pub returns-in_err-open_frame : goal.returns-in_err-open_frame
+returns-in_err-open_frame c =
+    let e : c.from_residual-in_err-open_frame.result ≡ Err c.in_err-open_frame.field-0.0 = search rules in
+    e ∙ frame_bad _ _ _ _ _ c.params_test.ensures c.in_ok-params_test.was _ c.open_frame.ensures _ c.in_err-open_frame.was
 
 pub returns : goal.returns
-returns c = frame_opened _ _ _ _ _ c.params_test.ensures _ _ c.in_ok-params_test.was c.open_frame-opened.ensures c.opened_short.ensures
+returns c = frame_good _ _ _ _ _ c.params_test.ensures c.in_ok-params_test.was _ c.open_frame.ensures _ c.in_ok-open_frame.was

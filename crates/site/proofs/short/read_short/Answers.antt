@@ -1,7 +1,17 @@
--- As the parts are made. Assumes nothing.
+-- The parameters first. Assumes nothing.
+use Rattle.std.specs.Prelude.{Err}
+use borrow.Author.Rules.{rules}
+use mathlib.Core.Path.{◌≡◌, ◌∙◌, refl}
+use Rattle.frame.proofs.Within.{stop_first, go_second}
 use Rattle.site.specs.Short.{read_short}
 use Rattle.site.proofs.short.read_short.Goals as goal
 
+pub returns-in_err-params_test : goal.returns-in_err-params_test
+unfolding read_short
+returns-in_err-params_test c =
+    let e : c.from_residual.result ≡ Err c.in_err-params_test.field-0.0 = search rules in
+    e ∙ stop_first _ _ _ _ c.params_test.ensures c.in_err-params_test.was
+
 pub returns : goal.returns
 unfolding read_short
-returns c = cc
+returns c = go_second _ _ _ _ c.params_test.ensures c.in_ok-params_test.was refl

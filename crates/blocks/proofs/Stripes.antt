@@ -81,11 +81,11 @@ unfolding block_byte
 stripe_value v k r x e h m =
     ap (λ (l : List ℕ). eval l x) (elim (cases_lt (length v) (r * k + k)) [
       | inl l ↦
-        let w : e - r * k ≡ length v - r * k = omega arith in
-        ap (λ (n : ℕ). take n (drop (r * k) v)) w ∙ part_short v (r * k) k (omega arith)
+          let w : e - r * k ≡ length v - r * k = omega arith in
+          ap (λ (n : ℕ). take n (drop (r * k) v)) w ∙ part_short v (r * k) k (omega arith)
       | inr l ↦
-        let w : e - r * k ≡ r * k + k - r * k = omega arith in
-        ap (λ (n : ℕ). take n (drop (r * k) v)) w ∙ part_full v (r * k) k
+          let w : e - r * k ≡ r * k + k - r * k = omega arith in
+          ap (λ (n : ℕ). take n (drop (r * k) v)) w ∙ part_full v (r * k) k
     ])
     ∙ sym (stripe_eval v k (k * block_length (length v) k) r x h)
 

@@ -32,48 +32,68 @@ fn put_basis(js: &[u8], table: &mut [u8])
     }
 }
 
-// The coefficients of stripe r, from the blocks with the numbers js: the sum of the table's rows, each times byte r of its block, into p, which holds zeros.
-fn combine(js: &[u8], table: &[u8], w: &[u8], b: usize, r: usize, p: &mut [u8])
-    requires { (length js.now ≤ 8) × (b ≤ 256) × (r < b) × (length w.now ≡ length js.now * b) × (p.old ≡ replicate (length js.now) 0)
-        × Basis js.now table.now }
-    ensures { p.new ≡ through js.now (row (length js.now) b w.now r) }
-{
-    let k = js.len();
-    for i in 0..k {
-        let at = i * k;
-        let end = at + k;
-        add_scaled(p, &table[at..end], w[i * b + r]);
+// The numbers of the blocks that are decoded, and the polynomials that are 1 at one of them and 0 at the others, as rows.
+// The numbers are the same for all stripes, so the rows are computed once.
+#[derive(Drop)]
+struct Decoder<'a> {
+    numbers: &'a [u8],
+    rows: [u8; 64],
+    ghost few: { length numbers.now ≤ 8 },
+    ghost basis: { Basis numbers.now rows },
+}
+
+impl<'a> Decoder<'a> {
+    fn new(js: &'a [u8]) -> Decoder<'a>
+        requires { length js.now ≤ 8 }
+        ensures { result.numbers.now ≡ js.now }
+    {
+        let mut rows = [0u8; 64];
+        put_basis(js, &mut rows);
+        Decoder { numbers: js, rows }
+    }
+
+    // The coefficients of stripe r, from blocks of b bytes that lie end to end in w, into p, which holds zeros: the sum of the rows,
+    // each times byte r of its block.
+    fn combine(&self, w: &[u8], b: usize, r: usize, p: &mut [u8])
+        requires { (b ≤ 256) × (r < b) × (length w.now ≡ length self.now.numbers.now * b) × (p.old ≡ replicate (length self.now.numbers.now) 0) }
+        ensures { p.new ≡ through self.now.numbers.now (row (length self.now.numbers.now) b w.now r) }
+    {
+        let k = self.numbers.len();
+        for i in 0..k {
+            let at = i * k;
+            let end = at + k;
+            add_scaled(p, &self.rows[at..end], w[i * b + r]);
+        }
+    }
+
+    // Stripe r of a value into its place; its padding is left out.
+    fn put_stripe(&self, w: &[u8], b: usize, r: usize, value: &mut [u8])
+        requires { (b ≤ 256) × (r < b) × (length w.now ≡ length self.now.numbers.now * b)
+            × (r * length self.now.numbers.now ≤ length value.old) × (length value.old ≤ 256) }
+        ensures { value.new
+            ≡ sets value.old (r * length self.now.numbers.now)
+            (take (length value.old - r * length self.now.numbers.now)
+            (through self.now.numbers.now (row (length self.now.numbers.now) b w.now r))) }
+    {
+        let k = self.numbers.len();
+        let start = r * k;
+        let mut p = [0u8; 8];
+        self.combine(w, b, r, &mut p[..k]);
+        let n = k.min(value.len() - start);
+        area::put(value, start, &p[..n]);
     }
 }
 
-// Stripe r of a value into its place; its padding is left out.
-fn put_stripe(js: &[u8], table: &[u8], w: &[u8], b: usize, r: usize, value: &mut [u8])
-    requires { (length js.now ≤ 8) × (b ≤ 256) × (r < b) × (length w.now ≡ length js.now * b)
-        × (r * length js.now ≤ length value.old) × (length value.old ≤ 256) × Basis js.now table.now }
-    ensures { value.new
-        ≡ sets value.old (r * length js.now)
-        (take (length value.old - r * length js.now)
-        (through js.now (row (length js.now) b w.now r))) }
-{
-    let k = js.len();
-    let start = r * k;
-    let mut p = [0u8; 8];
-    combine(js, table, w, b, r, &mut p[..k]);
-    let n = k.min(value.len() - start);
-    area::put(value, start, &p[..n]);
-}
-
-// The value from the blocks with the numbers js, which lie end to end in w. The numbers are the same for all stripes, so the table is computed once.
+// The value from the blocks with the numbers js, which lie end to end in w.
 pub fn decode_into(js: &[u8], w: &[u8], value: &mut [u8])
     requires { (0 < length js.now) × (length js.now ≤ 8) × (length value.old ≤ 256)
         × (length w.now ≡ length js.now * block_length (length value.old) (length js.now)) }
     ensures { value.new ≡ value_of js.now (length value.old) w.now }
 {
     let b = block_length(value.len(), js.len());
-    let mut table = [0u8; 64];
-    put_basis(js, &mut table);
+    let decoder = Decoder::new(js);
     for r in 0..b {
-        put_stripe(js, &table, w, b, r, value);
+        decoder.put_stripe(w, b, r, value);
     }
 }
 

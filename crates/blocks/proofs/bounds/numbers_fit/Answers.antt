@@ -9,11 +9,11 @@ pub returns-then-not-number_fits : goal.returns-then-not-number_fits
 returns-then-not-number_fits c =
     elim c.then-not-number_fits.branch [
       | then-not-number_fits-via-then-not-number_fits w ↦
-        sym (c.loop-i.invariant ∙ numbers_out _ _ _ _ _ c.loop-i-test.true refl c.number_fits.ensures (ap not w.if-not-number_fits.true))
+          sym (c.loop-i.invariant ∙ numbers_out _ _ _ _ _ c.loop-i-test.true refl c.number_fits.ensures (ap not w.if-not-number_fits.true))
       | then-not-number_fits-via-else-not-number_fits+then-contains w ↦
-        sym (c.loop-i.invariant
-        ∙ numbers_twice _ _ _ _ _ _ c.loop-i-test.true refl c.number_fits.ensures (ap not w.if-not-number_fits.false)
-        (others _ c.args.js.now c.loop-i.i _ w.contains.ensures.value) (ap (λ b. not (not b)) w.if-contains.true))
+          sym (c.loop-i.invariant
+          ∙ numbers_twice _ _ _ _ _ _ c.loop-i-test.true refl c.number_fits.ensures (ap not w.if-not-number_fits.false)
+          (others _ c.args.js.now c.loop-i.i _ w.contains.ensures.value) (ap (λ b. not (not b)) w.if-contains.true))
     ]
 
 pub loop-i-preserved : goal.loop-i-preserved

@@ -2,7 +2,6 @@
 use mathlib.Core.Path.{◌≡◌, sym, ap, ap₂, ◌∙◌}
 use mathlib.Core.List.{List}
 use Prim.Native.Nat.{ℕ, ◌-◌, ◌*◌}
-use native.Mathlib.Nat.{mul-le-mul}
 use lib.ListN.{length, take}
 use lib.Seq.{sets}
 use Rattle.area.specs.Area.{joined}
@@ -14,11 +13,6 @@ use Rattle.blocks.proofs.Values.{value_start, stripe_turn, through_row_length, s
 use native.Mathlib.Omega.{arith}
 use Rattle.blocks.proofs.decoder.decode_into.Goals as goal
 
-pub put_basis-requires : goal.put_basis-requires
-put_basis-requires c =
-    let s = mul-le-mul c.requires.1 c.requires.1 in
-    (c.requires.1, omega (arith, s))
-
 pub loop-r-init : goal.loop-r-init
 loop-r-init c =
     let L : ℕ = length c.args.value.now in
@@ -28,9 +22,10 @@ pub put_stripe-requires : goal.put_stripe-requires
 put_stripe-requires c =
     let k : ℕ = length c.args.js.now in
     let L : ℕ = length c.args.value.now in
+    let e : length c.new-decoder.result.numbers.now ≡ k = ap length c.new-decoder.ensures in
     let s = starts L k c.loop-r.r c.requires.0 (omega arith) in
     let small = block_small L k c.requires.0 in
-    (c.requires.1, omega arith, c.loop-r-test.true, c.requires.3 ∙ ap (λ (x : ℕ). k * x) (sym c.block_length-b.ensures), omega arith, omega arith, c.put_basis.ensures)
+    rw e (omega arith, c.loop-r-test.true, c.requires.3 ∙ ap (λ (x : ℕ). k * x) (sym c.block_length-b.ensures), omega arith, omega arith)
 
 pub loop-r-preserved : goal.loop-r-preserved
 unfolding stripes
@@ -42,7 +37,9 @@ loop-r-preserved c =
     let L : ℕ = length c.args.value.now in
     let r : ℕ = c.loop-r.r in
     let s = starts L k r c.requires.0 (omega arith) in
-    p.ensures ∙ ap₂ (λ (n b : ℕ). sets c.loop-r.value (r * k) (take (n - r * k) (through js (row k b w r)))) c.loop-r.auto.value c.block_length-b.ensures
+    p.ensures
+    ∙ ap (λ (d : List ℕ). sets c.loop-r.value (r * length d) (take (length c.loop-r.value - r * length d) (through d (row (length d) c.block_length-b.result w r)))) c.new-decoder.ensures
+    ∙ ap₂ (λ (n b : ℕ). sets c.loop-r.value (r * k) (take (n - r * k) (through js (row k b w r)))) c.loop-r.auto.value c.block_length-b.ensures
     ∙ stripe_turn (stripes js L w) k L r c.args.value.now c.loop-r.value (through_row_length js w (block_length L k)) (omega arith) c.loop-r.invariant
 
 pub returns : goal.returns

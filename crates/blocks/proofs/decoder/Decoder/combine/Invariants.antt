@@ -4,7 +4,7 @@ use lib.ListN.{length}
 use Rattle.blocks.specs.Poly.{through}
 use Rattle.blocks.specs.Code.{row}
 use Rattle.blocks.proofs.Linear.{first_values}
-use Rattle.blocks.proofs.decoder.combine.Given as goal
+use Rattle.blocks.proofs.decoder.Decoder.combine.Given as goal
 
 abbrev pub invariant-loop-i : goal.invariant-loop-i
-invariant-loop-i l = l.p ≡ through l.js (first_values (row (length l.js) l.b l.w l.r) l.i)
+invariant-loop-i l = l.p ≡ through l.self.numbers.now (first_values (row (length l.self.numbers.now) l.b l.w l.r) l.i)

@@ -11,6 +11,7 @@ fn put_number(out: &mut [u8], at: usize, w: usize, n: u64)
 {
     let mut x = n;
     let mut k = w;
+    // No `for`: the digits may end before the columns do.
     while 10 <= x {
         out[at + (k - 1)] = (x % 10 + 48) as u8;
         x = x / 10;

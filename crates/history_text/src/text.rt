@@ -15,6 +15,7 @@ pub fn read_text(s: &[u8]) -> Result<History, Refusal>
 {
     let mut history = History::empty();
     let mut at: usize = 0;
+    // No `for`: a turn goes on by the length of a line.
     while at < s.len() {
         let Some(line) = read_line(s, at) else {
             return Err(Refusal::Record);

@@ -38,10 +38,8 @@ pub fn store_initial(g: Params, me: u8, value: &[u8], area: &mut [u8], initial: 
     ensures { (area.new ≡ sets area.old 0 (digests_of digest_of g value.now))
         × (initial.new ≡ sets initial.old 0 (block_at digest_of g value.now me)) }
 {
-    let ps = field::powers();
-    let ls = field::logs();
-    digests(value, g, area, 0, &ps, &ls);
-    encode_block(value, g.k, me, initial, 0, &ps, &ls);
+    digests(value, g, area, 0);
+    encode_block(value, g.k, me, initial, 0);
 }
 
 // A fresh server with the digests of the initial value; its own block of it goes to the initial area.

@@ -10,7 +10,6 @@ use lib.Dec.{leb}
 use borrow.Author.Tests.{leb-true, leb-false, le-leb, lt-leb}
 use Rattle.area.specs.Area.{pick, same}
 use Rattle.area.proofs.Sets.{take_front}
-use Rattle.field.specs.Field.{Tables}
 use Rattle.quorum.specs.Quorum.{count}
 use Rattle.blocks.specs.declared.Params.{Params}
 use Rattle.blocks.specs.Code.{block_length, block_of}
@@ -85,14 +84,13 @@ module _ (g : Params) (v : Voters) (c : ℕ) (a : List ℕ) (R : Regaining g v c
       length_value_of (lowest (marked x.on) g.k g.n) (blocks_in g x.at a (lowest (marked x.on) g.k g.n)) g.size
       (omega (arith, n, R.stored.bounded.blocks_low))
 
-  module _ (x : Group) (x-is : x ≡ group_of g v c) (ps ls : List ℕ) (T : Tables ps ls) where
-    pub decoding : (out : ℕ) → out ≡ g.size → Decoding g x.on x.at a out ps ls
+  module _ (x : Group) (x-is : x ≡ group_of g v c) where
+    pub decoding : (out : ℕ) → out ≡ g.size → Decoding g x.on x.at a out
     decoding out e = record {
       bounded = R.stored.bounded;
       within = rw x-is right.within;
       enough = rw x-is right.enough;
       whole = e;
-      tables = T;
     }
 
     -- ---- the value in the front of a buffer
@@ -105,7 +103,7 @@ module _ (g : Params) (v : Voters) (c : ℕ) (a : List ℕ) (R : Regaining g v c
       pub value_length : length l ≡ g.size
       value_length = ap length front ∙ length_value
 
-      pub encode_own : (o : ℕ) → 256 ≤ o → (0 < g.k) × (g.k ≤ 8) × (length l ≤ 256) × (0 + block_length (length l) g.k ≤ o) × Tables ps ls
+      pub encode_own : (o : ℕ) → 256 ≤ o → (0 < g.k) × (g.k ≤ 8) × (length l ≤ 256) × (0 + block_length (length l) g.k ≤ o)
       encode_own o h =
           let n = value_length in
           let m : length l ≤ 256 = omega (arith, n, R.stored.bounded.size_high) in
@@ -114,11 +112,10 @@ module _ (g : Params) (v : Voters) (c : ℕ) (a : List ℕ) (R : Regaining g v c
             omega (arith, R.stored.bounded.servers_high, R.stored.bounded.faults_low, R.stored.bounded.blocks_high),
             m,
             omega (arith, s, h),
-            T,
           )
 
-      pub encode_all : (d : ℕ) → d ≡ listed g → Valued g l ps ls × Within x.at a × (d ≡ listed g)
-      encode_all d h = (record { bounded = R.stored.bounded; whole = value_length; tables = T }, rw x-is right.within, h)
+      pub encode_all : (d : ℕ) → d ≡ listed g → Valued g l × Within x.at a × (d ≡ listed g)
+      encode_all d h = (record { bounded = R.stored.bounded; whole = value_length }, rw x-is right.within, h)
 
       pub own_block : (H : List ℕ → List ℕ) (me : ℕ) (d b b' : List ℕ) (t : Bool)
           → t ≡ all_of g x.on x.at a l && same (digests_of H g l) d

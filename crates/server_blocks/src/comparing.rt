@@ -46,9 +46,7 @@ pub fn own_block(k: Call, v: Voters, area: &[u8], list: &[u8], block: &mut [u8])
     let on = c.on;
     let at = c.at;
     let mut value = [0u8; 256];
-    let ps = field::powers();
-    let ls = field::logs();
-    regain(on, at, area, g, &mut value[..size], &ps, &ls);
-    encode_block(&value[..size], g.k, k.me, block, 0, &ps, &ls);
-    agrees(&value[..size], list, on, at, area, g, &ps, &ls)
+    regain(on, at, area, g, &mut value[..size]);
+    encode_block(&value[..size], g.k, k.me, block, 0);
+    agrees(&value[..size], list, on, at, area, g)
 }

@@ -13,7 +13,7 @@ slice_bounds-regain-end c = sym (length-take-le _ (zeros 256) c.requires.0.store
 pub regain-requires : goal.regain-requires
 regain-requires c =
     let P = c.requires in
-    decoding _ _ _ _ P.0 _ c.chosen_group-c.ensures _ _ (record { powers = c.powers-ps.ensures; logs = c.logs-ls.ensures }) _
+    decoding _ _ _ _ P.0 _ c.chosen_group-c.ensures _
     (length-take-le _ (zeros 256) P.0.stored.bounded.size_high)
 
 pub slice_bounds-value-end-2 : goal.slice_bounds-value-end-2
@@ -29,7 +29,7 @@ slice_bounds-encode_block-end c =
     let d = c.regain in
     let x = c.chosen_group-c.ensures in
     let f = front_back (zeros 256) d.new.value _ h d.auto.value ∙ d.ensures in
-    sym (value_length _ _ _ _ P.0 _ x _ _ (record { powers = c.powers-ps.ensures; logs = c.logs-ls.ensures }) _ f)
+    sym (value_length _ _ _ _ P.0 _ x _ f)
 
 pub encode_block-requires : goal.encode_block-requires
 encode_block-requires c =
@@ -38,7 +38,7 @@ encode_block-requires c =
     let d = c.regain in
     let x = c.chosen_group-c.ensures in
     let f = front_back (zeros 256) d.new.value _ h d.auto.value ∙ d.ensures in
-    encode_own _ _ _ _ P.0 _ x _ _ (record { powers = c.powers-ps.ensures; logs = c.logs-ls.ensures }) _ f _ P.2
+    encode_own _ _ _ _ P.0 _ x _ f _ P.2
 
 pub slice_bounds-value-end-3 : goal.slice_bounds-value-end-3
 slice_bounds-value-end-3 c =
@@ -53,7 +53,7 @@ slice_bounds-agrees-end c =
     let d = c.regain in
     let x = c.chosen_group-c.ensures in
     let f = front_back (zeros 256) d.new.value _ h d.auto.value ∙ d.ensures in
-    sym (value_length _ _ _ _ P.0 _ x _ _ (record { powers = c.powers-ps.ensures; logs = c.logs-ls.ensures }) _ f)
+    sym (value_length _ _ _ _ P.0 _ x _ f)
 
 pub agrees-requires : goal.agrees-requires
 agrees-requires c =
@@ -62,7 +62,7 @@ agrees-requires c =
     let d = c.regain in
     let x = c.chosen_group-c.ensures in
     let f = front_back (zeros 256) d.new.value _ h d.auto.value ∙ d.ensures in
-    encode_all _ _ _ _ P.0 _ x _ _ (record { powers = c.powers-ps.ensures; logs = c.logs-ls.ensures }) _ f _ P.1
+    encode_all _ _ _ _ P.0 _ x _ f _ P.1
 
 pub returns : goal.returns
 returns c =
@@ -71,4 +71,4 @@ returns c =
     let d = c.regain in
     let x = c.chosen_group-c.ensures in
     let f = front_back (zeros 256) d.new.value _ h d.auto.value ∙ d.ensures in
-    own_block _ _ _ _ P.0 _ x _ _ (record { powers = c.powers-ps.ensures; logs = c.logs-ls.ensures }) _ f digest_of _ _ _ _ _ c.agrees.ensures c.encode_block.ensures
+    own_block _ _ _ _ P.0 _ x _ f digest_of _ _ _ _ _ c.agrees.ensures c.encode_block.ensures

@@ -5,8 +5,7 @@ use mathlib.Core.List.{List, [], ◌∷◌, ◌++◌}
 use Prim.Native.Nat.{ℕ, suc, ◌+◌, ◌-◌, ◌<◌}
 use native.Mathlib.Omega.{arith}
 use lib.ListN.{length, get_or, take, drop, set, length-take, length-append, length-drop, drop_of_length-le}
-use lib.Seq.{set_split, take_at, take_all, drop-cons, drop-length, length-take-le}
-use Rattle.std.proofs.lemmas.List.{take-take}
+use lib.Seq.{set_split, take_at, take_all}
 use Rattle.field.specs.Field.{◌⊕◌, ◌⊗◌, power_of}
 use Rattle.field.proofs.Sum as X
 use Rattle.field.proofs.Ring as R
@@ -59,52 +58,40 @@ pub root_front : (m : List ℕ) (x k : ℕ) → length m ≡ k + 1
 root_front m x k e =
     ap (λ (l : List ℕ). take (length l) (with_root x l)) (last_zero m k (omega arith)) ∙ root_take x (take k m)
 
--- the points from index i on are interpolated: the fronts of p and m hold their polynomial, and the product of X - x over them
-pub record Points (xs ys p m : List ℕ) (i : ℕ) : Type 0 where
-  pub through_them : take (length xs - i) p ≡ through (drop i xs) (drop i ys)
-  pub product : take (length xs - i + 1) m ≡ vanishing (drop i xs)
+-- one level of interpolation: from what the call with one point fewer leaves, p₁ and m₁, followed by the rest of the two lists
+unfoldable pub Level : (xs ys P M : List ℕ) → Type 0
+Level xs ys P M =
+    (newton_step (take (length P - 1) P) (take (length P) M) (get_or xs 0 0) (get_or ys 0 0) ≡ through xs ys)
+    × (with_root (get_or xs 0 0) (take (length P) M) ≡ vanishing xs)
 
-pub points_none : (xs ys p m : List ℕ) → 0 < length m → Points xs ys p (set m 0 1) (length xs)
+join : (p₁ p' m₁ m' xs ys : List ℕ) (x y : ℕ) → p₁ ≡ through xs ys → m₁ ≡ vanishing xs → length ys ≡ length xs → length p' ≡ 1
+    → Level (x ∷ xs) (y ∷ ys) (p₁ ++ p') (m₁ ++ m')
+unfolding Level through vanishing
+join p₁ p' m₁ m' xs ys x y ep em ly lp =
+    let l₁ : length p₁ ≡ length xs = ap length ep ∙ through_length xs ys (sym ly) in
+    let l₂ : length m₁ ≡ suc (length xs) = ap length em ∙ vanishing_length xs in
+    let l : length (p₁ ++ p') ≡ suc (length xs) = simp length-append (omega arith) in
+    let fp : take (length (p₁ ++ p') - 1) (p₁ ++ p') ≡ through xs ys = take_at p₁ p' (length (p₁ ++ p') - 1) (omega arith) ∙ ep in
+    let fm : take (length (p₁ ++ p')) (m₁ ++ m') ≡ vanishing xs = take_at m₁ m' (length (p₁ ++ p')) (omega arith) ∙ em in
+    (ap₂ (λ (u v : List ℕ). newton_step u v x y) fp fm, ap (with_root x) fm)
+
+tail_part : (x : ℕ) (xs : List ℕ) → take (length (x ∷ xs) - 1) (drop 1 (x ∷ xs)) ≡ xs
+tail_part x xs = take_all (length (x ∷ xs) - 1) xs (omega arith)
+
+pub level : (xs ys p m p₁ m₁ : List ℕ) → 0 < length xs → length ys ≡ length xs → length p ≡ length xs
+    → p₁ ≡ through (take (length xs - 1) (drop 1 xs)) (take (length ys - 1) (drop 1 ys)) → m₁ ≡ vanishing (take (length xs - 1) (drop 1 xs))
+    → Level xs ys (p₁ ++ drop (length xs - 1) p) (m₁ ++ drop (length xs) m)
+level [] ys p m p₁ m₁ h ly lp ep em = absurd (omega arith)
+level (x ∷ xs) [] p m p₁ m₁ h ly lp ep em = absurd (omega arith)
+level (x ∷ xs) (y ∷ ys) p m p₁ m₁ h ly lp ep em =
+    join p₁ (drop (length (x ∷ xs) - 1) p) m₁ (drop (length (x ∷ xs)) m) xs ys x y
+    (ep ∙ ap₂ through (tail_part x xs) (tail_part y ys)) (em ∙ ap vanishing (tail_part x xs)) (omega arith)
+    (simp length-drop (omega arith))
+
+pub no_points : (xs ys p m : List ℕ) → length xs ≡ 0 → length p ≡ 0 → length m ≡ 1 → (p ≡ through xs ys) × (set m 0 1 ≡ vanishing xs)
 unfolding through vanishing
-points_none xs ys p [] h = absurd (omega arith)
-points_none xs ys p (a ∷ m) h =
-    let z : length xs - length xs ≡ 0 = omega arith in
-    let o : length xs - length xs + 1 ≡ 1 = omega arith in
-    record { through_them = rw (z, drop-length xs) refl; product = rw (o, drop-length xs) refl }
-
-next_through : (xs ys : List ℕ) (i : ℕ) → i < length xs → i < length ys
-    → through (drop i xs) (drop i ys) ≡ newton_step (through (drop (suc i) xs) (drop (suc i) ys)) (vanishing (drop (suc i) xs)) (get_or xs i 0) (get_or ys i 0)
-unfolding through
-next_through xs ys i h k = ap₂ through (drop-cons xs i 0 h) (drop-cons ys i 0 k)
-
-next_vanishing : (xs : List ℕ) (i : ℕ) → i < length xs → vanishing (drop i xs) ≡ with_root (get_or xs i 0) (vanishing (drop (suc i) xs))
-unfolding vanishing
-next_vanishing xs i h = ap vanishing (drop-cons xs i 0 h)
-
--- one point more, from what the fronts of n and n + 1 entries become
-pub points_more : (xs ys p m p₁ m₁ : List ℕ) (n i : ℕ) → i < length xs → length ys ≡ length xs → length p ≡ length xs → n ≡ length xs - i
-    → length m ≡ length xs + 1 → Points xs ys p m (suc i)
-    → p₁ ≡ newton_step (take (length (take n p) - 1) (take n p)) (take (length (take n p)) (take (n + 1) m)) (get_or xs i 0) (get_or ys i 0)
-    → m₁ ≡ with_root (get_or xs i 0) (take (length (take n p)) (take (n + 1) m))
-    → Points xs ys (p₁ ++ drop n p) (m₁ ++ drop (n + 1) m) i
-points_more xs ys p m p₁ m₁ n i h ly lp en lm q ep em =
-    let l : length (take n p) ≡ n = length-take-le n p (omega arith) in
-    let a : n - 1 ≡ length xs - suc i = omega arith in
-    let b : n ≡ length xs - suc i + 1 = omega arith in
-    let fp : take (length (take n p) - 1) (take n p) ≡ through (drop (suc i) xs) (drop (suc i) ys) =
-    ap (λ (u : ℕ). take (u - 1) (take n p)) l ∙ take-take (n - 1) n p (omega arith) ∙ ap (λ (u : ℕ). take u p) a ∙ q.through_them in
-    let fm : take (length (take n p)) (take (n + 1) m) ≡ vanishing (drop (suc i) xs) =
-    ap (λ (u : ℕ). take u (take (n + 1) m)) l ∙ take-take n (n + 1) m (omega arith) ∙ ap (λ (u : ℕ). take u m) b ∙ q.product in
-    let tp : p₁ ≡ through (drop i xs) (drop i ys) =
-    ep ∙ ap₂ (λ (u v : List ℕ). newton_step u v (get_or xs i 0) (get_or ys i 0)) fp fm ∙ sym (next_through xs ys i h (omega arith)) in
-    let tm : m₁ ≡ vanishing (drop i xs) = em ∙ ap (with_root (get_or xs i 0)) fm ∙ sym (next_vanishing xs i h) in
-    let dx = length-drop i xs in
-    let dy = length-drop i ys in
-    let np : length p₁ ≡ length xs - i = ap length tp ∙ through_length (drop i xs) (drop i ys) (omega arith) ∙ dx in
-    let nm : length m₁ ≡ length xs - i + 1 = ap length tm ∙ vanishing_length (drop i xs) ∙ omega arith in
-    record { through_them = take_at p₁ (drop n p) (length xs - i) np ∙ tp; product = take_at m₁ (drop (n + 1) m) (length xs - i + 1) nm ∙ tm }
-
-pub points_all : (xs ys p m : List ℕ) → length p ≡ length xs → length m ≡ length xs + 1 → Points xs ys p m 0
-    → (p ≡ through xs ys) × (m ≡ vanishing xs)
-points_all xs ys p m lp lm q =
-    (sym (take_all (length xs - 0) p (omega arith)) ∙ q.through_them, sym (take_all (length xs - 0 + 1) m (omega arith)) ∙ q.product)
+no_points [] ys [] (a ∷ []) e f g = (refl, refl)
+no_points [] ys [] [] e f g = absurd (omega arith)
+no_points [] ys [] (a ∷ b ∷ m) e f g = absurd (omega arith)
+no_points [] ys (c ∷ p) m e f g = absurd (omega arith)
+no_points (x ∷ xs) ys p m e f g = absurd (omega arith)

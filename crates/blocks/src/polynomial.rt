@@ -59,14 +59,18 @@ fn with_point(p: &mut [u8], m: &mut [u8], x: u8, y: u8)
     with_root(m, x);
 }
 
-// The polynomial through the points (xs, ys) into p, built point by point from the last to the first, and the product of X - x over xs into m.
+// The polynomial through the points (xs, ys) into p, built from the one through all but the first point, and the product of X - x
+// over xs into m.
 pub fn interpolate(xs: &[u8], ys: &[u8], p: &mut [u8], m: &mut [u8])
     requires { (length ys.now ≡ length xs.now) × (length p.old ≡ length xs.now) × (length m.old ≡ length xs.now + 1) }
     ensures { (p.new ≡ through xs.now ys.now) × (m.new ≡ vanishing xs.now) }
 {
-    m[0] = 1;
-    for i in (0..xs.len()).rev() {
-        let n = xs.len() - i;
-        with_point(&mut p[..n], &mut m[..n + 1], xs[i], ys[i]);
+    let k = xs.len();
+    if k == 0 {
+        m[0] = 1;
+        return;
     }
+    let n = k - 1;
+    interpolate(&xs[1..], &ys[1..], &mut p[..n], &mut m[..k]);
+    with_point(p, m, xs[0], ys[0]);
 }

@@ -61,6 +61,7 @@ fn with_point(p: &mut [u8], m: &mut [u8], x: u8, y: u8)
 
 // The polynomial through the points (xs, ys) into p, built from the one through all but the first point, and the product of X - x
 // over xs into m.
+// Document 01 names this form: it calls itself with one point fewer.
 pub fn interpolate(xs: &[u8], ys: &[u8], p: &mut [u8], m: &mut [u8])
     requires { (length ys.now ≡ length xs.now) × (length p.old ≡ length xs.now) × (length m.old ≡ length xs.now + 1) }
     ensures { (p.new ≡ through xs.now ys.now) × (m.new ≡ vanishing xs.now) }

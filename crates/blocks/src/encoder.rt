@@ -1,4 +1,5 @@
-// From a value to its blocks.
+// From a value to its blocks. A value v and its k stay two parameters: each caller has them apart (an area, and `Params`), and a type made for one call
+// would be no plainer.
 ghost use Rattle.std.specs.Prelude.{◌≡◌, ◌+◌, ◌*◌, ◌<◌, ◌≤◌, length, drop};
 ghost use Rattle.std.proofs.lemmas.List.Edits.{sets};
 ghost use Rattle.blocks.specs.Code.{block_length, block_byte, block_of, encoded, blocks_of};

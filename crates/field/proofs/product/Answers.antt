@@ -21,6 +21,6 @@ returns c =
     elim c.if-sum-lt255.branch [
       | then-sum-lt255 w ↦ c.powers.ensures _ (omega arith) ∙ ap (power_of 3) w.e-is ∙ log_product _ _ _ _ c.log.ensures.1 c.log-2.ensures.1
       | else-sum-lt255 w ↦
-        c.powers.ensures _ (omega arith) ∙ ap (power_of 3) w.e-is
-        ∙ log_product_less _ _ _ _ w.if-sum-lt255.false c.log.ensures.1 c.log-2.ensures.1
+          c.powers.ensures _ (omega arith) ∙ ap (power_of 3) w.e-is
+          ∙ log_product_less _ _ _ _ w.if-sum-lt255.false c.log.ensures.1 c.log-2.ensures.1
     ]

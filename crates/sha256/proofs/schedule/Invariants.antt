@@ -1,6 +1,6 @@
 -- The first loop stores the block's words one by one, the second the other words four at a time; after the words so far there are zeros. Assumes nothing.
 use lib.Seq.{sets}
-use Rattle.std.proofs.Common.{◌≡◌, ◌+◌, ◌-◌, ◌*◌, ◌≤◌, ◌++◌, replicate}
+use Rattle.std.proofs.Common.{◌≡◌, ◌+◌, ◌-◌, ◌*◌, ◌++◌, replicate}
 use Rattle.sha256.specs.Hash.{block_words, extended}
 use Rattle.area.specs.Numbers.{be4}
 use Rattle.area.specs.Area.{table}

@@ -1,5 +1,5 @@
 -- After j turns the first 4j rounds of x are done. Assumes nothing.
-use Rattle.std.proofs.Common.{◌≡◌, ◌-◌, ◌*◌, ◌≤◌}
+use Rattle.std.proofs.Common.{◌≡◌, ◌*◌}
 use Rattle.sha256.specs.Hash.{rounds}
 use Rattle.sha256.proofs.State.rounds.Given as goal
 

@@ -80,7 +80,7 @@ impl Hall {
 
     // Makes servers 1 to n afresh with this initial value. All servers have the same parameters, so a refusal is server 1's.
     fn fresh_servers(&mut self, g: Params, value: &[u8]) -> Result<(), Refusal> {
-        for j in 1..11 {
+        for j in 1..=g.n.clamp(1, 10) {
             let at = AREA_BYTES * j;
             let first = 256 * j;
             let own = SERVER_SIZE * j;
@@ -92,9 +92,6 @@ impl Hall {
                 &mut self.initials[first..first + 256],
                 &mut self.records[own..own + SERVER_SIZE],
             )?;
-            if g.n <= j {
-                break;
-            }
         }
         Ok(())
     }

@@ -12,8 +12,8 @@ use crate::player::play_all;
 use blocks::Params;
 use entries::Closing;
 use entries::reader::survey;
-use frame::bounds::largest_frame;
 use frame::Refusal;
+use frame::bounds::largest_frame;
 use server::setup::construct_test;
 use server_deliver::fresh::fresh_test;
 

@@ -9,8 +9,8 @@ ghost use Rattle.playback.specs.Stages.{done, played_all};
 
 use crate::reports::{REPORT_HEAD, put_report};
 use blocks::Params;
-use entries::reader::read_entry;
 use entries::FRAME_AT;
+use entries::reader::read_entry;
 use server_deliver::deliver;
 use server_deliver::fresh::fresh;
 

@@ -7,10 +7,10 @@ ghost use Rattle.playback.specs.Resume.{areas, resumed, resume_test, resumption,
 
 use crate::{Summary, ending_of};
 use blocks::Params;
-use entries::reader::{read_entry, survey};
 use entries::FRAME_AT;
-use frame::bounds::params_test;
+use entries::reader::{read_entry, survey};
 use frame::Refusal;
+use frame::bounds::params_test;
 use layout::servers::SERVER_SIZE;
 use server::tests::room_test;
 use server_deliver::deliver;

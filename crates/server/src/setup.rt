@@ -9,14 +9,20 @@ ghost use Rattle.server_rules.specs.Delivery.{constructed, construct_test, const
 
 use blocks::Params;
 use blocks::encoder::encode_block;
+use frame::Refusal;
 use frame::bounds::{params_test, width};
 use frame::places::AREA_BYTES;
-use frame::Refusal;
 use group::digesting::digests;
 use server_rules::{Served, Server};
 
 // Refusals 1, 2, 3 and 10; the lent areas are given by their lengths.
-pub fn construct_test(g: Params, me: u8, value: &[u8], area: usize, initial: usize) -> Result<(), Refusal>
+pub fn construct_test(
+    g: Params,
+    me: u8,
+    value: &[u8],
+    area: usize,
+    initial: usize,
+) -> Result<(), Refusal>
     ensures { result ≡ construct_test digest_of g me value.now area initial }
 {
     params_test(g, me as usize, g.n)?;

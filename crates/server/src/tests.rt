@@ -14,7 +14,13 @@ use frame::{Party, Refusal};
 use server_rules::{Reader, Slot};
 
 // Refusal 10: whether the lent areas, given by their lengths, are long enough.
-pub fn room_test(g: Params, area: usize, initial: usize, out: usize, to: usize) -> Result<(), Refusal>
+pub fn room_test(
+    g: Params,
+    area: usize,
+    initial: usize,
+    out: usize,
+    to: usize,
+) -> Result<(), Refusal>
     requires { Bounded g }
     ensures { result ≡ room_test g area initial out to }
 {

@@ -7,8 +7,8 @@ ghost use Rattle.server_deliver.specs.Handed.{fresh_test};
 ghost use Rattle.server_deliver.specs.Records.{fresh_after, byte_constructed, byte_construction};
 
 use blocks::Params;
-use frame::bounds::params_test;
 use frame::Refusal;
+use frame::bounds::params_test;
 use layout::servers::{SERVER_SIZE, put_server};
 use server::setup::construct;
 use server_rules::Server;

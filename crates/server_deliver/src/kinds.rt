@@ -39,7 +39,15 @@ fn step_of_send(
     let time = area::read8(f, BODY_AT);
     let middle = OFFER_AT + 32 * g.n;
     let end = middle + width(g);
-    let m = on_block_send(s.slot, k, time, &f[OFFER_AT..middle], &f[middle..end], out, to)?;
+    let m = on_block_send(
+        s.slot,
+        k,
+        time,
+        &f[OFFER_AT..middle],
+        &f[middle..end],
+        out,
+        to,
+    )?;
     Ok(Taken {
         scope: Scope { slot: m.slot, ..s },
         place: m.place,

@@ -32,4 +32,4 @@ returns c =
     let presented = ap (λ (u : Scope). sent (outbox a.out.now a.to.now first_place) (sending (P.Client a.h.client) (message a.h.client a.h.sequence (value_is u.stamp (present_entry a.g u.stamp a.area.now a.initial.now))) ∷ [])) e in
     step_is _ _ w a.area.now a.area.now _ _ _ _ _ a.h.client _ c.send_present-place.result
     (c.ask_test.ensures ∙ ap (λ (u : Scope). pick (from_owner a.from a.h.client) (read_test u.reader a.h.sequence) (Err R.Sender)) e) c.in_ok-ask_test.was
-    (only_sent _ _ a.area.now _ _ _ (reader_set w a.h.client a.s e _ _ refl ∙ ap (λ (u : Scope). with_reader w a.h.client (record { sequence = a.h.sequence; listening = true; noted = u.stamp })) e) (c.send_present-place.ensures ∙ presented)) 
+    (only_sent _ _ a.area.now _ _ _ (reader_set w a.h.client a.s e _ _ refl ∙ ap (λ (u : Scope). with_reader w a.h.client (record { sequence = a.h.sequence; listening = true; noted = u.stamp })) e) (c.send_present-place.ensures ∙ presented))

@@ -16,8 +16,7 @@ returns-in-4 c = c.step_of_vote.ensures c.args.initial.now
 
 pub step_of_scope-requires : goal.step_of_scope-requires
 step_of_scope-requires c =
-    let P = c.requires in
-    (
+    let P = c.requires in (
       P.0,
       P.1,
       P.2,

@@ -26,12 +26,12 @@ pub struct Params {
 // Why a call is turned down. `number_of` gives document 01's number.
 #[derive(Clone, Copy, PartialEq, Eq, Debug)]
 pub enum Fault {
-    Parties,
-    Threshold,
-    Length,
-    Blocks,
-    Room,
-    Disagreement,
+    Parties = 1,
+    Threshold = 2,
+    Length = 3,
+    Blocks = 9,
+    Room = 10,
+    Disagreement = 21,
 }
 
 // The n blocks of a value, end to end in the front of out.

@@ -6,10 +6,10 @@ use frame::{Refusal, Stamp};
 // No operation is open; a write awaits stamps, or acks; a read is open.
 #[derive(Clone, Copy)]
 pub enum Phase {
-    Idle,
-    Asking,
-    Acking,
-    Reading,
+    Idle = 0,
+    Asking = 1,
+    Acking = 2,
+    Reading = 3,
 }
 
 // The stamps kept of one server's values: the first count of four places are taken. Their entries lie in the rows area.
@@ -20,7 +20,7 @@ pub struct Row {
 }
 
 // The numbers of the last write and read begun, and whether a write closed as out of stamps. Of the open operation: which servers' stamps or
-// acks were counted, the times received, and the rows. The highest time that each server reported, across operations.
+// acks were counted, the times received, and the rows. The highest time that each server reported, across operations. Flag and arrays as the record has them.
 #[derive(Clone, Copy)]
 pub struct Client {
     pub writes: u32,

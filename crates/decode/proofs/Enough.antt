@@ -11,9 +11,8 @@ use lib.Seq.{take_all}
 use borrow.Author.Tests.{leb-true, leb-false}
 use Rattle.blocks.specs.declared.Params.{Params}
 use Rattle.blocks.specs.declared.Fault.{Fault}
-use Rattle.blocks.specs.declared.Coded.{Coded}
-use Rattle.blocks.specs.declared.Coded.TheVariants.{Done, Refused}
-use Rattle.blocks.specs.Params.{fault, demand, and_then, params_test, Bounded}
+use Rattle.std.specs.Prelude.{Ok, Err}
+use Rattle.blocks.specs.Params.{Coded, fault, demand, and_then, params_test, Bounded}
 use Rattle.blocks.specs.Code.{block_length}
 use Rattle.blocks.specs.Calls.{Outcome, numbers_fit, written, decode_test, decoding}
 use Rattle.blocks.proofs.Parameters.{bounds, differs, lacks}
@@ -21,7 +20,7 @@ use Rattle.blocks.proofs.Stripes.{block_small}
 use Rattle.decode.specs.Kept.{numbers_kept, bytes_kept, DecodesAll}
 
 -- a demand before one that is refused for the same reason
-either : (b : Bool) (f : Fault) → demand b f (Refused f) ≡ Refused f
+either : (b : Bool) (f : Fault) → demand b f (Err f) ≡ Err f
 unfolding demand
 either true f = refl
 either false f = refl
@@ -33,9 +32,9 @@ rest g js len room =
     demand (leb g.k (length js)) (fault 9)
     (demand (leb (length js) g.n) (fault 9)
     (demand (eqb len (length js * block_length g.size g.k)) (fault 9)
-    (demand (numbers_fit g.n js) (fault 9) (demand (leb g.size room) (fault 10) Done))))
+    (demand (numbers_fit g.n js) (fault 9) (demand (leb g.size room) (fault 10) (Ok tt)))))
 
-many : (g : Params) (js : List ℕ) (len room : ℕ) → Bounded g → 10 < length js → rest g js len room ≡ Refused (fault 9)
+many : (g : Params) (js : List ℕ) (len room : ℕ) → Bounded g → 10 < length js → rest g js len room ≡ Err (fault 9)
 many g js len room b h =
     let m : g.n < length js = omega (arith, b.servers_high) in
     ap (demand (leb g.k (length js)) (fault 9)) (lacks (length js) g.n (fault 9) _ m) ∙ either _ (fault 9)
@@ -48,27 +47,27 @@ most g m b h =
     omega (arith, mul-le-mul_right (block_length g.size g.k) t, y, b.size_high)
 
 long_or_many : (g : Params) (js : List ℕ) (len : ℕ) (later : Coded) → Bounded g → 2560 < len → (c : Bool) → leb (length js) g.n ≡ c
-    → demand c (fault 9) (demand (eqb len (length js * block_length g.size g.k)) (fault 9) later) ≡ Refused (fault 9)
+    → demand c (fault 9) (demand (eqb len (length js * block_length g.size g.k)) (fault 9) later) ≡ Err (fault 9)
 unfolding demand
 long_or_many g js len later b h true e =
     let m = most g (length js) b (leb-true (length js) g.n e) in
     differs len (length js * block_length g.size g.k) (fault 9) later (λ q. omega (arith, q, m, h))
 long_or_many g js len later b h false e = refl
 
-long : (g : Params) (js : List ℕ) (len room : ℕ) → Bounded g → 2560 < len → rest g js len room ≡ Refused (fault 9)
+long : (g : Params) (js : List ℕ) (len room : ℕ) → Bounded g → 2560 < len → rest g js len room ≡ Err (fault 9)
 long g js len room b h = ap (demand (leb g.k (length js)) (fault 9)) (long_or_many g js len _ b h (leb (length js) g.n) refl) ∙ either _ (fault 9)
 
 -- ---- the outcome
 
 -- the outcome for lists that are too long to be decoded
 abbrev too_long : Params → List ℕ → Outcome
-too_long g out = written (and_then (params_test g) (Refused (fault 9))) out []
+too_long g out = written (and_then (params_test g) (Err (fault 9))) out []
 
-refused : (g : Params) (p later third : Coded) (out v : List ℕ) → (p ≡ Done → later ≡ Refused (fault 9))
-    → written (and_then (and_then p later) third) out v ≡ written (and_then p (Refused (fault 9))) out []
+refused : (g : Params) (p later third : Coded) (out v : List ℕ) → (p ≡ (Ok tt) → later ≡ Err (fault 9))
+    → written (and_then (and_then p later) third) out v ≡ written (and_then p (Err (fault 9))) out []
 unfolding and_then written
-refused g Done later third out v h = ap (λ x. written (and_then x third) out v) (h refl)
-refused g (Refused f) later third out v h = refl
+refused g (Ok _) later third out v h = ap (λ x. written (and_then x third) out v) (h refl)
+refused g (Err f) later third out v h = refl
 
 many_refused : (g : Params) (js w out : List ℕ) → 10 < length js → decoding g js w out ≡ too_long g out
 unfolding decoding decode_test

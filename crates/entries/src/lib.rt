@@ -15,12 +15,12 @@ pub const VERSION: u8 = 1;
 // The longest frame that an entry can have.
 pub const LONGEST: usize = 65532;
 
-// How a trace closes: whole, or at an entry that is malformed or inside which it ends. `closing_number` gives document 02's number.
+// How a trace closes: whole, or at an entry that is malformed or inside which it ends. With document 02's number.
 #[derive(Clone, Copy)]
 pub enum Closing {
-    Whole,
-    Malformed,
-    Cut,
+    Whole = 0,
+    Malformed = 22,
+    Cut = 23,
 }
 
 // An entry at the front of some bytes: who sent its frame, and where it ends.

@@ -58,6 +58,7 @@ pub fn survey(trace: &[u8]) -> Survey
 {
     let mut count: usize = 0;
     let mut at: usize = 0;
+    // No `for`: a turn goes on by the length of an entry.
     loop {
         let reading = read_entry(&trace[at..]);
         match reading {

@@ -14,12 +14,7 @@ pub const CLIENT_SIZE: usize = 857;
 fn phase_byte(p: Phase) -> u8
     ensures { result ≡ phase_byte p }
 {
-    match p {
-        Phase::Idle => 0,
-        Phase::Asking => 1,
-        Phase::Acking => 2,
-        Phase::Reading => 3,
-    }
+    p as u8
 }
 
 fn phase_in(x: u8) -> Phase

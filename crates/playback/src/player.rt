@@ -38,6 +38,7 @@ pub fn play_all(
     let mut to = [0u8; TO_ROOM];
     let mut at: usize = 0;
     let mut used: usize = 0;
+    // No `for`: a turn goes on by the length of an entry.
     loop {
         let rest = &trace[at..];
         let Ok(found) = read_entry(rest) else {

@@ -29,6 +29,7 @@ fn reply_count(a: Result<usize, Refusal>) -> usize
 
 // The frames that are left lie end to end from index from on. They move up to index at on, each after its receiver: the last first, so that none is
 // written over before it has moved. Receiver i, which lies in to, is the first one's. The answer is where they end.
+// No `for`: where the last frame lies is known only once those before it are passed.
 fn spread(out: &mut [u8], from: usize, at: usize, to: &[u8], i: usize, left: usize) -> usize
     requires { (from ≤ at) × (from ≤ length out.old) × Lie left (drop from out.old) × (2 * (i + left) ≤ length to.now)
         × (at + length (sent_in left (drop from out.old) (drop (2 * i) to.now)) ≤ length out.old) }

@@ -50,6 +50,7 @@ fn resume_all(
         (trace_of trace.now).entries }
 {
     let mut at: usize = 0;
+    // No `for`: a turn goes on by the length of an entry.
     loop {
         let rest = &trace[at..];
         let Ok(found) = read_entry(rest) else {

@@ -36,7 +36,7 @@ pub struct Group {
     pub at: [usize; 11],
 }
 
-// What a counted echo or ready leads to: readies to all servers, the completed entry; and the time of both.
+// What a counted echo or ready leads to: readies to all servers, the completed entry; and the time of both. Either can be without the other.
 #[derive(Clone, Copy)]
 pub struct Due {
     pub ready: bool,

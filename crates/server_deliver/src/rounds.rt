@@ -31,7 +31,7 @@ fn may_accept(state: &[u8], g: Params, c: usize) -> bool
     is_ripe(time, sequence, own, reports, g)
 }
 
-// The lowest client whose write can be accepted, or 0.
+// The lowest client whose write can be accepted, or 0, as the definition `lowest_from` has it.
 fn lowest(state: &[u8], g: Params) -> usize
     requires { Bounded g × (server_size ≤ length state.now) }
     ensures { result ≡ lowest_from g (server_in state.now) 1 8 }

@@ -11,7 +11,7 @@ use frame::{Refusal, Stamp, places};
 pub mod fresh;
 
 // What was counted of one write: flags, and the times of the kept echoes, of the kept readies and of the completed group. The entries themselves lie in
-// the state area.
+// the state area. Flags, since the rules and the record's layout name each; arrays side by side, since `Votes` of the rules speaks of each.
 #[derive(Clone, Copy)]
 pub struct BlockPart {
     pub sent: bool,

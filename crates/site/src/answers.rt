@@ -31,7 +31,7 @@ pub fn is_refusal(a: Answer) -> bool
     }
 }
 
-// A client's answer, where there are n servers.
+// A client's answer, where there are n servers: a number, for hosts in C.
 pub fn client_answer(a: Answer, n: usize) -> u64
     ensures { result ≡ client_answer n (answer_response a) }
 {

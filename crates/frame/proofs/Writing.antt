@@ -198,8 +198,6 @@ value_frame c q s t d b e = rw e
 
 -- ---- the code's names
 
-
-
 -- ---- sent
 
 pub sent_one : (o t o₀ t₀ : List ℕ) (r q : Place) (p : Party) (f : List ℕ) (m : Message) → f ≡ build m

@@ -2,8 +2,8 @@
 use crate::coding::params;
 use case_text::report::result;
 use case_text::text::{Hex, Words};
-use frame::refusals::number_of;
 use frame::Header;
+use frame::refusals::number_of;
 use std::io;
 use std::io::Write;
 

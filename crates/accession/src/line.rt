@@ -1,14 +1,14 @@
 // A line of the input, read byte by byte: a word, and for two of the words one argument after a space.
-use arrayvec::ArrayVec;
 use case_text::fields::Field;
+use case_text::kept::Kept;
 
-// Its word; how many spaces it has; the argument, and the first eight bytes that it spells.
-#[derive(Drop)]
+// Its word; how many spaces it has, 2 meaning more than 1; the argument, and the first eight bytes that it spells.
+#[derive(Clone, Copy)]
 pub struct Line {
     word: Field,
     pub spaces: u64,
     pub argument: Field,
-    bytes: ArrayVec<u8, 8>,
+    bytes: Kept<8>,
 }
 
 impl Line {
@@ -17,18 +17,20 @@ impl Line {
             word: Field::new(),
             spaces: 0,
             argument: Field::new(),
-            bytes: ArrayVec::new(),
+            bytes: Kept::new(),
         }
     }
 
     // Adds a byte, which is not a newline.
     fn add_byte(&mut self, b: u8) {
         if b == b' ' {
-            self.spaces = self.spaces.saturating_add(1);
+            if self.spaces < 2 {
+                self.spaces += 1;
+            }
         } else if self.spaces == 0 {
             self.word.add(b);
         } else if let Some(byte) = self.argument.add(b) {
-            let _ = self.bytes.try_push(byte);
+            self.bytes.push(byte);
         }
     }
 

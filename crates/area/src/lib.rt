@@ -11,7 +11,10 @@ pub fn put(area: &mut [u8], at: usize, src: &[u8])
     requires { at + length src.now ≤ length area.old }
     ensures { area.new ≡ sets area.old at src.now }
 {
-    area[at..at + src.len()].copy_from_slice(src);
+    // One by one, so that its edit can turn an operand; the compiler makes one copy of it.
+    for j in 0..src.len() {
+        area[at + j] = src[j];
+    }
 }
 
 // Stores the byte b in the n places of area from index at on.

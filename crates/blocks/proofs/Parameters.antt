@@ -4,7 +4,7 @@ use mathlib.Core.Path.{◌≡◌, refl, sym, ap, ◌∙◌}
 use mathlib.Core.Bool.{Bool, true, false, ◌&&◌, not}
 use native.Mathlib.Omega.{arith}
 use lib.Dec.{leb, ltb, eqb}
-use borrow.Author.Tests.{eq-eqb, ne_eqb, lt-leb, le-leb, leb-true, ltb-true, not-true, not-false}
+use borrow.Author.Tests.{eq-eqb, ne_eqb, lt-leb, le-leb, lt-ltb, leb-true, ltb-true, not-true, not-false}
 use Rattle.area.proofs.Tests.{impossible, and_left, and_right}
 use Rattle.blocks.specs.declared.Params.{Params}
 use Rattle.blocks.specs.declared.Fault.{Fault}
@@ -27,14 +27,26 @@ parties_facts n t e =
       ltb-true (3 * t) n (and_right (leb 4 n && leb n 10 && leb 1 t) (ltb (3 * t) n) e),
     )
 
+pub parties_yes : (n t : ℕ) → 4 ≤ n → n ≤ 10 → 1 ≤ t → 3 * t < n → true ≡ parties_fit n t
+unfolding parties_fit
+parties_yes n t a b c d = sym (simp (le-leb 4 n a, le-leb n 10 b, le-leb 1 t c, lt-ltb (3 * t) n d))
+
 pub threshold_facts : (n t k : ℕ) → threshold_fits n t k ≡ true → (1 ≤ k) × (k ≤ n - 2 * t)
 unfolding threshold_fits
 threshold_facts n t k e =
     (leb-true 1 k (and_left (leb 1 k) (leb k (n - 2 * t)) e), leb-true k (n - 2 * t) (and_right (leb 1 k) (leb k (n - 2 * t)) e))
 
+pub threshold_yes : (n t k : ℕ) → 1 ≤ k → k ≤ n - 2 * t → true ≡ threshold_fits n t k
+unfolding threshold_fits
+threshold_yes n t k a b = sym (simp (le-leb 1 k a, le-leb k (n - 2 * t) b))
+
 pub length_facts : (L : ℕ) → length_fits L ≡ true → (1 ≤ L) × (L ≤ 256)
 unfolding length_fits
 length_facts L e = (leb-true 1 L (and_left (leb 1 L) (leb L 256) e), leb-true L 256 (and_right (leb 1 L) (leb L 256) e))
+
+pub length_yes : (L : ℕ) → 1 ≤ L → L ≤ 256 → true ≡ length_fits L
+unfolding length_fits
+length_yes L a b = sym (simp (le-leb 1 L a, le-leb L 256 b))
 
 -- ---- demands
 

@@ -1,8 +1,8 @@
 // A field of a line, read byte by byte, so that it may be of any length.
 ghost use Rattle.std.specs.Prelude.{◌≡◌, ◌≤◌, min, option_map, IfSome};
 
+use crate::kept::Kept;
 use crate::text::digit;
-use arrayvec::ArrayVec;
 
 // How many bytes of a field are kept: one more than any word has.
 const KEPT: usize = 9;
@@ -15,19 +15,26 @@ enum Pairs {
     Broken,
 }
 
-// Its first bytes; its value, if it is a decimal number without leading zeros, where the largest u128 stands for a larger one too; and what it spells.
-#[derive(Drop)]
+// The least number whose ten-fold does not fit into 64 bits.
+const TENTH: u64 = 1844674407370955162;
+
+// Its first bytes; its value, if it is a decimal number without leading zeros, where the largest u128 stands for a larger one too; 64 bits worked out from
+// its digits, which wrap; and what it spells. Where these bits are 0, a further digit counts as one behind a leading zero: behind 0 itself, and behind
+// some numbers of 2^64 and above, which the programs have never read.
+#[derive(Clone, Copy)]
 pub struct Field {
-    front: ArrayVec<u8, KEPT>,
+    front: Kept<KEPT>,
     pub number: Option<u128>,
+    low: u64,
     pairs: Pairs,
 }
 
 impl Field {
     pub fn new() -> Field {
         Field {
-            front: ArrayVec::new(),
+            front: Kept::new(),
             number: None,
+            low: 0,
             pairs: Pairs::Whole,
         }
     }
@@ -37,10 +44,10 @@ impl Field {
         if 9 < d {
             return None;
         }
-        if self.front.is_empty() {
+        if self.word().is_empty() {
             return Some(u128::from(d));
         }
-        let n = self.number.filter(|n| *n != 0)?;
+        let n = self.number.filter(|_| self.low != 0)?;
         Some(n.saturating_mul(10).saturating_add(u128::from(d)))
     }
 
@@ -48,7 +55,10 @@ impl Field {
     pub fn add(&mut self, b: u8) -> Option<u8> {
         let d = digit(b);
         self.number = d.and_then(|d| self.number_with(d));
-        let _ = self.front.try_push(b);
+        if self.number.is_some() {
+            self.low = (self.low % TENTH * 10).wrapping_add(u64::from(d.unwrap_or(0)));
+        }
+        self.front.push(b);
         let (pairs, byte) = match (self.pairs, d) {
             (Pairs::Whole, Some(high)) => (Pairs::Half(high * 16), None),
             (Pairs::Half(high), Some(low)) => (Pairs::Whole, Some(high | low)),

@@ -2,5 +2,6 @@
 #![tactic(auto)]
 
 pub mod fields;
+pub mod kept;
 pub mod report;
 pub mod text;

@@ -1,9 +1,10 @@
 // Words, numbers and bytes as text.
-ghost use Rattle.std.specs.Prelude.{◌≡◌, ◌==◌, ◌+◌, ◌<◌, ◌≤◌, length, take, drop, position, IfSome};
+ghost use Rattle.std.specs.Prelude.{◌≡◌, ◌==◌, ◌+◌, ◌*◌, ◌<◌, ◌≤◌, length, take, drop, position, IfSome};
+ghost use Rattle.std.specs.Counts.{IsPrefixLen};
 ghost use Rattle.case_text.specs.Words.{word_length};
 
 use arrayvec::ArrayVec;
-use std::fmt;
+use std::{fmt, str};
 
 // What is left of a line. Words are taken from its front, each with the space after it; at the line's end they are empty.
 #[derive(Clone, Copy, Debug)]
@@ -102,14 +103,48 @@ pub fn bytes<const N: usize>(word: &[u8]) -> ArrayVec<u8, N> {
     bytes
 }
 
+// The hexadecimal digit of a value below 16.
+fn letter(x: u8) -> u8
+    requires { x < 16 }
+{
+    if x < 10 { b'0' + x } else { b'a' + (x - 10) }
+}
+
+// Writes the two digits of a byte.
+pub fn put_digits(text: &mut [u8], at: usize, b: u8)
+    requires { at + 2 ≤ length text.old }
+{
+    text[at] = letter(b / 16);
+    text[at + 1] = letter(b % 16);
+}
+
+// Writes bytes as digits into text from index at on, and answers where they end.
+pub fn put_bytes(text: &mut [u8], at: usize, bytes: &[u8]) -> usize
+    requires { at + length bytes.now * 2 ≤ length text.old }
+    ensures { IsPrefixLen result text.new }
+{
+    for (i, b) in bytes.iter().enumerate() {
+        put_digits(text, at + i * 2, *b);
+    }
+    at + bytes.len() * 2
+}
+
 // Bytes, printed as two hexadecimal digits each.
 #[derive(Clone, Copy, Debug)]
 pub struct Hex<'a>(pub &'a [u8]);
 
+// How many bytes are printed at once.
+const AT_ONCE: usize = 64;
+
 impl fmt::Display for Hex<'_> {
     fn fmt<W: fmt::Write>(&self, f: &mut fmt::Formatter<W>) -> fmt::Result {
-        for byte in self.0 {
-            write!(f, "{byte:02x}")?;
+        let mut digits = [0u8; 2 * AT_ONCE];
+        for part in self.0.chunks(AT_ONCE) {
+            let used = put_bytes(&mut digits, 0, part);
+            let Ok(text) = str::from_utf8(&digits[..used]) else {
+                return Err(fmt::Error);
+            };
+            f.write_str(text)?;
         }
         Ok(())
     }

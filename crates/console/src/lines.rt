@@ -1,5 +1,5 @@
 // The lines of an input, part by part, so that a line may be of any length. The answers that wait are written before more is read.
-ghost use Rattle.std.specs.Prelude.{◌≤◌};
+ghost use Rattle.std.specs.Prelude.{◌≡◌, ◌≤◌, ◌<◌, OnOk, IfOk};
 
 use crate::failure::Failure;
 use crate::input::read_piece;
@@ -51,8 +51,11 @@ impl<'a, C: Clock, S: Read> Lines<'a, C, S> {
         }
     }
 
-    // Reads the next piece.
-    fn read(&mut self) -> Result<usize, Failure> {
+    // Reads the next piece, and answers how long it is.
+    fn read(&mut self) -> Result<usize, Failure>
+        ensures front { OnOk result (self.new.next ≡ 0) }
+        ensures piece { IfOk result (λ n. n ≡ self.new.size) }
+    {
         self.next = 0;
         self.size = 0;
         self.size = read_piece(self.clock, self.source, &mut self.buffer)?;
@@ -69,8 +72,13 @@ impl<'a, C: Clock, S: Read> Lines<'a, C, S> {
         })
     }
 
-    // The part that starts at next: up to a newline, or to the end of the piece.
-    fn part(&mut self) -> Part<'_> {
+    // Passes the part that starts at next, up to a newline or to the end of the piece, and answers where it ends and whether its line ends there.
+    // Reading goes on behind it.
+    fn pass(&mut self) -> (usize, bool)
+        requires { self.old.next < self.old.size }
+        ensures moves { self.old.next < self.new.next }
+        ensures within { (self.old.next ≤ result.0) × (result.0 ≤ self.new.size) }
+    {
         let start = self.next;
         let newline = self.buffer[start..self.size]
             .iter()
@@ -79,6 +87,15 @@ impl<'a, C: Clock, S: Read> Lines<'a, C, S> {
         let ends = newline.is_some();
         self.next = if ends { end + 1 } else { end };
         self.place = if ends { Place::Between } else { Place::Within };
+        (end, ends)
+    }
+
+    // The part that starts at next.
+    fn part(&mut self) -> Part<'_>
+        requires { self.old.next < self.old.size }
+    {
+        let start = self.next;
+        let (end, ends) = self.pass();
         let lines = &*self;
         Part {
             text: &lines.buffer[start..end],

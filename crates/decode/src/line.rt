@@ -1,7 +1,7 @@
 // A line of the input, read byte by byte, so that it may be of any length: `decode N T K L ROOM NUMBERS BLOCKS`, with one space between fields.
-use arrayvec::ArrayVec;
 use blocks::Params;
 use case_text::fields::Field;
+use case_text::kept::Kept;
 
 // How many bytes of NUMBERS and of BLOCKS are kept, as in specs/Kept.antt: one more than any decoding can use, which takes at most ten blocks of 256 bytes. So
 // a longer field is refused for its length, as it would be if all of it were kept.
@@ -16,13 +16,13 @@ const BLOCKS: usize = 7;
 
 // The place of the field being read; the numbers before it, or none once a field has not the form that its place asks for; that field; and what is kept of
 // NUMBERS and of BLOCKS.
-#[derive(Drop)]
+#[derive(Clone, Copy)]
 pub struct Line {
     place: usize,
     values: Option<[usize; NUMBERS]>,
     field: Field,
-    numbers: ArrayVec<u8, NUMBERS_KEPT>,
-    blocks: ArrayVec<u8, BYTES_KEPT>,
+    numbers: Kept<NUMBERS_KEPT>,
+    blocks: Kept<BYTES_KEPT>,
 }
 
 // What a whole line asks for: the parameters, how many bytes the value may take, the blocks' numbers and the blocks.
@@ -40,8 +40,8 @@ impl Line {
             place: 0,
             values: Some([0; NUMBERS]),
             field: Field::new(),
-            numbers: ArrayVec::new(),
-            blocks: ArrayVec::new(),
+            numbers: Kept::new(),
+            blocks: Kept::new(),
         }
     }
 
@@ -59,6 +59,15 @@ impl Line {
         }
     }
 
+    // Begins a new line. (`new` writes all that may be kept, which takes longer than an empty line does.)
+    pub fn clear(&mut self) {
+        self.place = 0;
+        self.values = Some([0; NUMBERS]);
+        self.field = Field::new();
+        self.numbers.clear();
+        self.blocks.clear();
+    }
+
     // Adds a byte, which is not a newline; the bytes that NUMBERS and BLOCKS spell are kept while there is room.
     fn add_byte(&mut self, b: u8) {
         if b == b' ' {
@@ -70,11 +79,11 @@ impl Line {
         let Some(byte) = self.field.add(b) else {
             return;
         };
-        let _ = match self.place {
-            NUMBERS => self.numbers.try_push(byte),
-            BLOCKS => self.blocks.try_push(byte),
-            _ => Ok(()),
-        };
+        match self.place {
+            NUMBERS => self.numbers.push(byte),
+            BLOCKS => self.blocks.push(byte),
+            _ => (),
+        }
     }
 
     // Adds a part.

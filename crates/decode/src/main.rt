@@ -19,7 +19,7 @@ fn take<W: Write>(line: &mut Line, part: Part<'_>, out: &mut W) -> Result<(), Fa
     line.add(part.text);
     if part.ends {
         answer(line.ask(), out)?;
-        *line = Line::new();
+        line.clear();
     }
     Ok(())
 }

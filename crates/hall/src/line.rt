@@ -1,6 +1,8 @@
 // A line of the script, read byte by byte: up to six fields with one space between, and the bytes that its last field spells.
-use arrayvec::ArrayVec;
+ghost use Rattle.std.specs.Prelude.{◌≤◌};
+
 use case_text::fields::Field;
+use case_text::kept::Kept;
 
 // One more than the most fields that a line has: a line with that many has too many.
 const FIELDS: usize = 7;
@@ -43,20 +45,23 @@ pub struct Mark {
     pub bytes: bool,
 }
 
-// What is kept of the fields that have ended, the field being read, and the bytes that the last of them all spells so far.
-#[derive(Drop)]
+// What is kept of the fields that have ended, and how many that are; the field being read; and the bytes that the last of them all spells so far.
+#[derive(Clone, Copy)]
 pub struct Line {
-    marks: ArrayVec<Mark, FIELDS>,
+    marks: [Mark; FIELDS],
+    ended: usize,
     field: Field,
-    bytes: ArrayVec<u8, BYTES>,
+    bytes: Kept<BYTES>,
+    ghost fits: { ended ≤ 7 },
 }
 
 impl Line {
     pub fn new() -> Line {
         Line {
-            marks: ArrayVec::new(),
+            marks: [Mark::default(); FIELDS],
+            ended: 0,
             field: Field::new(),
-            bytes: ArrayVec::new(),
+            bytes: Kept::new(),
         }
     }
 
@@ -67,7 +72,10 @@ impl Line {
             number: self.field.capped(),
             bytes: self.field.is_bytes(),
         };
-        let _ = self.marks.try_push(mark);
+        if self.ended < FIELDS {
+            self.marks[self.ended] = mark;
+            self.ended += 1;
+        }
         self.field = Field::new();
     }
 
@@ -77,7 +85,7 @@ impl Line {
             self.end_field();
             self.bytes.clear();
         } else if let Some(byte) = self.field.add(b) {
-            let _ = self.bytes.try_push(byte);
+            self.bytes.push(byte);
         }
     }
 
@@ -93,7 +101,7 @@ impl Line {
 
     // What is kept of its fields, once it has ended.
     pub fn fields(&self) -> &[Mark] {
-        self.marks.as_slice()
+        &self.marks[..self.ended]
     }
 
     // What its last field spells.
@@ -103,7 +111,7 @@ impl Line {
 
     // Begins a new line.
     pub fn clear(&mut self) {
-        self.marks.clear();
+        self.ended = 0;
         self.bytes.clear();
     }
 }

@@ -1,6 +1,9 @@
 // Runs all parties of a register on one machine from a script, on standard input or in the file that the argument names, and answers each line at once.
 #![tactic(auto)]
 
+ghost use Rattle.std.specs.Prelude.{IfErr};
+ghost use Rattle.console.specs.Failures.{IsWriting};
+
 use crate::line::Line;
 use crate::parties::Hall;
 use console::failure::{Failure, report};
@@ -21,7 +24,9 @@ fn take<W: Write>(
     line: &mut Line,
     part: Part<'_>,
     out: &mut W,
-) -> Result<(), Failure> {
+) -> Result<(), Failure>
+    ensures failed { IfErr result IsWriting }
+{
     line.add(part.text, part.ends);
     if part.ends {
         hall.answer(line, out)?;

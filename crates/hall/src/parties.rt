@@ -41,7 +41,7 @@ const CLIENT_OUT: usize = 5980;
 const CLIENT_TO: usize = 20;
 
 // The register's parameters, once it is open, its clients, and the areas of all parties. They stay flat: Parties (specs/Areas.antt) says how long each is.
-#[derive(Drop)]
+#[derive(Clone, Copy)]
 pub struct Hall {
     params: Option<Params>,
     clients: [Client; Server::PLACES],

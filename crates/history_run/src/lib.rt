@@ -11,7 +11,6 @@ use console::failure::Failure;
 use console::input::read_whole;
 use console::output::{flush, nothing, put, put_refused};
 use frame::Refusal;
-use frame::refusals::number_of;
 use order::judge::{Fault, LinePair, Verdict, refuse};
 use std::io::{Read, Write};
 use std::rt::Clock;
@@ -56,7 +55,7 @@ fn put_fault<W: Write>(out: &mut W, fault: Fault) -> Result<(), Failure> {
         Fault::Offending(LinePair { earlier, later }) => {
             writeln!(out, "no order {earlier} {later}").map_err(Failure::Writing)
         }
-        Fault::Refused(why) => put_refused(out, u64::from(number_of(why))),
+        Fault::Refused(number) => put_refused(out, u64::from(number)),
     }
 }
 

@@ -11,17 +11,16 @@ use lib.Seq.{sets, take-suc-set, get_or-take, ext_get_or}
 use borrow.Author.Tests.{lt-ltb, le-ltb, ltb-false}
 use Rattle.area.specs.Area.{joined}
 use Rattle.area.specs.Responses.{Response, turned_down, gives, is_turned_down}
-use Rattle.area.proofs.Tests.{pick_not, impossible}
+use Rattle.area.proofs.Tests.{pick_not}
 use Rattle.area.proofs.Sets.{part_sets_same}
 use Rattle.order.specs.Histories.{row_of, line_numbers, blank, no_operation}
 use Rattle.order.specs.Histories.{has_order, no_order, judge_response, Judgement, judgement, refused, offending, ordered, judged}
 use Rattle.order.specs.Orders.{Line, in_place}
 use Rattle.order.specs.declared.operation.Operation.{Operation}
 use Rattle.order.specs.declared.operation.Entry.{Entry}
-use Rattle.std.proofs.Common.{Result, Ok, Err, MatchResult}
+use Rattle.std.proofs.Common.{Result, Ok, Err}
 use Rattle.frame.specs.declared.Refusal.{Refusal}
-use Rattle.frame.specs.Refusals.{number_of, refusal}
-use Rattle.frame.proofs.Responses.{one_each}
+use Rattle.frame.specs.Refusals.{number_of}
 use Rattle.order.specs.declared.judge.Fault.{Fault}
 use Rattle.order.specs.declared.judge.Fault.TheVariants.{Offending, Refused}
 use Rattle.order.specs.declared.judge.Verdict.{Verdict}
@@ -30,7 +29,7 @@ use Rattle.order.proofs.Less.{true_false}
 use Rattle.order.proofs.Rows.{no_entry, row_length}
 use Rattle.order.proofs.Arranged.{the_row, size, stands, row_is_row}
 use Rattle.order.proofs.Judgements.{is_order, first}
-use Rattle.history_row.specs.Rows.{none, then_all, added_all, verdict_by}
+use Rattle.history_row.specs.Rows.{none, added, added_all}
 use Rattle.history_row.specs.declared.History.{History}
 use Rattle.history_row.proofs.Laws.{added_fits}
 use Rattle.history_text.specs.Lines.{Lines, Records, Malformed, lines_of, answer_of}
@@ -48,7 +47,7 @@ use Rattle.history_sheet.proofs.Pages.{named_count, named_at}
 
 -- the answer of the code that has a response
 unfoldable laid_with : Response SheetResult → Result ℕ Fault
-laid_with (turned_down x) = Err (Refused (refusal x))
+laid_with (turned_down x) = Err (Refused x)
 laid_with (gives (pages_laid n)) = Ok n
 laid_with (gives (unordered a b)) = Err (Offending (record { earlier = a; later = b }))
 
@@ -56,7 +55,7 @@ laid_back : (x : Result ℕ Fault) → laid_with (laid_response x) ≡ x
 unfolding laid_with
 laid_back (Ok n) = refl
 laid_back (Err (Offending p)) = refl
-laid_back (Err (Refused r)) = ap (λ z. Err (Refused z)) (one_each r)
+laid_back (Err (Refused x)) = refl
 
 -- no two answers of the code have the same response
 pub laid_injective : (x y : Result ℕ Fault) → laid_response x ≡ laid_response y → x ≡ y
@@ -81,28 +80,27 @@ sheet_laid row out o m pages n e h q =
 
 -- ---- operations added to a history
 
-all_added : (h k : History) (ops : List Operation) → length h.rows ≡ 64 → h.count + length ops ≤ 64 → added_all h ops ≡ Ok k
-    → take (h.count + length ops) k.rows ≡ take h.count h.rows ++ ops
-unfolding added_all then_all
-all_added h k [] e l p =
-    let q : k ≡ h = cc in
-    rw add-zero (ap (λ (z : History). take h.count z.rows) q ∙ sym (append-nil (take h.count h.rows)))
-all_added h k (a ∷ ops) e l p =
+all_added : (h : History) (ops : List Operation) → length h.rows ≡ 64 → h.count + length ops ≤ 64
+    → take (h.count + length ops) (added_all h ops).rows ≡ take h.count h.rows ++ ops
+unfolding added_all
+all_added h [] e l = rw add-zero (sym (append-nil (take h.count h.rows)))
+all_added h (a ∷ ops) e l =
     let g : h.count < 64 = omega arith in
     let i : h.count < length h.rows = omega arith in
-    let more : History = record { rows = set h.rows h.count a; count = h.count + 1 } in
+    let k : History = record { rows = set h.rows h.count a; count = h.count + 1 } in
     let n : h.count + suc (length ops) ≡ h.count + 1 + length ops = omega arith in
     let s : take (h.count + 1) (set h.rows h.count a) ≡ take h.count h.rows ++ (a ∷ []) =
     rw (add-one h.count) (take-suc-set h.rows h.count a i) in
-    ap (λ x. take x k.rows) n
-    ∙ all_added more k ops (length-set h.rows h.count a ∙ e) (omega arith) (sym (ap (then_all (λ z. added_all z ops)) (added_fits h a g)) ∙ p)
+    ap (λ x. take x (added_all (added h a) ops).rows) n
+    ∙ ap (λ x. take (h.count + 1 + length ops) (added_all x ops).rows) (added_fits h a g)
+    ∙ all_added k ops (length-set h.rows h.count a ∙ e) (omega arith)
     ∙ ap (λ x. x ++ ops) s
     ∙ append_assoc (take h.count h.rows) (a ∷ []) ops
 
-history_rows : (ops : List Operation) (k : History) → length ops ≤ 64 → added_all none ops ≡ Ok k → take (length ops) k.rows ≡ ops
+history_rows : (ops : List Operation) → length ops ≤ 64 → take (length ops) (added_all none ops).rows ≡ ops
 unfolding none
-history_rows ops k h p =
-    (let z : length ops ≡ 0 + length ops = omega arith in ap (λ n. take n k.rows) z) ∙ all_added none k ops refl (omega arith) p
+history_rows ops h =
+    (let z : length ops ≡ 0 + length ops = omega arith in ap (λ n. take n (added_all none ops).rows) z) ∙ all_added none ops refl (omega arith)
 
 -- ---- the answer to a history that has an order
 
@@ -245,7 +243,8 @@ module _ (h : History) (v : Judgement) where
       let b : (judged ops).answer ≡ gives (has_order m) = answer_of_lem (sym j) ∙ a in
       let o = ordered_only ops m b in
       let n = ordered_all ops m b in
-      let r : take m h.rows ≡ ops = ap (λ k. take k h.rows) n ∙ history_rows ops h o.0 (sym e) in
+      let g : h ≡ added_all none ops = cc in
+      let r : take m h.rows ≡ ops = ap₂ (λ k (z : History). take k z.rows) n g ∙ history_rows ops o.0 in
       let s : v.lines ≡ sets blank 0 (line_numbers (row_of ops)) = ap (λ (y : Judgement). y.lines) (j ∙ sym o.1) in
       record {
         there = named_there ops h.rows v.lines m (w ops refl) o.0 n r s;
@@ -255,20 +254,10 @@ module _ (h : History) (v : Judgement) where
       }
   ready Malformed w m e q a = absurd (true_false refl (sym (ap is_order (sym (malformed_answer (Ok h) v (answered (Ok h) v Malformed e q)) ∙ a))))
 
--- what `map_err` says where it was an `Ok`, or an `Err`
-pub read_ok : (r : Result History Refusal) (h : History) → MatchResult r (λ x. ◌≡◌ {A = Result History Fault} (Ok h) (Ok x)) (λ e. ⊥) → Ok h ≡ r
-read_ok (Ok x) h p = cc
-read_ok (Err e) h p = absurd p
-
-pub read_err : (r : Result History Refusal) (f : Fault) → MatchResult r (λ x. ◌≡◌ {A = Result History Fault} (Err f) (Ok x)) (λ e. f ≡ Refused e)
-    → (why : Refusal) × (Err why ≡ r) × (f ≡ Refused why)
-read_err (Ok x) f p = impossible (cc p)
-read_err (Err e) f p = (e, refl, p)
-
 module _ (text : List ℕ) where
   -- a text that is not read
   pub text_unread : (why : Refusal) (out : List ℕ) → Err why ≡ reading_of (lines_of text) → outcome (turned_down (number_of why)) out ≡ laying text out
-  unfolding laying verdict_by refused
+  unfolding laying answer_by refused
   text_unread why out e = refusal_laid (Err why) (refused (number_of why)) (lines_of text) (number_of why) out e refl refl
 
 -- by the answer of the code
@@ -276,7 +265,7 @@ module _ (h : History) (v : Verdict) (text : List ℕ) (e : Ok h ≡ reading_of 
   pub text_fault : (f : Fault) (out : List ℕ) → v.answer ≡ Err f → outcome (laid_response (Err f)) out ≡ laying text out
   unfolding laying
   text_fault (Offending p) out t = pair_laid (Ok h) (judgement v) (lines_of text) p.earlier p.later out e q (ap judge_response t)
-  text_fault (Refused r) out t = refusal_laid (Ok h) (judgement v) (lines_of text) (number_of r) out e q (ap judge_response t)
+  text_fault (Refused x) out t = refusal_laid (Ok h) (judgement v) (lines_of text) x out e q (ap judge_response t)
 
   pub text_ready : (m : ℕ) → v.answer ≡ Ok m → Ready h (judgement v) m (lines_of text)
   text_ready m a = ready h (judgement v) (lines_of text) (λ ops s. (only_printed text ops s).0) m e q (ap judge_response a)

@@ -8,7 +8,6 @@ use Rattle.order.specs.Histories.{row_of, Finding, has_order, no_order, judged}
 use Rattle.order.specs.declared.operation.Operation.{Operation}
 use Rattle.history_text.specs.Lines.{Lines, Records, Malformed, lines_of}
 use Rattle.history_sheet.specs.Sheet.{page_size, pages_of, sheet_of}
-use Rattle.frame.specs.Refusals.{number_of}
 use Rattle.order.specs.declared.judge.Fault.{Fault}
 use Rattle.order.specs.declared.judge.Fault.TheVariants.{Offending, Refused}
 
@@ -21,7 +20,7 @@ pub data SheetResult : Type 0 where
 abbrev pub laid_response : Result ℕ Fault → Response SheetResult
 laid_response (Ok n) = gives (pages_laid n)
 laid_response (Err (Offending p)) = gives (unordered p.earlier p.later)
-laid_response (Err (Refused r)) = turned_down (number_of r)
+laid_response (Err (Refused x)) = turned_down x
 
 pub record Outcome : Type 0 where
   pub answer : Response SheetResult

@@ -13,6 +13,7 @@ ghost use Rattle.history_sheet.specs.Stages.{named_all, Named};
 
 use crate::page::{ON_PAGE, PAGE_SIZE, put_pages};
 use frame::Refusal;
+use frame::refusals::number_of;
 use history_text::text::{judge_reading, read_text};
 use order::judge::Fault;
 use order::operation::Operation;
@@ -37,7 +38,7 @@ fn put_sheet(
 {
     let pages = page_count(m);
     if out.len() < pages * PAGE_SIZE {
-        return Err(Fault::Refused(Refusal::Room));
+        return Err(Fault::Refused(number_of(Refusal::Room)));
     }
     put_pages(out, rows, lines, m, pages);
     Ok(pages)
@@ -47,7 +48,10 @@ fn put_sheet(
 pub fn lay(text: &[u8], out: &mut [u8]) -> Result<usize, Fault>
     ensures { outcome (laid_response result) out.new ≡ laying text.now out.old }
 {
-    let history = read_text(text).map_err(Fault::Refused)?;
+    let history = match read_text(text) {
+        Ok(history) => history,
+        Err(why) => return Err(Fault::Refused(number_of(why))),
+    };
     let verdict = judge_reading(Ok(history));
     let rows = history.rows;
     let lines = verdict.lines;

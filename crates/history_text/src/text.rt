@@ -9,7 +9,7 @@ use frame::Refusal;
 use history_row::{History, judge_first};
 use order::judge::{Verdict, refuse};
 
-// Reads every line; a malformed line is refused, and so is a 65th.
+// Reads every line; a malformed one is refused. Of more than 64 operations the first 64 are given, and that there are more.
 pub fn read_text(s: &[u8]) -> Result<History, Refusal>
     ensures { result ≡ reading_of (lines_of s.now) }
 {
@@ -20,14 +20,14 @@ pub fn read_text(s: &[u8]) -> Result<History, Refusal>
         let Some(line) = read_line(s, at) else {
             return Err(Refusal::Record);
         };
-        history = history.add(line.operation)?;
+        history = history.add(line.operation);
         at += line.used;
     }
     Ok(history)
 }
 
 // The answer to what was read; the operations are lent as a slice.
-#[tactic(auto, unfolding(history_row::specs::Rows::verdict_by, history_row::specs::Rows::verdict_of, area::specs::Area::pick))]
+#[tactic(auto, unfolding(crate::specs::Readings::answer_by, history_row::specs::Rows::verdict_of, area::specs::Area::pick))]
 pub fn judge_reading(reading: Result<History, Refusal>) -> Verdict
     ensures { judgement result ≡ answer_by reading }
 {

@@ -14,8 +14,6 @@ use Rattle.order.specs.Histories.{any, offended, later, earlier, blank, Finding,
 use Rattle.order.specs.Orders.{Order, HasOrder, Accepted, Earliest, Right}
 use Rattle.order.specs.declared.operation.Operation.{Operation}
 use Rattle.std.proofs.Common.{Result, Ok, Err}
-use Rattle.frame.specs.Refusals.{refusal}
-use Rattle.frame.proofs.Responses.{one_each}
 use Rattle.order.specs.declared.judge.Fault.{Fault}
 use Rattle.order.specs.declared.judge.Fault.TheVariants.{Offending, Refused}
 use Rattle.order.proofs.Picks.{pick_yes, pick_no}
@@ -63,7 +61,7 @@ module _ (a b c d : ℕ) where
 
 -- the answer of the code that has a response
 unfoldable answer_with : Response Finding → Result ℕ Fault
-answer_with (turned_down x) = Err (Refused (refusal x))
+answer_with (turned_down x) = Err (Refused x)
 answer_with (gives (has_order n)) = Ok n
 answer_with (gives (no_order a b)) = Err (Offending (record { earlier = a; later = b }))
 
@@ -71,7 +69,7 @@ answer_back : (x : Result ℕ Fault) → answer_with (judge_response x) ≡ x
 unfolding answer_with
 answer_back (Ok n) = refl
 answer_back (Err (Offending p)) = refl
-answer_back (Err (Refused r)) = ap (λ z. Err (Refused z)) (one_each r)
+answer_back (Err (Refused x)) = refl
 
 pub response_injective : (x y : Result ℕ Fault) → judge_response x ≡ judge_response y → x ≡ y
 response_injective x y e = sym (answer_back x) ∙ ap answer_with e ∙ answer_back y

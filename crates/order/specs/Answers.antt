@@ -1,7 +1,6 @@
 -- The number that a host is answered for a history. Its lowest byte is 0, or the number of the refusal, and then all else is 0. These are definitions.
 use Rattle.std.specs.Prelude.{ℕ, ◌+◌, ◌*◌, ◌%◌}
 use Rattle.area.specs.Responses.{Response, turned_down, gives}
-use Rattle.frame.specs.Refusals.{number_of}
 use Rattle.order.specs.Histories.{Finding, has_order, no_order}
 use Rattle.order.specs.declared.judge.Fault.{Fault}
 use Rattle.order.specs.declared.judge.Fault.TheVariants.{Offending, Refused}
@@ -22,4 +21,4 @@ history_answer (turned_down n) = n
 -- the number of what leaves no order
 unfoldable pub fault_answer : Fault → ℕ
 fault_answer (Offending p) = 256 + 65536 * (p.earlier % 256) + 16777216 * (p.later % 256)
-fault_answer (Refused r) = number_of r
+fault_answer (Refused x) = x

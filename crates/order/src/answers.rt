@@ -4,7 +4,6 @@ ghost use Rattle.order.specs.Histories.{judge_response};
 ghost use Rattle.order.specs.Answers.{line_count, history_answer, fault_answer};
 
 use crate::judge::{Fault, LinePair};
-use frame::refusals::number_of;
 
 // How many line numbers an answer gives.
 #[tactic(auto, unfolding(crate::specs::Answers::line_count))]
@@ -33,6 +32,6 @@ pub fn fault_answer(fault: Fault) -> u64
         Fault::Offending(LinePair { earlier, later }) => {
             256 + 65536 * (earlier as u64 % 256) + 16777216 * (later as u64 % 256)
         }
-        Fault::Refused(why) => number_of(why) as u64,
+        Fault::Refused(number) => u64::from(number),
     }
 }

@@ -2,7 +2,7 @@
 ghost use Rattle.std.specs.Prelude.{◌≤◌, length};
 
 use case_text::report::result;
-use case_text::text::Hex;
+use case_text::text::{put_bytes, put_digits};
 use frame::Refusal;
 use frame::refusals::number_of;
 use std::io;
@@ -13,14 +13,19 @@ const FRAMES_SHOWN: usize = 3000;
 
 const RECEIVERS_SHOWN: usize = 64;
 
+// How long the text of a result may be.
+const TEXT: usize = 8192;
+
 // A refusal, by its number.
 fn refused<W: Write>(
     report: &mut W,
-    kind: &str,
+    kind: &[u8],
     expected: &[u8],
     refusal: Refusal,
 ) -> io::Result<()> {
-    result(report, kind, expected, &Hex(&[number_of(refusal)]))
+    let mut text = [0u8; 2];
+    put_digits(&mut text, 0, number_of(refusal));
+    result(report, kind, expected, &text)
 }
 
 // The reply of the constructor: after 00 the first 128 bytes of the state area and the first byte of the initial block's area.
@@ -32,16 +37,15 @@ pub fn made<W: Write>(
     initial: &[u8],
 ) -> io::Result<()> {
     if let Err(refusal) = reply {
-        return refused(report, "fresh", expected, refusal);
+        return refused(report, b"fresh ", expected, refusal);
     }
-    let area = Hex(&area[..area.len().min(128)]);
-    let initial = Hex(&initial[..initial.len().min(1)]);
-    result(
-        report,
-        "fresh",
-        expected,
-        &format_args!("00{area}{initial}"),
-    )
+    let mut text = [0u8; TEXT];
+    put_digits(&mut text, 0, 0);
+    let a = area.len().min(128);
+    let i = initial.len().min(1);
+    put_bytes(&mut text, 2, &area[..a]);
+    let end = put_bytes(&mut text, 2 + 2 * a, &initial[..i]);
+    result(report, b"fresh ", expected, &text[..end])
 }
 
 // How many bytes the first count frames in out take: only whole frames, and as many as are shown.
@@ -72,7 +76,7 @@ pub fn replied<W: Write>(
     whole: bool,
 ) -> io::Result<()> {
     let count = match reply {
-        Err(refusal) => return refused(report, "deliver", expected, refusal),
+        Err(refusal) => return refused(report, b"deliver ", expected, refusal),
         Ok(count) if count <= 32 => count,
         Ok(_) => return Ok(()),
     };
@@ -81,8 +85,11 @@ pub fn replied<W: Write>(
     } else {
         (sent_bytes(out, count), 2 * count)
     };
-    let frames = Hex(&out[..m.min(out.len())]);
-    let receivers = Hex(&to[..k.min(to.len())]);
-    let text = format_args!("00{count:02x}{frames}{receivers}");
-    result(report, "deliver", expected, &text)
+    let m = m.min(out.len()).min(FRAMES_SHOWN);
+    let k = k.min(to.len()).min(RECEIVERS_SHOWN);
+    let mut text = [0u8; TEXT];
+    put_bytes(&mut text, 0, &[0, count as u8]);
+    put_bytes(&mut text, 4, &out[..m]);
+    let end = put_bytes(&mut text, 4 + 2 * m, &to[..k]);
+    result(report, b"deliver ", expected, &text[..end])
 }

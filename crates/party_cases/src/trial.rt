@@ -23,7 +23,7 @@ const TO_MOST: usize = 344;
 const LENT: u8 = 0x5a;
 
 // The parameters, the own number, the record, the state area and that of the initial block.
-#[derive(Drop)]
+#[derive(Clone, Copy)]
 pub struct Trial {
     params: Params,
     me: usize,

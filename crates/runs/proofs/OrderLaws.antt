@@ -1,7 +1,7 @@
 -- Every call of an admissible run keeps the laws that precedence by stamps asks for. Assumes nothing.
 use Rattle.std.specs.Prelude.{Ok, Err}
 use Rattle.frame.specs.Refusals.{Verdict, fine}
-use Prim.Native.Nat.{ℕ, ◌*◌, ◌-◌}
+use Prim.Native.Nat.{ℕ}
 use native.Mathlib.Omega.{arith}
 use mathlib.Core.Bool.{false}
 use mathlib.Core.Path.{◌≡◌, refl, ◌∙◌}
@@ -9,14 +9,14 @@ use mathlib.Core.Logic.{inr, ⊎_elim}
 use mathlib.Core.List.{List, [], ◌∷◌}
 use lib.ListN.{length, get_or, replicate}
 use lib.Dec.{leb}
-use borrow.Author.Tests.{le-ltb, le-leb, lt-ltb, eq-eqb}
+use borrow.Author.Tests.{le-ltb, eq-eqb}
 use Rattle.quorum.specs.Quorum.{Among}
 use Rattle.quorum.proofs.Logic.{impossible, and_false}
 use Rattle.precedence.specs.Laws as PL
 use Rattle.area.specs.Area.{pick}
 use Rattle.area.proofs.Sets.{of_copies, take_front}
 use Rattle.blocks.specs.declared.Params.{Params}
-use Rattle.blocks.specs.Params.{parties_fit, threshold_fits, length_fits}
+use Rattle.blocks.proofs.Parameters.{parties_yes, threshold_yes, length_yes}
 use Rattle.frame.specs.Chunks.{area_bytes}
 use Rattle.group_rules.specs.Coded.{digests_of}
 use Rattle.frame.specs.Params.{listed, Bounded, params_test, own_test, code_test}
@@ -40,18 +40,13 @@ silent = of_copies (λ r. r.listening) fresh_reader no_reader false refl refl
 
 -- parameters within their bounds pass
 pub params_fine : (g : Params) → Bounded g → (me most : ℕ) → Among most me → params_test g me most ≡ fine
-unfolding params_test own_test code_test pick parties_fit threshold_fits length_fits
+unfolding params_test own_test code_test pick
 params_fine g B me most is = rw (
-  le-leb 4 g.n B.servers_low,
-  le-leb g.n 10 B.servers_high,
-  le-leb 1 g.t B.faults_low,
-  lt-ltb (3 * g.t) g.n (omega (arith, B.faults_high)),
+  ← parties_yes g.n g.t B.servers_low B.servers_high B.faults_low (omega (arith, B.faults_high)),
   le-ltb me 1 is.0,
   le-ltb most me is.1,
-  le-leb 1 g.k B.blocks_low,
-  le-leb g.k (g.n - 2 * g.t) (omega (arith, B.blocks_high)),
-  le-leb 1 g.size B.size_low,
-  le-leb g.size 256 B.size_high,
+  ← threshold_yes g.n g.t g.k B.blocks_low (omega (arith, B.blocks_high)),
+  ← length_yes g.size B.size_low B.size_high,
 )
 
 -- the constructor's tests pass

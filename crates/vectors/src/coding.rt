@@ -1,15 +1,19 @@
 // The block code: encode and decode, with their answers and every byte of the lent area after the call.
-ghost use Rattle.std.specs.Prelude.{◌≤◌};
+ghost use Rattle.std.specs.Prelude.{◌+◌, ◌*◌, ◌≤◌, length};
+ghost use Rattle.std.specs.Counts.{IsPrefixLen};
 
 use blocks::faults::fault_number;
 use blocks::{Fault, Params};
 use case_text::report::result;
-use case_text::text::{Hex, Words};
+use case_text::text::{Words, put_bytes};
 use std::io;
 use std::io::Write;
 
 // How long an area may be.
 const MOST: usize = 2560;
+
+// How long the text of an answer may be.
+const TEXT: usize = 8192;
 
 // An area to lend, filled with one byte, so that it is seen which bytes a call leaves as they were.
 const MARKED: [u8; MOST] = [0xee; MOST];
@@ -39,17 +43,29 @@ fn answer_number(answer: Result<(), Fault>) -> u8 {
     }
 }
 
+// Writes the answer's number, a space and the area.
+fn put_answer(text: &mut [u8], answer: u8, area: &[u8]) -> usize
+    requires { 3 + length area.now * 2 ≤ length text.old }
+    ensures { IsPrefixLen result text.new }
+{
+    put_bytes(text, 0, &[answer]);
+    text[2] = b' ';
+    put_bytes(text, 3, area)
+}
+
 // The answer's number, a space and the area.
 fn shown<W: Write>(
     out: &mut W,
-    kind: &str,
+    kind: &[u8],
     expected: &[u8],
     answer: Result<(), Fault>,
     area: &[u8],
-) -> io::Result<()> {
-    let number = [answer_number(answer)];
-    let text = format_args!("{} {}", Hex(&number), Hex(area));
-    result(out, kind, expected, &text)
+) -> io::Result<()>
+    requires { length area.now ≤ 2560 }
+{
+    let mut text = [0u8; TEXT];
+    let end = put_answer(&mut text, answer_number(answer), area);
+    result(out, kind, expected, &text[..end])
 }
 
 // encode N T K L ROOM VALUE ANSWER AREA
@@ -60,7 +76,7 @@ pub fn encode_case<W: Write>(out: &mut W, mut words: Words) -> io::Result<()> {
     let mut area = MARKED;
     let area = &mut area[..room];
     let answer = blocks::encode(params, value.as_slice(), area);
-    shown(out, "encode", words.rest, answer, area)
+    shown(out, b"encode ", words.rest, answer, area)
 }
 
 // decode N T K L ROOM NUMBERS BLOCKS ANSWER AREA
@@ -72,5 +88,5 @@ pub fn decode_case<W: Write>(out: &mut W, mut words: Words) -> io::Result<()> {
     let mut area = MARKED;
     let area = &mut area[..room];
     let answer = blocks::decode(params, numbers.as_slice(), blocks.as_slice(), area);
-    shown(out, "decode", words.rest, answer, area)
+    shown(out, b"decode ", words.rest, answer, area)
 }

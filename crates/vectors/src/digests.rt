@@ -1,6 +1,6 @@
 // SHA-256.
 use case_text::report::{echo, result};
-use case_text::text::{Hex, Words};
+use case_text::text::{Words, put_bytes};
 use std::io;
 use std::io::Write;
 
@@ -11,5 +11,7 @@ pub fn digest<W: Write>(out: &mut W, mut words: Words) -> io::Result<()> {
         return echo(out, b"digest of a message that is too long");
     }
     let digest = sha256::digest(message.as_slice());
-    result(out, "digest", words.rest, &Hex(&digest))
+    let mut text = [0u8; 64];
+    let end = put_bytes(&mut text, 0, &digest);
+    result(out, b"digest ", words.rest, &text[..end])
 }

@@ -1,7 +1,7 @@
 // Frames: the refusal's number (document 01) if one does not open, or 00 and then its kind, client and sequence.
 use crate::coding::params;
 use case_text::report::result;
-use case_text::text::{Hex, Words};
+use case_text::text::{Words, put_bytes};
 use frame::Header;
 use frame::refusals::number_of;
 use std::io;
@@ -16,8 +16,10 @@ fn header_bytes(h: Header) -> [u8; 7] {
 pub fn opening<W: Write>(out: &mut W, mut words: Words) -> io::Result<()> {
     let params = params(&mut words);
     let bytes = words.bytes::<1024>();
-    match frame::opener::opened_under(params, bytes.as_slice()) {
-        Ok(header) => result(out, "open", words.rest, &Hex(&header_bytes(header))),
-        Err(refusal) => result(out, "open", words.rest, &Hex(&[number_of(refusal)])),
-    }
+    let mut text = [0u8; 14];
+    let end = match frame::opener::opened_under(params, bytes.as_slice()) {
+        Ok(header) => put_bytes(&mut text, 0, &header_bytes(header)),
+        Err(refusal) => put_bytes(&mut text, 0, &[number_of(refusal)]),
+    };
+    result(out, b"open ", words.rest, &text[..end])
 }

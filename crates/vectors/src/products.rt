@@ -1,6 +1,6 @@
 // Products and inverses in the byte field.
 use case_text::report::result;
-use case_text::text::{Hex, Words};
+use case_text::text::{Words, put_digits};
 use std::io;
 use std::io::Write;
 
@@ -14,12 +14,16 @@ pub fn product<W: Write>(out: &mut W, mut words: Words) -> io::Result<()> {
     let x = byte(&mut words);
     let y = byte(&mut words);
     let product = field::product(x, y);
-    result(out, "product", words.rest, &Hex(&[product]))
+    let mut text = [0u8; 2];
+    put_digits(&mut text, 0, product);
+    result(out, b"product ", words.rest, &text)
 }
 
 // inverse A INVERSE
 pub fn inverse<W: Write>(out: &mut W, mut words: Words) -> io::Result<()> {
     let x = byte(&mut words);
     let inverse = field::inverse(x);
-    result(out, "inverse", words.rest, &Hex(&[inverse]))
+    let mut text = [0u8; 2];
+    put_digits(&mut text, 0, inverse);
+    result(out, b"inverse ", words.rest, &text)
 }

@@ -8,7 +8,8 @@ use Rattle.history_sheet.proofs.put_sheet.Goals as goal
 pub returns-then-out-pages : goal.returns-then-out-pages
 returns-then-out-pages c =
     let a = c.args in
-    sheet_short (named_all a.rows a.lines a.m) a.out.now a.m _ (named_count a.rows a.lines a.m c.requires) c.page_count-pages.ensures.0 (search rules)
+    rw c.number_of.ensures
+    (sheet_short (named_all a.rows a.lines a.m) a.out.now a.m _ (named_count a.rows a.lines a.m c.requires) c.page_count-pages.ensures.0 (search rules))
 
 pub put_pages-requires : goal.put_pages-requires
 put_pages-requires c =

@@ -12,9 +12,10 @@ returns-then-time-own c =
     elim c.if-time-lt-LAST_TIME.branch [
       | then-time-lt-LAST_TIME w ↦
           le-leb _ _ c.if-time-own.true
-          ∙ own_reaches a.g a.own a.reports a.time a.sequence w.if-time-lt-LAST_TIME.true (leb-true _ _ (sym w.value-is ∙ c.if-sequence.true)) c.if-time-own.true
+          ∙ own_reaches a.g a.own a.reports a.time a.sequence (omega (arith, w.if-time-lt-LAST_TIME.true))
+          (leb-true _ _ (sym w.value-is ∙ c.if-sequence.true)) (omega (arith, c.if-time-own.true))
       | else-time-lt-LAST_TIME w ↦
-          let t : a.time < 18446744073709551615 = ltb-true _ _ (sym w.value-is ∙ c.if-sequence.true) in
+          let t = ltb-true _ _ (sym w.value-is ∙ c.if-sequence.true) in
           absurd (omega (arith, w.if-time-lt-LAST_TIME.false))
     ]
 
@@ -23,9 +24,10 @@ returns-else-time-own c =
     let a = c.args in
     elim c.if-time-lt-LAST_TIME.branch [
       | then-time-lt-LAST_TIME w ↦
-          is_vouched a.g a.own a.reports a.time a.sequence w.if-time-lt-LAST_TIME.true (leb-true _ _ (sym w.value-is ∙ c.if-sequence.true)) c.if-time-own.false _ c.is_backed.ensures
+          is_vouched a.g a.own a.reports a.time a.sequence (omega (arith, w.if-time-lt-LAST_TIME.true))
+          (leb-true _ _ (sym w.value-is ∙ c.if-sequence.true)) (omega (arith, c.if-time-own.false)) _ c.is_backed.ensures
       | else-time-lt-LAST_TIME w ↦
-          let t : a.time < 18446744073709551615 = ltb-true _ _ (sym w.value-is ∙ c.if-sequence.true) in
+          let t = ltb-true _ _ (sym w.value-is ∙ c.if-sequence.true) in
           absurd (omega (arith, w.if-time-lt-LAST_TIME.false))
     ]
 
@@ -35,5 +37,5 @@ returns-else-sequence c =
     let f = c.if-sequence.false in
     f ∙ elim c.if-time-lt-LAST_TIME.branch [
       | then-time-lt-LAST_TIME w ↦ no_sequence a.g a.own a.reports a.time a.sequence (leb-false _ _ (sym w.value-is ∙ f))
-      | else-time-lt-LAST_TIME w ↦ last_time_lem a.g a.own a.reports a.time a.sequence w.if-time-lt-LAST_TIME.false
+      | else-time-lt-LAST_TIME w ↦ last_time_lem a.g a.own a.reports a.time a.sequence (omega (arith, w.if-time-lt-LAST_TIME.false))
     ]

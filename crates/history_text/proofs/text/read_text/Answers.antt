@@ -1,7 +1,6 @@
 -- The lines read so far and those that are left give what is read of the whole text. Assumes nothing.
 use Rattle.std.proofs.Common.{◌∙◌, sym, refl, ◌<◌, ◌≤◌, length, arith}
-use Rattle.std.proofs.lemmas.Result.{err_from_is_err_and}
-use Rattle.history_text.proofs.Readings.{final_start, final_bad, final_over, final_next, final_end}
+use Rattle.history_text.proofs.Readings.{final_start, final_bad, final_next, final_end}
 use Rattle.history_text.proofs.text.read_text.Goals as goal
 
 pub loop-at-init : goal.loop-at-init
@@ -16,16 +15,6 @@ returns-in_default c =
     let h : l.at < length s = omega arith in
     sym (final_bad l.history l.invariant.1.0 l.at s h l.invariant.1.1 c.read_line.ensures.0 c.in_default.is) ∙ l.invariant.1.2
 
-pub returns-in_err-history : goal.returns-in_err-history
-returns-in_err-history c =
-    let s = c.args.s.now in
-    let l = c.loop-at in
-    let h : l.at < length s = omega arith in
-    let x = c.in-Some.line in
-    let p = err_from_is_err_and c.from_residual.result c.from_residual.ensures.1 in
-    rw (p.1, p.2)
-    (sym (final_over l.history l.invariant.1.0 l.at x.used s x.operation _ h l.invariant.1.1 c.in-Some.ensures.0 refl c.in_err-history.ensures) ∙ l.invariant.1.2)
-
 pub loop-at-preserved : goal.loop-at-preserved
 loop-at-preserved c =
     let s = c.args.s.now in
@@ -33,7 +22,7 @@ loop-at-preserved c =
     let x = c.in-Some.line in
     let w = c.in-Some.ensures.1 in
     let h : l.at < length s = omega arith in
-    let m = final_next l.history _ l.invariant.1.0 l.at x.used s x.operation h l.invariant.1.1 w.0 w.1 c.in-Some.ensures.0 refl c.in_ok-history.ensures l.invariant.1.2 in
+    let m = final_next l.history _ l.invariant.1.0 l.at x.used s x.operation h l.invariant.1.1 w.0 w.1 c.in-Some.ensures.0 refl c.add-history.ensures l.invariant.1.2 in
     (omega arith, m)
 
 pub returns : goal.returns

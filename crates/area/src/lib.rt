@@ -11,7 +11,7 @@ pub fn put(area: &mut [u8], at: usize, src: &[u8])
     requires { at + length src.now ≤ length area.old }
     ensures { area.new ≡ sets area.old at src.now }
 {
-    // One by one, so that its edit can turn an operand; the compiler makes one copy of it.
+    // One by one, so that its edit can turn an operand.
     for j in 0..src.len() {
         area[at + j] = src[j];
     }

@@ -12,7 +12,7 @@ use lib.Dec.{eqb, ltb}
 use borrow.Author.Tests.{ne_eqb, eq-eqb, lt-ltb, le-ltb}
 use Rattle.area.specs.Area.{pick, Bytes}
 use Rattle.area.specs.Numbers.{be8}
-use Rattle.area.specs.Responses.{turned_down, gives, is_turned_down}
+use Rattle.area.specs.Responses.{Response, turned_down, gives, is_turned_down}
 use Rattle.area.proofs.Numbers.{be8_range}
 use Rattle.blocks.specs.declared.Params.{Params}
 use Rattle.frame.specs.declared.Place.{Place}
@@ -305,11 +305,12 @@ module _ (H : List ℕ → List ℕ) (k : Call) (f a initial st out to : List �
               let z : st ≡ effect_sets does k.header k.from st = ap (λ (o : Outcome). left_by o.reply st (effect_sets does k.header k.from st)) e in
               λ i. byte_outcome (e i).reply (e i).area (z i) (e i).out (e i).to
 
-      pub scope_taken : (r : Taken) (a₁ o₁ t₁ l₁ : List ℕ) → outcome_in s c (Ok r) a₁ o₁ t₁ ≡ step_for H k s a initial f out to
+      pub scope_taken : (r : Taken) (x : Response ℕ) (a₁ o₁ t₁ l₁ : List ℕ) → x ≡ gives r.place.count
+          → outcome_in s c (Ok r) a₁ o₁ t₁ ≡ step_for H k s a initial f out to
           → l₁ ≡ scope_sets st c r.scope.stamp r.scope.slot r.scope.reader
-          → byte_outcome (gives r.place.count) a₁ l₁ o₁ t₁ ≡ byte_step H k f a initial st out to
+          → byte_outcome x a₁ l₁ o₁ t₁ ≡ byte_step H k f a initial st out to
       unfolding byte_step step_for outcome_at answered stepped left_by is_turned_down pick
-      scope_taken r a₁ o₁ t₁ l₁ e w = go test e
+      scope_taken r x a₁ o₁ t₁ l₁ q e w = ap (λ (y : Response ℕ). byte_outcome y a₁ l₁ o₁ t₁) q ∙ go test e
         where
           go : (v : Verdict) → outcome_in s c (Ok r) a₁ o₁ t₁ ≡ answered v s a does out to → byte_outcome (gives r.place.count) a₁ l₁ o₁ t₁ ≡ by v does
           go (Err x) e =

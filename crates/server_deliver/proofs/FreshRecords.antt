@@ -108,8 +108,9 @@ module _ (g : Params) (me : ℕ) (value area initial state : List ℕ) where
         go (yes h) = short_refused h r (sym e ∙ f)
         go (no h) = let l : server_size ≤ length state = omega (arith, h) in whole_refused l r (same_refusal l r (sym e ∙ f))
 
-  pub fresh_done : server_size ≤ length state → (r : Server) (a : Response ℕ) (ar i st : List ℕ)
+  pub fresh_done : server_size ≤ length state → (r : Server) (a b : Response ℕ) (ar i st : List ℕ) → b ≡ a
       → ◌≡◌ {A = Constructed} (record { reply = a; server = r; area = ar; initial = i }) (construction digest_of g me value area initial)
-      → st ≡ fresh_after a r state → byte_constructed a ar i st ≡ byte_construction digest_of g me value area initial state
+      → st ≡ fresh_after b r state → byte_constructed a ar i st ≡ byte_construction digest_of g me value area initial state
   unfolding constructed_at
-  fresh_done h r a ar i st e k = ap (byte_constructed a ar i) k ∙ ap (λ z. constructed_at z state) e ∙ whole_made h
+  fresh_done h r a b ar i st q e k =
+      ap (byte_constructed a ar i) (k ∙ ap (λ z. fresh_after z r state) q) ∙ ap (λ z. constructed_at z state) e ∙ whole_made h

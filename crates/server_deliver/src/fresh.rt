@@ -28,6 +28,7 @@ pub fn fresh_test(g: Params, me: usize, len: usize, state: usize) -> Result<(), 
 }
 
 // Writes a fresh record, unless the call was turned down.
+#[tactic(auto, unfolding(crate::specs::Records::fresh_after, layout::specs::Left::left_by, area::specs::Responses::is_turned_down, area::specs::Area::pick))]
 fn keep_fresh(a: Result<usize, Refusal>, s: Server, state: &mut [u8])
     requires { server_size ≤ length state.old }
     ensures { state.new ≡ fresh_after (reply_response a) s state.old }

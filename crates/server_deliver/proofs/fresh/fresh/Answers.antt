@@ -24,4 +24,4 @@ pub returns : goal.returns
 returns c =
     let a = c.args in
     fresh_done a.g a.me a.value.now a.area.now a.initial.now a.state.now
-    (fine_fresh _ _ _ _ _ c.fresh_test.ensures c.in_ok-fresh_test.was).1 _ _ _ _ _ c.construct-done.ensures c.keep_fresh.ensures
+    (fine_fresh _ _ _ _ _ c.fresh_test.ensures c.in_ok-fresh_test.was).1 _ _ _ _ _ _ (search rules) c.construct-done.ensures c.keep_fresh.ensures

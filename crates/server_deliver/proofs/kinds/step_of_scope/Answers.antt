@@ -47,6 +47,6 @@ returns c =
     let was = c.in_ok-done.was in
     scope_taken digest_of k a.f.now a.area.now a.initial.now a.state.now a.out.now a.to.now P.2
     (bytes_of a.state.now (λ i. let f = c.slice_known-2-1.given i in omega arith)) P.0.lent.client_high
-    (accepts_none digest_of k (server_in a.state.now) a.area.now a.initial.now a.f.now P.0.kind_low P.0.kind_high P.0.kind_used P.3) P.3.no_report c.in_ok-done.done _ _ _ _
+    (accepts_none digest_of k (server_in a.state.now) a.area.now a.initial.now a.f.now P.0.kind_low P.0.kind_high P.0.kind_used P.3) P.3.no_report c.in_ok-done.done _ _ _ _ _ (search rules)
     (subst (λ (x : Result Taken Refusal). outcome_in s k.header.client x c.step_of_kind.new.area c.step_of_kind.new.out c.step_of_kind.new.to ≡ step_for digest_of k s a.area.now a.initial.now a.f.now a.out.now a.to.now) was e)
     c.put_scope.ensures

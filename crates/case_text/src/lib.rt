@@ -4,4 +4,6 @@
 pub mod fields;
 pub mod kept;
 pub mod report;
+#[cfg(test)]
+mod tests;
 pub mod text;

@@ -1,7 +1,7 @@
 // What is printed of a reply: document 01's number of a refusal, or after 00 what the step gave.
 ghost use Rattle.std.specs.Prelude.{◌≤◌, length};
 
-use case_text::report::result;
+use case_text::report::result_bytes;
 use case_text::text::{put_bytes, put_digits};
 use frame::Refusal;
 use frame::refusals::number_of;
@@ -25,7 +25,7 @@ fn refused<W: Write>(
 ) -> io::Result<()> {
     let mut text = [0u8; 2];
     put_digits(&mut text, 0, number_of(refusal));
-    result(report, kind, expected, &text)
+    result_bytes(report, kind, expected, &text)
 }
 
 // The reply of the constructor: after 00 the first 128 bytes of the state area and the first byte of the initial block's area.
@@ -45,7 +45,7 @@ pub fn made<W: Write>(
     let i = initial.len().min(1);
     put_bytes(&mut text, 2, &area[..a]);
     let end = put_bytes(&mut text, 2 + 2 * a, &initial[..i]);
-    result(report, b"fresh ", expected, &text[..end])
+    result_bytes(report, b"fresh ", expected, &text[..end])
 }
 
 // How many bytes the first count frames in out take: only whole frames, and as many as are shown.
@@ -91,5 +91,5 @@ pub fn replied<W: Write>(
     put_bytes(&mut text, 0, &[0, count as u8]);
     put_bytes(&mut text, 4, &out[..m]);
     let end = put_bytes(&mut text, 4 + 2 * m, &to[..k]);
-    result(report, b"deliver ", expected, &text[..end])
+    result_bytes(report, b"deliver ", expected, &text[..end])
 }

@@ -4,7 +4,7 @@ ghost use Rattle.std.specs.Counts.{IsPrefixLen};
 
 use blocks::faults::fault_number;
 use blocks::{Fault, Params};
-use case_text::report::result;
+use case_text::report::result_bytes;
 use case_text::text::{Words, put_bytes};
 use std::io;
 use std::io::Write;
@@ -65,7 +65,7 @@ fn shown<W: Write>(
 {
     let mut text = [0u8; TEXT];
     let end = put_answer(&mut text, answer_number(answer), area);
-    result(out, kind, expected, &text[..end])
+    result_bytes(out, kind, expected, &text[..end])
 }
 
 // encode N T K L ROOM VALUE ANSWER AREA

@@ -1,5 +1,5 @@
 // SHA-256.
-use case_text::report::{echo, result};
+use case_text::report::{echo, result_bytes};
 use case_text::text::{Words, put_bytes};
 use std::io;
 use std::io::Write;
@@ -13,5 +13,5 @@ pub fn digest<W: Write>(out: &mut W, mut words: Words) -> io::Result<()> {
     let digest = sha256::digest(message.as_slice());
     let mut text = [0u8; 64];
     let end = put_bytes(&mut text, 0, &digest);
-    result(out, b"digest ", words.rest, &text[..end])
+    result_bytes(out, b"digest ", words.rest, &text[..end])
 }

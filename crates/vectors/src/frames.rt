@@ -1,6 +1,6 @@
 // Frames: the refusal's number (document 01) if one does not open, or 00 and then its kind, client and sequence.
 use crate::coding::params;
-use case_text::report::result;
+use case_text::report::result_bytes;
 use case_text::text::{Words, put_bytes};
 use frame::Header;
 use frame::refusals::number_of;
@@ -21,5 +21,5 @@ pub fn opening<W: Write>(out: &mut W, mut words: Words) -> io::Result<()> {
         Ok(header) => put_bytes(&mut text, 0, &header_bytes(header)),
         Err(refusal) => put_bytes(&mut text, 0, &[number_of(refusal)]),
     };
-    result(out, b"open ", words.rest, &text[..end])
+    result_bytes(out, b"open ", words.rest, &text[..end])
 }

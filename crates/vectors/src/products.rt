@@ -1,5 +1,5 @@
 // Products and inverses in the byte field.
-use case_text::report::result;
+use case_text::report::result_bytes;
 use case_text::text::{Words, put_digits};
 use std::io;
 use std::io::Write;
@@ -16,7 +16,7 @@ pub fn product<W: Write>(out: &mut W, mut words: Words) -> io::Result<()> {
     let product = field::product(x, y);
     let mut text = [0u8; 2];
     put_digits(&mut text, 0, product);
-    result(out, b"product ", words.rest, &text)
+    result_bytes(out, b"product ", words.rest, &text)
 }
 
 // inverse A INVERSE
@@ -25,5 +25,5 @@ pub fn inverse<W: Write>(out: &mut W, mut words: Words) -> io::Result<()> {
     let inverse = field::inverse(x);
     let mut text = [0u8; 2];
     put_digits(&mut text, 0, inverse);
-    result(out, b"inverse ", words.rest, &text)
+    result_bytes(out, b"inverse ", words.rest, &text)
 }
